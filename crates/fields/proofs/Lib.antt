@@ -1,0 +1,4 @@
+pub mod Choice
+pub mod Parts
+pub mod Numbers
+pub mod Ordered

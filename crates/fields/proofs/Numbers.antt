@@ -1,0 +1,136 @@
+-- Laws of numbers as bytes, over the count of bytes: a number of n bytes is written and read back, some bytes are read and written back, and
+-- the bounds of both. A list of bytes (`Bytes`) stays one when it is cut, joined or put together. Assumes nothing.
+use Prim.Native.Nat.{ℕ, zero, suc, _+_, _*_, _-_, _/_, _%_, _^_, _≤_, _<_}
+use mathlib.Core.Path.{_≡_, refl, ap, sym, _∙_, subst}
+use mathlib.Core.Logic.{_⊎_, inl, inr}
+use mathlib.Core.List.{List, [], _∷_, _++_}
+use native.Mathlib.Omega.{arith}
+use native.Mathlib.Nat.{div-lt-iff-lt-mul, div-add-mod', pow-suc, pow-le-pow-right, lt-of-lt-of-le, zero-add}
+use native.Mathlib.Decide.{decLt}
+use lib.Dec.{lit<}
+use lib.ListN.{length, take, drop, getD, set, List·getD-eq-default}
+use lib.Seq.{getD-set-same, getD-set-other, set-split, set-out}
+use Rattle.fields.specs.Choice.{_∈_, here, later}
+use Rattle.fields.specs.Numbers.{natOf, bytesOf, Bytes}
+use Rattle.fields.specs.Parts.{part, put}
+use Rattle.fields.proofs.Choice.{in-none, in-cons, in-append, in-take, in-drop, in-at, at-in}
+use Rattle.fields.proofs.Parts.{part-cons, part-put, length-part}
+
+-- ---- a list of bytes
+
+-- by places, as what is known of a slice of `u8` says it
+pub bytes-at : (l : List ℕ) → Bytes l → (i : ℕ) → getD l i 0 < 256
+bytes-at l h i =
+    elim (decLt i (length l)) [
+      | yes p ↦ h (getD l i 0) (in-at l i 0 p)
+      | no p ↦ rw (List·getD-eq-default l 0 {n = i} (omega arith)) (lit< tt)
+    ]
+
+pub at-bytes : (l : List ℕ) → ((i : ℕ) → getD l i 0 < 256) → Bytes l
+at-bytes l h = at-in (λ b. b < 256) l 0 (λ i g. h i)
+
+pub bytes-none : Bytes []
+bytes-none b m = absurd (in-none m)
+
+pub bytes-cons : (x : ℕ) (l : List ℕ) → x < 256 → Bytes l → Bytes (x ∷ l)
+bytes-cons x l h g b m = go (in-cons m)
+  where
+    go : (b ≡ x) ⊎ (b ∈ l) → b < 256
+    go (inl e) = omega arith
+    go (inr k) = g b k
+
+pub bytes-append : (xs ys : List ℕ) → Bytes xs → Bytes ys → Bytes (xs ++ ys)
+bytes-append xs ys h g b m = go (in-append xs ys m)
+  where
+    go : (b ∈ xs) ⊎ (b ∈ ys) → b < 256
+    go (inl k) = h b k
+    go (inr k) = g b k
+
+pub bytes-take : (n : ℕ) (l : List ℕ) → Bytes l → Bytes (take n l)
+bytes-take n l h b m = h b (in-take n l m)
+
+pub bytes-drop : (n : ℕ) (l : List ℕ) → Bytes l → Bytes (drop n l)
+bytes-drop n l h b m = h b (in-drop n l m)
+
+pub bytes-part : (at n : ℕ) (l : List ℕ) → Bytes l → Bytes (part at n l)
+unfolding part
+bytes-part at n l h = bytes-take n (drop at l) (bytes-drop at l h)
+
+pub bytes-put : (at : ℕ) (vs l : List ℕ) → Bytes vs → Bytes l → Bytes (put at vs l)
+unfolding put
+bytes-put at vs l h g =
+    bytes-append (take at l) (vs ++ drop (at + length vs) l) (bytes-take at l g)
+    (bytes-append vs (drop (at + length vs) l) h (bytes-drop (at + length vs) l g))
+
+-- ---- numbers
+
+pub length-bytesOf : (n v : ℕ) → length (bytesOf n v) ≡ n
+unfolding bytesOf
+length-bytesOf zero v = refl
+length-bytesOf (suc n) v = ap suc (length-bytesOf n (v / 256))
+
+-- each of them is a byte
+pub bytes-below : (n v : ℕ) → Bytes (bytesOf n v)
+unfolding bytesOf
+bytes-below zero v = bytes-none
+bytes-below (suc n) v = bytes-cons (v % 256) (bytesOf n (v / 256)) (omega arith) (bytes-below n (v / 256))
+
+-- a number of n bytes, written and read
+pub nat-bytes : (n v : ℕ) → v < 256 ^ n → natOf (bytesOf n v) ≡ v
+unfolding natOf bytesOf
+nat-bytes zero v h = omega arith
+nat-bytes (suc n) v h =
+    rw (nat-bytes n (v / 256) (div-lt-iff-lt-mul (lit< tt) .1 (rw (pow-suc 256 n) at h))) (div-add-mod' v 256)
+
+-- some bytes, read and written
+pub bytes-nat : (bs : List ℕ) → Bytes bs → bytesOf (length bs) (natOf bs) ≡ bs
+unfolding bytesOf natOf
+bytes-nat [] h = refl
+bytes-nat (b ∷ bs) h =
+    let g : b < 256 = h b (here refl) in
+    let low : (natOf bs * 256 + b) % 256 ≡ b = omega arith in
+    let high : (natOf bs * 256 + b) / 256 ≡ natOf bs = omega arith in
+    rw (low, high, bytes-nat bs (λ x m. h x (later m)))
+
+-- the same of n bytes
+pub bytes-back : (n : ℕ) (bs : List ℕ) → length bs ≡ n → Bytes bs → bytesOf n (natOf bs) ≡ bs
+bytes-back n bs e h = subst (λ (k : ℕ). bytesOf k (natOf bs) ≡ bs) e (bytes-nat bs h)
+
+-- one byte more
+pub nat-grow : (k v b : ℕ) → v < 256 ^ k → b < 256 → v * 256 + b < 256 ^ suc k
+nat-grow k v b h g = rw (pow-suc 256 k) (omega arith)
+
+pub nat-below : (bs : List ℕ) → Bytes bs → natOf bs < 256 ^ length bs
+unfolding natOf
+nat-below [] h = lit< tt
+nat-below (b ∷ bs) h = nat-grow (length bs) (natOf bs) b (nat-below bs (λ x m. h x (later m))) (h b (here refl))
+
+-- a number of at most k bytes is one of m for each m from k on
+pub below-pow : {k m v : ℕ} → k ≤ m → v < 256 ^ k → v < 256 ^ m
+below-pow h g = lt-of-lt-of-le g (pow-le-pow-right (lit< tt) h)
+
+-- ---- numbers in a list
+
+-- the number of n bytes from `at` is below 256 ^ n
+pub nat-part : (at n : ℕ) (l : List ℕ) → Bytes l → at + n ≤ length l → natOf (part at n l) < 256 ^ n
+nat-part at n l h g =
+    subst (λ (k : ℕ). natOf (part at n l) < 256 ^ k) (length-part at n l g) (nat-below (part at n l) (bytes-part at n l h))
+
+-- read and written: the part itself
+pub part-back : (at n : ℕ) (l : List ℕ) → Bytes l → at + n ≤ length l → bytesOf n (natOf (part at n l)) ≡ part at n l
+part-back at n l h g = bytes-back n (part at n l) (length-part at n l g) (bytes-part at n l h)
+
+-- the lowest byte, and the others
+pub nat-step : (s : List ℕ) (j k : ℕ) → j < length s → natOf (part j (suc k) s) ≡ natOf (part (suc j) k s) * 256 + getD s j 0
+unfolding natOf
+nat-step s j k h = rw (part-cons s j k h)
+
+pub nat-one : (s : List ℕ) (at : ℕ) → at < length s → natOf (part at 1 s) ≡ getD s at 0
+unfolding natOf part
+nat-one s at h = nat-step s at 0 h ∙ zero-add (getD s at 0)
+
+-- a number put is read back
+pub read-back : (n at v : ℕ) (l : List ℕ) → v < 256 ^ n → at + n ≤ length l → natOf (part at n (put at (bytesOf n v) l)) ≡ v
+read-back n at v l h g =
+    let e : length (bytesOf n v) ≡ n = length-bytesOf n v in
+    ap natOf (subst (λ (k : ℕ). part at k (put at (bytesOf n v) l) ≡ bytesOf n v) e (part-put at (bytesOf n v) l (rw e g))) ∙ nat-bytes n v h

@@ -1,0 +1,160 @@
+-- Laws of `part` and `put`: how long they are, what is read of what was put, one behind another, and a part or a put in a list that stands in
+-- two or three pieces. Assumes nothing.
+use Prim.Native.Nat.{ℕ, zero, suc, _+_, _*_, _-_, _≤_, _<_}
+use mathlib.Core.Path.{_≡_, refl, ap, sym, _∙_}
+use mathlib.Core.List.{List, [], _∷_, _++_, append-assoc}
+use native.Mathlib.Omega.{arith}
+use native.Mathlib.Nat.{add-zero}
+use lib.ListN.{length, take, drop, getD, set, length-append, length-take, length-drop, length-set, take-append-drop}
+use lib.Seq.{drop-cons, take-at, drop-at, length-take-le, take-append-le, drop-append-le, drop-drop, take-take, take-add, take-all, take-append-add, take-suc-set, drop-set-lt, take-set-le, getD-set-same, drop-append-add, take-suc, getD-drop, drop-set-add}
+use Rattle.fields.specs.Parts.{part, put}
+
+pub length-put : (at : ℕ) (vs l : List ℕ) → at + length vs ≤ length l → length (put at vs l) ≡ length l
+unfolding put
+length-put at vs l h = simp (length-append, length-drop, length-take) (omega arith)
+
+pub length-part : (at n : ℕ) (l : List ℕ) → at + n ≤ length l → length (part at n l) ≡ n
+unfolding part
+length-part at n l h = simp (length-drop, length-take) (omega arith)
+
+-- what was put is there
+pub part-put : (at : ℕ) (vs l : List ℕ) → at + length vs ≤ length l → part at (length vs) (put at vs l) ≡ vs
+unfolding part put
+part-put at vs l h =
+    let e : length (take at l) ≡ at = length-take-le at l (omega arith) in
+    rw (part, put, drop-at (take at l) _ at e, take-at vs _ (length vs) refl)
+
+pub put-nil : (at : ℕ) (l : List ℕ) → put at [] l ≡ l
+unfolding put
+put-nil at l = rw (put, add-zero) (take-append-drop at l)
+
+-- the first of what is put, and then the rest
+pub put-cons : (at b : ℕ) (vs l : List ℕ) → at < length l → put (suc at) vs (set l at b) ≡ put at (b ∷ vs) l
+unfolding put
+put-cons at b vs l h =
+    let p : suc at + length vs ≡ at + suc (length vs) = omega arith in
+    rw (put, take-suc-set l at b h, drop-set-lt (suc at + length vs) l at b (omega arith), p, append-assoc)
+
+-- one more at the end of what is put
+pub put-snoc : (at b : ℕ) (vs l : List ℕ) → at + length vs < length l → put at vs (set l (at + length vs) b) ≡ put at (vs ++ (b ∷ [])) l
+unfolding put
+put-snoc at b vs l h =
+    let j : ℕ = at + length vs in
+    let g : j < length (set l j b) = simp length-set h in
+    let p : at + (length vs + 1) ≡ suc (at + length vs) = omega arith in
+    rw (put, take-set-le at l j b (omega arith), drop-cons (set l j b) j 0 g, getD-set-same l j b 0 h, drop-set-lt (suc j) l j b (omega arith), append-assoc, length-append, p)
+
+-- ---- a part of two lists joined, of a part, of what was put
+
+pub part-left : (a n : ℕ) (xs ys : List ℕ) → a + n ≤ length xs → part a n (xs ++ ys) ≡ part a n xs
+unfolding part
+part-left a n xs ys h =
+    rw (part, drop-append-le a xs ys (omega arith), take-append-le n (drop a xs) ys (simp length-drop (omega arith)))
+
+-- m is how long xs is
+pub part-right : (m a n : ℕ) (xs ys : List ℕ) → length xs ≡ m → part (m + a) n (xs ++ ys) ≡ part a n ys
+unfolding part
+part-right m a n xs ys e = rw (← e, part, drop-append-add xs ys a)
+
+pub part-part : (a n b m : ℕ) (l : List ℕ) → a + n ≤ m → b + m ≤ length l → part a n (part b m l) ≡ part (b + a) n l
+unfolding part
+part-part a n b m l h g =
+    let ys : List ℕ = drop b l in
+    sym (part-left a n (take m ys) (drop m ys) (simp (length-take, length-drop) (omega arith)))
+    ∙ ap (part a n) (take-append-drop m ys)
+    ∙ ap (take n) (drop-drop a b l)
+
+module _ (at : ℕ) (vs l : List ℕ) (fits : at + length vs ≤ length l) where
+  head-long : length (take at l) ≡ at
+  head-long = length-take-le at l (omega arith)
+
+  pub part-put-before : (a n : ℕ) → a + n ≤ at → part a n (put at vs l) ≡ part a n l
+  unfolding put
+  part-put-before a n h =
+      part-left a n (take at l) (vs ++ drop (at + length vs) l) (rw head-long h)
+      ∙ sym (part-left a n (take at l) (drop at l) (rw head-long h))
+      ∙ ap (part a n) (take-append-drop at l)
+
+  pub part-put-in : (a n : ℕ) → a + n ≤ length vs → part (at + a) n (put at vs l) ≡ part a n vs
+  unfolding put
+  part-put-in a n h = part-right at a n (take at l) _ head-long ∙ part-left a n vs _ h
+
+  pub part-put-after : (a n : ℕ) → at + length vs ≤ a → part a n (put at vs l) ≡ part a n l
+  unfolding put part
+  part-put-after a n h =
+      let k : ℕ = a - (at + length vs) in
+      let e : a ≡ at + (length vs + k) = omega arith in
+      let f : at + length vs + k ≡ a = omega arith in
+      ap (λ (b : ℕ). part b n (put at vs l)) e
+      ∙ part-right at (length vs + k) n (take at l) _ head-long
+      ∙ part-right (length vs) k n vs (drop (at + length vs) l) refl
+      ∙ ap (take n) (drop-drop k (at + length vs) l ∙ ap (λ (b : ℕ). drop b l) f)
+
+pub part-set-after : (a n i b : ℕ) (l : List ℕ) → i < a → part a n (set l i b) ≡ part a n l
+unfolding part
+part-set-after a n i b l h = rw (part, drop-set-lt a l i b h)
+
+pub part-set-before : (a n i b : ℕ) (l : List ℕ) → a + n ≤ i → part a n (set l i b) ≡ part a n l
+unfolding part
+part-set-before a n i b l h =
+    let k : ℕ = i - a in
+    let e : i ≡ a + k = omega arith in
+    rw (e, part, drop-set-add a l k b, take-set-le n (drop a l) k b (omega arith))
+
+pub part-snoc : (a n : ℕ) (l : List ℕ) → a + n < length l → part a (suc n) l ≡ part a n l ++ (getD l (a + n) 0 ∷ [])
+unfolding part
+part-snoc a n l h =
+    rw (part, take-suc (drop a l) n 0 (simp length-drop (omega arith)), getD-drop a l n 0)
+
+pub part-drop : (a n b : ℕ) (l : List ℕ) → part a n (drop b l) ≡ part (b + a) n l
+unfolding part
+part-drop a n b l = rw (part, drop-drop a b l)
+
+pub part-cons : (s : List ℕ) (j k : ℕ) → j < length s → part j (suc k) s ≡ getD s j 0 ∷ part (suc j) k s
+unfolding part
+part-cons s j k h = rw (drop-cons s j 0)
+
+pub part-add : (at k m : ℕ) (l : List ℕ) → part at (k + m) l ≡ part at k l ++ part (at + k) m l
+unfolding part
+part-add at k m l = rw (part, take-add k m (drop at l), drop-drop k at l)
+
+pub part-whole : (n : ℕ) (l : List ℕ) → length l ≡ n → part 0 n l ≡ l
+unfolding part
+part-whole n l e = take-all n l (omega arith)
+
+-- ---- a part, and a put, in the middle of three
+pub part-mid : (m a n : ℕ) (pre mid post : List ℕ) → length pre ≡ m → a + n ≤ length mid → part (m + a) n (pre ++ (mid ++ post)) ≡ part a n mid
+part-mid m a n pre mid post e h = part-right m a n pre (mid ++ post) e ∙ part-left a n mid post h
+
+pub put-mid : (m a : ℕ) (vs pre mid post : List ℕ) → length pre ≡ m → a + length vs ≤ length mid
+    → put (m + a) vs (pre ++ (mid ++ post)) ≡ pre ++ (put a vs mid ++ post)
+unfolding put
+put-mid m a vs pre mid post e h =
+    let f : length pre + a + length vs ≡ length pre + (a + length vs) = omega arith in
+    rw (← e, put, take-append-add pre (mid ++ post) a, take-append-le a mid post (omega arith), f, drop-append-add pre (mid ++ post) (a + length vs), drop-append-le (a + length vs) mid post h)
+    (simp append-assoc)
+
+-- a whole middle replaced
+pub put-at : (m : ℕ) (vs pre mid post : List ℕ) → length pre ≡ m → length vs ≡ length mid → put m vs (pre ++ (mid ++ post)) ≡ pre ++ (vs ++ post)
+unfolding put
+put-at m vs pre mid post e h =
+    rw (put, take-at pre (mid ++ post) m e, ← e, drop-append-add pre (mid ++ post) (length vs), drop-at mid post (length vs) (sym h))
+
+pub part-at : (m n : ℕ) (pre mid post : List ℕ) → length pre ≡ m → length mid ≡ n → part m n (pre ++ (mid ++ post)) ≡ mid
+unfolding part
+part-at m n pre mid post e f = rw (part, drop-at pre (mid ++ post) m e, take-at mid post n f)
+
+pub put-right : (m a : ℕ) (vs xs ys : List ℕ) → length xs ≡ m → put (m + a) vs (xs ++ ys) ≡ xs ++ put a vs ys
+unfolding put
+put-right m a vs xs ys e =
+    let f : length xs + a + length vs ≡ length xs + (a + length vs) = omega arith in
+    rw (← e, put, take-append-add xs ys a, f, drop-append-add xs ys (a + length vs), append-assoc)
+
+-- put again into what was put
+pub put-put : (at : ℕ) (vs ws l : List ℕ) → length vs ≤ length ws → at + length ws ≤ length l → put at vs (put at ws l) ≡ put at (put 0 vs ws) l
+unfolding put
+put-put at vs ws l h g =
+    let long : length (put 0 vs ws) ≡ length ws = length-put 0 vs ws (omega arith) in
+    ap (λ (k : ℕ). put k vs (put at ws l)) (sym (add-zero at))
+    ∙ put-mid at 0 vs (take at l) ws (drop (at + length ws) l) (length-take-le at l (omega arith)) (omega arith)
+    ∙ ap (λ (k : ℕ). take at l ++ (put 0 vs ws ++ drop (at + k) l)) (sym long)
