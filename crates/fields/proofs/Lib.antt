@@ -2,3 +2,6 @@ pub mod Choice
 pub mod Parts
 pub mod Numbers
 pub mod Ordered
+pub mod Blocks
+pub mod Widths
+pub mod Lent
