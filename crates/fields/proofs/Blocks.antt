@@ -12,6 +12,7 @@ use lib.Dec.{eqb, lit<}
 use lib.ListN.{length, take, drop, getD, set, replicate, length-append, length-take, length-drop, length-replicate, take-append-drop, drop-of-length-le, replicate-append-replicate}
 use lib.Seq.{drop-cons, take-at, drop-at, length-take-le, drop-drop, take-append-add, take-add, take-all, split-at, set-split}
 use borrow.Author.Tests.{eqb-true}
+use Rattle.fields.specs.Choice.{_∈_, here, later}
 use Rattle.fields.specs.Numbers.{natOf, bytesOf, Bytes}
 use Rattle.fields.specs.Parts.{part, put}
 use Rattle.fields.specs.Blocks.{zeros, allZero, fit, flat, blocks, unblock, allBlocks, insertAt, removeAt}
@@ -59,6 +60,10 @@ bytes-zeros zero = bytes-none
 bytes-zeros (suc n) = bytes-cons 0 (zeros n) (lit< tt) (bytes-zeros n)
 
 -- ---- a list in n places, the others zero
+
+pub bytes-fit : (n : ℕ) (xs : List ℕ) → Bytes xs → Bytes (fit n xs)
+unfolding fit
+bytes-fit n xs h = bytes-take n (xs ++ zeros n) (bytes-append xs (zeros n) h (bytes-zeros n))
 
 pub length-fit : (n : ℕ) (xs : List ℕ) → length (fit n xs) ≡ n
 unfolding fit
@@ -164,7 +169,7 @@ module _ {A : Type 0} (enc : A → List ℕ) (w : ℕ) (wide : (a : A) → lengt
   unfolding flat
   flat-split i d es h = ap (flat enc) (split-at es i d h) ∙ flat-append (take i es) (getD es i d ∷ drop (suc i) es)
 
-  -- the blocks are the blocks and then zeros
+  -- the blocks are the encodings and then zeros
   pub blocks-is : (n k : ℕ) (es : List A) → length es + k ≡ n → blocks n w enc es ≡ flat enc es ++ zeros (k * w)
   unfolding blocks
   blocks-is n k es h =
@@ -175,6 +180,15 @@ module _ {A : Type 0} (enc : A → List ℕ) (w : ℕ) (wide : (a : A) → lengt
   pub length-blocks : (n : ℕ) (es : List A) → length (blocks n w enc es) ≡ n * w
   unfolding blocks
   length-blocks n es = length-fit (n * w) (flat enc es)
+
+  pub bytes-flat : (es : List A) → ((a : A) → a ∈ es → Bytes (enc a)) → Bytes (flat enc es)
+  unfolding flat
+  bytes-flat [] h = bytes-none
+  bytes-flat (a ∷ es) h = bytes-append (enc a) (flat enc es) (h a (here refl)) (bytes-flat es (λ x m. h x (later m)))
+
+  pub bytes-blocks : (n : ℕ) (es : List A) → ((a : A) → a ∈ es → Bytes (enc a)) → Bytes (blocks n w enc es)
+  unfolding blocks
+  bytes-blocks n es h = bytes-fit (n * w) (flat enc es) (bytes-flat es h)
 
   -- the blocks of two lists joined, and with an element between them
   pub blocks-two : (n k : ℕ) (xs ys : List A) → length xs + length ys + k ≡ n → blocks n w enc (xs ++ ys) ≡ flat enc xs ++ (flat enc ys ++ zeros (k * w))
@@ -277,6 +291,15 @@ module _ {A : Type 0} (w : ℕ) (dec : List ℕ → A) where
   length-unblock zero l = refl
   length-unblock (suc n) l = ap suc (length-unblock n (drop w l))
 
+  -- element i
+  pub unblock-at : (i n : ℕ) (l : List ℕ) (d : A) → i < n → getD (unblock w dec n l) i d ≡ dec (part (i * w) w l)
+  unfolding unblock part
+  unblock-at i zero l d h = absurd (not-suc-le-zero h)
+  unblock-at zero (suc n) l d h = rw zero-mul refl
+  unblock-at (suc i) (suc n) l d h =
+      let e : suc i * w ≡ w + i * w = suc-mul i w ∙ omega arith in
+      unblock-at i n (drop w l) d (le-of-suc-le-suc h) ∙ ap (λ (r : List ℕ). dec (take w r)) (drop-drop (i * w) w l ∙ ap (λ (k : ℕ). drop k l) (sym e))
+
   -- from element i on
   pub unblock-drop : (i n : ℕ) (l : List ℕ) → i < n → drop i (unblock w dec n l) ≡ dec (part (i * w) w l) ∷ drop (suc i) (unblock w dec n l)
   unfolding unblock part
@@ -353,3 +376,20 @@ blocks-turn f w base n i l h =
     let p : n - i ≡ suc (n - (i + 1)) = omega arith in
     let q : base + (i + 1) * w ≡ base + i * w + w = ap (λ (j : ℕ). base + j * w) (add-one i) ∙ ap (λ (j : ℕ). base + j) (suc-mul i w) ∙ omega arith in
     rw (p, q, ← drop-drop w (base + i * w) l)
+
+pub at-all-blocks : (f : List ℕ → Bool) (w n : ℕ) (l : List ℕ) → ((i : ℕ) → i < n → f (part (i * w) w l) ≡ true) → allBlocks f w n l ≡ true
+unfolding allBlocks
+at-all-blocks f w zero l h = refl
+at-all-blocks f w (suc n) l h =
+    and-intro (f (take w l)) (allBlocks f w n (drop w l)) (rw block-first at (h 0 (omega arith)))
+    (at-all-blocks f w n (drop w l) (λ i g. rw (block-next i w l) (h (suc i) (omega arith))))
+
+-- ---- how long a list is with an element more or less
+
+pub length-insert : {A : Type 0} (i : ℕ) (a : A) (es : List A) → i ≤ length es → length (insertAt i a es) ≡ suc (length es)
+unfolding insertAt
+length-insert i a es h = simp (length-append, length-take, length-drop) (omega arith)
+
+pub length-remove : {A : Type 0} (i : ℕ) (es : List A) → i < length es → suc (length (removeAt i es)) ≡ length es
+unfolding removeAt
+length-remove i es h = simp (length-append, length-take, length-drop) (omega arith)

@@ -1,7 +1,7 @@
 -- Laws of `part` and `put`: how long they are, what is read of what was put, one behind another, and a part or a put in a list that stands in
 -- two or three pieces. Assumes nothing.
 use Prim.Native.Nat.{ℕ, zero, suc, _+_, _*_, _-_, _≤_, _<_}
-use mathlib.Core.Path.{_≡_, refl, ap, sym, _∙_}
+use mathlib.Core.Path.{_≡_, refl, ap, ap₂, sym, _∙_}
 use mathlib.Core.List.{List, [], _∷_, _++_, append-assoc}
 use native.Mathlib.Omega.{arith}
 use native.Mathlib.Nat.{add-zero}
@@ -158,3 +158,69 @@ put-put at vs ws l h g =
     ap (λ (k : ℕ). put k vs (put at ws l)) (sym (add-zero at))
     ∙ put-mid at 0 vs (take at l) ws (drop (at + length ws) l) (length-take-le at l (omega arith)) (omega arith)
     ∙ ap (λ (k : ℕ). take at l ++ (put 0 vs ws ++ drop (at + k) l)) (sym long)
+
+-- what was there put again
+pub put-same : (at n : ℕ) (l : List ℕ) → at + n ≤ length l → put at (part at n l) l ≡ l
+unfolding put part
+put-same at n l h =
+    let e : length (part at n l) ≡ n = length-part at n l h in
+    ap (λ (k : ℕ). take at l ++ (part at n l ++ drop (at + k) l)) e
+    ∙ ap (λ (r : List ℕ). take at l ++ (part at n l ++ r)) (sym (drop-drop n at l))
+    ∙ ap (λ (r : List ℕ). take at l ++ r) (take-append-drop n (drop at l))
+    ∙ take-append-drop at l
+
+-- one put right behind another
+pub put-append : (at : ℕ) (vs ws l : List ℕ) → at + (length vs + length ws) ≤ length l → put at vs (put (at + length vs) ws l) ≡ put at (vs ++ ws) l
+unfolding put
+put-append at vs ws l h =
+    let m : ℕ = at + length vs in
+    let long : length (take m l) ≡ m = length-take-le m l (omega arith) in
+    let q : m + length ws ≡ at + (length vs + length ws) = omega arith in
+    rw (put, take-append-le at (take m l) _ (rw long (omega arith)), take-take at m l (omega arith), drop-at (take m l) _ m long, q, length-append, append-assoc)
+
+-- a put within a part that is put back
+pub put-part : (a n b : ℕ) (vs l : List ℕ) → a + n ≤ length l → b + length vs ≤ n → put a (put b vs (part a n l)) l ≡ put (a + b) vs l
+unfolding put part
+put-part a n b vs l h g =
+    let mid : List ℕ = part a n l in
+    let post : List ℕ = drop (a + n) l in
+    let long : length mid ≡ n = length-part a n l h in
+    let all : l ≡ take a l ++ (mid ++ post) =
+    sym (ap (λ (r : List ℕ). take a l ++ (mid ++ r)) (sym (drop-drop n a l)) ∙ ap (λ (r : List ℕ). take a l ++ r) (take-append-drop n (drop a l)) ∙ take-append-drop a l) in
+    ap (λ (k : ℕ). take a l ++ (put b vs mid ++ drop (a + k) l)) (length-put b vs mid (rw long g) ∙ long)
+    ∙ sym (put-mid a b vs (take a l) mid post (length-take-le a l (omega arith)) (rw long g))
+    ∙ ap (put (a + b) vs) (sym all)
+
+-- a put within the rest
+pub put-rest : (a b : ℕ) (vs l : List ℕ) → a ≤ length l → take a l ++ put b vs (drop a l) ≡ put (a + b) vs l
+put-rest a b vs l h = sym (put-right a b vs (take a l) (drop a l) (length-take-le a l h)) ∙ ap (put (a + b) vs) (take-append-drop a l)
+
+-- what stands from n on, and before n, of a put that begins no earlier
+pub drop-put : (n d : ℕ) (vs l : List ℕ) → n ≤ length l → drop n (put (n + d) vs l) ≡ put d vs (drop n l)
+drop-put n d vs l h =
+    ap (drop n) (sym (put-rest n d vs l h)) ∙ drop-at (take n l) (put d vs (drop n l)) n (length-take-le n l h)
+
+pub take-put : (n k : ℕ) (vs l : List ℕ) → n ≤ length l → take n (put (n + k) vs l) ≡ take n l
+take-put n k vs l h = ap (take n) (sym (put-rest n k vs l h)) ∙ take-at (take n l) (put k vs (drop n l)) n (length-take-le n l h)
+
+-- two puts that do not touch, in either order
+pub put-swap : (a b : ℕ) (vs ws l : List ℕ) → a + length vs ≤ b → b + length ws ≤ length l → put a vs (put b ws l) ≡ put b ws (put a vs l)
+unfolding put
+put-swap a b vs ws l h g =
+    let d : ℕ = b - (a + length vs) in
+    let e : b ≡ a + (length vs + d) = omega arith in
+    let f : b ≡ a + length vs + d = omega arith in
+    let long : length (take a l) ≡ a = length-take-le a l (omega arith) in
+    let left : put a vs (put b ws l) ≡ take a l ++ (vs ++ put d ws (drop (a + length vs) l)) =
+    ap₂ (λ (x y : List ℕ). x ++ (vs ++ y))
+    (ap (take a) (ap (λ (k : ℕ). put k ws l) e) ∙ take-put a (length vs + d) ws l (omega arith))
+    (ap (λ (k : ℕ). drop (a + length vs) (put k ws l)) f ∙ drop-put (a + length vs) d ws l (omega arith)) in
+    let right : put b ws (put a vs l) ≡ take a l ++ (vs ++ put d ws (drop (a + length vs) l)) =
+    ap (λ (k : ℕ). put k ws (put a vs l)) e
+    ∙ put-right a (length vs + d) ws (take a l) (vs ++ drop (a + length vs) l) long
+    ∙ ap (λ (r : List ℕ). take a l ++ r) (put-right (length vs) d ws vs (drop (a + length vs) l) refl) in
+    left ∙ sym right
+
+-- one byte put is one element set
+pub put-one : (at b : ℕ) (l : List ℕ) → at < length l → put at (b ∷ []) l ≡ set l at b
+put-one at b l h = sym (put-cons at b [] l h) ∙ put-nil (suc at) (set l at b)
