@@ -1,0 +1,89 @@
+-- What stands for each case of an answer: document 01's number of a refusal, the number of a node's answer in a lent list, and for each
+-- answer of a call its number (0 where it was accepted) and its values.
+use Prim.Native.Nat.{ℕ}
+use mathlib.Core.List.{List, [], _∷_}
+use Rattle.rules.specs.declared.Refusal.{Refusal}
+use Rattle.rules.specs.declared.Refusal.the-variants.{TooLong, NoNode, NoKey, NinthNode, NodeFull, Exhausted, BadMtu, NoPlace, Cut, BadTag, OutOfOrder, NodeTwice, TooMany, BadTable, BadTies}
+use Rattle.rules.specs.declared.NodeAnswer.{NodeAnswer}
+use Rattle.rules.specs.declared.NodeAnswer.the-variants as node
+use Rattle.rules.specs.declared.Answer.{Answer}
+use Rattle.rules.specs.declared.Answer.the-variants as plain
+use Rattle.rules.specs.declared.Offered.{Offered}
+use Rattle.rules.specs.declared.Offered.the-variants as offered
+use Rattle.rules.specs.declared.Listed.{Listed}
+use Rattle.rules.specs.declared.Listed.the-variants as listed
+use Rattle.rules.specs.declared.Written.{Written}
+use Rattle.rules.specs.declared.Written.the-variants as written
+use Rattle.rules.specs.declared.Computed.{Computed}
+use Rattle.rules.specs.declared.Computed.the-variants as computed
+use Rattle.rules.specs.declared.DeltaRead.{DeltaRead}
+use Rattle.rules.specs.declared.DeltaRead.the-variants as read
+use Rattle.rules.specs.declared.Applied.{Applied}
+use Rattle.rules.specs.declared.Applied.the-variants as applied
+
+-- the number of the refusal in document 01
+abbrev pub numberOf : Refusal → ℕ
+numberOf TooLong = 1
+numberOf NoNode = 2
+numberOf NoKey = 3
+numberOf NinthNode = 4
+numberOf NodeFull = 5
+numberOf Exhausted = 6
+numberOf BadMtu = 7
+numberOf NoPlace = 8
+numberOf Cut = 9
+numberOf BadTag = 10
+numberOf OutOfOrder = 11
+numberOf NodeTwice = 12
+numberOf TooMany = 13
+numberOf BadTable = 14
+numberOf BadTies = 15
+
+-- a node's answer in a lent list
+abbrev pub codeOf : NodeAnswer → ℕ
+codeOf node.Reject = 0
+codeOf node.Apply = 1
+codeOf node.ApplyAfterReset = 2
+codeOf node.Room = 3
+codeOf node.Unknown = 4
+
+-- the number and the values of an answer
+pub record Told : Type 0 where
+  pub number : ℕ
+  pub values : List ℕ
+
+abbrev accepted : List ℕ → Told
+accepted vs = record { number = 0; values = vs }
+
+abbrev refused : Refusal → List ℕ → Told
+refused r vs = record { number = numberOf r; values = vs }
+
+abbrev pub answerTold : Answer → Told
+answerTold plain.Done = accepted []
+answerTold (plain.Refused r) = refused r []
+
+-- yes is 1, no is 0
+abbrev pub offeredTold : Offered → Told
+offeredTold offered.Yes = accepted (1 ∷ [])
+offeredTold offered.No = accepted (0 ∷ [])
+offeredTold (offered.Refused r) = refused r []
+
+abbrev pub listedTold : Listed → Told
+listedTold (listed.Hits n) = accepted (n ∷ [])
+listedTold (listed.Refused r) = refused r []
+
+abbrev pub writtenTold : Written → Told
+writtenTold (written.Bytes n) = accepted (n ∷ [])
+writtenTold (written.Refused r) = refused r []
+
+abbrev pub computedTold : Computed → Told
+computedTold (computed.Delta ops bytes) = accepted (ops ∷ bytes ∷ [])
+computedTold (computed.Refused r) = refused r []
+
+abbrev pub readTold : DeltaRead → Told
+readTold (read.Good ops nodes) = accepted (ops ∷ nodes ∷ [])
+readTold (read.Refused r at) = refused r (at ∷ [])
+
+abbrev pub appliedTold : Applied → Told
+appliedTold (applied.Nodes n) = accepted (n ∷ [])
+appliedTold (applied.Refused r at) = refused r (at ∷ [])

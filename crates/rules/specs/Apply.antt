@@ -1,0 +1,134 @@
+-- Applying a delta: what a node does with a node delta, and what a table does with a stream of them.
+use Prim.Native.Nat.{ℕ, suc, _+_}
+use mathlib.Core.Bool.{Bool, true, false, not, _&&_}
+use mathlib.Core.List.{List, [], _∷_}
+use mathlib.Core.Option.{Option, none, some}
+use lib.ListN.{length}
+use lib.Dec.{leb, ltb, eqb}
+use Rattle.fields.specs.Choice.{pick}
+use Rattle.fields.specs.Parts.{put}
+use Rattle.rules.specs.Sizes.{maxRecords}
+use Rattle.rules.specs.Answers.{codeOf}
+use Rattle.rules.specs.Node.{KeyValue, Rec, Node, scheduled, store, beats}
+use Rattle.rules.specs.Table.{Table, nodeOf, setNode}
+use Rattle.rules.specs.Delta.{NodeDelta, Part, Op, Ops, Good, Faulty, partsOf, readDelta}
+use Rattle.rules.specs.declared.DeltaStatus.{DeltaStatus}
+use Rattle.rules.specs.declared.DeltaStatus.the-variants.{Reject, Apply, ApplyAfterReset}
+use Rattle.rules.specs.declared.NodeAnswer.{NodeAnswer}
+use Rattle.rules.specs.declared.NodeAnswer.the-variants as node
+use Rattle.rules.specs.declared.Refusal.{Refusal}
+use Rattle.rules.specs.declared.Refusal.the-variants.{NoPlace}
+use Rattle.rules.specs.declared.Applied.{Applied}
+use Rattle.rules.specs.declared.Applied.the-variants.{Nodes, Refused}
+
+-- ---- one node
+
+-- step 3, where no reset is due: Apply if own max < delta max, else Reject
+unfoldable pub newerOf : ℕ → ℕ → DeltaStatus
+newerOf ownMax max = pick (ltb ownMax max) Apply Reject
+
+-- by the numbers alone: 1. from > own max: Reject. 2. delta last_gc above both own last_gc and own max: Reject if from is not 0, else
+-- ApplyAfterReset. 3. as above.
+unfoldable pub statusOf : ℕ → ℕ → ℕ → ℕ → ℕ → DeltaStatus
+statusOf ownGc ownMax from gc max =
+    pick (ltb ownMax from) Reject
+    (pick (ltb ownGc gc && ltb ownMax gc) (pick (eqb from 0) ApplyAfterReset Reject)
+    (newerOf ownMax max))
+
+unfoldable pub deltaStatus : Node → NodeDelta → DeltaStatus
+deltaStatus n d = statusOf (n .last-gc) (n .max) (d .from) (d .last-gc) (d .max)
+
+-- a record is taken if its version is above the max held before the first of them and, where it is scheduled, above last_gc
+unfoldable pub takes : ℕ → ℕ → KeyValue → Bool
+takes held gc r = ltb held (r .version) && not (scheduled (r .status) && leb (r .version) gc)
+
+-- a taken scheduled record starts at the receiver's now
+abbrev pub startAt : Bool → ℕ → ℕ
+startAt true now = now
+startAt false now = 0
+
+abbrev pub stamp : ℕ → KeyValue → Rec
+stamp now r = record { kv = r; start = startAt (scheduled (r .status)) now }
+
+-- records are taken in order
+unfoldable pub takeAll : ℕ → ℕ → ℕ → List KeyValue → List Rec → List Rec
+takeAll held gc now [] l = l
+takeAll held gc now (r ∷ rs) l = takeAll held gc now rs (pick (takes held gc r) (store (stamp now r) l) l)
+
+-- Reject changes nothing. A reset gives a fresh node with the delta's last_gc; then records are taken. At the end max is the delta's max.
+unfoldable pub outcome : DeltaStatus → ℕ → NodeDelta → Node → Node
+outcome Reject now d n = n
+outcome ApplyAfterReset now d n =
+    record { heartbeat = beats 0; max = d .max; last-gc = d .last-gc; recs = takeAll 0 (d .last-gc) now (d .recs) [] }
+outcome Apply now d n =
+    record { heartbeat = n .heartbeat; max = d .max; last-gc = n .last-gc; recs = takeAll (n .max) (n .last-gc) now (d .recs) (n .recs) }
+
+-- what a node answers to a node delta, and the node afterwards
+pub record Taken : Type 0 where
+  pub answer : NodeAnswer
+  pub node : Node
+
+abbrev pub takenAs : NodeAnswer → Node → Taken
+takenAs a n = record { answer = a; node = n }
+
+-- Room, where the outcome would have over 32 keys: the node stays
+abbrev pub withRoom : NodeAnswer → Node → Node → Taken
+withRoom a o n = pick (leb (length (o .recs)) maxRecords) (takenAs a o) (takenAs node.Room n)
+
+abbrev pub answered : DeltaStatus → Node → Node → Taken
+answered Reject o n = takenAs node.Reject n
+answered Apply o n = withRoom node.Apply o n
+answered ApplyAfterReset o n = withRoom node.ApplyAfterReset o n
+
+unfoldable pub applyNode : ℕ → NodeDelta → Node → Taken
+applyNode now d n = answered (deltaStatus n d) (outcome (deltaStatus n d) now d n) n
+
+-- ---- a table
+
+-- the answers in stream order, and the table afterwards
+pub record Stream : Type 0 where
+  pub answers : List NodeAnswer
+  pub table : Table
+
+abbrev pub answering : NodeAnswer → Stream → Stream
+answering a s = record { answers = a ∷ s .answers; table = s .table }
+
+-- how a node takes a node delta: document 01's way is `applyNode now`
+abbrev pub Taking : Type 0
+Taking = NodeDelta → Node → Taken
+
+-- a node missing in the table answers Unknown and is never made
+abbrev pub onNode : Taking → Part → Option Node → Table → (Table → Stream) → Stream
+onNode take x none t next = answering node.Unknown (next t)
+onNode take x (some n) t next = answering (take (x .delta) n .answer) (next (setNode (x .number) (take (x .delta) n .node) t))
+
+unfoldable pub applyEach : Taking → List Part → Table → Stream
+applyEach take [] t = record { answers = []; table = t }
+applyEach take (x ∷ xs) t = onNode take x (nodeOf (x .number) t) t (applyEach take xs)
+
+-- ---- applying as a call
+
+unfoldable pub codes : List NodeAnswer → List ℕ
+codes [] = []
+codes (a ∷ l) = codeOf a ∷ codes l
+
+-- an answer, the table and the lent list of answers after the call
+pub record ApplyOutcome : Type 0 where
+  pub answer : Applied
+  pub table : Table
+  pub list : List ℕ
+
+-- 8 where the list has too few places
+abbrev pub applyParts : Taking → List Part → Table → List ℕ → ApplyOutcome
+applyParts take xs t l =
+    pick (leb (length xs) (length l))
+    (record { answer = Nodes (length xs); table = applyEach take xs t .table; list = put 0 (codes (applyEach take xs t .answers)) l })
+    (record { answer = Refused NoPlace 0; table = t; list = l })
+
+abbrev pub applyOps : Taking → Ops → Table → List ℕ → ApplyOutcome
+applyOps take (Good ops) t l = applyParts take (partsOf ops) t l
+applyOps take (Faulty r at) t l = record { answer = Refused r at; table = t; list = l }
+
+-- read, then node by node
+unfoldable pub apply : List ℕ → ℕ → Table → List ℕ → ApplyOutcome
+apply bytes now t l = applyOps (applyNode now) (readDelta bytes) t l

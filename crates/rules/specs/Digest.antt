@@ -1,0 +1,109 @@
+-- A digest tells one (heartbeat, last_gc, max) for each node. Its bytes (V0): a count of two bytes, then for each node its number,
+-- heartbeat, last_gc and max, eight bytes each.
+use Prim.Native.Nat.{ℕ, _+_, _*_, _-_}
+use mathlib.Core.Bool.{Bool, true, false, not, _&&_}
+use mathlib.Core.List.{List, [], _∷_, _++_}
+use lib.ListN.{length, take, drop}
+use lib.Dec.{leb, ltb, eqb}
+use Rattle.fields.specs.Choice.{pick}
+use Rattle.fields.specs.Numbers.{natOf, bytesOf}
+use Rattle.fields.specs.Parts.{part, put}
+use Rattle.fields.specs.Blocks.{flat, unblock}
+use Rattle.rules.specs.Sizes.{maxNodes}
+use Rattle.rules.specs.Node.{Node, beats}
+use Rattle.rules.specs.Table.{Entry, Table, among}
+use Rattle.rules.specs.Local.{Filled, fills}
+use Rattle.rules.specs.declared.Heartbeat.{Heartbeat}
+use Rattle.rules.specs.declared.Refusal.{Refusal}
+use Rattle.rules.specs.declared.Refusal.the-variants.{NoPlace, Cut, TooMany}
+use Rattle.rules.specs.declared.Written.{Written}
+use Rattle.rules.specs.declared.Written.the-variants as written
+
+-- what a digest tells of a node
+pub record NodeDigest : Type 0 where
+  pub number : ℕ
+  pub heartbeat : Heartbeat
+  pub last-gc : ℕ
+  pub max : ℕ
+
+abbrev pub digestOfNode : Entry → NodeDigest
+digestOfNode e = record { number = e .number; heartbeat = e .node .heartbeat; last-gc = e .node .last-gc; max = e .node .max }
+
+-- excluded nodes are left out
+unfoldable pub digestOf : List ℕ → Table → List NodeDigest
+digestOf excluded [] = []
+digestOf excluded (e ∷ t) = pick (among (e .number) excluded) (digestOf excluded t) (digestOfNode e ∷ digestOf excluded t)
+
+-- ---- bytes
+
+-- the width of an entry and of the count
+abbrev pub entryWidth : ℕ
+entryWidth = 32
+
+abbrev pub countWidth : ℕ
+countWidth = 2
+
+unfoldable pub entryBytes : NodeDigest → List ℕ
+entryBytes d = bytesOf 8 (d .number) ++ (bytesOf 8 (d .heartbeat .0) ++ (bytesOf 8 (d .last-gc) ++ bytesOf 8 (d .max)))
+
+unfoldable pub digestBytes : List NodeDigest → List ℕ
+digestBytes ds = bytesOf countWidth (length ds) ++ flat entryBytes ds
+
+-- an entry out of its 32 bytes
+unfoldable pub entryOf : List ℕ → NodeDigest
+entryOf b =
+    record {
+      number = natOf (part 0 8 b);
+      heartbeat = beats (natOf (part 8 8 b));
+      last-gc = natOf (part 16 8 b);
+      max = natOf (part 24 8 b);
+    }
+
+-- ---- reading
+
+-- the entries as they stand, and the unread rest
+pub data DigestRead : Type 0 where
+  Entries : List NodeDigest → List ℕ → DigestRead
+  Refused : Refusal → DigestRead
+
+-- so many entries: 13 over eight, 9 where they are not all there
+abbrev pub readCount : ℕ → List ℕ → DigestRead
+readCount n l =
+    pick (leb n maxNodes)
+    (pick (leb (n * entryWidth) (length l)) (Entries (unblock entryWidth entryOf n l) (drop (n * entryWidth) l)) (Refused Cut))
+    (Refused TooMany)
+
+-- 9 for the count, 13, 9
+unfoldable pub readEntries : List ℕ → DigestRead
+readEntries l = pick (leb countWidth (length l)) (readCount (natOf (take countWidth l)) (drop countWidth l)) (Refused Cut)
+
+-- an entry takes the place of its node's, or its own in the order of the numbers
+unfoldable pub tell : NodeDigest → List NodeDigest → List NodeDigest
+tell d [] = d ∷ []
+tell d (a ∷ l) = pick (eqb (d .number) (a .number)) (d ∷ l) (pick (ltb (d .number) (a .number)) (d ∷ a ∷ l) (a ∷ tell d l))
+
+-- the entries one after the other: a repeated node's last entry counts
+unfoldable pub tellAll : List NodeDigest → List NodeDigest → List NodeDigest
+tellAll [] l = l
+tellAll (d ∷ ds) l = tellAll ds (tell d l)
+
+abbrev pub gathered : DigestRead → DigestRead
+gathered (Entries ds rest) = Entries (tellAll ds []) rest
+gathered (Refused r) = Refused r
+
+-- the digest that the bytes are: ascending, each node once
+unfoldable pub readDigest : List ℕ → DigestRead
+readDigest l = gathered (readEntries l)
+
+-- ---- writing
+
+-- the place is not past the end of the list, and n elements are free from there on
+abbrev pub fitsAt : ℕ → ℕ → List ℕ → Bool
+fitsAt place n l = leb place (length l) && leb n (length l - place)
+
+abbrev pub writeBytes : List ℕ → ℕ → List ℕ → Filled Written
+writeBytes b place l = pick (fitsAt place (length b) l) (fills (written.Bytes (length b)) (put place b l)) (fills (written.Refused NoPlace) l)
+
+-- a digest written into a datagram from its place: 8
+unfoldable pub writeDigest : List ℕ → ℕ → Table → List ℕ → Filled Written
+writeDigest excluded place t l = writeBytes (digestBytes (digestOf excluded t)) place l

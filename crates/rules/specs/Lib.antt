@@ -1,0 +1,12 @@
+pub mod Sizes
+pub mod Answers
+pub mod Node
+pub mod Table
+pub mod Local
+pub mod Digest
+pub mod Delta
+pub mod Apply
+pub mod Compute
+pub mod Listing
+pub mod Layout
+pub mod Lent

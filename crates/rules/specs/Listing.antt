@@ -1,0 +1,62 @@
+-- The listing that `showdelta` prints of a delta: a line for each operation and one for the end, each closed by a line feed.
+use Prim.Native.Nat.{ℕ, zero, suc, _+_, _/_, _%_}
+use Prim.Native.Char.{Char, code}
+use Prim.Native.String.{String}
+use Prim.Native.String as str
+use mathlib.Core.Bool.{Bool, true, false, _&&_}
+use mathlib.Core.List.{List, [], _∷_, _++_}
+use lib.ListN.{length}
+use lib.Dec.{leb, ltb}
+use Rattle.fields.specs.Choice.{pick}
+use Rattle.fields.specs.Blocks.{flat}
+use Rattle.rules.specs.Answers.{numberOf}
+use Rattle.rules.specs.Delta.{Op, NodeOp, KeyValueOp, SetMaxVersionOp, Ops, Good, Faulty, readDelta}
+use Rattle.rules.specs.declared.Status.{Status}
+use Rattle.rules.specs.declared.Status.the-variants.{Set, Delete, Ttl}
+
+-- the bytes of an ASCII text
+abbrev pub ascii : String → List ℕ
+ascii str.[] = []
+ascii (str._∷_ c s) = code c ∷ ascii s
+
+-- decimal digits, highest first and without leading zeros; the first number bounds them, and 20 are enough for eight bytes
+unfoldable pub digits : ℕ → ℕ → List ℕ → List ℕ
+digits zero n behind = behind
+digits (suc most) n behind = pick (ltb n 10) ((48 + n) ∷ behind) (digits most (n / 10) ((48 + n % 10) ∷ behind))
+
+unfoldable pub decimal : ℕ → List ℕ
+decimal n = digits 20 n []
+
+-- a byte outside 33 to 126 prints as `?`
+abbrev pub shownByte : ℕ → ℕ
+shownByte b = pick (leb 33 b && leb b 126) b 63
+
+unfoldable pub shownBytes : List ℕ → List ℕ
+shownBytes [] = []
+shownBytes (b ∷ l) = shownByte b ∷ shownBytes l
+
+abbrev pub statusText : Status → List ℕ
+statusText Set = ascii "set"
+statusText Delete = ascii "delete"
+statusText Ttl = ascii "ttl"
+
+abbrev pub lineFeed : List ℕ
+lineFeed = 10 ∷ []
+
+unfoldable pub opLine : Op → List ℕ
+opLine (NodeOp n g f) = ascii "op=node id=" ++ (decimal n ++ (ascii " gc=" ++ (decimal g ++ (ascii " from=" ++ (decimal f ++ lineFeed)))))
+opLine (KeyValueOp r) =
+    ascii "op=kv version="
+    ++ (decimal (r .version)
+    ++ (ascii " status="
+    ++ (statusText (r .status)
+    ++ (ascii " key=" ++ (shownBytes (r .key) ++ (ascii " value=" ++ (shownBytes (r .value) ++ lineFeed)))))))
+opLine (SetMaxVersionOp m) = ascii "op=max version=" ++ (decimal m ++ lineFeed)
+
+-- a refused delta prints one line; `n` is the length of the delta's bytes
+unfoldable pub listingOf : Ops → ℕ → List ℕ
+listingOf (Good ops) n = flat opLine ops ++ (ascii "end=ok ops=" ++ (decimal (length ops) ++ (ascii " bytes=" ++ (decimal n ++ lineFeed))))
+listingOf (Faulty r at) n = ascii "end=refused code=" ++ (decimal (numberOf r) ++ (ascii " at=" ++ (decimal at ++ lineFeed)))
+
+unfoldable pub listing : List ℕ → List ℕ
+listing l = listingOf (readDelta l) (length l)

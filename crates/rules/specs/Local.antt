@@ -1,0 +1,125 @@
+-- The calls on a table that a hub makes by itself: nodes come and go, records are written and deleted, heartbeats, reading, removal.
+-- Each gives its answer and the table afterwards, in document 01's order of refusals. That the lent table obeys the rules (14) is asked
+-- before any of them, in Layout.
+use Prim.Native.Nat.{ℕ, _+_}
+use mathlib.Core.Bool.{Bool, true, false, not, _&&_}
+use mathlib.Core.List.{List, [], _∷_}
+use mathlib.Core.Option.{Option, none, some}
+use lib.ListN.{length}
+use lib.Dec.{leb, ltb, eqb}
+use Rattle.fields.specs.Choice.{pick}
+use Rattle.fields.specs.Parts.{put}
+use Rattle.rules.specs.Sizes.{maxNodes, maxKey, top}
+use Rattle.rules.specs.Node.{Rec, Node, Call, Decision, Refuse, Leave, Give, decide, act, find, shown, hitsFrom, due, offerOf, beats, withHeartbeat}
+use Rattle.rules.specs.Table.{Table, nodeOf, setNode, addNode, dropNode, removeAll, numbersOf, among}
+use Rattle.rules.specs.declared.Heartbeat.{Heartbeat}
+use Rattle.rules.specs.declared.Beat.{Beat}
+use Rattle.rules.specs.declared.Refusal.{Refusal}
+use Rattle.rules.specs.declared.Refusal.the-variants.{TooLong, NoNode, NinthNode, Exhausted, NoPlace}
+use Rattle.rules.specs.declared.Answer.{Answer}
+use Rattle.rules.specs.declared.Answer.the-variants.{Done, Refused}
+use Rattle.rules.specs.declared.Offered.{Offered}
+use Rattle.rules.specs.declared.Offered.the-variants as offered
+use Rattle.rules.specs.declared.Listed.{Listed}
+use Rattle.rules.specs.declared.Listed.the-variants as listed
+
+-- an answer, and the table after the call
+pub record Outcome (A : Type 0) : Type 0 where
+  pub answer : A
+  pub table : Table
+
+abbrev pub gives : {A : Type 0} → A → Table → Outcome A
+gives a t = record { answer = a; table = t }
+
+-- ---- nodes
+
+-- a node held already changes nothing, else 4
+unfoldable pub add : ℕ → Table → Outcome Answer
+add i t =
+    pick (among i (numbersOf t)) (gives Done t)
+    (pick (ltb (length t) maxNodes) (gives Done (addNode i t)) (gives (Refused NinthNode) t))
+
+unfoldable pub removeNode : ℕ → Table → Outcome Answer
+removeNode i t = pick (among i (numbersOf t)) (gives Done (dropNode i t)) (gives (Refused NoNode) t)
+
+-- ---- records
+
+abbrev pub answerOf : Decision → Answer
+answerOf (Refuse r) = Refused r
+answerOf Leave = Done
+answerOf (Give c) = Done
+
+-- a local call at a key of the node: 2, then what the node rules say
+abbrev pub callOn : Call → ℕ → List ℕ → Option Node → Table → Outcome Answer
+callOn c i k none t = gives (Refused NoNode) t
+callOn c i k (some n) t = gives (answerOf (decide c k n)) (setNode i (act k (decide c k n) n) t)
+
+-- set, set with TTL, delete, delete after TTL
+unfoldable pub call : Call → ℕ → List ℕ → Table → Outcome Answer
+call c i k t = callOn c i k (nodeOf i t) t
+
+-- removal over all nodes by the clock
+unfoldable pub gc : ℕ → ℕ → Table → Outcome Answer
+gc now grace t = gives Done (removeAll (λ i. due now grace) t)
+
+-- ---- heartbeats
+
+abbrev pub yesNo : Bool → Offered
+yesNo true = offered.Yes
+yesNo false = offered.No
+
+abbrev pub offerOn : ℕ → Heartbeat → Option Node → Table → Outcome Offered
+offerOn i h none t = gives (offered.Refused NoNode) t
+offerOn i h (some n) t = gives (yesNo (offerOf (n .heartbeat) h .news)) (setNode i (withHeartbeat (offerOf (n .heartbeat) h .heartbeat) n) t)
+
+unfoldable pub offer : ℕ → Heartbeat → Table → Outcome Offered
+offer i h t = offerOn i h (nodeOf i t) t
+
+-- a local beat raises it by one: 2, 6
+abbrev pub beatOn : ℕ → Option Node → Table → Outcome Answer
+beatOn i none t = gives (Refused NoNode) t
+beatOn i (some n) t =
+    pick (ltb (n .heartbeat .0) top) (gives Done (setNode i (withHeartbeat (beats (n .heartbeat .0 + 1)) n) t)) (gives (Refused Exhausted) t)
+
+unfoldable pub localBeat : ℕ → Table → Outcome Answer
+localBeat i t = beatOn i (nodeOf i t) t
+
+-- ---- reading: the table stays
+
+-- what a lookup finds: the value, nothing (no such key, or hidden), or a refusal
+pub data Found : Type 0 where
+  Value : List ℕ → Found
+  Nothing : Found
+  NotFound : Refusal → Found
+
+abbrev pub foundOf : Option (List ℕ) → Found
+foundOf none = Nothing
+foundOf (some v) = Value v
+
+abbrev pub lookupOn : List ℕ → Option Node → Found
+lookupOn k none = NotFound NoNode
+lookupOn k (some n) = pick (leb (length k) maxKey) (foundOf (shown (find k (n .recs)))) (NotFound TooLong)
+
+-- 2, 1
+unfoldable pub lookup : ℕ → List ℕ → Table → Found
+lookup i k t = lookupOn k (nodeOf i t)
+
+-- an answer, and a lent list after the call
+pub record Filled (A : Type 0) : Type 0 where
+  pub answer : A
+  pub list : List ℕ
+
+abbrev pub fills : {A : Type 0} → A → List ℕ → Filled A
+fills a l = record { answer = a; list = l }
+
+-- the places of the hits go to the front of the lent list, where it has room for them (8)
+abbrev pub listInto : List ℕ → List ℕ → Filled Listed
+listInto found l = pick (leb (length found) (length l)) (fills (listed.Hits (length found)) (put 0 found l)) (fills (listed.Refused NoPlace) l)
+
+abbrev pub prefixOn : List ℕ → Option Node → List ℕ → Filled Listed
+prefixOn k none l = fills (listed.Refused NoNode) l
+prefixOn k (some n) l = pick (leb (length k) maxKey) (listInto (hitsFrom k 0 (n .recs)) l) (fills (listed.Refused TooLong) l)
+
+-- a prefix listing: 2, 1, 8
+unfoldable pub prefixed : ℕ → List ℕ → Table → List ℕ → Filled Listed
+prefixed i k t l = prefixOn k (nodeOf i t) l

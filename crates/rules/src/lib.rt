@@ -1,0 +1,261 @@
+// The types of document 01 that code and definitions share. What they mean stands in specs/.
+ghost use mathlib.Core.Path.{_≡_};
+ghost use Rattle.rules.specs.Answers.{numberOf, codeOf};
+ghost use Rattle.rules.specs.Node.{freshHeader, offerOf, emptyRecord};
+ghost use Rattle.rules.specs.Apply.{statusOf, newerOf};
+
+// How a record stands to deletion. Delete and Ttl are scheduled: a removal takes them after the grace. Only Delete hides.
+pub enum Status {
+    Set,
+    Delete,
+    Ttl,
+}
+
+// A count of beats. It is a type of its own, so that no one takes it for a version.
+pub struct Heartbeat(pub u64);
+
+// What a record has beside the bytes of its key and value.
+pub struct Record {
+    pub keylen: usize,
+    pub valuelen: usize,
+    pub version: u64,
+    pub status: Status,
+    pub start: u64,
+}
+
+impl Record {
+    // The longest key, the longest value.
+    pub const KEY: usize = 32;
+
+    pub const VALUE: usize = 64;
+
+    pub fn new() -> Self
+        ensures { λ r. ⌜ r ≡ emptyRecord ⌝ }
+    {
+        Record {
+            keylen: 0,
+            valuelen: 0,
+            version: 0,
+            status: Status::Set,
+            start: 0,
+        }
+    }
+}
+
+// What a node has beside its records.
+pub struct Header {
+    pub heartbeat: Heartbeat,
+    pub max: u64,
+    pub last_gc: u64,
+}
+
+impl Header {
+    // The most records of a node, tombstones counted.
+    pub const RECORDS: usize = 32;
+
+    // A fresh node's.
+    pub fn new() -> Self
+        ensures { λ r. ⌜ r ≡ freshHeader ⌝ }
+    {
+        Header {
+            heartbeat: Heartbeat(0),
+            max: 0,
+            last_gc: 0,
+        }
+    }
+}
+
+// What an offered heartbeat leaves, and whether it was news.
+pub struct Beat {
+    pub heartbeat: Heartbeat,
+    pub news: bool,
+}
+
+// Where 0 is held: store and say no. Where the offer is greater: store and say yes. Else no.
+pub fn after_offer(held: Heartbeat, got: Heartbeat) -> Beat
+    ensures { λ r. ⌜ r ≡ offerOf held got ⌝ }
+{
+    if held.0 == 0 {
+        return Beat {
+            heartbeat: got,
+            news: false,
+        };
+    }
+    if held.0 < got.0 {
+        return Beat {
+            heartbeat: got,
+            news: true,
+        };
+    }
+    Beat {
+        heartbeat: held,
+        news: false,
+    }
+}
+
+// Whether a node delta can be applied to a node.
+pub enum DeltaStatus {
+    // It is from the future, or brings nothing new.
+    Reject,
+    // It brings something new.
+    Apply,
+    // It brings something new, but the node must begin afresh: tombstones that it may lack are gone at the sender.
+    ApplyAfterReset,
+}
+
+// Step 3: whether there is something new, where no reset is due.
+fn check_newer(ownmax: u64, max: u64) -> DeltaStatus
+    ensures { λ r. ⌜ r ≡ newerOf ownmax max ⌝ }
+{
+    if ownmax < max {
+        return DeltaStatus::Apply;
+    }
+    DeltaStatus::Reject
+}
+
+// The three steps of document 01, "Applying to a node", by the numbers alone.
+pub fn check_delta_status(owngc: u64, ownmax: u64, from: u64, gc: u64, max: u64) -> DeltaStatus
+    ensures { λ r. ⌜ r ≡ statusOf owngc ownmax from gc max ⌝ }
+{
+    if ownmax < from {
+        return DeltaStatus::Reject;
+    }
+    if gc <= owngc {
+        return check_newer(ownmax, max);
+    }
+    if gc <= ownmax {
+        return check_newer(ownmax, max);
+    }
+    if from == 0 {
+        return DeltaStatus::ApplyAfterReset;
+    }
+    DeltaStatus::Reject
+}
+
+// What is answered for one node delta.
+pub enum NodeAnswer {
+    Reject,
+    Apply,
+    ApplyAfterReset,
+    // The outcome would have over 32 keys: the node stays as it is.
+    Room,
+    // The table has no such node.
+    Unknown,
+}
+
+impl NodeAnswer {
+    // The number that stands for it in a lent list of answers.
+    pub fn code(self) -> u8
+        ensures { λ r. ⌜ r ≡ codeOf self ⌝ }
+    {
+        match self {
+            NodeAnswer::Reject => 0,
+            NodeAnswer::Apply => 1,
+            NodeAnswer::ApplyAfterReset => 2,
+            NodeAnswer::Room => 3,
+            NodeAnswer::Unknown => 4,
+        }
+    }
+}
+
+// Why a call was refused. Document 01 numbers them from 1 to 15 in this order.
+pub enum Refusal {
+    // Key over 32 or value over 64.
+    TooLong,
+    // No such node.
+    NoNode,
+    // No such key, for the two deletes.
+    NoKey,
+    // A ninth node.
+    NinthNode,
+    // A 33rd key in a local write.
+    NodeFull,
+    // A version or heartbeat is 2^64-1 and must rise.
+    Exhausted,
+    // MTU below 100 or above 16,384.
+    BadMtu,
+    // A place past the end, or too few bytes or answer places after it.
+    NoPlace,
+    // The bytes end inside a field.
+    Cut,
+    // A tag or a status above 2.
+    BadTag,
+    // A record or SetMaxVersion before any Node, a version not above the running max, a SetMaxVersion below it.
+    OutOfOrder,
+    // A node repeated in a delta.
+    NodeTwice,
+    // A ninth Node, a digest count over 8, a delta over 16,384 bytes.
+    TooMany,
+    // The lent table breaks a table rule.
+    BadTable,
+    // The tie list has not one number a node.
+    BadTies,
+}
+
+impl Refusal {
+    // Document 01's number.
+    pub fn number(self) -> u64
+        ensures { λ r. ⌜ r ≡ numberOf self ⌝ }
+    {
+        match self {
+            Refusal::TooLong => 1,
+            Refusal::NoNode => 2,
+            Refusal::NoKey => 3,
+            Refusal::NinthNode => 4,
+            Refusal::NodeFull => 5,
+            Refusal::Exhausted => 6,
+            Refusal::BadMtu => 7,
+            Refusal::NoPlace => 8,
+            Refusal::Cut => 9,
+            Refusal::BadTag => 10,
+            Refusal::OutOfOrder => 11,
+            Refusal::NodeTwice => 12,
+            Refusal::TooMany => 13,
+            Refusal::BadTable => 14,
+            Refusal::BadTies => 15,
+        }
+    }
+}
+
+// The answer of a call that has nothing to tell.
+pub enum Answer {
+    Done,
+    Refused(Refusal),
+}
+
+// The answer of a heartbeat offer: whether it was news.
+pub enum Offered {
+    Yes,
+    No,
+    Refused(Refusal),
+}
+
+// The answer of a prefix listing: how many records it found.
+pub enum Listed {
+    Hits(usize),
+    Refused(Refusal),
+}
+
+// The answer of digest writing: how many bytes it wrote.
+pub enum Written {
+    Bytes(usize),
+    Refused(Refusal),
+}
+
+// The answer of computing: what the delta holds.
+pub enum Computed {
+    Delta { ops: usize, bytes: usize },
+    Refused(Refusal),
+}
+
+// The answer of delta reading: what the delta holds, or why it is refused and where the faulty operation's tag stands.
+pub enum DeltaRead {
+    Good { ops: usize, nodes: usize },
+    Refused { why: Refusal, at: usize },
+}
+
+// The answer of applying: how many answers it gave. A refusal has a place as in delta reading, 0 where there is none.
+pub enum Applied {
+    Nodes(usize),
+    Refused { why: Refusal, at: usize },
+}
