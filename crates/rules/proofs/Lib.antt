@@ -1,0 +1,4 @@
+pub mod Records
+pub mod Taking
+pub mod Stale
+pub mod Next

@@ -1,0 +1,186 @@
+-- What stands in a node's records after a delta. Assumes nothing.
+use Prim.Native.Nat.{_<_, _≤_, max, ℕ}
+use mathlib.Core.Bool.{Bool, _&&_, false, false≢true, not, true, true≢false}
+use mathlib.Core.List.{List, [], _∷_}
+use mathlib.Core.Logic.{_⊎_, inl, inr}
+use mathlib.Core.Path.{_∙_, _≡_, ap, refl, subst, sym}
+use native.Mathlib.Omega.{arith}
+use lib.Dec.{eqb, leb, ltb}
+use borrow.Author.Tests.{eq-eqb, eqb-true, le-ltb, lt-leb, lt-ltb, ltb-false, ltb-true}
+use Rattle.fields.proofs.Choice.{in-cons, in-none}
+use Rattle.fields.proofs.Ordered.{same-false, same-true}
+use Rattle.fields.specs.Choice.{_∈_, here, later, pick}
+use Rattle.fields.specs.Order.{sameBytes}
+use Rattle.rules.proofs.Records.{Sorted, keyOf, sorted-store, store-from, store-new, store-old}
+use Rattle.rules.specs.Apply.{deltaStatus, newerOf, stamp, statusOf, takeAll, takes}
+use Rattle.rules.specs.Compute.{fromOf}
+use Rattle.rules.specs.Delta.{NodeDelta}
+use Rattle.rules.specs.Node.{KeyValue, Node, Rec, scheduled, store}
+use Rattle.rules.specs.declared.DeltaStatus.{DeltaStatus}
+use Rattle.rules.specs.declared.DeltaStatus.the-variants.{Apply, ApplyAfterReset, Reject}
+
+-- why a deltaStatus was given
+pub data Judged (n : Node) (d : NodeDelta) : DeltaStatus → Type 0 where
+  rejected : Judged n d Reject
+  resets : d .from ≡ 0 → n .last-gc < d .last-gc → n .max < d .last-gc → Judged n d ApplyAfterReset
+  applies : d .from ≤ n .max → d .last-gc ≤ max (n .last-gc) (n .max) → n .max < d .max → Judged n d Apply
+
+pub judge : (n : Node) (d : NodeDelta) → Judged n d (deltaStatus n d)
+unfolding deltaStatus statusOf newerOf
+judge n d = go (ltb (n .max) (d .from)) refl (ltb (n .last-gc) (d .last-gc)) refl (ltb (n .max) (d .last-gc)) refl (eqb (d .from) 0) refl (ltb (n .max) (d .max)) refl
+  where
+    go : (a : Bool)
+        → ltb (n .max) (d .from) ≡ a
+        → (b : Bool)
+        → ltb (n .last-gc) (d .last-gc) ≡ b
+        → (c : Bool)
+        → ltb (n .max) (d .last-gc) ≡ c
+        → (z : Bool)
+        → eqb (d .from) 0 ≡ z
+        → (e : Bool)
+        → ltb (n .max) (d .max) ≡ e
+        → Judged n d (pick a Reject (pick (b && c) (pick z ApplyAfterReset Reject) (pick e Apply Reject)))
+    go true a b b′ c c′ z z′ e e′ = rejected
+    go false a true b true c true z e e′ = resets (eqb-true _ _ z) (ltb-true _ _ b) (ltb-true _ _ c)
+    go false a true b true c false z e e′ = rejected
+    go false a true b false c z z′ true e =
+        let h : d .from ≤ n .max = ltb-false _ _ a in
+        let g : d .last-gc ≤ n .max = ltb-false _ _ c in
+        applies h (omega arith) (ltb-true _ _ e)
+    go false a true b false c z z′ false e = rejected
+    go false a false b c c′ z z′ true e =
+        let h : d .from ≤ n .max = ltb-false _ _ a in
+        let g : d .last-gc ≤ n .last-gc = ltb-false _ _ b in
+        applies h (omega arith) (ltb-true _ _ e)
+    go false a false b c c′ z z′ false e = rejected
+
+-- and when each is given, for a from that the node has
+pub status-reset : (n : Node) (d : NodeDelta) → d .from ≡ 0 → n .last-gc < d .last-gc → n .max < d .last-gc → deltaStatus n d ≡ ApplyAfterReset
+unfolding deltaStatus statusOf newerOf
+status-reset n d z a b = rw (le-ltb (n .max) (d .from) (omega arith), lt-ltb _ _ a, lt-ltb _ _ b, eq-eqb _ _ z)
+
+not-both : (a b m : ℕ) → m ≤ max a b → (ltb a m && ltb b m) ≡ false
+not-both a b m h = go (ltb a m) refl (ltb b m) refl
+  where
+    go : (s : Bool) → ltb a m ≡ s → (t : Bool) → ltb b m ≡ t → (s && t) ≡ false
+    go true s true t = let x = ltb-true a m s in let y = ltb-true b m t in absurd (omega arith)
+    go true s false t = refl
+    go false s t u = refl
+
+pub status-apply : (n : Node) (d : NodeDelta) → d .from ≤ n .max → d .last-gc ≤ max (n .last-gc) (n .max) → n .max < d .max → deltaStatus n d ≡ Apply
+unfolding deltaStatus statusOf newerOf
+status-apply n d a b c = rw (le-ltb _ _ a, not-both _ _ _ b, lt-ltb _ _ c)
+
+pub status-reject : (n : Node) (d : NodeDelta) → d .from ≤ n .max → d .last-gc ≤ max (n .last-gc) (n .max) → d .max ≤ n .max → deltaStatus n d ≡ Reject
+unfolding deltaStatus statusOf newerOf
+status-reject n d a b c = rw (le-ltb _ _ a, not-both _ _ _ b, le-ltb _ _ c)
+
+-- from is 0 where a reset is reset-due, else the digest's max
+pub data FromOf (p : Node) (g m : ℕ) : ℕ → Type 0 where
+  reset-due : g < p .last-gc → m < p .last-gc → FromOf p g m 0
+  no-reset : p .last-gc ≤ max g m → FromOf p g m m
+
+pub from-of : (p : Node) (g m : ℕ) → FromOf p g m (fromOf (p .last-gc) g m)
+unfolding fromOf
+from-of p g m = go (ltb g (p .last-gc)) refl (ltb m (p .last-gc)) refl
+  where
+    go : (s : Bool) → ltb g (p .last-gc) ≡ s → (t : Bool) → ltb m (p .last-gc) ≡ t → FromOf p g m (pick (s && t) 0 m)
+    go true s true t = reset-due (ltb-true _ _ s) (ltb-true _ _ t)
+    go true s false t = no-reset (let y = ltb-false m (p .last-gc) t in omega arith)
+    go false s t u = no-reset (let y = ltb-false g (p .last-gc) s in omega arith)
+
+pub from-no-reset : (p : Node) (g m : ℕ) → p .last-gc ≤ max g m → fromOf (p .last-gc) g m ≡ m
+unfolding fromOf
+from-no-reset p g m h = rw (not-both _ _ _ h)
+
+-- what is taken is above the max held before
+pub takes-above : (held last-gc : ℕ) (s : KeyValue) → takes held last-gc s ≡ true → held < s .version
+unfolding takes
+takes-above held last-gc s e = go (ltb held (s .version)) refl e
+  where
+    go : (b : Bool) → ltb held (s .version) ≡ b → (b && not (scheduled (s .status) && leb (s .version) last-gc)) ≡ true → held < s .version
+    go true q e = ltb-true _ _ q
+    go false q e = absurd (false≢true e)
+
+-- a record above that max is taken, if it is Set, or above last_gc too
+pub takes-set : (held last-gc : ℕ) (s : KeyValue) → held < s .version → scheduled (s .status) ≡ false → takes held last-gc s ≡ true
+unfolding takes
+takes-set held last-gc s h e = rw (lt-ltb _ _ h, e)
+
+pub takes-high : (held last-gc : ℕ) (s : KeyValue) → held < s .version → last-gc < s .version → takes held last-gc s ≡ true
+unfolding takes
+takes-high held last-gc s h g = rw (lt-ltb _ _ h, lt-leb _ _ g) (go (scheduled (s .status)))
+  where
+    go : (b : Bool) → not (b && false) ≡ true
+    go true = refl
+    go false = refl
+
+module _ (held last-gc now : ℕ) where
+  abbrev Taken : KeyValue → Type 0
+  Taken s = takes held last-gc s ≡ true
+
+  pub sorted-take : (ss : List KeyValue) (l : List Rec) → Sorted l → Sorted (takeAll held last-gc now ss l)
+  unfolding takeAll
+  sorted-take [] l h = h
+  sorted-take (s ∷ ss) l h = sorted-take ss _ (go (takes held last-gc s))
+    where
+      go : (b : Bool) → Sorted (pick b (store (stamp now s) l) l)
+      go true = sorted-store (stamp now s) l h
+      go false = h
+
+  -- where a record is from, after the taking
+  abbrev pub From : List KeyValue → List Rec → Rec → Type 0
+  From ss l x = ((s : KeyValue) × (s ∈ ss) × (takes held last-gc s ≡ true) × (x ≡ stamp now s)) ⊎ ((x ∈ l) × ((s : KeyValue) → s ∈ ss → takes held last-gc s ≡ true → s .key ≡ keyOf x → ⊥))
+
+  pub take-from : (ss : List KeyValue) (l : List Rec) → Sorted l → {x : Rec} → x ∈ takeAll held last-gc now ss l → From ss l x
+  unfolding takeAll
+  take-from [] l h m = inr (m, λ s n. absurd (in-none n))
+  take-from (s ∷ ss) l h {x} m = go (takes held last-gc s) refl (take-from ss (pick (takes held last-gc s) (store (stamp now s) l) l) (order (takes held last-gc s)) m)
+    where
+      order : (b : Bool) → Sorted (pick b (store (stamp now s) l) l)
+      order true = sorted-store (stamp now s) l h
+      order false = h
+
+      up : (t : KeyValue) × (t ∈ ss) × (takes held last-gc t ≡ true) × (x ≡ stamp now t) → From (s ∷ ss) l x
+      up t = inl (t .0, later (t .1), t .2, t .3)
+
+      go : (b : Bool) → takes held last-gc s ≡ b → From ss (pick b (store (stamp now s) l) l) x → From (s ∷ ss) l x
+      go b q (inl t) = up t
+      go true q (inr m) = at (store-from (stamp now s) l h (m .0))
+        where
+          others : (keyOf x ≡ s .key → ⊥) → (t : KeyValue) → (t ≡ s) ⊎ (t ∈ ss) → takes held last-gc t ≡ true → t .key ≡ keyOf x → ⊥
+          others f t (inl e) p k = f (sym k ∙ ap (λ (y : KeyValue). y .key) e)
+          others f t (inr n) p k = m .1 t n p k
+
+          at : (x ≡ stamp now s) ⊎ ((x ∈ l) × (keyOf x ≡ s .key → ⊥)) → From (s ∷ ss) l x
+          at (inl e) = inl (s, here refl, q, e)
+          at (inr o) = inr (o .0, λ t n. others (o .1) t (in-cons n))
+      go false q (inr m) = inr (m .0, λ t n. others t (in-cons n))
+        where
+          others : (t : KeyValue) → (t ≡ s) ⊎ (t ∈ ss) → takes held last-gc t ≡ true → t .key ≡ keyOf x → ⊥
+          others t (inl e) p k = true≢false (sym p ∙ ap (takes held last-gc) e ∙ q)
+          others t (inr n) p k = m .1 t n p k
+
+  -- a record stays, unless another of its key is taken
+  pub take-old : (ss : List KeyValue) {x : Rec} (l : List Rec) → x ∈ l → ((s : KeyValue) → s ∈ ss → takes held last-gc s ≡ true → s .key ≡ keyOf x → x ≡ stamp now s) → x ∈ takeAll held last-gc now ss l
+  unfolding takeAll
+  take-old [] l m f = m
+  take-old (s ∷ ss) {x} l m f = take-old ss _ (go (takes held last-gc s) refl) (λ t n. f t (later n))
+    where
+      at : (b : Bool) → sameBytes (s .key) (keyOf x) ≡ b → takes held last-gc s ≡ true → x ∈ store (stamp now s) l
+      at true e q = subst (λ (y : Rec). y ∈ store (stamp now s) l) (sym (f s (here refl) q (same-true _ _ e))) (store-new (stamp now s) l)
+      at false e q = store-old (stamp now s) m (λ k. same-false _ _ e (sym k))
+
+      go : (b : Bool) → takes held last-gc s ≡ b → x ∈ pick b (store (stamp now s) l) l
+      go true q = at (sameBytes (s .key) (keyOf x)) refl q
+      go false q = m
+
+  -- a record of the delta that is not skipped is taken, if no key stands twice in it
+  pub take-new : {s : KeyValue} {ss : List KeyValue} (l : List Rec) → s ∈ ss → takes held last-gc s ≡ true → ((a b : KeyValue) → a ∈ ss → b ∈ ss → a .key ≡ b .key → a ≡ b) → stamp now s ∈ takeAll held last-gc now ss l
+  unfolding takeAll
+  take-new {s} l (here {a = a} {l = ss} e) q one =
+      take-old ss _ put-in (λ t n p k. ap (stamp now) (e ∙ sym (one t a (later n) (here refl) (k ∙ ap (λ (y : KeyValue). y .key) e))))
+    where
+      put-in : stamp now s ∈ pick (takes held last-gc a) (store (stamp now a) l) l
+      put-in = rw (sym (ap (takes held last-gc) e) ∙ q) (subst (λ (y : KeyValue). stamp now y ∈ store (stamp now a) l) (sym e) (store-new (stamp now a) l))
+  take-new l (later {l = ss} m) q one = take-new _ m q (λ a b n o. one a b (later n) (later o))
