@@ -2,3 +2,4 @@ pub mod Records
 pub mod Taking
 pub mod Stale
 pub mod Next
+pub mod Cases

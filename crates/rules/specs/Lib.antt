@@ -10,3 +10,4 @@ pub mod Compute
 pub mod Listing
 pub mod Layout
 pub mod Lent
+pub mod Cases
