@@ -3,3 +3,5 @@ pub mod Taking
 pub mod Stale
 pub mod Next
 pub mod Cases
+pub mod Ops
+pub mod Deltas
