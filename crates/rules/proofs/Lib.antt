@@ -5,3 +5,4 @@ pub mod Next
 pub mod Cases
 pub mod Ops
 pub mod Deltas
+pub mod Received
