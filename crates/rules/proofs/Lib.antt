@@ -6,3 +6,4 @@ pub mod Cases
 pub mod Ops
 pub mod Deltas
 pub mod Received
+pub mod Obeys
