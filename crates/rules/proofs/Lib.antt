@@ -7,3 +7,4 @@ pub mod Ops
 pub mod Deltas
 pub mod Received
 pub mod Obeys
+pub mod Keeps
