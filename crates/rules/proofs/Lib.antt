@@ -8,3 +8,4 @@ pub mod Deltas
 pub mod Received
 pub mod Obeys
 pub mod Keeps
+pub mod Digests

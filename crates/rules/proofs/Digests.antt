@@ -1,0 +1,189 @@
+-- A digest and its bytes: reading what was written gives it back, what was read writes its bytes, and of an ascending digest every entry
+-- counts. Assumes nothing.
+-- the entry's numbers have eight bytes
+use Prim.Native.Nat.{_*_, _+_, _≤_, max, suc, zero, ℕ}
+use mathlib.Core.Bool.{Bool, false, true}
+use mathlib.Core.List.{List, [], _++_, _∷_, append-assoc}
+use mathlib.Core.Path.{_∙_, _≡_, _≡_, ap, ap₂, refl, subst₂, sym}
+use native.Mathlib.Omega.{arith}
+use lib.Dec.{leb}
+use lib.ListN.{drop, length, length-append, length-drop, take, take-append-drop}
+use lib.Seq.{drop-at, drop-drop, length-take-le, take-at}
+use borrow.Author.Tests.{le-leb, leb-true}
+use Rattle.fields.proofs.Blocks.{length-flat, length-unblock}
+use Rattle.fields.proofs.Numbers.{bytes-back, bytes-drop, bytes-take, length-bytesOf, nat-bytes, nat-part, part-back}
+use Rattle.fields.proofs.Parts.{part-add, part-left, part-right, part-whole}
+use Rattle.fields.specs.Blocks.{flat, unblock}
+use Rattle.fields.specs.Choice.{pick}
+use Rattle.fields.specs.Numbers.{Bytes, bytesOf, natOf}
+use Rattle.fields.specs.Parts.{part}
+use Rattle.rules.proofs.Ops.{Number}
+use Rattle.rules.proofs.Received.{body}
+use Rattle.rules.specs.Delta.{number}
+use Rattle.rules.specs.Digest.{DigestRead, Entries, NodeDigest, Refused, countWidth, digestBytes, entryBytes, entryOf, entryWidth, readCount, readEntries}
+use Rattle.rules.specs.Node.{beats}
+use Rattle.rules.specs.Sizes.{maxNodes}
+use Rattle.rules.specs.declared.Refusal.{Refusal}
+use Rattle.rules.specs.declared.Refusal.the-variants.{Cut, TooMany}
+
+pub record SmallEntry (d : NodeDigest) : Type 0 where
+  pub number-fits : Number (d .number)
+  pub beat-fits : Number (d .heartbeat .0)
+  pub gc-fits : Number (d .last-gc)
+  pub max-fits : Number (d .max)
+
+-- ---- one entry
+
+pub entry-long : (d : NodeDigest) → length (entryBytes d) ≡ entryWidth
+unfolding entryBytes
+entry-long d =
+    simp (length-append, length-bytesOf)
+
+-- four numbers of eight bytes
+four-parts : (a b c d : List ℕ) → length a ≡ 8 → length b ≡ 8 → length c ≡ 8 → length d ≡ 8
+    → (part 0 8 (a ++ (b ++ (c ++ d))) ≡ a) × (part 8 8 (a ++ (b ++ (c ++ d))) ≡ b) × (part 16 8 (a ++ (b ++ (c ++ d))) ≡ c) × (part 24 8 (a ++ (b ++ (c ++ d))) ≡ d)
+four-parts a b c d p q r s = (
+  part-left 0 8 a (b ++ (c ++ d)) (omega arith) ∙ part-whole 8 a p,
+  part-right 8 0 8 a (b ++ (c ++ d)) p ∙ part-left 0 8 b (c ++ d) (omega arith) ∙ part-whole 8 b q,
+  part-right 8 8 8 a (b ++ (c ++ d)) p ∙ part-right 8 0 8 b (c ++ d) q ∙ part-left 0 8 c d (omega arith) ∙ part-whole 8 c r,
+  part-right 8 16 8 a (b ++ (c ++ d)) p ∙ part-right 8 8 8 b (c ++ d) q ∙ part-right 8 0 8 c d r ∙ part-whole 8 d s,
+)
+
+pub entry-back : (d : NodeDigest) → SmallEntry d → entryOf (entryBytes d) ≡ d
+unfolding entryOf entryBytes
+entry-back d s =
+    let x = four-parts (bytesOf 8 (d .number)) (bytesOf 8 (d .heartbeat .0)) (bytesOf 8 (d .last-gc)) (bytesOf 8 (d .max)) (length-bytesOf 8 _) (length-bytesOf 8 _) (length-bytesOf 8 _) (length-bytesOf 8 _) in
+    let n = ap natOf (x .0) ∙ nat-bytes 8 (d .number) (s .number-fits) in
+    let h = ap natOf (x .1) ∙ nat-bytes 8 (d .heartbeat .0) (s .beat-fits) in
+    let g = ap natOf (x .2) ∙ nat-bytes 8 (d .last-gc) (s .gc-fits) in
+    let m = ap natOf (x .3) ∙ nat-bytes 8 (d .max) (s .max-fits) in
+    λ i. record { number = n i; heartbeat = beats (h i); last-gc = g i; max = m i }
+
+pub back-entry : (b : List ℕ) → Bytes b → length b ≡ entryWidth → entryBytes (entryOf b) ≡ b
+unfolding entryOf entryBytes
+back-entry b h e =
+    let p : (at : ℕ) → at + 8 ≤ 32 → bytesOf 8 (natOf (part at 8 b)) ≡ part at 8 b = λ at g. part-back at 8 b h (omega arith) in
+    ap₂ (λ (x y : List ℕ). x ++ y) (p 0 (omega arith))
+    (ap₂ (λ (x y : List ℕ). x ++ y) (p 8 (omega arith))
+    (ap₂ (λ (x y : List ℕ). x ++ y) (p 16 (omega arith)) (p 24 (omega arith)) ∙ sym (part-add 16 8 8 b))
+    ∙ sym (part-add 8 8 16 b))
+    ∙ sym (part-add 0 8 24 b)
+    ∙ part-whole 32 b e
+
+pub entry-small : (b : List ℕ) → Bytes b → length b ≡ entryWidth → SmallEntry (entryOf b)
+unfolding entryOf
+entry-small b h e =
+    record {
+      number-fits = nat-part 0 8 b h (omega arith);
+      beat-fits = nat-part 8 8 b h (omega arith);
+      gc-fits = nat-part 16 8 b h (omega arith);
+      max-fits = nat-part 24 8 b h (omega arith);
+    }
+
+-- ---- many
+
+unfoldable pub AllEntries : List NodeDigest → Type 0
+AllEntries [] = Unit {0}
+AllEntries (d ∷ ds) = SmallEntry d × AllEntries ds
+
+entries-long : (ds : List NodeDigest) → length (flat entryBytes ds) ≡ length ds * entryWidth
+entries-long ds = length-flat entryBytes entryWidth entry-long ds
+
+entries-back : (ds : List NodeDigest) (rest : List ℕ) → AllEntries ds → unblock entryWidth entryOf (length ds) (flat entryBytes ds ++ rest) ≡ ds
+unfolding unblock flat AllEntries
+entries-back [] rest a = refl
+entries-back (d ∷ ds) rest a =
+    let e : (entryBytes d ++ flat entryBytes ds) ++ rest ≡ entryBytes d ++ (flat entryBytes ds ++ rest) = append-assoc (entryBytes d) (flat entryBytes ds) rest in
+    let t : take entryWidth ((entryBytes d ++ flat entryBytes ds) ++ rest) ≡ entryBytes d = ap (take entryWidth) e ∙ take-at (entryBytes d) (flat entryBytes ds ++ rest) entryWidth (entry-long d) in
+    let u : drop entryWidth ((entryBytes d ++ flat entryBytes ds) ++ rest) ≡ flat entryBytes ds ++ rest = ap (drop entryWidth) e ∙ drop-at (entryBytes d) (flat entryBytes ds ++ rest) entryWidth (entry-long d) in
+    λ i. (ap entryOf t ∙ entry-back d (a .0)) i ∷ (ap (unblock entryWidth entryOf (length ds)) u ∙ entries-back ds rest (a .1)) i
+
+back-entries : (n : ℕ) (l : List ℕ) → Bytes l → n * entryWidth ≤ length l → flat entryBytes (unblock entryWidth entryOf n l) ++ drop (n * entryWidth) l ≡ l
+unfolding unblock flat
+back-entries zero l b h = refl
+back-entries (suc n) l b h =
+    let long : length (take entryWidth l) ≡ entryWidth = length-take-le entryWidth l (omega arith) in
+    let more : drop (suc n * entryWidth) l ≡ drop (n * entryWidth) (drop entryWidth l) =
+        ap (λ (k : ℕ). drop k l) (let q : suc n * entryWidth ≡ entryWidth + n * entryWidth = omega arith in q) ∙ sym (drop-drop (n * entryWidth) entryWidth l) in
+    append-assoc (entryBytes (entryOf (take entryWidth l))) (flat entryBytes (unblock entryWidth entryOf n (drop entryWidth l))) (drop (suc n * entryWidth) l)
+    ∙ ap₂ (λ (x y : List ℕ). x ++ y) (back-entry (take entryWidth l) (bytes-take entryWidth l b) long)
+    (ap (λ (x : List ℕ). flat entryBytes (unblock entryWidth entryOf n (drop entryWidth l)) ++ x) more
+    ∙ back-entries n (drop entryWidth l) (bytes-drop entryWidth l b) (simp length-drop (omega arith)))
+    ∙ take-append-drop entryWidth l
+
+entries-small : (n : ℕ) (l : List ℕ) → Bytes l → n * entryWidth ≤ length l → AllEntries (unblock entryWidth entryOf n l)
+unfolding unblock AllEntries
+entries-small zero l b h = tt
+entries-small (suc n) l b h =
+    (entry-small (take entryWidth l) (bytes-take entryWidth l b) (length-take-le entryWidth l (omega arith)),
+    entries-small n (drop entryWidth l) (bytes-drop entryWidth l b) (simp length-drop (omega arith)))
+
+-- ---- the digest
+
+-- reading what was written
+pub read-entries : (ds : List NodeDigest) (rest : List ℕ) → length ds ≤ maxNodes → AllEntries ds → readEntries (digestBytes ds ++ rest) ≡ Entries ds rest
+unfolding readEntries digestBytes
+read-entries ds rest h a =
+    let body : List ℕ = flat entryBytes ds ++ rest in
+    let c : List ℕ = bytesOf countWidth (length ds) in
+    let e : (c ++ flat entryBytes ds) ++ rest ≡ c ++ body = append-assoc c (flat entryBytes ds) rest in
+    let lc : length c ≡ countWidth = length-bytesOf countWidth (length ds) in
+    let long : countWidth ≤ length (c ++ body) = simp length-append (omega arith) in
+    let enough : length ds * entryWidth ≤ length body = let k = entries-long ds in simp length-append (omega arith) in
+    let n : natOf (take countWidth (c ++ body)) ≡ length ds = ap natOf (take-at c body countWidth lc) ∙ nat-bytes countWidth (length ds) (omega arith) in
+    ap readEntries e
+    ∙ ap (λ (b : Bool). pick b (readCount (natOf (take countWidth (c ++ body))) (drop countWidth (c ++ body))) (Refused Cut)) (le-leb _ _ long)
+    ∙ ap₂ readCount n (drop-at c body countWidth lc)
+    ∙ ap (λ (b : Bool). pick b (pick (leb (length ds * entryWidth) (length body)) (Entries (unblock entryWidth entryOf (length ds) body) (drop (length ds * entryWidth) body)) (Refused Cut)) (Refused TooMany)) (le-leb _ _ h)
+    ∙ ap (λ (b : Bool). pick b (Entries (unblock entryWidth entryOf (length ds) body) (drop (length ds * entryWidth) body)) (Refused Cut)) (le-leb _ _ enough)
+    ∙ ap₂ Entries (entries-back ds rest a) (drop-at (flat entryBytes ds) rest (length ds * entryWidth) (entries-long ds))
+
+pub record EntriesAre (l : List ℕ) (ds : List NodeDigest) (rest : List ℕ) : Type 0 where
+  pub bytes : digestBytes ds ++ rest ≡ l
+  pub few : length ds ≤ maxNodes
+  pub small : AllEntries ds
+
+not-entries : {A : Type 0} (r : Refusal) (ds : List NodeDigest) (rest : List ℕ) → Refused r ≡ Entries ds rest → A
+not-entries r ds rest e = let z : _≡_ {A = ℕ} 0 1 = cc in absurd (omega arith)
+
+-- what was read writes its bytes
+pub entries-are : (l : List ℕ) (ds : List NodeDigest) (rest : List ℕ) → Bytes l → readEntries l ≡ Entries ds rest → EntriesAre l ds rest
+unfolding readEntries digestBytes
+entries-are l ds rest b e = count (leb countWidth (length l)) refl e
+  where
+    n : ℕ
+    n = natOf (take countWidth l)
+
+    m : List ℕ
+    m = drop countWidth l
+
+    got : countWidth ≤ length l → n ≤ maxNodes → n * entryWidth ≤ length m → EntriesAre l (unblock entryWidth entryOf n m) (drop (n * entryWidth) m)
+    got h g k =
+        let long : length (unblock entryWidth entryOf n m) ≡ n = length-unblock entryWidth entryOf n m in
+        let front : bytesOf countWidth n ≡ take countWidth l = bytes-back countWidth (take countWidth l) (length-take-le countWidth l h) (bytes-take countWidth l b) in
+        record {
+          bytes =
+              append-assoc (bytesOf countWidth (length (unblock entryWidth entryOf n m))) (flat entryBytes (unblock entryWidth entryOf n m)) (drop (n * entryWidth) m)
+              ∙ ap₂ (λ (x y : List ℕ). x ++ y) (ap (bytesOf countWidth) long ∙ front) (back-entries n m (bytes-drop countWidth l b) k)
+              ∙ take-append-drop countWidth l;
+          few = rw long g;
+          small = entries-small n m (bytes-drop countWidth l b) k;
+        }
+
+    as-entries : EntriesAre l (unblock entryWidth entryOf n m) (drop (n * entryWidth) m) → Entries (unblock entryWidth entryOf n m) (drop (n * entryWidth) m) ≡ Entries ds rest → EntriesAre l ds rest
+    as-entries x q =
+        let p : unblock entryWidth entryOf n m ≡ ds = cc in
+        let r : drop (n * entryWidth) m ≡ rest = cc in
+        subst₂ (λ (a : List NodeDigest) (z : List ℕ). EntriesAre l a z) p r x
+
+    all-there : (s : Bool) → leb (n * entryWidth) (length m) ≡ s → countWidth ≤ length l → n ≤ maxNodes → pick s (Entries (unblock entryWidth entryOf n m) (drop (n * entryWidth) m)) (Refused Cut) ≡ Entries ds rest → EntriesAre l ds rest
+    all-there true q h g e = as-entries (got h g (leb-true _ _ q)) e
+    all-there false q h g e = not-entries Cut ds rest e
+
+    few : (s : Bool) → leb n maxNodes ≡ s → countWidth ≤ length l → pick s (pick (leb (n * entryWidth) (length m)) (Entries (unblock entryWidth entryOf n m) (drop (n * entryWidth) m)) (Refused Cut)) (Refused TooMany) ≡ Entries ds rest → EntriesAre l ds rest
+    few true q h e = all-there (leb (n * entryWidth) (length m)) refl h (leb-true _ _ q) e
+    few false q h e = not-entries TooMany ds rest e
+
+    count : (s : Bool) → leb countWidth (length l) ≡ s → pick s (readCount n m) (Refused Cut) ≡ Entries ds rest → EntriesAre l ds rest
+    count true q e = few (leb n maxNodes) refl (leb-true _ _ q) e
+    count false q e = not-entries Cut ds rest e
