@@ -1,28 +1,32 @@
 -- A digest and its bytes: reading what was written gives it back, what was read writes its bytes, and of an ascending digest every entry
 -- counts. Assumes nothing.
 -- the entry's numbers have eight bytes
-use Prim.Native.Nat.{_*_, _+_, _≤_, max, suc, zero, ℕ}
+use Prim.Native.Nat.{_*_, _+_, _<_, _≤_, max, suc, zero, ℕ}
 use mathlib.Core.Bool.{Bool, false, true}
-use mathlib.Core.List.{List, [], _++_, _∷_, append-assoc}
-use mathlib.Core.Path.{_∙_, _≡_, _≡_, ap, ap₂, refl, subst₂, sym}
+use mathlib.Core.List.{List, [], _++_, _∷_, append-assoc, append-nil}
+use mathlib.Core.Logic.{_⊎_, inl, inr}
+use mathlib.Core.Path.{_∙_, _≡_, _≡_, ap, ap₂, refl, subst, subst₂, sym}
 use native.Mathlib.Omega.{arith}
 use lib.Dec.{leb}
 use lib.ListN.{drop, length, length-append, length-drop, take, take-append-drop}
 use lib.Seq.{drop-at, drop-drop, length-take-le, take-at}
-use borrow.Author.Tests.{le-leb, leb-true}
+use borrow.Author.Tests.{le-leb, le-ltb, leb-true, ne-eqb}
 use Rattle.fields.proofs.Blocks.{length-flat, length-unblock}
+use Rattle.fields.proofs.Choice.{in-append, in-cons, in-none}
 use Rattle.fields.proofs.Numbers.{bytes-back, bytes-drop, bytes-take, length-bytesOf, nat-bytes, nat-part, part-back}
 use Rattle.fields.proofs.Parts.{part-add, part-left, part-right, part-whole}
 use Rattle.fields.specs.Blocks.{flat, unblock}
-use Rattle.fields.specs.Choice.{pick}
+use Rattle.fields.specs.Choice.{_∈_, here, later, pick}
 use Rattle.fields.specs.Numbers.{Bytes, bytesOf, natOf}
 use Rattle.fields.specs.Parts.{part}
+use Rattle.rules.proofs.Obeys.{Ascending, OkEntry, OkTable, table-facts}
 use Rattle.rules.proofs.Ops.{Number}
 use Rattle.rules.proofs.Received.{body}
 use Rattle.rules.specs.Delta.{number}
-use Rattle.rules.specs.Digest.{DigestRead, Entries, NodeDigest, Refused, countWidth, digestBytes, entryBytes, entryOf, entryWidth, readCount, readEntries}
+use Rattle.rules.specs.Digest.{Entries, NodeDigest, Refused, countWidth, digestBytes, digestOf, digestOfNode, entryBytes, entryOf, entryWidth, gathered, readCount, readDigest, readEntries, tell, tellAll}
 use Rattle.rules.specs.Node.{beats}
 use Rattle.rules.specs.Sizes.{maxNodes}
+use Rattle.rules.specs.Table.{Entry, Table, among, numbersOf, obeys}
 use Rattle.rules.specs.declared.Refusal.{Refusal}
 use Rattle.rules.specs.declared.Refusal.the-variants.{Cut, TooMany}
 
@@ -187,3 +191,114 @@ entries-are l ds rest b e = count (leb countWidth (length l)) refl e
     count : (s : Bool) → leb countWidth (length l) ≡ s → pick s (readCount n m) (Refused Cut) ≡ Entries ds rest → EntriesAre l ds rest
     count true q e = few (leb n maxNodes) refl (leb-true _ _ q) e
     count false q e = not-entries Cut ds rest e
+
+-- ---- an ascending digest is read as it stands
+
+unfoldable pub Ascends : List NodeDigest → Type 0
+Ascends [] = Unit {0}
+Ascends (d ∷ ds) = ((x : NodeDigest) → x ∈ ds → d .number < x .number) × Ascends ds
+
+tell-last : (d : NodeDigest) (l : List NodeDigest) → ((x : NodeDigest) → x ∈ l → x .number < d .number) → tell d l ≡ l ++ (d ∷ [])
+unfolding tell
+tell-last d [] h = refl
+tell-last d (a ∷ l) h =
+    let g = h a (here refl) in
+    rw (ne-eqb (d .number) (a .number) (λ e. omega arith), le-ltb (d .number) (a .number) (omega arith)) (ap (λ (r : List NodeDigest). a ∷ r) (tell-last d l (λ x m. h x (later m))))
+
+tell-all : (ds l : List NodeDigest) → Ascends ds → ((x y : NodeDigest) → x ∈ l → y ∈ ds → x .number < y .number) → tellAll ds l ≡ l ++ ds
+unfolding tellAll Ascends
+tell-all [] l a h = sym (append-nil l)
+tell-all (d ∷ ds) l a h =
+    ap (tellAll ds) (tell-last d l (λ x m. h x d m (here refl)))
+    ∙ tell-all ds (l ++ (d ∷ [])) (a .1) (λ x y m n. at x y (in-append l (d ∷ []) m) n)
+    ∙ append-assoc l (d ∷ []) ds
+  where
+    at : (x y : NodeDigest) → (x ∈ l) ⊎ (x ∈ d ∷ []) → y ∈ ds → x .number < y .number
+    at x y (inl m) n = h x y m (later n)
+    at x y (inr m) n = one (in-cons m)
+      where
+        one : (x ≡ d) ⊎ (x ∈ []) → x .number < y .number
+        one (inl e) = subst (λ (z : NodeDigest). z .number < y .number) (sym e) (a .0 y n)
+        one (inr o) = absurd (in-none o)
+
+pub read-ascending : (ds : List NodeDigest) (rest : List ℕ) → length ds ≤ maxNodes → AllEntries ds → Ascends ds → readDigest (digestBytes ds ++ rest) ≡ Entries ds rest
+unfolding readDigest
+read-ascending ds rest h a s =
+    ap gathered (read-entries ds rest h a) ∙ ap (λ (x : List NodeDigest). Entries x rest) (tell-all ds [] s (λ x y m n. absurd (in-none m)))
+
+-- ---- the digest of a table that obeys the rules
+
+digest-from : (excluded : List ℕ) (t : Table) {x : NodeDigest} → x ∈ digestOf excluded t → (e : Entry) × (e ∈ t) × (x ≡ digestOfNode e)
+unfolding digestOf
+digest-from excluded [] m = absurd (in-none m)
+digest-from excluded (e ∷ t) {x} m = go (among (e .number) excluded) m (digest-from excluded t)
+  where
+    Out : Table → Type 0
+    Out t = (e : Entry) × (e ∈ t) × (x ≡ digestOfNode e)
+
+    up : Out t → Out (e ∷ t)
+    up y = (y .0, later (y .1), y .2)
+
+    at : (x ≡ digestOfNode e) ⊎ (x ∈ digestOf excluded t) → (x ∈ digestOf excluded t → Out t) → Out (e ∷ t)
+    at (inl q) ih = (e, here refl, q)
+    at (inr n) ih = up (ih n)
+
+    go : (b : Bool) → x ∈ pick b (digestOf excluded t) (digestOfNode e ∷ digestOf excluded t) → (x ∈ digestOf excluded t → Out t) → Out (e ∷ t)
+    go true m ih = up (ih m)
+    go false m ih = at (in-cons m) ih
+
+digest-few : (excluded : List ℕ) (t : Table) → length (digestOf excluded t) ≤ length t
+unfolding digestOf
+digest-few excluded [] = omega arith
+digest-few excluded (e ∷ t) = go (among (e .number) excluded) (digest-few excluded t)
+  where
+    go : (b : Bool) → length (digestOf excluded t) ≤ length t → length (pick b (digestOf excluded t) (digestOfNode e ∷ digestOf excluded t)) ≤ suc (length t)
+    go true h = omega arith
+    go false h = omega arith
+
+entry-number : {e : Entry} {t : Table} → e ∈ t → e .number ∈ numbersOf t
+unfolding numbersOf
+entry-number (here q) = here (ap (λ (y : Entry). y .number) q)
+entry-number (later m) = later (entry-number m)
+
+digest-ascends : (excluded : List ℕ) (t : Table) → Ascending (numbersOf t) → Ascends (digestOf excluded t)
+unfolding digestOf Ascends numbersOf Ascending
+digest-ascends excluded [] s = tt
+digest-ascends excluded (e ∷ t) s = go (among (e .number) excluded) (digest-ascends excluded t (s .1))
+  where
+    low : (x : NodeDigest) → x ∈ digestOf excluded t → e .number < x .number
+    low x m =
+        let y = digest-from excluded t m in
+        let q : x .number ≡ y .0 .number = ap (λ (z : NodeDigest). z .number) (y .2) in
+        let g = s .0 (y .0 .number) (entry-number (y .1)) in
+        omega arith
+
+    go : (b : Bool) → Ascends (digestOf excluded t) → Ascends (pick b (digestOf excluded t) (digestOfNode e ∷ digestOf excluded t))
+    go true ih = ih
+    go false ih = (low, ih)
+
+all-small : (ds : List NodeDigest) → ((x : NodeDigest) → x ∈ ds → SmallEntry x) → AllEntries ds
+unfolding AllEntries
+all-small [] f = tt
+all-small (d ∷ ds) f = (f d (here refl), all-small ds (λ x m. f x (later m)))
+
+digest-small : (excluded : List ℕ) (t : Table) → OkTable t → AllEntries (digestOf excluded t)
+digest-small excluded t ok = all-small (digestOf excluded t) (λ x m. at x (digest-from excluded t m))
+  where
+    of-node : (e : Entry) → OkEntry e → SmallEntry (digestOfNode e)
+    of-node e o =
+        record {
+          number-fits = o .number-fits;
+          beat-fits = o .node-ok .beat-fits;
+          gc-fits = o .node-ok .gc-fits;
+          max-fits = o .node-ok .max-fits;
+        }
+
+    at : (x : NodeDigest) → (e : Entry) × (e ∈ t) × (x ≡ digestOfNode e) → SmallEntry x
+    at x y = subst SmallEntry (sym (y .2)) (of-node (y .0) (ok .each (y .0) (y .1)))
+
+-- what a table writes, reading gives back, and hands out what stands behind it
+pub read-digest : (excluded : List ℕ) (t : Table) (rest : List ℕ) → obeys t ≡ true → readDigest (digestBytes (digestOf excluded t) ++ rest) ≡ Entries (digestOf excluded t) rest
+read-digest excluded t rest e =
+    let ok = table-facts t e in
+    read-ascending (digestOf excluded t) rest (let a = digest-few excluded t in let b = ok .few in omega arith) (digest-small excluded t ok) (digest-ascends excluded t (ok .ascending))
