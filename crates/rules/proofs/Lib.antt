@@ -8,3 +8,7 @@ pub mod Deltas
 pub mod Received
 pub mod Obeys
 pub mod Keeps
+pub mod History
+pub mod Publisher
+pub mod Follower
+pub mod Honest
