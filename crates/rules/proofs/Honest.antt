@@ -27,7 +27,7 @@ pub record Honest (p : Node) (d : NodeDelta) : Type 0 where
 
 -- why a delta need not bring an entry
 pub data Covered (d : NodeDelta) (u : KeyValue) : Type 0 where
-  brought : u ∈ d .recs → Covered d u
+  delivered : u ∈ d .recs → Covered d u
   beyond : d .max < u .version → Covered d u
   before : u .version ≤ d .from → Covered d u
   removed : scheduled (u .status) ≡ true → u .version ≤ d .last-gc → Covered d u
@@ -78,7 +78,7 @@ sent h p d ok hon =
       where
         test : (r : Rec) → r ∈ p .recs → r .kv ≡ u → (b : Bool) → ltb (d .from) (u .version) ≡ b → (c : Bool) → leb (u .version) (d .max) ≡ c → Covered d u
         test r n e true b true c =
-            brought (subst (λ (y : KeyValue). y ∈ d .recs) e (hon .all r n (subst (λ (y : KeyValue). d .from < y .version) (sym e) (ltb-true _ _ b)) (subst (λ (y : KeyValue). y .version ≤ d .max) (sym e) (leb-true _ _ c))))
+            delivered (subst (λ (y : KeyValue). y ∈ d .recs) e (hon .all r n (subst (λ (y : KeyValue). d .from < y .version) (sym e) (ltb-true _ _ b)) (subst (λ (y : KeyValue). y .version ≤ d .max) (sym e) (leb-true _ _ c))))
         test r n e true b false c = beyond (leb-false _ _ c)
         test r n e false b c c′ = before (ltb-false _ _ b)
 

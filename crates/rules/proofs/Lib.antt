@@ -12,3 +12,4 @@ pub mod History
 pub mod Publisher
 pub mod Follower
 pub mod Honest
+pub mod Step

@@ -109,15 +109,15 @@ abbrev pub noRoom : Applied → List ℕ → Bool
 noRoom (applied.Nodes n) l = not (among (codeOf node.Room) (take n l))
 noRoom (applied.Refused r at) l = false
 
-abbrev pub computes : List ℕ → List ℕ → ℕ → ℕ → List ℕ → Table → Exchange → Bool
-computes excluded ties mtu place l t Idle = false
-computes excluded ties mtu place l t (DigestSent d) = wroteDelta (compute excluded ties mtu place d t l .answer)
-computes excluded ties mtu place l t (DeltaSent b) = false
+abbrev pub isComputed : List ℕ → List ℕ → ℕ → ℕ → List ℕ → Table → Exchange → Bool
+isComputed excluded ties mtu place l t Idle = false
+isComputed excluded ties mtu place l t (DigestSent d) = wroteDelta (compute excluded ties mtu place d t l .answer)
+isComputed excluded ties mtu place l t (DeltaSent b) = false
 
-abbrev pub applies : ℕ → List ℕ → Table → Exchange → Bool
-applies now l t Idle = false
-applies now l t (DigestSent d) = false
-applies now l t (DeltaSent b) = noRoom (apply b now t l .answer) (apply b now t l .list)
+abbrev pub isApplied : ℕ → List ℕ → Table → Exchange → Bool
+isApplied now l t Idle = false
+isApplied now l t (DigestSent d) = false
+isApplied now l t (DeltaSent b) = noRoom (apply b now t l .answer) (apply b now t l .list)
 
 -- whether a call of an exchange is made and not refused
 abbrev pub granted : Event → World → Bool
@@ -126,8 +126,8 @@ granted (Beating s i) w = true
 granted (Offering s i h) w = true
 granted (Removing s now grace) w = true
 granted (Digesting excluded place l) w = wroteDigest (writeDigest excluded place (w .follower) l .answer)
-granted (Computing excluded ties mtu place l) w = computes excluded ties mtu place l (w .publisher) (w .exchange)
-granted (Applying now l) w = possible (Applying now l) && applies now l (w .follower) (w .exchange)
+granted (Computing excluded ties mtu place l) w = isComputed excluded ties mtu place l (w .publisher) (w .exchange)
+granted (Applying now l) w = possible (Applying now l) && isApplied now l (w .follower) (w .exchange)
 
 unfoldable pub allGranted : List Event → World → Bool
 allGranted [] w = true
