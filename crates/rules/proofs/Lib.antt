@@ -13,3 +13,4 @@ pub mod Publisher
 pub mod Follower
 pub mod Honest
 pub mod Step
+pub mod Sending
