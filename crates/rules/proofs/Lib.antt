@@ -14,3 +14,5 @@ pub mod Follower
 pub mod Honest
 pub mod Step
 pub mod Sending
+pub mod Computing
+pub mod Needed
