@@ -16,3 +16,4 @@ pub mod Step
 pub mod Sending
 pub mod Computing
 pub mod Needed
+pub mod Tables
