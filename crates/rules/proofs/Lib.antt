@@ -17,3 +17,4 @@ pub mod Sending
 pub mod Computing
 pub mod Needed
 pub mod Tables
+pub mod OneNode
