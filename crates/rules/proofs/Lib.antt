@@ -9,3 +9,13 @@ pub mod Received
 pub mod Obeys
 pub mod Keeps
 pub mod Digests
+pub mod History
+pub mod Publisher
+pub mod Follower
+pub mod Honest
+pub mod Step
+pub mod Sending
+pub mod Computing
+pub mod Needed
+pub mod Tables
+pub mod OneNode

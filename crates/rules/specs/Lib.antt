@@ -11,3 +11,5 @@ pub mod Listing
 pub mod Layout
 pub mod Lent
 pub mod Cases
+pub mod World
+pub mod Demand3

@@ -1,0 +1,169 @@
+-- How many exchanges a node still needs, once all is quiet: none at equal max, else one, and one for each record that is to come.
+use Prim.Native.Nat.{_<_, _≤_, max, suc, zero, ℕ}
+use mathlib.Core.Bool.{Bool, false, true}
+use mathlib.Core.List.{List, [], _∷_}
+use mathlib.Core.Logic.{_⊎_, inl, inr}
+use mathlib.Core.Path.{_∙_, _≡_, ap, refl, subst, sym}
+use native.Mathlib.Omega.{arith}
+use lib.Dec.{leb}
+use lib.ListN.{length, take}
+use borrow.Author.Tests.{leb-false, leb-true, lt-leb}
+use Rattle.fields.specs.Choice.{_∈_, all, here, pick}
+use Rattle.rules.proofs.Sending.{carried, nodeDelta}
+use Rattle.rules.proofs.Stale.{Rising, rising-stale, rising-take, stale-fewer, stale-from, stale-length, stale-less, take-in, top-is, top-within, topOf}
+use Rattle.rules.proofs.Taking.{FromOf, from-no-reset, from-of, no-reset, reset-due, status-apply, status-reject, status-reset}
+use Rattle.rules.specs.Apply.{deltaStatus, outcome}
+use Rattle.rules.specs.Compute.{fromOf, stale}
+use Rattle.rules.specs.Delta.{NodeDelta}
+use Rattle.rules.specs.Node.{KeyValue, Node, Rec}
+use Rattle.rules.specs.declared.DeltaStatus.{DeltaStatus}
+use Rattle.rules.specs.declared.DeltaStatus.the-variants.{Apply, ApplyAfterReset}
+
+unfoldable pub needed : Node → Node → ℕ
+needed p f = pick (leb (p .max) (f .max)) 0 (suc (length (stale (fromOf (p .last-gc) (f .last-gc) (f .max)) (p .recs))))
+
+pub needed-most : (p f : Node) → needed p f ≤ suc (length (p .recs))
+unfolding needed
+needed-most p f = go (leb (p .max) (f .max))
+  where
+    go : (b : Bool) → pick b 0 (suc (length (stale (fromOf (p .last-gc) (f .last-gc) (f .max)) (p .recs)))) ≤ suc (length (p .recs))
+    go true = omega arith
+    go false = let h = stale-length (fromOf (p .last-gc) (f .last-gc) (f .max)) (p .recs) in omega arith
+
+pub needed-none : (p f : Node) → needed p f ≡ 0 → p .max ≤ f .max
+unfolding needed
+needed-none p f e = go (leb (p .max) (f .max)) refl e
+  where
+    go : (b : Bool) → leb (p .max) (f .max) ≡ b → pick b 0 (suc (length (stale (fromOf (p .last-gc) (f .last-gc) (f .max)) (p .recs)))) ≡ 0 → p .max ≤ f .max
+    go true q e = leb-true _ _ q
+    go false q e = absurd (omega arith)
+
+pub needed-some : (p f : Node) → 0 < needed p f → f .max < p .max
+unfolding needed
+needed-some p f e = go (leb (p .max) (f .max)) refl e
+  where
+    go : (b : Bool) → leb (p .max) (f .max) ≡ b → 0 < pick b 0 (suc (length (stale (fromOf (p .last-gc) (f .last-gc) (f .max)) (p .recs)))) → f .max < p .max
+    go true q e = absurd (omega arith)
+    go false q e = leb-false _ _ q
+
+-- at another pair from which no reset is due
+needed-at : (p f : Node) (b : ℕ) → p .last-gc ≤ max (f .last-gc) (f .max) → (f .max < p .max → length (stale (f .max) (p .recs)) < b) → needed p f ≤ b
+unfolding needed
+needed-at p f b h g = go (leb (p .max) (f .max)) refl
+  where
+    go : (t : Bool) → leb (p .max) (f .max) ≡ t → pick t 0 (suc (length (stale (fromOf (p .last-gc) (f .last-gc) (f .max)) (p .recs)))) ≤ b
+    go true q = omega arith
+    go false q = rw (from-no-reset p (f .last-gc) (f .max) h) (g (leb-false _ _ q))
+
+-- while it is behind
+needed-behind : (p f : Node) → f .max < p .max → needed p f ≡ suc (length (stale (fromOf (p .last-gc) (f .last-gc) (f .max)) (p .recs)))
+unfolding needed
+needed-behind p f h = rw (lt-leb _ _ h)
+
+-- the delta brings a record, or all
+pub data Moves (p : Node) (d : NodeDelta) : Type 0 where
+  brings : (r : Rec) → r ∈ p .recs → d .from < r .kv .version → r .kv .version ≤ d .max → Moves p d
+  completes : p .max ≤ d .max → Moves p d
+
+module _ (now : ℕ) (p f : Node) (d : NodeDelta) (behind : f .max < p .max) (gc-is : d .last-gc ≡ p .last-gc) (from-is : d .from ≡ fromOf (p .last-gc) (f .last-gc) (f .max)) where
+  abbrev Next : DeltaStatus → Node
+  Next v = outcome v now d f
+
+  size : ℕ
+  size = length (stale (d .from) (p .recs))
+
+  needs : needed p f ≡ suc size
+  unfolding size
+  needs = needed-behind p f behind ∙ ap (λ (n : ℕ). suc (length (stale n (p .recs)))) (sym from-is)
+
+  fewer : Moves p d → d .max < p .max → length (stale (d .max) (p .recs)) < size
+  unfolding size
+  fewer (brings r m a b) h = stale-less (d .from) (d .max) m a b
+  fewer (completes a) h = absurd (omega arith)
+
+  further : Moves p d → d .from ≡ f .max → f .max < d .max
+  further (brings r m a b) h = omega arith
+  further (completes a) h = omega arith
+
+  pub needed-falls : Moves p d → needed p (Next (deltaStatus f d)) < needed p f
+  unfolding outcome
+  needed-falls m = rw needs (go (fromOf (p .last-gc) (f .last-gc) (f .max)) from-is (from-of p (f .last-gc) (f .max)))
+    where
+      go : (x : ℕ) → d .from ≡ x → FromOf p (f .last-gc) (f .max) x → needed p (Next (deltaStatus f d)) < suc size
+      go x e (reset-due a b) =
+          rw (status-reset f d e (omega arith) (omega arith)) (let h = needed-at p (Next ApplyAfterReset) size (omega arith) (fewer m) in omega arith)
+      go x e (no-reset a) =
+          let b : f .max < d .max = further m e in
+          rw (status-apply f d (omega arith) (omega arith) b) (let h = needed-at p (Next Apply) size (omega arith) (fewer m) in omega arith)
+
+  pub needed-stays : d .max ≡ 0 → needed p (Next (deltaStatus f d)) ≤ needed p f
+  unfolding outcome size
+  needed-stays z = go (fromOf (p .last-gc) (f .last-gc) (f .max)) from-is (from-of p (f .last-gc) (f .max))
+    where
+      go : (x : ℕ) → d .from ≡ x → FromOf p (f .last-gc) (f .max) x → needed p (Next (deltaStatus f d)) ≤ needed p f
+      go x e (reset-due a b) =
+          rw (needs, status-reset f d e (omega arith) (omega arith)) (needed-at p (Next ApplyAfterReset) (suc size) (omega arith) (λ h. let k = stale-fewer (d .from) (d .max) (p .recs) (omega arith) in omega arith))
+      go x e (no-reset a) = rw (status-reject f d (omega arith) (omega arith) (omega arith)) (omega arith)
+
+-- a computed delta moves, or has max 0; it moves where it may carry a record and a SetMaxVersion
+made-moves : (p : Node) (from count : ℕ) (fits : Bool) (all : List KeyValue) → stale from (p .recs) ≡ all → (carried fits (p .max) all (take count all) ≡ 0) ⊎ Moves p (record { from = from; last-gc = p .last-gc; recs = take count all; max = carried fits (p .max) all (take count all) })
+made-moves p from count true [] e = inr (completes (omega arith))
+made-moves p from count false [] e = inl refl
+made-moves p from count fits (s ∷ ss) e = at (top-is 0 (take count (s ∷ ss)))
+  where
+    sent : List KeyValue
+    sent = take count (s ∷ ss)
+
+    d : NodeDelta
+    d = record { from = from; last-gc = p .last-gc; recs = sent; max = topOf 0 sent }
+
+    at : (topOf 0 sent ≡ 0) ⊎ ((u : KeyValue) × (u ∈ sent) × (u .version ≡ topOf 0 sent)) → (topOf 0 sent ≡ 0) ⊎ Moves p d
+    at (inl z) = inl z
+    at (inr u) =
+        let x = stale-from from (p .recs) (subst (λ (l : List KeyValue). u .0 ∈ l) (sym e) (take-in count (s ∷ ss) (u .1))) in
+        let v : x .0 .kv .version ≡ u .0 .version = ap (λ (y : KeyValue). y .version) (x .2) in
+        inr (brings (x .0) (x .1) (let a = x .3 in omega arith) (let b = u .2 in omega arith))
+
+pub delta-moves-or : (p : Node) (g m count : ℕ) (fits : Bool) → (nodeDelta p g m count fits .max ≡ 0) ⊎ Moves p (nodeDelta p g m count fits)
+unfolding nodeDelta
+delta-moves-or p g m count fits = made-moves p (fromOf (p .last-gc) g m) count fits (stale (fromOf (p .last-gc) g m) (p .recs)) refl
+
+some-top : (p : Node) (from count : ℕ) (all : List KeyValue) → stale from (p .recs) ≡ all → (0 < length all → 0 < count) → 0 < p .max → 0 < carried true (p .max) all (take count all)
+unfolding topOf
+some-top p from count [] e c h = h
+some-top p from zero (s ∷ ss) e c h = let z = c (omega arith) in absurd (omega arith)
+some-top p from (suc count) (s ∷ ss) e c h =
+    let x = stale-from from (p .recs) (subst (λ (l : List KeyValue). s ∈ l) (sym e) (here refl)) in
+    let w : Rising 0 (s ∷ take count ss) = rising-take 0 (suc count) (s ∷ ss) (subst (Rising 0) e (rising-stale from (p .recs))) in
+    let t : s .version ≤ topOf 0 (s ∷ take count ss) = top-within 0 (s ∷ take count ss) w (here refl) in
+    let a = x .3 in
+    omega arith
+
+-- it moves, if a SetMaxVersion fits, and a record where there is one
+pub delta-moves : (p : Node) (g m count : ℕ) → m < p .max → (0 < length (stale (fromOf (p .last-gc) g m) (p .recs)) → 0 < count) → Moves p (nodeDelta p g m count true)
+unfolding nodeDelta
+delta-moves p g m count h c = at (delta-moves-or p g m count true)
+  where
+    at : (nodeDelta p g m count true .max ≡ 0) ⊎ Moves p (nodeDelta p g m count true) → Moves p (nodeDelta p g m count true)
+    at (inl z) = let t = some-top p (fromOf (p .last-gc) g m) count (stale (fromOf (p .last-gc) g m) (p .recs)) refl c (omega arith) in absurd (omega arith)
+    at (inr x) = x
+
+-- for a computed delta that meets no Room
+pub delta-stays : (now : ℕ) (p f : Node) (count : ℕ) (fits : Bool) → f .max < p .max → (d : NodeDelta) → d ≡ nodeDelta p (f .last-gc) (f .max) count fits → needed p (outcome (deltaStatus f d) now d f) ≤ needed p f
+unfolding nodeDelta
+delta-stays now p f count fits b d e = at (delta-moves-or p (f .last-gc) (f .max) count fits)
+  where
+    gc-is : d .last-gc ≡ p .last-gc
+    gc-is = ap (λ (x : NodeDelta). x .last-gc) e
+
+    from-is : d .from ≡ fromOf (p .last-gc) (f .last-gc) (f .max)
+    from-is = ap (λ (x : NodeDelta). x .from) e
+
+    at : (nodeDelta p (f .last-gc) (f .max) count fits .max ≡ 0) ⊎ Moves p (nodeDelta p (f .last-gc) (f .max) count fits) → needed p (outcome (deltaStatus f d) now d f) ≤ needed p f
+    at (inl z) = needed-stays now p f d b gc-is from-is (ap (λ (x : NodeDelta). x .max) e ∙ z)
+    at (inr m) = let h = needed-falls now p f d b gc-is from-is (subst (Moves p) (sym e) m) in omega arith
+
+pub delta-falls : (now : ℕ) (p f : Node) (count : ℕ) → f .max < p .max → (0 < length (stale (fromOf (p .last-gc) (f .last-gc) (f .max)) (p .recs)) → 0 < count) → (d : NodeDelta) → d ≡ nodeDelta p (f .last-gc) (f .max) count true → needed p (outcome (deltaStatus f d) now d f) < needed p f
+unfolding nodeDelta
+delta-falls now p f count b c d e =
+    needed-falls now p f d b (ap (λ (x : NodeDelta). x .last-gc) e) (ap (λ (x : NodeDelta). x .from) e) (subst (Moves p) (sym e) (delta-moves p (f .last-gc) (f .max) count b c))

@@ -1,0 +1,162 @@
+-- Demand 3's world: a publisher's table and a follower's, all that may happen to them, and where their exchange stands. A run is a list of
+-- events, and `after` gives the world after it. Whatever happens is a call of document 01, as the files beside this one define it: local
+-- calls and removal (Local), digest writing (Digest), computing (Compute), applying (Apply). Bytes go from one side to the other.
+use Prim.Native.Nat.{ℕ, _+_}
+use mathlib.Core.Bool.{Bool, true, false}
+use mathlib.Core.List.{List, [], _∷_}
+use mathlib.Core.Option.{Option, none, some}
+use lib.Dec.{ltb, eqb}
+use Rattle.fields.specs.Choice.{pick}
+use Rattle.fields.specs.Parts.{part}
+use Rattle.rules.specs.Sizes.{numbers}
+use Rattle.rules.specs.Node.{KeyValue, Node, fresh, Change, Call, Setting, SettingTtl, Deleting, DeletingAfterTtl, Decision, Refuse, Leave, Give, decide}
+use Rattle.rules.specs.Table.{Table, nodeOf}
+use Rattle.rules.specs.Local.{call, gc, offer, localBeat}
+use Rattle.rules.specs.Digest.{writeDigest}
+use Rattle.rules.specs.Compute.{compute}
+use Rattle.rules.specs.Apply.{apply}
+use Rattle.rules.specs.declared.Heartbeat.{Heartbeat}
+use Rattle.rules.specs.declared.Written.{Written}
+use Rattle.rules.specs.declared.Written.the-variants as written
+use Rattle.rules.specs.declared.Computed.{Computed}
+use Rattle.rules.specs.declared.Computed.the-variants as computed
+
+-- ---- the world
+
+-- where the exchange stands: nothing is on its way, the bytes of a digest are, or those of a delta
+pub data Exchange : Type 0 where
+  Idle : Exchange
+  DigestSent : List ℕ → Exchange
+  DeltaSent : List ℕ → Exchange
+
+-- The two tables; what the publisher gave so far, node by node, the newest first: each version with its key, value and status; the exchange.
+-- No call looks at what was given; the claims are about it.
+pub record World : Type 0 where
+  pub publisher : Table
+  pub follower : Table
+  pub given : ℕ → List KeyValue
+  pub exchange : Exchange
+
+-- fresh nodes under these numbers
+unfoldable pub freshTable : List ℕ → Table
+freshTable [] = []
+freshTable (i ∷ is) = record { number = i; node = fresh } ∷ freshTable is
+
+-- both tables fresh with the same nodes, and nothing given yet
+unfoldable pub start : List ℕ → World
+start is = record { publisher = freshTable is; follower = freshTable is; given = λ i. []; exchange = Idle }
+
+-- ---- what may happen
+
+pub data Side : Type 0 where
+  Publishers : Side
+  Followers : Side
+
+pub data Event : Type 0 where
+  -- set, set with TTL, delete or delete after TTL on the publisher: node, key, the call with its value and time
+  Writing : ℕ → List ℕ → Call → Event
+  -- a local beat, a heartbeat offer: node, and the heartbeat offered
+  Beating : Side → ℕ → Event
+  Offering : Side → ℕ → Heartbeat → Event
+  -- removal over all nodes: now, grace
+  Removing : Side → ℕ → ℕ → Event
+  -- The follower writes a digest: excluded nodes, the place in the datagram, the datagram. An exchange begins, and what was on its way is lost.
+  Digesting : List ℕ → ℕ → List ℕ → Event
+  -- the publisher computes a delta for the digest on its way: excluded nodes, ties, MTU, the place in the datagram, the datagram
+  Computing : List ℕ → List ℕ → ℕ → ℕ → List ℕ → Event
+  -- the follower applies the delta on its way, and may apply it again: now, the lent list of answers
+  Applying : ℕ → List ℕ → Event
+
+-- the time that a call brings
+abbrev pub timeOf : Call → ℕ
+timeOf (Setting v) = 0
+timeOf (SettingTtl v now) = now
+timeOf (Deleting now) = now
+timeOf (DeletingAfterTtl now) = now
+
+-- times and heartbeats are numbers of eight bytes: with another there is no such call
+abbrev pub possible : Event → Bool
+possible (Writing i k c) = ltb (timeOf c) numbers
+possible (Beating s i) = true
+possible (Offering s i h) = ltb (h .0) numbers
+possible (Removing s now grace) = true
+possible (Digesting excluded place l) = true
+possible (Computing excluded ties mtu place l) = true
+possible (Applying now l) = ltb now numbers
+
+-- ---- what a call gives to its key
+
+-- the version that a change gives, with its key, value and status
+abbrev pub givenBy : List ℕ → Change → Node → KeyValue
+givenBy k c n = record { key = k; value = c .value; version = n .max + 1; status = c .status }
+
+-- a refused call and one that has nothing to change give none
+abbrev pub givenAfter : List ℕ → Decision → Node → List KeyValue → List KeyValue
+givenAfter k (Refuse r) n h = h
+givenAfter k Leave n h = h
+givenAfter k (Give c) n h = givenBy k c n ∷ h
+
+abbrev pub givenIn : List ℕ → Call → Option Node → List KeyValue → List KeyValue
+givenIn k c none h = h
+givenIn k c (some n) h = givenAfter k (decide c k n) n h
+
+-- ---- what is on its way after a call; a refused one sends nothing
+
+-- a digest of so many bytes from its place on
+abbrev pub afterDigest : ℕ → List ℕ → Written → Exchange → Exchange
+afterDigest place l (written.Bytes n) x = DigestSent (part place n l)
+afterDigest place l (written.Refused r) x = x
+
+abbrev pub afterDelta : ℕ → List ℕ → Computed → Exchange → Exchange
+afterDelta place l (computed.Delta ops bytes) x = DeltaSent (part place bytes l)
+afterDelta place l (computed.Refused r) x = x
+
+abbrev pub digested : List ℕ → ℕ → List ℕ → Table → Exchange → Exchange
+digested excluded place l t x = afterDigest place (writeDigest excluded place t l .list) (writeDigest excluded place t l .answer) x
+
+-- only for a digest that is on its way
+abbrev pub computedFor : List ℕ → List ℕ → ℕ → ℕ → List ℕ → Table → Exchange → Exchange
+computedFor excluded ties mtu place l t Idle = Idle
+computedFor excluded ties mtu place l t (DigestSent d) =
+    afterDelta place (compute excluded ties mtu place d t l .list) (compute excluded ties mtu place d t l .answer) (DigestSent d)
+computedFor excluded ties mtu place l t (DeltaSent b) = DeltaSent b
+
+-- only a delta that is on its way
+abbrev pub appliedTo : ℕ → List ℕ → Exchange → Table → Table
+appliedTo now l Idle t = t
+appliedTo now l (DigestSent d) t = t
+appliedTo now l (DeltaSent b) t = apply b now t l .table
+
+-- ---- a run
+
+-- a call that changes the table of one side
+abbrev pub onSide : Side → (Table → Table) → World → World
+onSide Publishers f w = record { publisher = f (w .publisher); follower = w .follower; given = w .given; exchange = w .exchange }
+onSide Followers f w = record { publisher = w .publisher; follower = f (w .follower); given = w .given; exchange = w .exchange }
+
+abbrev pub onExchange : Exchange → World → World
+onExchange x w = record { publisher = w .publisher; follower = w .follower; given = w .given; exchange = x }
+
+abbrev pub calls : Event → World → World
+calls (Writing i k c) w =
+    record {
+      publisher = call c i k (w .publisher) .table;
+      follower = w .follower;
+      given = λ j. pick (eqb j i) (givenIn k c (nodeOf i (w .publisher)) (w .given j)) (w .given j);
+      exchange = w .exchange;
+    }
+calls (Beating s i) w = onSide s (λ t. localBeat i t .table) w
+calls (Offering s i h) w = onSide s (λ t. offer i h t .table) w
+calls (Removing s now grace) w = onSide s (λ t. gc now grace t .table) w
+calls (Digesting excluded place l) w = onExchange (digested excluded place l (w .follower) (w .exchange)) w
+calls (Computing excluded ties mtu place l) w = onExchange (computedFor excluded ties mtu place l (w .publisher) (w .exchange)) w
+calls (Applying now l) w = onSide Followers (appliedTo now l (w .exchange)) w
+
+-- the world after an event; one that is not possible changes nothing
+unfoldable pub happen : Event → World → World
+happen e w = pick (possible e) (calls e w) w
+
+-- the world after a run
+unfoldable pub after : List Event → World → World
+after [] w = w
+after (e ∷ es) w = after es (happen e w)
