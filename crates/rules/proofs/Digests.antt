@@ -19,7 +19,7 @@ use Rattle.fields.specs.Blocks.{flat, unblock}
 use Rattle.fields.specs.Choice.{_∈_, here, later, pick}
 use Rattle.fields.specs.Numbers.{Bytes, bytesOf, natOf}
 use Rattle.fields.specs.Parts.{part}
-use Rattle.rules.proofs.Obeys.{Ascending, OkEntry, OkTable, table-facts}
+use Rattle.rules.proofs.Obeys.{Ascending, OkEntry, OkTable, number-in, table-facts}
 use Rattle.rules.proofs.Ops.{Number}
 use Rattle.rules.proofs.Received.{body}
 use Rattle.rules.specs.Delta.{number}
@@ -108,7 +108,7 @@ back-entries zero l b h = refl
 back-entries (suc n) l b h =
     let long : length (take entryWidth l) ≡ entryWidth = length-take-le entryWidth l (omega arith) in
     let more : drop (suc n * entryWidth) l ≡ drop (n * entryWidth) (drop entryWidth l) =
-        ap (λ (k : ℕ). drop k l) (let q : suc n * entryWidth ≡ entryWidth + n * entryWidth = omega arith in q) ∙ sym (drop-drop (n * entryWidth) entryWidth l) in
+    ap (λ (k : ℕ). drop k l) (let q : suc n * entryWidth ≡ entryWidth + n * entryWidth = omega arith in q) ∙ sym (drop-drop (n * entryWidth) entryWidth l) in
     append-assoc (entryBytes (entryOf (take entryWidth l))) (flat entryBytes (unblock entryWidth entryOf n (drop entryWidth l))) (drop (suc n * entryWidth) l)
     ∙ ap₂ (λ (x y : List ℕ). x ++ y) (back-entry (take entryWidth l) (bytes-take entryWidth l b) long)
     (ap (λ (x : List ℕ). flat entryBytes (unblock entryWidth entryOf n (drop entryWidth l)) ++ x) more
@@ -118,9 +118,10 @@ back-entries (suc n) l b h =
 entries-small : (n : ℕ) (l : List ℕ) → Bytes l → n * entryWidth ≤ length l → AllEntries (unblock entryWidth entryOf n l)
 unfolding unblock AllEntries
 entries-small zero l b h = tt
-entries-small (suc n) l b h =
-    (entry-small (take entryWidth l) (bytes-take entryWidth l b) (length-take-le entryWidth l (omega arith)),
-    entries-small n (drop entryWidth l) (bytes-drop entryWidth l b) (simp length-drop (omega arith)))
+entries-small (suc n) l b h = (
+  entry-small (take entryWidth l) (bytes-take entryWidth l b) (length-take-le entryWidth l (omega arith)),
+  entries-small n (drop entryWidth l) (bytes-drop entryWidth l b) (simp length-drop (omega arith)),
+)
 
 -- ---- the digest
 
@@ -256,11 +257,6 @@ digest-few excluded (e ∷ t) = go (among (e .number) excluded) (digest-few excl
     go true h = omega arith
     go false h = omega arith
 
-entry-number : {e : Entry} {t : Table} → e ∈ t → e .number ∈ numbersOf t
-unfolding numbersOf
-entry-number (here q) = here (ap (λ (y : Entry). y .number) q)
-entry-number (later m) = later (entry-number m)
-
 digest-ascends : (excluded : List ℕ) (t : Table) → Ascending (numbersOf t) → Ascends (digestOf excluded t)
 unfolding digestOf Ascends numbersOf Ascending
 digest-ascends excluded [] s = tt
@@ -270,7 +266,7 @@ digest-ascends excluded (e ∷ t) s = go (among (e .number) excluded) (digest-as
     low x m =
         let y = digest-from excluded t m in
         let q : x .number ≡ y .0 .number = ap (λ (z : NodeDigest). z .number) (y .2) in
-        let g = s .0 (y .0 .number) (entry-number (y .1)) in
+        let g = s .0 (y .0 .number) (number-in (y .1)) in
         omega arith
 
     go : (b : Bool) → Ascends (digestOf excluded t) → Ascends (pick b (digestOf excluded t) (digestOfNode e ∷ digestOf excluded t))

@@ -24,6 +24,7 @@ use Rattle.rules.specs.Delta.{NodeDelta}
 use Rattle.rules.specs.Local.{gc}
 use Rattle.rules.specs.Node.{Call, Change, Decision, Deleting, DeletingAfterTtl, Give, KeyValue, Leave, Node, Rec, Refuse, Setting, SettingTtl, act, allowed, beat, beats, brought, decide, due, find, fresh, fullFor, goes, lastGc, offerOf, remove, sameStatus, scheduled, store, unlessSame, wish, withHeartbeat, write}
 use Rattle.rules.specs.Sizes.{maxKey, maxRecords, maxValue, numbers, top}
+use Rattle.rules.specs.World.{start}
 use Rattle.rules.specs.declared.DeltaStatus.{DeltaStatus}
 use Rattle.rules.specs.declared.DeltaStatus.the-variants.{Apply, ApplyAfterReset, Reject}
 use Rattle.rules.specs.declared.Heartbeat.{Heartbeat}
@@ -156,25 +157,25 @@ pub record Granted (k : List ℕ) (c : Change) (n : Node) : Type 0 where
   pub can-rise : n .max < top
 
 pub data Decided (k : List ℕ) (n : Node) : Decision → Type 0 where
-  refused : (r : Refusal) → Decided k n (Refuse r)
-  left : Decided k n Leave
-  given : (c : Change) → Granted k c n → Decided k n (Give c)
+  is-refused : (r : Refusal) → Decided k n (Refuse r)
+  is-left : Decided k n Leave
+  is-given : (c : Change) → Granted k c n → Decided k n (Give c)
 
 allowed-view : (k : List ℕ) (n : Node) (d : Decision) → OkNode n → length k ≤ maxKey → Fitting d → Decided k n (allowed k n d)
 unfolding write
-allowed-view k n (Refuse r) ok h f = refused r
-allowed-view k n Leave ok h f = left
+allowed-view k n (Refuse r) ok h f = is-refused r
+allowed-view k n Leave ok h f = is-left
 allowed-view k n (Give c) ok h f = go (find k (n .recs)) refl
   where
     r : Rec
     r = record { kv = record { key = k; value = c .value; version = n .max + 1; status = c .status }; start = c .start }
 
     last : (b : Bool) → ltb (n .max) top ≡ b → length (store r (n .recs)) ≤ maxRecords → Decided k n (pick b (Give c) (Refuse Exhausted))
-    last true q room = given c (record { key-fits = h; value-fits = f .0; start-fits = f .1; has-room = room; can-rise = ltb-true _ _ q })
-    last false q room = refused Exhausted
+    last true q room = is-given c (record { key-fits = h; value-fits = f .0; start-fits = f .1; has-room = room; can-rise = ltb-true _ _ q })
+    last false q room = is-refused Exhausted
 
     new : (b : Bool) → leb maxRecords (length (n .recs)) ≡ b → Decided k n (pick b (Refuse NodeFull) (pick (ltb (n .max) top) (Give c) (Refuse Exhausted)))
-    new true q = refused NodeFull
+    new true q = is-refused NodeFull
     new false q =
         last (ltb (n .max) top) refl
         (let a : length (n .recs) < maxRecords = leb-false maxRecords (length (n .recs)) q in let b = store-longer r (n .recs) in omega arith)
@@ -189,8 +190,8 @@ decided c k n ok t = go (leb (length k) maxKey) refl (leb (length (brought c)) m
   where
     go : (a : Bool) → leb (length k) maxKey ≡ a → (b : Bool) → leb (length (brought c)) maxValue ≡ b → Decided k n (pick (a && b) (allowed k n (wish c (find k (n .recs)))) (Refuse TooLong))
     go true p true q = allowed-view k n (wish c (find k (n .recs))) ok (leb-true _ _ p) (wish-fits c (find k (n .recs)) t (leb-true _ _ q) (held-fits n ok k))
-    go true p false q = refused TooLong
-    go false p b q = refused TooLong
+    go true p false q = is-refused TooLong
+    go false p b q = is-refused TooLong
 
 pub ok-write : (k : List ℕ) (c : Change) (n : Node) → OkNode n → Granted k c n → OkNode (write k c n)
 unfolding write
@@ -223,9 +224,9 @@ unfolding act
 ok-act c k n ok t = go (decided c k n ok t)
   where
     go : {d : Decision} → Decided k n d → OkNode (act k d n)
-    go (refused r) = ok
-    go left = ok
-    go (given c g) = ok-write k c n ok g
+    go (is-refused r) = ok
+    go is-left = ok
+    go (is-given c g) = ok-write k c n ok g
 
 -- ---- removal and heartbeats
 

@@ -19,3 +19,4 @@ pub mod Computing
 pub mod Needed
 pub mod Tables
 pub mod OneNode
+pub mod Accepted

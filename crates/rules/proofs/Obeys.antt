@@ -47,6 +47,12 @@ not-among i l f = go (among i l) refl
     go true e = absurd (f (among-in i l e))
     go false e = refl
 
+-- an entry's number is one of the table's
+pub number-in : {e : Entry} {t : Table} → e ∈ t → e .number ∈ numbersOf t
+unfolding numbersOf
+number-in (here q) = here (ap (λ (y : Entry). y .number) q)
+number-in (later m) = later (number-in m)
+
 -- strictly ascending: each below all behind it
 unfoldable pub Ascending : List ℕ → Type 0
 Ascending [] = Unit {0}
@@ -122,9 +128,10 @@ not-true false e = refl
 pub differ-facts : (l : List Rec) → differ (versions l) ≡ true → Differ l
 unfolding differ versions Differ
 differ-facts [] e = tt
-differ-facts (a ∷ l) e =
-    (λ x m q. among-not (versionOf a) (versions l) (not-true _ (and-left _ (differ (versions l)) e)) (subst (λ (v : ℕ). v ∈ versions l) q (version-in m)),
-    differ-facts l (and-right (not (among (versionOf a) (versions l))) (differ (versions l)) e))
+differ-facts (a ∷ l) e = (
+  λ x m q. among-not (versionOf a) (versions l) (not-true _ (and-left _ (differ (versions l)) e)) (subst (λ (v : ℕ). v ∈ versions l) q (version-in m)),
+  differ-facts l (and-right (not (among (versionOf a) (versions l))) (differ (versions l)) e),
+)
 
 pub facts-differ : (l : List Rec) → Differ l → differ (versions l) ≡ true
 unfolding differ versions Differ
@@ -182,15 +189,15 @@ pub node-facts : (n : Node) → nodeObeys n ≡ true → OkNode n
 unfolding nodeObeys
 node-facts n e =
     let at =
-        every-at
-        (leb (length (n .recs)) maxRecords
-        ∷ all (recObeys (n .max)) (n .recs)
-        ∷ keysRise (n .recs)
-        ∷ differ (versions (n .recs))
-        ∷ ltb (n .max) numbers
-        ∷ ltb (n .last-gc) numbers
-        ∷ ltb (n .heartbeat .0) numbers
-        ∷ []) e in
+    every-at
+    (leb (length (n .recs)) maxRecords
+    ∷ all (recObeys (n .max)) (n .recs)
+    ∷ keysRise (n .recs)
+    ∷ differ (versions (n .recs))
+    ∷ ltb (n .max) numbers
+    ∷ ltb (n .last-gc) numbers
+    ∷ ltb (n .heartbeat .0) numbers
+    ∷ []) e in
     record {
       few = leb-true _ _ (at 0);
       each = λ r m. rec-facts (n .max) r (all-from (recObeys (n .max)) (n .recs) (at 1) r m);
@@ -204,14 +211,15 @@ node-facts n e =
 pub facts-node : (n : Node) → OkNode n → nodeObeys n ≡ true
 unfolding nodeObeys
 facts-node n o =
-    rw
-    (le-leb _ _ (o .few),
-    all-in (recObeys (n .max)) (n .recs) (λ r m. facts-rec (n .max) r (o .each r m)),
-    sorted-keys (n .recs) (o .sorted),
-    facts-differ (n .recs) (o .differs),
-    lt-ltb _ _ (o .max-fits),
-    lt-ltb _ _ (o .gc-fits),
-    lt-ltb _ _ (o .beat-fits))
+    rw (
+      le-leb _ _ (o .few),
+      all-in (recObeys (n .max)) (n .recs) (λ r m. facts-rec (n .max) r (o .each r m)),
+      sorted-keys (n .recs) (o .sorted),
+      facts-differ (n .recs) (o .differs),
+      lt-ltb _ _ (o .max-fits),
+      lt-ltb _ _ (o .gc-fits),
+      lt-ltb _ _ (o .beat-fits),
+    )
 
 pub entry-facts : (e : Entry) → entryObeys e ≡ true → OkEntry e
 unfolding entryObeys

@@ -11,6 +11,7 @@ use lib.ListN.{length, take}
 use borrow.Author.Tests.{eq-eqb, eqb-false, eqb-true, ltb-true, ne-eqb}
 use Rattle.fields.proofs.Choice.{in-cons, in-none}
 use Rattle.fields.specs.Choice.{_∈_, here, later, pick}
+use Rattle.rules.proofs.Obeys.{Ascending, number-in}
 use Rattle.rules.proofs.Sending.{afterMax, emit, fitting, leftOver, nodeDelta, partOf}
 use Rattle.rules.specs.Apply.{Taking, applyEach, onNode}
 use Rattle.rules.specs.Compute.{StaleNode, firstTie, ordered, otherTies, queue, sooner, staleNode, staleNodes, staleOf, toldOf}
@@ -79,16 +80,6 @@ node-fresh i (n ∷ ns) = go (eqb i n) (node-fresh i ns)
     go : (b : Bool) → (nodeOf i (freshTable ns) ≡ none) ⊎ (nodeOf i (freshTable ns) ≡ some fresh) → (pick b (some fresh) (nodeOf i (freshTable ns)) ≡ none) ⊎ (pick b (some fresh) (nodeOf i (freshTable ns)) ≡ some fresh)
     go true ih = inr refl
     go false ih = ih
-
--- numbersOf strictly ascending
-unfoldable pub Ascending : List ℕ → Type 0
-Ascending [] = Unit {0}
-Ascending (a ∷ l) = ((x : ℕ) → x ∈ l → a < x) × Ascending l
-
-pub number-in : {e : Entry} {t : Table} → e ∈ t → e .number ∈ numbersOf t
-unfolding numbersOf
-number-in (here q) = here (ap (λ (y : Entry). y .number) q)
-number-in (later m) = later (number-in m)
 
 pub node-entry : (e : Entry) {t : Table} → Ascending (numbersOf t) → e ∈ t → nodeOf (e .number) t ≡ some (e .node)
 unfolding nodeOf numbersOf Ascending
@@ -310,7 +301,7 @@ unfoldable pub NoTwo : List StaleNode → Type 0
 NoTwo [] = Unit {0}
 NoTwo (x ∷ r) = ((y : StaleNode) → y ∈ r → y .number ≡ x .number → ⊥) × NoTwo r
 
-stale-no-two : (excluded : List ℕ) (l : List NodeDigest) (ties : List ℕ) (t : Table) → Ascending (numbersOf t) → NoTwo (staleNodes excluded l ties t)
+pub stale-no-two : (excluded : List ℕ) (l : List NodeDigest) (ties : List ℕ) (t : Table) → Ascending (numbersOf t) → NoTwo (staleNodes excluded l ties t)
 unfolding staleNodes NoTwo numbersOf Ascending
 stale-no-two excluded l ties [] asc = tt
 stale-no-two excluded l ties (e ∷ t) asc = go (not (among (e .number) excluded) && ltb (toldOf (e .number) l .max) (e .node .max)) (stale-no-two excluded l (otherTies ties) t (asc .1))
@@ -333,7 +324,7 @@ queue-no-two o (a ∷ l) h n = go (sooner o a) (queue-no-two o l (h .1) (λ y m.
     go true ih = (n, h)
     go false ih = (λ y m. at y (queue-from o l m), ih)
 
-ordered-no-two : (l : List StaleNode) → NoTwo l → NoTwo (ordered l)
+pub ordered-no-two : (l : List StaleNode) → NoTwo l → NoTwo (ordered l)
 unfolding ordered NoTwo
 ordered-no-two [] h = tt
 ordered-no-two (o ∷ l) h = queue-no-two o (ordered l) (ordered-no-two l (h .1)) (λ y m. h .0 y (ordered-from l m))
