@@ -20,3 +20,4 @@ pub mod Needed
 pub mod Tables
 pub mod OneNode
 pub mod Accepted
+pub mod Calls
