@@ -221,6 +221,9 @@ put-swap a b vs ws l h g =
     ∙ ap (λ (r : List ℕ). take a l ++ r) (put-right (length vs) d ws vs (drop (a + length vs) l) refl) in
     left ∙ sym right
 
+pub put-behind : (at : ℕ) (vs ws l : List ℕ) → at + (length vs + length ws) ≤ length l → put (at + length vs) ws (put at vs l) ≡ put at (vs ++ ws) l
+put-behind at vs ws l h = sym (put-swap at (at + length vs) vs ws l (omega arith) (omega arith)) ∙ put-append at vs ws l h
+
 -- one byte put is one element set
 pub put-one : (at b : ℕ) (l : List ℕ) → at < length l → put at (b ∷ []) l ≡ set l at b
 put-one at b l h = sym (put-cons at b [] l h) ∙ put-nil (suc at) (set l at b)
