@@ -1,21 +1,17 @@
-use native.Mathlib.Omega.{arith}
+-- `fields::byte_at` meets its contract: the number of one byte is that byte. Assumes nothing.
 use mathlib.Core.Path.{sym}
-use Rattle.fields.proofs.Numbers.{nat-one}
+use native.Mathlib.Omega.{arith}
 use borrow.Author.Needs.{needs}
+use Rattle.fields.proofs.Numbers.{nat-one}
 use Rattle.fields.proofs.byte_at.Statement.{statement}
 use Rattle.fields.proofs.byte_at.Tie as tie
-use Rattle.fields.proofs.byte_at.Reads as reads
-use Rattle.fields.proofs.byte_at.Lts as lts
 
--- src/lib.rt:96:5
 shared-slice-read-result : tie.Need-shared-slice-read-result
 shared-slice-read-result c = search needs
 
--- src/lib.rt:96:5
 cast-result : tie.Need-cast-result
 cast-result c = omega (arith, c .shared-slice-known .given (c .before .args .at))
 
--- src/lib.rt:92:1
 returns : tie.Need-returns
 returns c =
     let a = c .before .args in

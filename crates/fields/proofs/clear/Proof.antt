@@ -1,18 +1,17 @@
-use Prim.Native.Nat.{ℕ, suc, _+_, _-_, _≤_, _<_}
+-- `fields::clear` meets its contract: the zeros that are left, put now, give what the contract says. Assumes nothing.
+use Prim.Native.Nat.{ℕ, _+_, _-_, _≤_, _<_}
 use mathlib.Core.Path.{_≡_, refl, sym, ap, _∙_}
-use mathlib.Core.List.{List, [], _∷_, _++_}
+use mathlib.Core.List.{List}
 use native.Mathlib.Omega.{arith}
 use native.Mathlib.Nat.{add-zero, sub-zero}
-use lib.ListN.{length, getD, set, take, drop, replicate, length-set}
-use borrow.Author.Needs.{needs}
+use lib.ListN.{length, set, length-set}
 use Rattle.fields.specs.Blocks.{zeros}
-use Rattle.fields.specs.Parts.{put, part}
-use Rattle.fields.proofs.Parts.{part-cons}
-use Rattle.fields.proofs.Parts.{put-cons, put-nil, put-snoc, part-set-after, part-set-before, part-snoc, length-part}
+use Rattle.fields.specs.Parts.{put}
+use Rattle.fields.proofs.Blocks.{zeros-next}
+use Rattle.fields.proofs.Parts.{put-next, put-nil}
+use borrow.Author.Needs.{needs}
 use Rattle.fields.proofs.clear.Statement.{statement}
 use Rattle.fields.proofs.clear.Tie as tie
-use Rattle.fields.proofs.clear.Reads as reads
-use Rattle.fields.proofs.clear.Lts as lts
 
 abbrev Inv-loop : tie.InvT-loop
 Inv-loop s₀ at n i₀ s i = (i ≤ n) × (length s ≡ length s₀) × (put (at + i) (zeros (n - i)) s ≡ put at (zeros n) s₀)
@@ -22,11 +21,7 @@ abbrev μ-loop : tie.MeasureT-loop
 
 turn : (l : List ℕ) (at n i : ℕ) (t : List ℕ) → i < n → at + n ≤ length l → put (at + i) (zeros (n - i)) l ≡ t
     → put (at + (i + 1)) (zeros (n - (i + 1))) (set l (at + i) 0) ≡ t
-unfolding zeros
-turn l at n i t h g e =
-    let p : n - i ≡ suc (n - (i + 1)) = omega arith in
-    let q : at + (i + 1) ≡ suc (at + i) = omega arith in
-    rw (q, put-cons (at + i) 0 _ l (omega arith)) (rw p at e)
+turn l at n i t h g e = put-next at i 0 (zeros (n - (i + 1))) l (omega arith) ∙ (rw (zeros-next i n h) at e)
 
 loop-holds : tie.Need-loop-holds Inv-loop μ-loop
 loop-holds c = (omega arith, refl, rw (add-zero, sub-zero) refl)

@@ -1,20 +1,17 @@
-use Prim.Native.Nat.{ℕ, suc, _+_, _-_, _≤_, _<_}
+-- `fields::copy_to` meets its contract: what is left of `src`, put now, gives what the contract says. Assumes nothing.
+use Prim.Native.Nat.{ℕ, _+_, _-_, _≤_, _<_}
 use mathlib.Core.Path.{_≡_, refl, sym, ap, _∙_}
-use mathlib.Core.List.{List, [], _∷_, _++_}
+use mathlib.Core.List.{List, [], _∷_}
 use native.Mathlib.Omega.{arith}
-use native.Mathlib.Nat.{add-zero, sub-zero}
-use lib.ListN.{length, getD, set, take, drop, replicate, length-set}
-use lib.ListN.{drop-of-length-le}
-use lib.Seq.{drop-cons}
+use native.Mathlib.Nat.{add-zero}
 use native.Mathlib.Numerals.{add-one}
+use lib.ListN.{length, getD, set, drop, length-set, drop-of-length-le}
+use lib.Seq.{drop-cons}
+use Rattle.fields.specs.Parts.{put}
+use Rattle.fields.proofs.Parts.{put-next, put-nil}
 use borrow.Author.Needs.{needs}
-use Rattle.fields.specs.Parts.{put, part}
-use Rattle.fields.proofs.Parts.{part-cons}
-use Rattle.fields.proofs.Parts.{put-cons, put-nil, put-snoc, part-set-after, part-set-before, part-snoc, length-part}
 use Rattle.fields.proofs.copy_to.Statement.{statement}
 use Rattle.fields.proofs.copy_to.Tie as tie
-use Rattle.fields.proofs.copy_to.Reads as reads
-use Rattle.fields.proofs.copy_to.Lts as lts
 
 abbrev Inv-loop : tie.InvT-loop
 Inv-loop s₀ at src i₀ s i = (i ≤ length src) × (length s ≡ length s₀) × (put (at + i) (drop i src) s ≡ put at src s₀)
@@ -25,8 +22,7 @@ abbrev μ-loop : tie.MeasureT-loop
 turn : (src l : List ℕ) (at i : ℕ) (t : List ℕ) → i < length src → at + length src ≤ length l → put (at + i) (drop i src) l ≡ t
     → put (at + (i + 1)) (drop (i + 1) src) (set l (at + i) (getD src i 0)) ≡ t
 turn src l at i t h g e =
-    let q : at + (i + 1) ≡ suc (at + i) = omega arith in
-    rw (q, add-one, put-cons (at + i) (getD src i 0) _ l (omega arith)) (rw (drop-cons src i 0 h) at e)
+    put-next at i (getD src i 0) (drop (i + 1) src) l (omega arith) ∙ (rw (drop-cons src i 0 h, ← add-one i) at e)
 
 loop-holds : tie.Need-loop-holds Inv-loop μ-loop
 loop-holds c = (omega arith, refl, rw add-zero refl)

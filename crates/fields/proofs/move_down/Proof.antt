@@ -1,17 +1,16 @@
-use Prim.Native.Nat.{ℕ, suc, _+_, _-_, _≤_, _<_}
+-- `fields::move_down` meets its contract: the bytes that are left to move are not yet written over, and put now they give what the contract says.
+-- Assumes nothing.
+use Prim.Native.Nat.{ℕ, _+_, _-_, _≤_, _<_}
 use mathlib.Core.Path.{_≡_, refl, sym, ap, _∙_}
-use mathlib.Core.List.{List, [], _∷_, _++_}
+use mathlib.Core.List.{List, [], _∷_}
 use native.Mathlib.Omega.{arith}
 use native.Mathlib.Nat.{add-zero, sub-zero}
-use lib.ListN.{length, getD, set, take, drop, replicate, length-set}
+use lib.ListN.{length, getD, set, length-set}
+use Rattle.fields.specs.Parts.{part, put}
+use Rattle.fields.proofs.Parts.{part-next, part-set-after, put-next, put-nil}
 use borrow.Author.Needs.{needs}
-use Rattle.fields.specs.Parts.{put, part}
-use Rattle.fields.proofs.Parts.{part-cons}
-use Rattle.fields.proofs.Parts.{put-cons, put-nil, put-snoc, part-set-after, part-set-before, part-snoc, length-part}
 use Rattle.fields.proofs.move_down.Statement.{statement}
 use Rattle.fields.proofs.move_down.Tie as tie
-use Rattle.fields.proofs.move_down.Reads as reads
-use Rattle.fields.proofs.move_down.Lts as lts
 
 abbrev Inv-loop : tie.InvT-loop
 Inv-loop s₀ from to n i₀ s i = (i ≤ n) × (length s ≡ length s₀) × (put (to + i) (part (from + i) (n - i) s) s ≡ put to (part from n s₀) s₀)
@@ -22,11 +21,8 @@ abbrev μ-loop : tie.MeasureT-loop
 turn : (l : List ℕ) (from to n i : ℕ) (t : List ℕ) → i < n → to ≤ from → from + n ≤ length l → put (to + i) (part (from + i) (n - i) l) l ≡ t
     → let v : ℕ = getD l (from + i) 0 in put (to + (i + 1)) (part (from + (i + 1)) (n - (i + 1)) (set l (to + i) v)) (set l (to + i) v) ≡ t
 turn l from to n i t h g f e =
-    let p : n - i ≡ suc (n - (i + 1)) = omega arith in
-    let q : to + (i + 1) ≡ suc (to + i) = omega arith in
-    let r : from + (i + 1) ≡ suc (from + i) = omega arith in
-    rw (part-set-after (from + (i + 1)) (n - (i + 1)) (to + i) _ l (omega arith), q, r, put-cons (to + i) (getD l (from + i) 0) _ l (omega arith))
-    (rw (p, part-cons l (from + i) (n - (i + 1)) (omega arith)) at e)
+    rw (part-set-after (from + (i + 1)) (n - (i + 1)) (to + i) _ l (omega arith))
+    (put-next to i (getD l (from + i) 0) _ l (omega arith) ∙ (rw (part-next from i n l h f) at e))
 
 loop-holds : tie.Need-loop-holds Inv-loop μ-loop
 loop-holds c = (omega arith, refl, simp (add-zero, sub-zero))
@@ -54,7 +50,11 @@ loop-again c =
     let at-loop = c .before .before in
     let a = at-loop .before .args in
     let inv = at-loop .loop .inv in
-    (omega arith, simp length-set (inv .1), turn (at-loop .loop .s) (a .from) (a .to) (a .n) (at-loop .loop .i) _ (c .before .loop-test .taken) (omega arith) (omega arith) (inv .2))
+    (
+      omega arith,
+      simp length-set (inv .1),
+      turn (at-loop .loop .s) (a .from) (a .to) (a .n) (at-loop .loop .i) _ (c .before .loop-test .taken) (omega arith) (omega arith) (inv .2),
+    )
 
 same-length : tie.Need-same-length Inv-loop μ-loop
 same-length c = c .before .loop .inv .1

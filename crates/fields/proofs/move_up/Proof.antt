@@ -1,17 +1,15 @@
+-- `fields::move_up` meets its contract: from the last byte down, those that are left to move are not yet written over, and put now they give
+-- what the contract says. Assumes nothing.
 use Prim.Native.Nat.{ℕ, suc, _+_, _-_, _≤_, _<_}
 use mathlib.Core.Path.{_≡_, refl, sym, ap, _∙_, subst}
-use mathlib.Core.List.{List, [], _∷_, _++_}
+use mathlib.Core.List.{List}
 use native.Mathlib.Omega.{arith}
-use native.Mathlib.Nat.{add-zero, sub-zero}
-use lib.ListN.{length, getD, set, take, drop, replicate, length-set}
+use lib.ListN.{length, getD, set, length-set}
+use Rattle.fields.specs.Parts.{part, put}
+use Rattle.fields.proofs.Parts.{part-snoc, part-set-before, put-snoc, put-nil, length-part}
 use borrow.Author.Needs.{needs}
-use Rattle.fields.specs.Parts.{put, part}
-use Rattle.fields.proofs.Parts.{part-cons}
-use Rattle.fields.proofs.Parts.{put-cons, put-nil, put-snoc, part-set-after, part-set-before, part-snoc, length-part}
 use Rattle.fields.proofs.move_up.Statement.{statement}
 use Rattle.fields.proofs.move_up.Tie as tie
-use Rattle.fields.proofs.move_up.Reads as reads
-use Rattle.fields.proofs.move_up.Lts as lts
 
 abbrev Inv-loop : tie.InvT-loop
 Inv-loop s₀ from to n i₀ s i = (i ≤ n) × (length s ≡ length s₀) × (put to (part from i s) s ≡ put to (part from n s₀) s₀)
@@ -62,7 +60,11 @@ loop-again c =
     let at-loop = c .before .before in
     let a = at-loop .before .args in
     let inv = at-loop .loop .inv in
-    (omega arith, simp length-set (inv .1), turn (at-loop .loop .s) (a .from) (a .to) (at-loop .loop .i) _ (c .before .loop-test .taken) (omega arith) (omega arith) (inv .2))
+    (
+      omega arith,
+      simp length-set (inv .1),
+      turn (at-loop .loop .s) (a .from) (a .to) (at-loop .loop .i) _ (c .before .loop-test .taken) (omega arith) (omega arith) (inv .2),
+    )
 
 same-length : tie.Need-same-length Inv-loop μ-loop
 same-length c = c .before .loop .inv .1
@@ -71,7 +73,6 @@ returns : tie.Need-returns Inv-loop μ-loop
 unfolding part
 returns c =
     let inv = c .before .loop .inv in
-    let a = c .before .before .args in
     let z : c .before .loop .i ≡ 0 = omega arith in
     sym (put-nil _ _) ∙ (rw z at (inv .2))
 
