@@ -1,16 +1,16 @@
 -- Laws of blocks of one width, over the width, the count and the encoding: each block stands at its place, one is replaced, put in or taken
 -- out, blocks are read and written back, and a test of every block is one of each. Before them, laws of zeros and of a list filled up with zeros.
 -- Assumes nothing.
-use Prim.Native.Nat.{ℕ, zero, suc, _+_, _*_, _-_, _≤_, _<_, zero-le, suc-le-suc}
-use mathlib.Core.Path.{_≡_, refl, ap, ap₂, sym, _∙_, subst}
-use mathlib.Core.Bool.{Bool, true, false, _&&_}
+use Prim.Native.Nat.{ℕ, zero, suc, _+_, _*_, _-_, _≤_, _<_, suc-le-suc}
+use mathlib.Core.Path.{_≡_, refl, ap, ap₂, sym, _∙_}
+use mathlib.Core.Bool.{Bool, true, _&&_}
 use mathlib.Core.List.{List, [], _∷_, _++_, append-assoc, append-nil}
 use native.Mathlib.Omega.{arith}
 use native.Mathlib.Numerals.{add-one}
 use native.Mathlib.Nat.{suc-mul, zero-mul, add-mul, add-sub-cancel-left, le-of-suc-le-suc, not-suc-le-zero, add-zero, zero-add}
 use lib.Dec.{eqb, lit<}
-use lib.ListN.{length, take, drop, getD, set, replicate, length-append, length-take, length-drop, length-replicate, take-append-drop, drop-of-length-le, replicate-append-replicate}
-use lib.Seq.{drop-cons, take-at, drop-at, length-take-le, drop-drop, take-append-add, take-add, take-all, split-at, set-split}
+use lib.ListN.{length, take, drop, getD, set, length-append, length-take, length-drop, length-replicate, take-append-drop, drop-of-length-le, replicate-append-replicate}
+use lib.Seq.{take-at, drop-at, length-take-le, drop-drop, take-append-add, take-add, take-all, split-at, set-split}
 use borrow.Author.Tests.{eqb-true}
 use Rattle.fields.specs.Choice.{_∈_, here, later}
 use Rattle.fields.specs.Numbers.{natOf, bytesOf, Bytes}
@@ -18,7 +18,7 @@ use Rattle.fields.specs.Parts.{part, put}
 use Rattle.fields.specs.Blocks.{zeros, allZero, fit, flat, blocks, unblock, allBlocks, insertAt, removeAt}
 use Rattle.fields.proofs.Choice.{and-left, and-right, and-intro}
 use Rattle.fields.proofs.Numbers.{bytes-none, bytes-cons, bytes-append, bytes-take}
-use Rattle.fields.proofs.Parts.{part-left, part-right, part-add, part-part, part-drop, part-whole, part-at, put-at, put-mid, length-part, length-put}
+use Rattle.fields.proofs.Parts.{part-right, part-add, part-part, part-drop, part-whole, part-at, put-at, put-mid, length-part}
 
 -- ---- zeros
 

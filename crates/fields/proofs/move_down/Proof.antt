@@ -1,8 +1,8 @@
 -- `fields::move_down` meets its contract: the bytes that are left to move are not yet written over, and put now they give what the contract says.
 -- Assumes nothing.
 use Prim.Native.Nat.{ℕ, _+_, _-_, _≤_, _<_}
-use mathlib.Core.Path.{_≡_, refl, sym, ap, _∙_}
-use mathlib.Core.List.{List, [], _∷_}
+use mathlib.Core.Path.{_≡_, refl, sym, _∙_}
+use mathlib.Core.List.{List}
 use native.Mathlib.Omega.{arith}
 use native.Mathlib.Nat.{add-zero, sub-zero}
 use lib.ListN.{length, getD, set, length-set}
@@ -49,8 +49,7 @@ loop-again : tie.Need-loop-again Inv-loop μ-loop
 loop-again c =
     let at-loop = c .before .before in
     let a = at-loop .before .args in
-    let inv = at-loop .loop .inv in
-    (
+    let inv = at-loop .loop .inv in (
       omega arith,
       simp length-set (inv .1),
       turn (at-loop .loop .s) (a .from) (a .to) (a .n) (at-loop .loop .i) _ (c .before .loop-test .taken) (omega arith) (omega arith) (inv .2),
