@@ -1,7 +1,7 @@
 -- Laws of the order of byte strings: `sameBytes` decides equality, `lessBytes` is a total order, `orderOf` says which of the three holds, and
 -- `startsWith` says that the second begins with the first. Assumes nothing.
-use Prim.Native.Nat.{ℕ, zero, suc, _+_, _≤_, _<_, suc-le-suc, zero-le}
-use mathlib.Core.Path.{_≡_, refl, sym, _∙_, ap, ap₂, subst}
+use Prim.Native.Nat.{ℕ, suc, _≤_, _<_, suc-le-suc, zero-le}
+use mathlib.Core.Path.{_≡_, refl, sym, _∙_, ap, ap₂}
 use mathlib.Core.Bool.{Bool, true, false, _&&_, false≢true, true≢false}
 use mathlib.Core.List.{List, [], _∷_, _++_}
 use native.Mathlib.Omega.{arith}
@@ -11,7 +11,6 @@ use lib.Dec.{eqb, ltb}
 use borrow.Author.Tests.{ltb-true, ltb-false, eqb-true, eqb-false, lt-ltb, le-ltb, eq-eqb, ne-eqb}
 use Rattle.fields.specs.Choice.{pick}
 use Rattle.fields.specs.Order.{sameBytes, lessBytes, orderOf, startsWith}
-use Rattle.fields.specs.declared.Order.{Order}
 use Rattle.fields.specs.declared.Order.the-variants.{Less, Same, More}
 use Rattle.fields.proofs.Choice.{pick-true, pick-false, same-test}
 
@@ -45,6 +44,17 @@ ne-same j k h = go (sameBytes j k) refl
     go : (t : Bool) → sameBytes j k ≡ t → t ≡ false
     go true e = absurd (h (same-true j k e))
     go false e = refl
+
+pub same-length : (j k : List ℕ) → (length j ≡ length k → ⊥) → sameBytes j k ≡ false
+same-length j k h = ne-same j k (λ e. h (ap length e))
+
+pub same-first : (a b : ℕ) (j k : List ℕ) → sameBytes (a ∷ j) (b ∷ k) ≡ (eqb a b && sameBytes j k)
+unfolding sameBytes
+same-first a b j k = go (eqb a b)
+  where
+    go : (t : Bool) → pick t (sameBytes j k) false ≡ (t && sameBytes j k)
+    go true = refl
+    go false = refl
 
 pub same-swap : (j k : List ℕ) → sameBytes j k ≡ sameBytes k j
 unfolding sameBytes
@@ -178,6 +188,33 @@ module _ (j k : List ℕ) where
       go false p true q e = cc
       go false p false q e = less-total j k p q
 
+-- ---- by the first bytes
+
+pub order-none : orderOf [] [] ≡ Same
+unfolding orderOf sameBytes
+order-none = refl
+
+pub order-shorter : (y : ℕ) (k : List ℕ) → orderOf [] (y ∷ k) ≡ Less
+unfolding orderOf sameBytes lessBytes
+order-shorter y k = refl
+
+pub order-longer : (x : ℕ) (j : List ℕ) → orderOf (x ∷ j) [] ≡ More
+unfolding orderOf sameBytes lessBytes
+order-longer x j = refl
+
+module _ (x y : ℕ) (j k : List ℕ) where
+  pub order-first-same : x ≡ y → orderOf (x ∷ j) (y ∷ k) ≡ orderOf j k
+  unfolding orderOf sameBytes lessBytes
+  order-first-same h = rw (orderOf, eq-eqb x y h, le-ltb x y (omega arith))
+
+  pub order-first-less : x < y → orderOf (x ∷ j) (y ∷ k) ≡ Less
+  unfolding lessBytes
+  order-first-less h = less-order (x ∷ j) (y ∷ k) (rw (lt-ltb x y h))
+
+  pub order-first-more : y < x → orderOf (x ∷ j) (y ∷ k) ≡ More
+  unfolding lessBytes
+  order-first-more h = more-order (x ∷ j) (y ∷ k) (rw (lt-ltb y x h))
+
 -- ---- the beginning of a string
 
 pub starts-own : (j k : List ℕ) → startsWith j (j ++ k) ≡ true
@@ -194,6 +231,13 @@ starts-long (a ∷ j) (b ∷ k) e = go (eqb a b) e (starts-long j k)
     go : (t : Bool) → pick t (startsWith j k) false ≡ true → (startsWith j k ≡ true → length j ≤ length k) → suc (length j) ≤ suc (length k)
     go true e ih = suc-le-suc (ih e)
     go false e ih = absurd (false≢true e)
+
+pub starts-short : (j k : List ℕ) → length k < length j → startsWith j k ≡ false
+starts-short j k h = go (startsWith j k) refl
+  where
+    go : (t : Bool) → startsWith j k ≡ t → t ≡ false
+    go true e = let g = starts-long j k e in absurd (omega arith)
+    go false e = refl
 
 pub starts-take : (j k : List ℕ) → startsWith j k ≡ true → take (length j) k ≡ j
 unfolding startsWith
