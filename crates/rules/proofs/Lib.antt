@@ -21,3 +21,5 @@ pub mod Tables
 pub mod OneNode
 pub mod Accepted
 pub mod Calls
+pub mod Unique
+pub mod Refusing

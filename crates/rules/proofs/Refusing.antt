@@ -1,0 +1,218 @@
+-- A refused call changes nothing: not the table, not a datagram, not a list; and neither do the bytes of the lent table. Assumes nothing.
+use Prim.Native.Nat.{_+_, ℕ}
+use mathlib.Core.Bool.{Bool, _&&_, false, true}
+use mathlib.Core.List.{List, [], _∷_}
+use mathlib.Core.Option.{Option, none, some}
+use mathlib.Core.Path.{_∙_, _≡_, _≡_, ap, refl}
+use native.Mathlib.Omega.{arith}
+use lib.Dec.{eqb, leb, ltb}
+use lib.ListN.{length}
+use Rattle.fields.proofs.Choice.{and-left, and-right}
+use Rattle.fields.proofs.Ordered.{same-true}
+use Rattle.fields.specs.Choice.{pick}
+use Rattle.fields.specs.Order.{sameBytes}
+use Rattle.fields.specs.Parts.{put}
+use Rattle.rules.specs.Apply.{ApplyOutcome, apply, applyEach, applyNode, applyOps, codes}
+use Rattle.rules.specs.Compute.{compute, onDigest, written}
+use Rattle.rules.specs.Delta.{Faulty, Good, Ops, Part, number, partsOf, readDelta}
+use Rattle.rules.specs.Digest.{DigestRead, Entries, Refused, digestBytes, digestOf, fitsAt, readDigest, writeDigest}
+use Rattle.rules.specs.Layout.{decode, encode, valid}
+use Rattle.rules.specs.Lent.{LentApply, LentOutcome, lentApply, onTable, stored, storedApply}
+use Rattle.rules.specs.Local.{Filled, Outcome, add, answerOf, beatOn, call, callOn, fills, gives, listInto, localBeat, offer, offerOn, prefixOn, prefixed, removeNode, yesNo}
+use Rattle.rules.specs.Node.{Call, Decision, Give, Leave, Node, Refuse, act, beats, decide, hitsFrom, offerOf, withHeartbeat}
+use Rattle.rules.specs.Sizes.{leastMtu, maxDelta, maxKey, maxNodes, top}
+use Rattle.rules.specs.Table.{Table, addNode, among, dropNode, nodeOf, numbersOf, obeys, setNode}
+use Rattle.rules.specs.declared.Answer.{Answer}
+use Rattle.rules.specs.declared.Computed.{Computed}
+use Rattle.rules.specs.declared.Heartbeat.{Heartbeat}
+use Rattle.rules.specs.declared.Listed.{Listed}
+use Rattle.rules.specs.declared.Refusal.{Refusal}
+use Rattle.rules.specs.declared.Refusal.the-variants.{BadMtu, BadTable, BadTies, Exhausted, NinthNode, NoNode, NoPlace, TooLong}
+use Rattle.rules.specs.declared.Written.{Written}
+use Rattle.rules.specs.declared.Answer.the-variants as plain
+use Rattle.rules.specs.declared.Offered.the-variants as offered
+use Rattle.rules.specs.declared.Listed.the-variants as listed
+use Rattle.rules.specs.declared.Written.the-variants as written
+use Rattle.rules.specs.declared.Computed.the-variants as computed
+use Rattle.rules.specs.declared.Applied.the-variants as applied
+
+-- ---- the table
+
+-- a node that becomes what it is
+pub set-same : (i : ℕ) (n : Node) (t : Table) → nodeOf i t ≡ some n → setNode i n t ≡ t
+unfolding nodeOf setNode
+set-same i n [] e = refl
+set-same i n (a ∷ t) e = go (eqb i (a .number)) e (set-same i n t)
+  where
+    go : (b : Bool) → pick b (some (a .node)) (nodeOf i t) ≡ some n → (nodeOf i t ≡ some n → setNode i n t ≡ t) → pick b (record { number = a .number; node = n } ∷ t) (a ∷ setNode i n t) ≡ a ∷ t
+    go true e ih = let q : n ≡ a .node = cc in λ j. record { number = a .number; node = q j } ∷ t
+    go false e ih = ap (λ (l : Table). a ∷ l) (ih e)
+
+done-not : {A : Type 0} (r : Refusal) → plain.Done ≡ plain.Refused r → A
+done-not r e = let z : _≡_ {A = ℕ} 0 1 = cc in absurd (omega arith)
+
+pub add-refused : (i : ℕ) (t : Table) (r : Refusal) → add i t .answer ≡ plain.Refused r → add i t .table ≡ t
+unfolding add
+add-refused i t r = go (among i (numbersOf t)) (ltb (length t) maxNodes)
+  where
+    out : Bool → Bool → Outcome Answer
+    out a b = pick a (gives plain.Done t) (pick b (gives plain.Done (addNode i t)) (gives (plain.Refused NinthNode) t))
+
+    go : (a b : Bool) → out a b .answer ≡ plain.Refused r → out a b .table ≡ t
+    go true b e = refl
+    go false true e = done-not r e
+    go false false e = refl
+
+pub remove-node-refused : (i : ℕ) (t : Table) (r : Refusal) → removeNode i t .answer ≡ plain.Refused r → removeNode i t .table ≡ t
+unfolding removeNode
+remove-node-refused i t r = go (among i (numbersOf t))
+  where
+    out : Bool → Outcome Answer
+    out a = pick a (gives plain.Done (dropNode i t)) (gives (plain.Refused NoNode) t)
+
+    go : (a : Bool) → out a .answer ≡ plain.Refused r → out a .table ≡ t
+    go true e = done-not r e
+    go false e = refl
+
+pub call-refused : (c : Call) (i : ℕ) (k : List ℕ) (t : Table) (r : Refusal) → call c i k t .answer ≡ plain.Refused r → call c i k t .table ≡ t
+unfolding call act
+call-refused c i k t r = go (nodeOf i t) refl
+  where
+    at : (n : Node) → nodeOf i t ≡ some n → (d : Decision) → answerOf d ≡ plain.Refused r → setNode i (act k d n) t ≡ t
+    at n q (Refuse x) e = set-same i n t q
+    at n q Leave e = set-same i n t q
+    at n q (Give x) e = done-not r e
+
+    go : (o : Option Node) → nodeOf i t ≡ o → callOn c i k o t .answer ≡ plain.Refused r → callOn c i k o t .table ≡ t
+    go none q e = refl
+    go (some n) q e = at n q (decide c k n) e
+
+pub beat-refused : (i : ℕ) (t : Table) (r : Refusal) → localBeat i t .answer ≡ plain.Refused r → localBeat i t .table ≡ t
+unfolding localBeat
+beat-refused i t r = go (nodeOf i t)
+  where
+    rise : Node → Bool → Outcome Answer
+    rise n b = pick b (gives plain.Done (setNode i (withHeartbeat (beats (n .heartbeat .0 + 1)) n) t)) (gives (plain.Refused Exhausted) t)
+
+    at : (n : Node) (b : Bool) → rise n b .answer ≡ plain.Refused r → rise n b .table ≡ t
+    at n true e = done-not r e
+    at n false e = refl
+
+    go : (o : Option Node) → beatOn i o t .answer ≡ plain.Refused r → beatOn i o t .table ≡ t
+    go none e = refl
+    go (some n) e = at n (ltb (n .heartbeat .0) top) e
+
+pub offer-refused : (i : ℕ) (h : Heartbeat) (t : Table) (r : Refusal) → offer i h t .answer ≡ offered.Refused r → offer i h t .table ≡ t
+unfolding offer
+offer-refused i h t r = go (nodeOf i t)
+  where
+    not : {A : Type 0} (b : Bool) → yesNo b ≡ offered.Refused r → A
+    not true e = let z : _≡_ {A = ℕ} 0 1 = cc in absurd (omega arith)
+    not false e = let z : _≡_ {A = ℕ} 0 1 = cc in absurd (omega arith)
+
+    go : (o : Option Node) → offerOn i h o t .answer ≡ offered.Refused r → offerOn i h o t .table ≡ t
+    go none e = refl
+    go (some n) e = not (offerOf (n .heartbeat) h .news) e
+
+-- ---- lists and datagrams
+
+pub prefixed-refused : (i : ℕ) (k : List ℕ) (t : Table) (l : List ℕ) (r : Refusal) → prefixed i k t l .answer ≡ listed.Refused r → prefixed i k t l .list ≡ l
+unfolding prefixed
+prefixed-refused i k t l r = go (nodeOf i t)
+  where
+    into : List ℕ → Bool → Filled Listed
+    into found b = pick b (fills (listed.Hits (length found)) (put 0 found l)) (fills (listed.Refused NoPlace) l)
+
+    at : (found : List ℕ) (b : Bool) → into found b .answer ≡ listed.Refused r → into found b .list ≡ l
+    at found true e = let z : _≡_ {A = ℕ} 0 1 = cc in absurd (omega arith)
+    at found false e = refl
+
+    key : (n : Node) (b : Bool) → pick b (listInto (hitsFrom k 0 (n .recs)) l) (fills (listed.Refused TooLong) l) .answer ≡ listed.Refused r → pick b (listInto (hitsFrom k 0 (n .recs)) l) (fills (listed.Refused TooLong) l) .list ≡ l
+    key n true e = at (hitsFrom k 0 (n .recs)) (leb (length (hitsFrom k 0 (n .recs))) (length l)) e
+    key n false e = refl
+
+    go : (o : Option Node) → prefixOn k o l .answer ≡ listed.Refused r → prefixOn k o l .list ≡ l
+    go none e = refl
+    go (some n) e = key n (leb (length k) maxKey) e
+
+pub digest-refused : (excluded : List ℕ) (place : ℕ) (t : Table) (l : List ℕ) (r : Refusal) → writeDigest excluded place t l .answer ≡ written.Refused r → writeDigest excluded place t l .list ≡ l
+unfolding writeDigest
+digest-refused excluded place t l r = go (digestBytes (digestOf excluded t)) (fitsAt place (length (digestBytes (digestOf excluded t))) l)
+  where
+    out : List ℕ → Bool → Filled Written
+    out b c = pick c (fills (written.Bytes (length b)) (put place b l)) (fills (written.Refused NoPlace) l)
+
+    go : (b : List ℕ) (c : Bool) → out b c .answer ≡ written.Refused r → out b c .list ≡ l
+    go b true e = let z : _≡_ {A = ℕ} 0 1 = cc in absurd (omega arith)
+    go b false e = refl
+
+pub compute-refused : (excluded ties : List ℕ) (mtu place : ℕ) (digest : List ℕ) (t : Table) (l : List ℕ) (r : Refusal) → compute excluded ties mtu place digest t l .answer ≡ computed.Refused r → compute excluded ties mtu place digest t l .list ≡ l
+unfolding compute
+compute-refused excluded ties mtu place digest t l r =
+    go (leb leastMtu mtu && leb mtu maxDelta) (fitsAt place mtu l) (eqb (length ties) (length t)) (readDigest digest)
+  where
+    out : Bool → Bool → Bool → DigestRead → Filled Computed
+    out a b c d =
+        pick a (pick b (pick c (onDigest excluded ties mtu place d t l) (fills (computed.Refused BadTies) l)) (fills (computed.Refused NoPlace) l))
+        (fills (computed.Refused BadMtu) l)
+
+    go : (a b c : Bool) (d : DigestRead) → out a b c d .answer ≡ computed.Refused r → out a b c d .list ≡ l
+    go false b c d e = refl
+    go true false c d e = refl
+    go true true false d e = refl
+    go true true true (Entries ds rest) e = let z : _≡_ {A = ℕ} 0 1 = cc in absurd (omega arith)
+    go true true true (Refused x) e = refl
+
+pub apply-refused : (bytes : List ℕ) (now : ℕ) (t : Table) (l : List ℕ) (r : Refusal) (at : ℕ) → apply bytes now t l .answer ≡ applied.Refused r at → (apply bytes now t l .table ≡ t) × (apply bytes now t l .list ≡ l)
+unfolding apply
+apply-refused bytes now t l r at = go (readDelta bytes)
+  where
+    out : List Part → Bool → ApplyOutcome
+    out xs b =
+        pick b (record { answer = applied.Nodes (length xs); table = applyEach (applyNode now) xs t .table; list = put 0 (codes (applyEach (applyNode now) xs t .answers)) l })
+        (record { answer = applied.Refused NoPlace 0; table = t; list = l })
+
+    room : (xs : List Part) (b : Bool) → out xs b .answer ≡ applied.Refused r at → (out xs b .table ≡ t) × (out xs b .list ≡ l)
+    room xs true e = let z : _≡_ {A = ℕ} 0 1 = cc in absurd (omega arith)
+    room xs false e = (refl, refl)
+
+    go : (o : Ops) → applyOps (applyNode now) o t l .answer ≡ applied.Refused r at → (applyOps (applyNode now) o t l .table ≡ t) × (applyOps (applyNode now) o t l .list ≡ l)
+    go (Good ops) e = room (partsOf ops) (leb (length (partsOf ops)) (length l)) e
+    go (Faulty x p) e = (refl, refl)
+
+-- ---- the bytes of the lent table
+
+pub valid-bytes : (l : List ℕ) → valid l ≡ true → encode (decode l) ≡ l
+unfolding valid
+valid-bytes l e = same-true _ _ (and-right (obeys (decode l)) (sameBytes (encode (decode l)) l) e)
+
+pub valid-obeys : (l : List ℕ) → valid l ≡ true → obeys (decode l) ≡ true
+unfolding valid
+valid-obeys l e = and-left (obeys (decode l)) (sameBytes (encode (decode l)) l) e
+
+-- A call whose refusals leave the table leaves the bytes: `refuses` tells a refusal's answers. This serves every call that changes the table.
+pub lent-refused : {A : Type 0} (bad : A) (rule : Table → Outcome A) (refuses : A → Type 0)
+    → ((t : Table) → refuses (rule t .answer) → rule t .table ≡ t)
+    → (l : List ℕ)
+    → refuses (onTable bad rule l .answer)
+    → onTable bad rule l .bytes ≡ l
+unfolding onTable
+lent-refused {A} bad rule refuses f l = go (valid l) refl
+  where
+    out : Bool → LentOutcome A
+    out b = pick b (stored (rule (decode l))) (record { answer = bad; bytes = l })
+
+    go : (b : Bool) → valid l ≡ b → refuses (out b .answer) → out b .bytes ≡ l
+    go true q e = ap encode (f (decode l) e) ∙ valid-bytes l q
+    go false q e = refl
+
+pub lent-apply-refused : (delta : List ℕ) (now : ℕ) (list l : List ℕ) (r : Refusal) (at : ℕ) → lentApply delta now list l .answer ≡ applied.Refused r at → (lentApply delta now list l .bytes ≡ l) × (lentApply delta now list l .list ≡ list)
+unfolding lentApply
+lent-apply-refused delta now list l r at = go (valid l) refl
+  where
+    out : Bool → LentApply
+    out b = pick b (storedApply (apply delta now (decode l) list)) (record { answer = applied.Refused BadTable 0; bytes = l; list = list })
+
+    go : (b : Bool) → valid l ≡ b → out b .answer ≡ applied.Refused r at → (out b .bytes ≡ l) × (out b .list ≡ list)
+    go true q e = let x = apply-refused delta now (decode l) list r at e in (ap encode (x .0) ∙ valid-bytes l q, x .1)
+    go false q e = (refl, refl)
