@@ -21,3 +21,4 @@ pub mod Tables
 pub mod OneNode
 pub mod Accepted
 pub mod Calls
+pub mod EachNode
