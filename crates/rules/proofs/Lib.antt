@@ -22,3 +22,5 @@ pub mod OneNode
 pub mod Accepted
 pub mod Calls
 pub mod EachNode
+pub mod Nearer
+pub mod OnTheWay
