@@ -24,3 +24,4 @@ pub mod Calls
 pub mod EachNode
 pub mod Nearer
 pub mod OnTheWay
+pub mod TableKeeps

@@ -1,18 +1,18 @@
 -- What digest writing and computing leave on the way: the bytes of the digest, and those of the delta that the digest asks for.
 use Prim.Native.Nat.{_+_, _-_, _≤_, ℕ}
 use mathlib.Core.Bool.{Bool, _&&_, false, false≢true, true}
-use mathlib.Core.List.{List, [], _∷_}
+use mathlib.Core.List.{List}
 use mathlib.Core.Path.{_≡_, ap, refl}
 use native.Mathlib.Omega.{arith}
 use lib.Dec.{eqb, leb}
-use lib.ListN.{length, length-append}
+use lib.ListN.{length}
 use borrow.Author.Tests.{leb-true}
 use Rattle.fields.proofs.Parts.{part-put}
-use Rattle.fields.specs.Blocks.{flat}
 use Rattle.fields.specs.Choice.{pick}
 use Rattle.fields.specs.Parts.{put}
-use Rattle.rules.specs.Compute.{allOps, compute, cut, deltaFor, onDigest, ordered, staleNodes, unlessMax, written}
-use Rattle.rules.specs.Delta.{KeyValueOp, NodeOp, Op, SetMaxVersionOp, deltaBytes, opBytes, sizeOf}
+use Rattle.rules.proofs.Accepted.{cut-bytes}
+use Rattle.rules.specs.Compute.{allOps, compute, cut, deltaFor, onDigest, ordered, staleNodes, written}
+use Rattle.rules.specs.Delta.{deltaBytes}
 use Rattle.rules.specs.Demand3.{wroteDigest}
 use Rattle.rules.specs.Digest.{DigestRead, Entries, NodeDigest, Refused, digestBytes, digestOf, readDigest, writeDigest}
 use Rattle.rules.specs.Local.{Filled, fills}
@@ -45,26 +45,6 @@ digest-written excluded place l t x e = go (leb place (length l)) refl (leb (len
 
 -- ---- a delta
 
-size-is : (o : Op) → sizeOf o ≡ length (opBytes o)
-unfolding sizeOf
-size-is o = refl
-
-pub cut-fits : (left : ℕ) (ops : List Op) → length (deltaBytes (cut left ops)) ≤ left
-unfolding deltaBytes flat cut
-cut-fits left [] = omega arith
-cut-fits left (o ∷ ops) = go (leb (sizeOf o) left) refl (cut-fits (left - sizeOf o) ops) (skipped o (cut-fits left ops))
-  where
-    skipped : (o : Op) → length (flat opBytes (cut left ops)) ≤ left → length (flat opBytes (unlessMax o (cut left ops))) ≤ left
-    skipped (NodeOp n g f) h = omega arith
-    skipped (KeyValueOp r) h = omega arith
-    skipped (SetMaxVersionOp m) h = h
-
-    go : (b : Bool) → leb (sizeOf o) left ≡ b → length (flat opBytes (cut (left - sizeOf o) ops)) ≤ left - sizeOf o → length (flat opBytes (unlessMax o (cut left ops))) ≤ left → length (flat opBytes (pick b (o ∷ cut (left - sizeOf o) ops) (unlessMax o (cut left ops)))) ≤ left
-    go true q h s =
-        let g : sizeOf o ≤ left = leb-true (sizeOf o) left q in
-        let k : sizeOf o ≡ length (opBytes o) = size-is o in
-        rw length-append (omega arith)
-    go false q h s = s
 -- what computing comes to: a refusal, or the delta for what the digest's bytes tell
 pub data Comes (excluded ties : List ℕ) (mtu place : ℕ) (d : List ℕ) (t : Table) (l : List ℕ) : Filled Computed → Type 0 where
   refuses : (r : Refusal) → Comes excluded ties mtu place d t l (fills (computed.Refused r) l)
@@ -104,5 +84,5 @@ module _ (excluded ties : List ℕ) (mtu place : ℕ) (d : List ℕ) (t : Table)
   pub delta-written : (ds : List NodeDigest) → place + mtu ≤ length l → (x : Exchange) → onWay (written (deltaFor excluded ties mtu ds t) place l) x ≡ DeltaSent (deltaBytes (deltaFor excluded ties mtu ds t))
   unfolding deltaFor
   delta-written ds h x =
-      let g = cut-fits mtu (allOps (ordered (staleNodes excluded ds ties t))) in
+      let g = cut-bytes mtu (allOps (ordered (staleNodes excluded ds ties t))) in
       ap DeltaSent (part-put place (deltaBytes (cut mtu (allOps (ordered (staleNodes excluded ds ties t))))) l (omega arith))
