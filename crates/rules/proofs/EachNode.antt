@@ -130,15 +130,15 @@ module _ (i : ℕ) (w : World) where
       let e = b .1 in
       (_, they-beat (b .0), λ z. record { given = w .given i; ours = nodeAt i (w .publisher); theirs = e z; flight = flightOf i (w .exchange) })
 
-  seen-beating : (s : Side) (j : ℕ) → Seen (at i w) (at i (calls (Beating s j) w))
+  pub seen-beating : (s : Side) (j : ℕ) → Seen (at i w) (at i (calls (Beating s j) w))
   seen-beating Publishers j = ours-beat _ (beaten-local i (w .publisher) j)
   seen-beating Followers j = theirs-beat _ (beaten-local i (w .follower) j)
 
-  seen-offering : (s : Side) (j : ℕ) (h : Heartbeat) → Seen (at i w) (at i (calls (Offering s j h) w))
+  pub seen-offering : (s : Side) (j : ℕ) (h : Heartbeat) → Seen (at i w) (at i (calls (Offering s j h) w))
   seen-offering Publishers j h = ours-beat _ (beaten-offer i (w .publisher) j h)
   seen-offering Followers j h = theirs-beat _ (beaten-offer i (w .follower) j h)
 
-  seen-removing : (s : Side) (now grace : ℕ) → Seen (at i w) (at i (calls (Removing s now grace) w))
+  pub seen-removing : (s : Side) (now grace : ℕ) → Seen (at i w) (at i (calls (Removing s now grace) w))
   unfolding gc
   seen-removing Publishers now grace =
       let e = removed i (w .publisher) (λ j. due now grace) in
@@ -147,7 +147,7 @@ module _ (i : ℕ) (w : World) where
       let e = removed i (w .follower) (λ j. due now grace) in
       (_, they-remove (due now grace), λ z. record { given = w .given i; ours = nodeAt i (w .publisher); theirs = e z; flight = flightOf i (w .exchange) })
 
-  seen-writing : (j : ℕ) (k : List ℕ) (c : Call) → Seen (at i w) (at i (calls (Writing j k c) w))
+  pub seen-writing : (j : ℕ) (k : List ℕ) (c : Call) → Seen (at i w) (at i (calls (Writing j k c) w))
   unfolding call
   seen-writing j k c = go (nodeOf j (w .publisher)) refl (eqb i j) refl
     where
@@ -178,7 +178,7 @@ module _ (i : ℕ) (w : World) where
           let b = ap orFresh (node-set-other i j (act k (decide c k p) p) (w .publisher) q) in
           (_, stays, λ z. record { given = w .given i; ours = b z; theirs = nodeAt i (w .follower); flight = flightOf i (w .exchange) })
 
-  seen-digesting : (excluded : List ℕ) (place : ℕ) (l : List ℕ) → Seen (at i w) (at i (calls (Digesting excluded place l) w))
+  pub seen-digesting : (excluded : List ℕ) (place : ℕ) (l : List ℕ) → Seen (at i w) (at i (calls (Digesting excluded place l) w))
   seen-digesting excluded place l = go (writeDigest excluded place (w .follower) l .answer)
     where
       go : (a : Written) → Seen (at i w) (at i (onExchange (afterDigest place (writeDigest excluded place (w .follower) l .list) a (w .exchange)) w))
@@ -210,7 +210,7 @@ module _ (i : ℕ) (w : World) where
               ∙ ap (λ (o : Option NodeDelta). taking (applyNode now) o (nodeAt i (w .follower))) flight-is in
           (_, they-take now, ap Next a)
 
-  seen-applying : (now : ℕ) (l b : List ℕ) → w .exchange ≡ DeltaSent b → repeated (partsIn (readDelta b)) ≡ false → Seen (at i w) (at i (onSide Followers (λ t. apply b now t l .table) w))
+  pub seen-applying : (now : ℕ) (l b : List ℕ) → w .exchange ≡ DeltaSent b → repeated (partsIn (readDelta b)) ≡ false → Seen (at i w) (at i (onSide Followers (λ t. apply b now t l .table) w))
   unfolding apply
   seen-applying now l b x once = go (readDelta b) refl once
     where
@@ -227,7 +227,7 @@ module _ (i : ℕ) (w : World) where
           room false = (_, stays, refl)
 
   -- a delta that was computed for any digest
-  seen-sent : (excluded ties : List ℕ) (mtu : ℕ) (ds : List NodeDigest) (b : List ℕ) → Ascending (numbersOf (w .publisher)) → readDelta b ≡ Good (deltaFor excluded ties mtu ds (w .publisher)) → Seen (at i w) (at i (onExchange (DeltaSent b) w))
+  pub seen-sent : (excluded ties : List ℕ) (mtu : ℕ) (ds : List NodeDigest) (b : List ℕ) → Ascending (numbersOf (w .publisher)) → readDelta b ≡ Good (deltaFor excluded ties mtu ds (w .publisher)) → Seen (at i w) (at i (onExchange (DeltaSent b) w))
   unfolding deltaFor
   seen-sent excluded ties mtu ds b asc e = go (partAt i (emit mtu queue-now)) refl
     where

@@ -25,3 +25,4 @@ pub mod EachNode
 pub mod Nearer
 pub mod OnTheWay
 pub mod TableKeeps
+pub mod Moments

@@ -188,8 +188,8 @@ module _ (now mtu : ℕ) (ties : List ℕ) (ours theirs : Table) (asc : Ascendin
     delta-of : (x : StaleNode) (e : Entry) (f : Node) (count : ℕ) (fits : Bool) → Matched x e f → nodeDelta (x .node) (x .told-gc) (x .told-max) count fits ≡ nodeDelta (e .node) (f .last-gc) (f .max) count fits
     delta-of x e f count fits m = λ z. nodeDelta (m .node-is z) (m .gc-is z) (m .max-is z) count fits
 
-    pub stays : (e : Entry) → e ∈ ours → lack next e ≤ lack theirs e
-    stays e m = go (partAt (e .number) sent) refl
+    pub lack-stays : (e : Entry) → e ∈ ours → lack next e ≤ lack theirs e
+    lack-stays e m = go (partAt (e .number) sent) refl
       where
         f : Node
         f = both e m .0
@@ -276,9 +276,9 @@ module _ (now mtu : ℕ) (ties : List ℕ) (ours theirs : Table) (asc : Ascendin
               omega arith
 
       -- the sum falls, while it is not 0
-      pub falls : 0 < total (lack theirs) ours → total (lack next) ours < total (lack theirs) ours
+      pub lack-falls : 0 < total (lack theirs) ours → total (lack next) ours < total (lack theirs) ours
       unfolding queued told
-      falls z = total-lt (lack next) (lack theirs) stays (least .1) (least .2)
+      lack-falls z = total-lt (lack next) (lack theirs) lack-stays (least .1) (least .2)
         where
           first : (e : Entry) × (e ∈ ours) × (0 < lack theirs e)
           first = total-some (lack theirs) ours z
