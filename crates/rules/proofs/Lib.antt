@@ -26,3 +26,5 @@ pub mod Nearer
 pub mod OnTheWay
 pub mod TableKeeps
 pub mod Moments
+pub mod Demand3
+pub mod Undisturbed
