@@ -28,3 +28,4 @@ pub mod TableKeeps
 pub mod Moments
 pub mod Demand3
 pub mod Undisturbed
+pub mod Closing

@@ -53,14 +53,14 @@ node-there i (a ∷ t) m = go (eqb i (a .number)) refl (in-cons m) (node-there i
     go false q (inl e) ih = absurd (eqb-false i (a .number) q e)
     go false q (inr m) ih = ih m
 
-pub node-from : (i : ℕ) (t : Table) {n : Node} → nodeOf i t ≡ some n → (e : Entry) × (e ∈ t) × (e .node ≡ n)
+pub node-from : (i : ℕ) (t : Table) {n : Node} → nodeOf i t ≡ some n → (e : Entry) × (e ∈ t) × (e .node ≡ n) × (i ≡ e .number)
 unfolding nodeOf
 node-from i [] q = let z : _≡_ {A = ℕ} 0 1 = cc in absurd (omega arith)
-node-from i (a ∷ t) {n} q = go (eqb i (a .number)) q (node-from i t)
+node-from i (a ∷ t) {n} q = go (eqb i (a .number)) refl q (node-from i t)
   where
-    go : (b : Bool) → pick b (some (a .node)) (nodeOf i t) ≡ some n → (nodeOf i t ≡ some n → (e : Entry) × (e ∈ t) × (e .node ≡ n)) → (e : Entry) × (e ∈ a ∷ t) × (e .node ≡ n)
-    go true q ih = (a, here refl, cc)
-    go false q ih = let x = ih q in (x .0, later (x .1), x .2)
+    go : (b : Bool) → eqb i (a .number) ≡ b → pick b (some (a .node)) (nodeOf i t) ≡ some n → (nodeOf i t ≡ some n → (e : Entry) × (e ∈ t) × (e .node ≡ n) × (i ≡ e .number)) → (e : Entry) × (e ∈ a ∷ t) × (e .node ≡ n) × (i ≡ e .number)
+    go true p q ih = (a, here refl, cc, eqb-true i (a .number) p)
+    go false p q ih = let x = ih q in (x .0, later (x .1), x .2, x .3)
 
 -- what is held obeys the rules
 pub held-ok : (i : ℕ) (t : Table) {n : Node} → OkTable t → nodeOf i t ≡ some n → OkNode n
