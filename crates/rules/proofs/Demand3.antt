@@ -1,14 +1,16 @@
--- Demand 3: the theorems. Whatever happens to a publisher and a follower that began fresh with the same nodes, the claims of specs/Demand3 hold
--- at every moment. The closing count stands in Closing.
+-- Demand 3: the theorem. Whatever happens to a publisher and a follower that began fresh with the same nodes, the claims of specs/Demand3 hold
+-- at every moment, no pair falls, and the closing count ends it. Nothing is assumed but that the fresh tables obey document 01's rules: at most
+-- eight nodes, ascending numbers below 2^64.
 use Prim.Native.Nat.{ℕ}
 use mathlib.Core.Bool.{true}
 use mathlib.Core.List.{List}
 use mathlib.Core.Path.{_≡_, ap, subst₂}
+use Rattle.rules.proofs.Closing.{closing}
 use Rattle.rules.proofs.EachNode.{at, nodeAt, orFresh}
 use Rattle.rules.proofs.Moments.{InOrder, Moment, moment, run-rises}
 use Rattle.rules.proofs.Obeys.{facts-table}
 use Rattle.rules.proofs.OneNode.{claims-of}
-use Rattle.rules.specs.Demand3.{AllRise, Claims, Rises, Sound}
+use Rattle.rules.specs.Demand3.{AllRise, Claims, Demand3, Rises, Sound}
 use Rattle.rules.specs.Table.{obeys}
 use Rattle.rules.specs.World.{Event, World, after, freshTable, start}
 
@@ -48,3 +50,6 @@ module _ (is : List ℕ) (ok : obeys (freshTable is) ≡ true) where
 
       r : (i : ℕ) → Rises (at i w .ours) (at i (after fs w) .ours) × Rises (at i w .theirs) (at i (after fs w) .theirs)
       r i = run-rises is fs w (moment is ok es .order) i
+
+  pub demand3 : Demand3 is
+  demand3 = record { at-every-moment = sound; between-moments = never-falls; closing-count = closing is ok }

@@ -26,6 +26,6 @@ pub mod Nearer
 pub mod OnTheWay
 pub mod TableKeeps
 pub mod Moments
-pub mod Demand3
 pub mod Undisturbed
 pub mod Closing
+pub mod Demand3
