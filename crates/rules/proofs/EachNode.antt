@@ -82,7 +82,7 @@ module _ (i : ℕ) (t : Table) where
           let k : i ≡ j = eqb-true i j q in
           let was : n ≡ nodeAt i t = sym (ap orFresh (ap (λ (x : ℕ). nodeOf x t) k ∙ e)) in
           let is : nodeAt i (setNode j (withHeartbeat b n) t) ≡ withHeartbeat b n =
-              ap orFresh (subst (λ (x : ℕ). nodeOf x (setNode j (withHeartbeat b n) t) ≡ some (withHeartbeat b n)) (sym k) (node-set-same j (withHeartbeat b n) t e)) in
+          ap orFresh (subst (λ (x : ℕ). nodeOf x (setNode j (withHeartbeat b n) t) ≡ some (withHeartbeat b n)) (sym k) (node-set-same j (withHeartbeat b n) t e)) in
           (b, is ∙ ap (withHeartbeat b) was)
       go false q = (nodeAt i t .heartbeat, ap orFresh (node-set-other i j (withHeartbeat b n) t q))
 
@@ -169,9 +169,9 @@ module _ (i : ℕ) (w : World) where
           let is : i ≡ j = eqb-true i j q in
           let p-is : p ≡ nodeAt i t = sym (ap orFresh (ap (λ (y : ℕ). nodeOf y t) is ∙ e)) in
           let put-in : nodeOf i (setNode j (act k x p) t) ≡ some (act k x p) =
-              subst (λ (y : ℕ). nodeOf y (setNode j (act k x p) t) ≡ some (act k x p)) (sym is) (node-set-same j (act k x p) t e) in
+          subst (λ (y : ℕ). nodeOf y (setNode j (act k x p) t) ≡ some (act k x p)) (sym is) (node-set-same j (act k x p) t e) in
           let a : givenAfter k x p (w .given i) ≡ givenAfter k (decide c k (nodeAt i t)) (nodeAt i t) (w .given i) =
-              ap (λ (n : Node). givenAfter k (decide c k n) n (w .given i)) p-is in
+          ap (λ (n : Node). givenAfter k (decide c k n) n (w .given i)) p-is in
           let b : nodeAt i (setNode j (act k x p) t) ≡ act k (decide c k (nodeAt i t)) (nodeAt i t) = ap orFresh put-in ∙ ap (λ (n : Node). act k (decide c k n) n) p-is in
           (_, we-write k (decide c k (nodeAt i t)), λ z. record { given = a z; ours = b z; theirs = nodeAt i (w .follower); flight = flightOf i (w .exchange) })
       go (some p) e false q =
@@ -198,16 +198,16 @@ module _ (i : ℕ) (w : World) where
       there : (o : Option Node) → nodeOf i (w .follower) ≡ o → Seen (at i w) (Next (nodeAt i t′))
       there none e =
           let a : nodeAt i t′ ≡ nodeAt i (w .follower) =
-              ap orFresh (node-each (applyNode now) i xs (w .follower) once)
-              ∙ ap (λ (o : Option Node). orFresh (mapped (taking (applyNode now) (partAt i xs)) o)) e
-              ∙ sym (ap orFresh e) in
+          ap orFresh (node-each (applyNode now) i xs (w .follower) once)
+          ∙ ap (λ (o : Option Node). orFresh (mapped (taking (applyNode now) (partAt i xs)) o)) e
+          ∙ sym (ap orFresh e) in
           (_, stays, ap Next a)
       there (some f) e =
           let a : nodeAt i t′ ≡ taking (applyNode now) (flightOf i (w .exchange)) (nodeAt i (w .follower)) =
-              ap orFresh (node-each (applyNode now) i xs (w .follower) once)
-              ∙ ap (λ (o : Option Node). orFresh (mapped (taking (applyNode now) (partAt i xs)) o)) e
-              ∙ ap (taking (applyNode now) (partAt i xs)) (sym (ap orFresh e))
-              ∙ ap (λ (o : Option NodeDelta). taking (applyNode now) o (nodeAt i (w .follower))) flight-is in
+          ap orFresh (node-each (applyNode now) i xs (w .follower) once)
+          ∙ ap (λ (o : Option Node). orFresh (mapped (taking (applyNode now) (partAt i xs)) o)) e
+          ∙ ap (taking (applyNode now) (partAt i xs)) (sym (ap orFresh e))
+          ∙ ap (λ (o : Option NodeDelta). taking (applyNode now) o (nodeAt i (w .follower))) flight-is in
           (_, they-take now, ap Next a)
 
   pub seen-applying : (now : ℕ) (l b : List ℕ) → w .exchange ≡ DeltaSent b → repeated (partsIn (readDelta b)) ≡ false → Seen (at i w) (at i (onSide Followers (λ t. apply b now t l .table) w))
@@ -249,7 +249,7 @@ module _ (i : ℕ) (w : World) where
               let o : Behind ds (w .publisher) (x .of) = behind-from excluded ds ties (w .publisher) (ordered-from _ (x .queued)) in
               let num : i ≡ o .entry .number = x .number-is ∙ o .number-is in
               let nd : nodeAt i (w .publisher) ≡ x .of .node =
-                  ap (λ (j : ℕ). nodeAt j (w .publisher)) num ∙ ap orFresh (node-entry (o .entry) asc (o .held)) ∙ sym (o .node-is) in
+              ap (λ (j : ℕ). nodeAt j (w .publisher)) num ∙ ap orFresh (node-entry (o .entry) asc (o .held)) ∙ sym (o .node-is) in
               let c : nodeDelta (nodeAt i (w .publisher)) (x .of .told-gc) (x .of .told-max) (x .count) (x .fits) ≡ d =
-                  ap (λ (m : Node). nodeDelta m (x .of .told-gc) (x .of .told-max) (x .count) (x .fits)) nd ∙ sym (x .delta-is) in
+              ap (λ (m : Node). nodeDelta m (x .of .told-gc) (x .of .told-max) (x .count) (x .fits)) nd ∙ sym (x .delta-is) in
               (_, we-send d (λ ok. subst (Honest (nodeAt i (w .publisher))) c (computed-honest _ _ ok (x .of .told-gc) (x .of .told-max) (x .count) (x .fits))), ap Next (ap (partAt i) parts-are ∙ q))

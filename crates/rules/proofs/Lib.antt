@@ -29,3 +29,4 @@ pub mod Moments
 pub mod Undisturbed
 pub mod Closing
 pub mod Demand3
+pub mod Witnesses

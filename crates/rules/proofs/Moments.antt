@@ -250,9 +250,10 @@ run-rises is (e ∷ es) w o i =
     let n = next-event is w o e in
     let x : World = happen e w in
     let a = seen-rises (at i w) (at i x) (n .seen i) in
-    let b = run-rises is es x (n .order) i in
-    (rises-trans (at i w .ours) (at i x .ours) (at i (after es x) .ours) (a .0) (b .0),
-    rises-trans (at i w .theirs) (at i x .theirs) (at i (after es x) .theirs) (a .1) (b .1))
+    let b = run-rises is es x (n .order) i in (
+      rises-trans (at i w .ours) (at i x .ours) (at i (after es x) .ours) (a .0) (b .0),
+      rises-trans (at i w .theirs) (at i x .theirs) (at i (after es x) .theirs) (a .1) (b .1),
+    )
 
 module _ (is : List ℕ) (ok : obeys (freshTable is) ≡ true) where
   pub moment-start : Moment is (start is)

@@ -107,10 +107,11 @@ module _ (is : List ℕ) (q : Quiet) (w : World) (ok : InOrder is w) where
       go o (refuses r) g = absurd (false≢true g)
       go o (writes ds rest e h k) g =
           let same : Entries ds rest ≡ Entries told [] = sym e ∙ read-back in
-          let ds-is : ds ≡ told = cc in
-          (ap (λ (x : Exchange). onExchange x w) (delta-written [] (q .ties) (q .mtu) (q .delta-place) (digestBytes told) (w .publisher) (q .delta-datagram) ds k (DigestSent (digestBytes told)))
-          ∙ ap (λ (l : List NodeDigest). onExchange (DeltaSent (deltaBytes (deltaFor [] (q .ties) (q .mtu) l (w .publisher)))) w) ds-is,
-          h)
+          let ds-is : ds ≡ told = cc in (
+            ap (λ (x : Exchange). onExchange x w) (delta-written [] (q .ties) (q .mtu) (q .delta-place) (digestBytes told) (w .publisher) (q .delta-datagram) ds k (DigestSent (digestBytes told)))
+                ∙ ap (λ (l : List NodeDigest). onExchange (DeltaSent (deltaBytes (deltaFor [] (q .ties) (q .mtu) l (w .publisher)))) w) ds-is,
+            h,
+          )
 
   third : q .mtu ≤ maxDelta → granted taking-in answered ≡ true → (happen taking-in answered ≡ ended) × (node.Room ∈ stream .answers → ⊥)
   unfolding happen apply deltaFor
@@ -137,14 +138,15 @@ module _ (is : List ℕ) (q : Quiet) (w : World) (ok : InOrder is w) where
       Done o = (End (o .table) ≡ ended) × (node.Room ∈ stream .answers → ⊥)
 
       room : (c : Bool) → leb (length xs) (length (q .answers)) ≡ c → (o : ApplyOutcome) → o ≡ pick {X = ApplyOutcome} c (record { answer = applied.Nodes (length xs); table = made .table; list = put 0 (codes (made .answers)) (q .answers) }) (record { answer = applied.Refused NoPlace 0; table = w .follower; list = q .answers }) → noRoom (o .answer) (o .list) ≡ true → Done o
-      room true e o p g =
-          (ap (λ (x : ApplyOutcome). End (x .table)) p ∙ ap (λ (s : Stream). End (s .table)) stream-is,
-          λ m.
-          let n : not (among 3 (take (length xs) (put 0 (codes (made .answers)) (q .answers)))) ≡ true = sym (ap (λ (x : ApplyOutcome). noRoom (x .answer) (x .list)) p) ∙ g in
-          let k : take (length xs) (put 0 (codes (made .answers)) (q .answers)) ≡ codes (made .answers) =
-              front (length xs) (codes (made .answers)) (q .answers) (length-codes (made .answers) ∙ length-answers (applyNode (q .now)) xs (w .follower)) (leb-true _ _ e) in
-          let no : among 3 (codes (made .answers)) ≡ false = not-true _ (sym (ap (λ (l : List ℕ). not (among 3 l)) k) ∙ n) in
-          among-not 3 (codes (made .answers)) no (code-in (subst (λ (s : Stream). node.Room ∈ s .answers) (sym stream-is) m)))
+      room true e o p g = (
+        ap (λ (x : ApplyOutcome). End (x .table)) p ∙ ap (λ (s : Stream). End (s .table)) stream-is,
+        λ m.
+            let n : not (among 3 (take (length xs) (put 0 (codes (made .answers)) (q .answers)))) ≡ true = sym (ap (λ (x : ApplyOutcome). noRoom (x .answer) (x .list)) p) ∙ g in
+            let k : take (length xs) (put 0 (codes (made .answers)) (q .answers)) ≡ codes (made .answers) =
+            front (length xs) (codes (made .answers)) (q .answers) (length-codes (made .answers) ∙ length-answers (applyNode (q .now)) xs (w .follower)) (leb-true _ _ e) in
+            let no : among 3 (codes (made .answers)) ≡ false = not-true _ (sym (ap (λ (l : List ℕ). not (among 3 l)) k) ∙ n) in
+            among-not 3 (codes (made .answers)) no (code-in (subst (λ (s : Stream). node.Room ∈ s .answers) (sym stream-is) m)),
+      )
       room false e o p g = absurd (false≢true (sym (ap (λ (x : ApplyOutcome). noRoom (x .answer) (x .list)) p) ∙ g))
 
       go : (o : Ops) → o ≡ Good ops → noRoom (Out o .answer) (Out o .list) ≡ true → Done (Out o)
@@ -157,9 +159,9 @@ module _ (is : List ℕ) (q : Quiet) (w : World) (ok : InOrder is w) where
       let g₁ : granted asking w ≡ true = and-left (granted asking w) _ g in
       let e₁ = first g₁ in
       let r₁ : (granted answering asked && (granted taking-in (happen answering asked) && true)) ≡ true =
-          subst (λ (x : World). (granted answering x && (granted taking-in (happen answering x) && true)) ≡ true) e₁ (and-right (granted asking w) _ g) in
+      subst (λ (x : World). (granted answering x && (granted taking-in (happen answering x) && true)) ≡ true) e₁ (and-right (granted asking w) _ g) in
       let e₂ = second (and-left (granted answering asked) _ r₁) in
       let r₂ : (granted taking-in answered && true) ≡ true =
-          subst (λ (x : World). (granted taking-in x && true) ≡ true) (e₂ .0) (and-right (granted answering asked) _ r₁) in
+      subst (λ (x : World). (granted taking-in x && true) ≡ true) (e₂ .0) (and-right (granted answering asked) _ r₁) in
       let e₃ = third (e₂ .1) (and-left (granted taking-in answered) true r₂) in
       (ap (λ (x : World). happen taking-in (happen answering x)) e₁ ∙ ap (happen taking-in) (e₂ .0) ∙ e₃ .0, e₃ .1)
