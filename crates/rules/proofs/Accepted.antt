@@ -229,7 +229,16 @@ module _ (excluded ties : List ℕ) (ds : List NodeDigest) (t : Table) (obeyed :
       (let a = stale-few excluded ds ties t in let b = ok .few in let c = ordered-length (staleNodes excluded ds ties t) in omega arith)
       (λ o i. ok-stale o i .node-ok .differs)
 
-  -- the delta that computing makes is read back as its operations
+  -- the operations of the delta that computing makes may follow each other, and have their sizes
+  pub computed-chain : (mtu : ℕ) → Chain nothingRead (deltaFor excluded ties mtu ds t)
+  unfolding deltaFor line
+  computed-chain mtu = cut-chain mtu [] 0 (allOps line) line-chain
+
+  pub computed-small : (mtu : ℕ) → AllSmall (deltaFor excluded ties mtu ds t)
+  unfolding deltaFor line
+  computed-small mtu = cut-small mtu (allOps line) (all-small-ops line ok-stale)
+
+  -- it is read back as its operations
   pub read-computed : (mtu : ℕ) → mtu ≤ maxDelta → readDelta (deltaBytes (deltaFor excluded ties mtu ds t)) ≡ Good (deltaFor excluded ties mtu ds t)
   unfolding deltaFor line
   read-computed mtu h =

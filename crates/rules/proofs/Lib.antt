@@ -23,3 +23,12 @@ pub mod Accepted
 pub mod Calls
 pub mod Unique
 pub mod Refusing
+pub mod EachNode
+pub mod Nearer
+pub mod OnTheWay
+pub mod TableKeeps
+pub mod Moments
+pub mod Undisturbed
+pub mod Closing
+pub mod Demand3
+pub mod Witnesses

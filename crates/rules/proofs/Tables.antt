@@ -99,6 +99,16 @@ abbrev pub present : Option NodeDelta → Bool
 present none = false
 present (some d) = true
 
+-- it is one of the parts
+pub part-in : (i : ℕ) (xs : List Part) {d : NodeDelta} → partAt i xs ≡ some d → (x : Part) × (x ∈ xs) × (x .delta ≡ d) × (i ≡ x .number)
+unfolding partAt
+part-in i [] q = let z : _≡_ {A = ℕ} 0 1 = cc in absurd (omega arith)
+part-in i (x ∷ xs) {d} q = go (eqb i (x .number)) refl q (part-in i xs)
+  where
+    go : (b : Bool) → eqb i (x .number) ≡ b → pick b (some (x .delta)) (partAt i xs) ≡ some d → (partAt i xs ≡ some d → (y : Part) × (y ∈ xs) × (y .delta ≡ d) × (i ≡ y .number)) → (y : Part) × (y ∈ x ∷ xs) × (y .delta ≡ d) × (i ≡ y .number)
+    go true e q ih = (x, here refl, cc, eqb-true i (x .number) e)
+    go false e q ih = let y = ih q in (y .0, later (y .1), y .2, y .3)
+
 -- a node is named twice
 unfoldable pub repeated : List Part → Bool
 repeated [] = false

@@ -141,3 +141,18 @@ holdings (e ∷ t) = suc (length (e .node .recs)) + holdings t
 -- every node's max is the same in both tables
 abbrev pub SameMax : Table → Table → Type 0
 SameMax t u = (i : ℕ) (a b : Node) → nodeOf i t ≡ some a → nodeOf i u ≡ some b → b .max ≡ a .max
+
+-- ---- the whole demand
+
+-- Of a publisher and a follower that begin fresh with the nodes `is`. At every moment of every run the claims hold; between any two moments no
+-- node's pair falls in either table; and after any run, as many quiet exchanges as the publisher holds records and nodes make every max equal.
+pub record Demand3 (is : List ℕ) : Type 0 where
+  pub at-every-moment : (es : List Event) → Sound is (after es (start is))
+  pub between-moments : (es fs : List Event)
+      → AllRise (after es (start is) .publisher) (after fs (after es (start is)) .publisher)
+      × AllRise (after es (start is) .follower) (after fs (after es (start is)) .follower)
+  pub closing-count : (es : List Event) (qs : List Quiet)
+      → Wide qs
+      → allGranted (exchanges qs) (after es (start is)) ≡ true
+      → holdings (after es (start is) .publisher) ≤ length qs
+      → SameMax (after (exchanges qs) (after es (start is)) .publisher) (after (exchanges qs) (after es (start is)) .follower)

@@ -13,3 +13,4 @@ pub mod Lent
 pub mod Cases
 pub mod World
 pub mod Demand3
+pub mod Witnesses

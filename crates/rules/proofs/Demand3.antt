@@ -1,0 +1,55 @@
+-- Demand 3: the theorem. Whatever happens to a publisher and a follower that began fresh with the same nodes, the claims of specs/Demand3 hold
+-- at every moment, no pair falls, and the closing count ends it. Nothing is assumed but that the fresh tables obey document 01's rules: at most
+-- eight nodes, ascending numbers below 2^64.
+use Prim.Native.Nat.{ℕ}
+use mathlib.Core.Bool.{true}
+use mathlib.Core.List.{List}
+use mathlib.Core.Path.{_≡_, ap, subst₂}
+use Rattle.rules.proofs.Closing.{closing}
+use Rattle.rules.proofs.EachNode.{at, nodeAt, orFresh}
+use Rattle.rules.proofs.Moments.{InOrder, Moment, moment, run-rises}
+use Rattle.rules.proofs.Obeys.{facts-table}
+use Rattle.rules.proofs.OneNode.{claims-of}
+use Rattle.rules.specs.Demand3.{AllRise, Claims, Demand3, Rises, Sound}
+use Rattle.rules.specs.Table.{obeys}
+use Rattle.rules.specs.World.{Event, World, after, freshTable, start}
+
+module _ (is : List ℕ) (ok : obeys (freshTable is) ≡ true) where
+  -- At every moment: both tables hold their nodes and obey document 01's rules; the follower's max never passes the publisher's; and where they
+  -- are equal, both hold the same Set records, and any other record of the follower carries the last version that its key was given.
+  pub sound : (es : List Event) → Sound is (after es (start is))
+  sound es =
+      record {
+        publisher-nodes = o .publisher-nodes;
+        follower-nodes = o .follower-nodes;
+        publisher-obeys = facts-table (w .publisher) (o .publisher-ok);
+        follower-obeys = facts-table (w .follower) (o .follower-ok);
+        claims =
+            λ i p f a b.
+            let c = claims-of (w .given i) (nodeAt i (w .publisher)) (nodeAt i (w .follower)) (m .facts i .publisher) (m .facts i .follower) in
+            subst₂ (Claims (w .given i)) (ap orFresh a) (ap orFresh b) c;
+      }
+    where
+      w : World
+      w = after es (start is)
+
+      m : Moment is w
+      m = moment is ok es
+
+      o : InOrder is w
+      o = m .order
+
+  -- Between any two moments: no node's pair (last_gc, max) falls, in either table.
+  pub never-falls : (es fs : List Event)
+      → AllRise (after es (start is) .publisher) (after fs (after es (start is)) .publisher)
+      × AllRise (after es (start is) .follower) (after fs (after es (start is)) .follower)
+  never-falls es fs = (λ i a b p q. subst₂ Rises (ap orFresh p) (ap orFresh q) (r i .0), λ i a b p q. subst₂ Rises (ap orFresh p) (ap orFresh q) (r i .1))
+    where
+      w : World
+      w = after es (start is)
+
+      r : (i : ℕ) → Rises (at i w .ours) (at i (after fs w) .ours) × Rises (at i w .theirs) (at i (after fs w) .theirs)
+      r i = run-rises is fs w (moment is ok es .order) i
+
+  pub demand3 : Demand3 is
+  demand3 = record { at-every-moment = sound; between-moments = never-falls; closing-count = closing is ok }

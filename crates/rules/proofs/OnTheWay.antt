@@ -1,0 +1,88 @@
+-- What digest writing and computing leave on the way: the bytes of the digest, and those of the delta that the digest asks for.
+use Prim.Native.Nat.{_+_, _-_, _≤_, ℕ}
+use mathlib.Core.Bool.{Bool, _&&_, false, false≢true, true}
+use mathlib.Core.List.{List}
+use mathlib.Core.Path.{_≡_, ap, refl}
+use native.Mathlib.Omega.{arith}
+use lib.Dec.{eqb, leb}
+use lib.ListN.{length}
+use borrow.Author.Tests.{leb-true}
+use Rattle.fields.proofs.Parts.{part-put}
+use Rattle.fields.specs.Choice.{pick}
+use Rattle.fields.specs.Parts.{put}
+use Rattle.rules.proofs.Accepted.{cut-bytes}
+use Rattle.rules.specs.Compute.{allOps, compute, cut, deltaFor, onDigest, ordered, staleNodes, written}
+use Rattle.rules.specs.Delta.{deltaBytes}
+use Rattle.rules.specs.Demand3.{wroteDigest}
+use Rattle.rules.specs.Digest.{DigestRead, Entries, NodeDigest, Refused, digestBytes, digestOf, readDigest, writeDigest}
+use Rattle.rules.specs.Local.{Filled, fills}
+use Rattle.rules.specs.Sizes.{leastMtu, maxDelta}
+use Rattle.rules.specs.Table.{Table}
+use Rattle.rules.specs.World.{DeltaSent, DigestSent, Exchange, afterDelta, afterDigest, digested}
+use Rattle.rules.specs.declared.Computed.{Computed}
+use Rattle.rules.specs.declared.Refusal.{Refusal}
+use Rattle.rules.specs.declared.Refusal.the-variants.{BadMtu, BadTies, NoPlace}
+use Rattle.rules.specs.declared.Written.{Written}
+use Rattle.rules.specs.declared.Written.the-variants as written-as
+use Rattle.rules.specs.declared.Computed.the-variants as computed
+
+-- ---- a digest
+
+pub digest-written : (excluded : List ℕ) (place : ℕ) (l : List ℕ) (t : Table) (x : Exchange) → wroteDigest (writeDigest excluded place t l .answer) ≡ true → digested excluded place l t x ≡ DigestSent (digestBytes (digestOf excluded t))
+unfolding writeDigest
+digest-written excluded place l t x e = go (leb place (length l)) refl (leb (length b) (length l - place)) refl e
+  where
+    b : List ℕ
+    b = digestBytes (digestOf excluded t)
+
+    Out : Bool → Filled Written
+    Out c = pick c (fills (written-as.Bytes (length b)) (put place b l)) (fills (written-as.Refused NoPlace) l)
+
+    go : (c : Bool) → leb place (length l) ≡ c → (d : Bool) → leb (length b) (length l - place) ≡ d → wroteDigest (Out (c && d) .answer) ≡ true → afterDigest place (Out (c && d) .list) (Out (c && d) .answer) x ≡ DigestSent b
+    go true p true q e = let g = leb-true place (length l) p in let h = leb-true (length b) (length l - place) q in ap DigestSent (part-put place b l (omega arith))
+    go true p false q e = absurd (false≢true e)
+    go false p d q e = absurd (false≢true e)
+
+-- ---- a delta
+
+-- what computing comes to: a refusal, or the delta for what the digest's bytes tell
+pub data Comes (excluded ties : List ℕ) (mtu place : ℕ) (d : List ℕ) (t : Table) (l : List ℕ) : Filled Computed → Type 0 where
+  refuses : (r : Refusal) → Comes excluded ties mtu place d t l (fills (computed.Refused r) l)
+  writes : (ds : List NodeDigest) (rest : List ℕ) → readDigest d ≡ Entries ds rest → mtu ≤ maxDelta → place + mtu ≤ length l → Comes excluded ties mtu place d t l (written (deltaFor excluded ties mtu ds t) place l)
+
+module _ (excluded ties : List ℕ) (mtu place : ℕ) (d : List ℕ) (t : Table) (l : List ℕ) where
+  pub comes : Comes excluded ties mtu place d t l (compute excluded ties mtu place d t l)
+  unfolding compute
+  comes = go (leb leastMtu mtu) (leb mtu maxDelta) refl (leb place (length l)) refl (leb mtu (length l - place)) refl (eqb (length ties) (length t)) (readDigest d) refl
+    where
+      no : Refusal → Filled Computed
+      no r = fills (computed.Refused r) l
+
+      go : (a b : Bool)
+          → leb mtu maxDelta ≡ b
+          → (p : Bool)
+          → leb place (length l) ≡ p
+          → (q : Bool)
+          → leb mtu (length l - place) ≡ q
+          → (c : Bool) (x : DigestRead)
+          → readDigest d ≡ x
+          → Comes excluded ties mtu place d t l (pick (a && b) (pick (p && q) (pick c (onDigest excluded ties mtu place x t l) (no BadTies)) (no NoPlace)) (no BadMtu))
+      go false b b′ p p′ q q′ c x e = refuses BadMtu
+      go true false b p p′ q q′ c x e = refuses BadMtu
+      go true true b false p q q′ c x e = refuses NoPlace
+      go true true b true p false q c x e = refuses NoPlace
+      go true true b true p true q false x e = refuses BadTies
+      go true true b true p true q true (Entries ds rest) e =
+          let g = leb-true place (length l) p in
+          let h = leb-true mtu (length l - place) q in
+          writes ds rest e (leb-true mtu maxDelta b) (omega arith)
+      go true true b true p true q true (Refused r) e = refuses r
+
+  abbrev onWay : Filled Computed → Exchange → Exchange
+  onWay o x = afterDelta place (o .list) (o .answer) x
+
+  pub delta-written : (ds : List NodeDigest) → place + mtu ≤ length l → (x : Exchange) → onWay (written (deltaFor excluded ties mtu ds t) place l) x ≡ DeltaSent (deltaBytes (deltaFor excluded ties mtu ds t))
+  unfolding deltaFor
+  delta-written ds h x =
+      let g = cut-bytes mtu (allOps (ordered (staleNodes excluded ds ties t))) in
+      ap DeltaSent (part-put place (deltaBytes (cut mtu (allOps (ordered (staleNodes excluded ds ties t))))) l (omega arith))

@@ -1,0 +1,97 @@
+-- Two runs that show where demand 3 ends. The first needs every exchange that the closing count grants. In the second a delta arrives late, after
+-- the next digest, which no run of demand 3's world has; it brings a deleted key back, so that the demand must not be carried over to late
+-- deltas. Both are computed in proofs/Witnesses.
+use Prim.Native.Nat.{ℕ}
+use mathlib.Core.List.{List, [], _∷_, _++_}
+use mathlib.Core.Option.{Option, none, some}
+use lib.ListN.{replicate}
+use Rattle.rules.specs.Node.{KeyValue, Node, Setting, Deleting}
+use Rattle.rules.specs.Table.{Table, nodeOf}
+use Rattle.rules.specs.World.{World, Publishers, Event, Writing, Removing, Digesting, Computing, Applying, onExchange, start, after}
+use Rattle.rules.specs.Demand3.{Quiet, exchanges}
+use Rattle.rules.specs.declared.Status.the-variants.{Set}
+
+-- one node, number 7, and its pair (last_gc, max)
+abbrev pub seven : List ℕ
+seven = 7 ∷ []
+
+abbrev pub pairIn : Option Node → List ℕ
+pairIn none = []
+pairIn (some n) = n .last-gc ∷ n .max ∷ []
+
+abbrev pub pair : Table → List ℕ
+pair t = pairIn (nodeOf 7 t)
+
+-- keys of one letter, and their values
+abbrev a : List ℕ
+a = 97 ∷ []
+
+abbrev b : List ℕ
+b = 98 ∷ []
+
+abbrev k : List ℕ
+k = 107 ∷ []
+
+abbrev m : List ℕ
+m = 109 ∷ []
+
+abbrev n : List ℕ
+n = 110 ∷ []
+
+abbrev one : List ℕ
+one = 49 ∷ []
+
+-- ---- every exchange of the count is needed
+
+-- b is set at 1, a at 2; a is deleted at 3 and the tombstone removed: the publisher is at (3,3) with one record
+abbrev pub oneRecord : World
+oneRecord = after (Writing 7 b (Setting one) ∷ Writing 7 a (Setting one) ∷ Writing 7 a (Deleting 0) ∷ Removing Publishers 9 5 ∷ []) (start seven)
+
+abbrev pub quiet : Quiet
+quiet =
+    record {
+      digest-place = 0;
+      digest-datagram = replicate 34 0;
+      ties = 0 ∷ [];
+      mtu = 135;
+      delta-place = 0;
+      delta-datagram = replicate 135 0;
+      now = 50;
+      answers = 0 ∷ [];
+    }
+
+-- ---- a late delta
+
+abbrev delta : ℕ → List Event
+delta mtu = Digesting [] 0 (replicate 34 0) ∷ Computing [] (0 ∷ []) mtu 0 (replicate 300 0) ∷ []
+
+abbrev exchange : ℕ → List Event
+exchange mtu = delta mtu ++ (Applying 50 (0 ∷ []) ∷ [])
+
+-- The follower is at (0,3). Then b is set at 4, with a long value, and k at 5, and a delta from 3 with last_gc 0 and max 5 is on its way.
+abbrev pub onItsWay : World
+onItsWay =
+    after
+    ((Writing 7 (1 ∷ []) (Setting one) ∷ Writing 7 (2 ∷ []) (Setting one) ∷ Writing 7 a (Setting one) ∷ [])
+    ++ (exchange 300 ++ ((Writing 7 b (Setting (replicate 40 49)) ∷ Writing 7 k (Setting one) ∷ []) ++ delta 300)))
+    (start seven)
+
+-- k is deleted at 8 and removed. The next exchange, whose MTU ends before b, resets the follower to (10,3).
+abbrev pub wasReset : World
+wasReset =
+    after
+    ((Writing 7 m (Setting one) ∷ Writing 7 n (Setting one) ∷ Writing 7 k (Deleting 0) ∷ Writing 7 m (Deleting 0) ∷ Writing 7 n (Deleting 0) ∷ Removing Publishers 9 5 ∷ [])
+    ++ exchange 100)
+    onItsWay
+
+-- the first delta arrives
+abbrev pub tookLate : World
+tookLate = after (Applying 50 (0 ∷ []) ∷ []) (onExchange (onItsWay .exchange) wasReset)
+
+-- and one more exchange makes the two max equal
+abbrev pub caughtUp : World
+caughtUp = after (exchange 300) tookLate
+
+-- what k was given at 5
+abbrev pub dead : KeyValue
+dead = record { key = k; value = one; version = 5; status = Set }
