@@ -1,2 +1,4 @@
 pub mod Records
 pub mod Nodes
+pub mod Tables
+pub mod Checked
