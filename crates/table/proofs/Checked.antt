@@ -12,7 +12,7 @@ use Rattle.fields.specs.Numbers.{natOf, bytesOf, Bytes}
 use Rattle.fields.specs.Parts.{part}
 use Rattle.fields.specs.Blocks.{flat, blocks, unblock, allZero, allBlocks}
 use Rattle.fields.specs.Widths.{joined}
-use Rattle.fields.proofs.Choice.{every-at, same-test, and-left, and-right, and-intro, all-in, at-in}
+use Rattle.fields.proofs.Choice.{every-at, same-test, and-left, and-right, and-intro, and-last, all-in, at-in}
 use Rattle.fields.proofs.Numbers.{part-back, bytes-part, bytes-drop}
 use Rattle.fields.proofs.Parts.{length-part, part-drop}
 use Rattle.fields.proofs.Blocks.{length-flat, length-unblock, unblock-at, block, blocks-back, all-blocks-at, at-all-blocks, fit-zeros}
@@ -21,8 +21,9 @@ use Rattle.rules.specs.Sizes.{maxNodes}
 use Rattle.rules.specs.Table.{Entry, Table, entryObeys, rising, numbersOf, obeys}
 use Rattle.rules.specs.Layout.{nodeWidth, tableWidths, tableWidth, encodeNode, decodeNode, encode, decode, valid}
 use Rattle.table.specs.Tests.{nodeGood, nodesOf, tableTests, tableGood}
+use Rattle.table.proofs.Records.{every-no}
 use Rattle.table.proofs.Nodes.{ObeysEntry, obeys-entry, length-node, encode-decode-node, obeys-decode-node, node-good}
-use Rattle.table.proofs.Tables.{ObeysTable, table-obeys, obeys-table, node-obeys, length-table, table-field, nodes-room, nodes-count, length-decode, behind-count, decode-encode, encode-decode, valid-obeys, valid-by}
+use Rattle.table.proofs.Tables.{ObeysTable, table-obeys, obeys-table, node-obeys, length-table, table-field, nodes-room, nodes-count, length-decode, behind-count, decode-encode, encode-decode, valid-obeys, valid-long, valid-by}
 
 -- the bytes of a table that obeys pass the tests
 pub table-good : (t : Table) → obeys t ≡ true → tableGood (encode t) ≡ true
@@ -97,3 +98,28 @@ pub valid-is : (l : List ℕ) → Bytes l → valid l ≡ tableGood l
 valid-is l h =
     same-test (valid l) (tableGood l) (λ v. ap tableGood (sym (encode-decode l v)) ∙ table-good (decode l) (valid-obeys l v))
     (λ g. valid-by l (good-obeys l h g) (good-back l h g))
+
+-- ---- the same test by test
+
+-- a slice of another length
+pub length-stop : (l : List ℕ) → (length l ≡ tableWidth → ⊥) → false ≡ valid l
+length-stop l h = go (valid l) refl
+  where
+    go : (t : Bool) → valid l ≡ t → false ≡ t
+    go true e = absurd (h (valid-long l e))
+    go false e = refl
+
+-- no test may fail
+pub table-stop : (l : List ℕ) → Bytes l → (k : ℕ) → getD (tableTests l) k true ≡ false → false ≡ valid l
+unfolding tableGood
+table-stop l h k e = sym (valid-is l h ∙ ap (λ (t : Bool). eqb (length l) tableWidth && t) (every-no (tableTests l) k e) ∙ never (eqb (length l) tableWidth))
+  where
+    never : (s : Bool) → s && false ≡ false
+    never true = refl
+    never false = refl
+
+-- where all others hold, the last decides
+pub table-pass : (l : List ℕ) → Bytes l → (t : Bool) → length l ≡ tableWidth → getD (tableTests l) 0 true ≡ true → getD (tableTests l) 1 true ≡ true
+    → getD (tableTests l) 2 true ≡ true → getD (tableTests l) 3 true ≡ t → t ≡ valid l
+unfolding tableGood
+table-pass l h t e h0 h1 h2 h3 = sym (valid-is l h ∙ rw (tableGood, eq-eqb (length l) tableWidth e, h0, h1, h2, h3) (and-last t))

@@ -2,3 +2,4 @@ pub mod Records
 pub mod Nodes
 pub mod Tables
 pub mod Checked
+pub mod Places

@@ -24,7 +24,7 @@ use Rattle.rules.specs.Node.{Rec, Node, beats}
 use Rattle.rules.specs.Table.{Entry, recObeys, nodeObeys, entryObeys, keysRise, versions, differ}
 use Rattle.rules.specs.Layout.{recWidth, nodeWidths, nodeWidth, nodeFields, encodeRec, decodeRec, encodeNode, decodeNode}
 use Rattle.table.specs.Tests.{recGood, nodeTests, nodeGood, countOf, maxOf, recsOf}
-use Rattle.table.proofs.Records.{ObeysRec, rec-obeys, obeys-rec, length-rec, decode-encode-rec, encode-decode-rec, obeys-decode-rec, rec-good}
+use Rattle.table.proofs.Records.{ObeysRec, rec-obeys, obeys-rec, length-rec, decode-encode-rec, encode-decode-rec, obeys-decode-rec, rec-good, every-no}
 
 -- ---- the fields of a node's bytes
 
@@ -144,6 +144,11 @@ module _ (e : Entry) (o : ObeysEntry e) where
       rw (nodeGood, count-is, max-is, le-leb n maxRecords (o .few), goods, rise, other, zs)
 
 -- ---- bytes that pass the tests
+
+-- no test may fail
+pub node-stop : (b : List ℕ) (k : ℕ) → getD (nodeTests b) k true ≡ false → false ≡ nodeGood b
+unfolding nodeGood
+node-stop b k e = sym (every-no (nodeTests b) k e)
 
 module _ (b : List ℕ) (long : length b ≡ nodeWidth) (h : Bytes b) (good : nodeGood b ≡ true) where
   at : (k : ℕ) → getD (nodeTests b) k true ≡ true

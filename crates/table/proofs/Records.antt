@@ -2,7 +2,7 @@
 -- that is read in them, and it obeys the rules; and the bytes of a record that obeys pass the tests. Assumes nothing.
 use Prim.Native.Nat.{ℕ, zero, suc, _+_, _*_, _-_, _≤_, _<_, _^_}
 use mathlib.Core.Path.{_≡_, refl, ap, sym, _∙_, subst}
-use mathlib.Core.Bool.{Bool, true, false}
+use mathlib.Core.Bool.{Bool, true, false, _&&_, true≢false}
 use mathlib.Core.List.{List, [], _∷_, _++_}
 use native.Mathlib.Omega.{arith}
 use lib.ListN.{length, take, drop, getD}
@@ -13,7 +13,7 @@ use Rattle.fields.specs.Numbers.{natOf, bytesOf, Bytes}
 use Rattle.fields.specs.Parts.{part}
 use Rattle.fields.specs.Blocks.{fit, allZero}
 use Rattle.fields.specs.Widths.{joined, Widths, offset}
-use Rattle.fields.proofs.Choice.{every-at}
+use Rattle.fields.proofs.Choice.{every-at, and-no}
 use Rattle.fields.proofs.Numbers.{length-bytesOf, nat-bytes, part-back, nat-part}
 use Rattle.fields.proofs.Parts.{length-part}
 use Rattle.fields.proofs.Blocks.{length-fit, fit-back, fit-front, fit-zeros}
@@ -25,7 +25,7 @@ use Rattle.rules.specs.Delta.{statusByte}
 use Rattle.rules.specs.Layout.{recWidths, recWidth, recFields, encodeRec, decodeRec, statusOfByte}
 use Rattle.rules.specs.declared.Status.{Status}
 use Rattle.rules.specs.declared.Status.the-variants.{Set, Delete, Ttl}
-use Rattle.table.specs.Tests.{recTests, recGood, clean}
+use Rattle.table.specs.Tests.{recTests, recGood, clean, keyLength, valueLength}
 
 -- ---- the fields of a record's bytes
 
@@ -137,6 +137,20 @@ module _ (max : ℕ) (r : Rec) (o : ObeysRec max r) (high : max < numbers) where
 
 -- ---- bytes that pass the tests
 
+-- no test may fail
+pub every-no : (ts : List Bool) (k : ℕ) → getD ts k true ≡ false → every ts ≡ false
+every-no [] k e = absurd (true≢false e)
+every-no (t ∷ ts) zero e = and-no t (every ts) e
+every-no (t ∷ ts) (suc k) e = ap (λ (s : Bool). t && s) (every-no ts k e) ∙ never t
+  where
+    never : (s : Bool) → s && false ≡ false
+    never true = refl
+    never false = refl
+
+pub rec-stop : (max : ℕ) (b : List ℕ) (k : ℕ) → getD (recTests max b) k true ≡ false → false ≡ recGood max b
+unfolding recGood
+rec-stop max b k e = sym (every-no (recTests max b) k e)
+
 record Tests (max : ℕ) (b : List ℕ) : Type 0 where
   pub key-fits : natOf (part 0 1 b) ≤ maxKey
   pub value-fits : natOf (part 33 1 b) ≤ maxValue
@@ -159,6 +173,12 @@ tests max b t =
       key-clean = at 5;
       value-clean = at 6;
     }
+
+pub good-key : (max : ℕ) (b : List ℕ) → recGood max b ≡ true → keyLength b ≤ maxKey
+good-key max b t = tests max b t .key-fits
+
+pub good-value : (max : ℕ) (b : List ℕ) → recGood max b ≡ true → valueLength b ≤ maxValue
+good-value max b t = tests max b t .value-fits
 
 module _ (max : ℕ) (b : List ℕ) (long : length b ≡ recWidth) (h : Bytes b) (good : recGood max b ≡ true) where
   -- they are those of the record that is read in them

@@ -17,6 +17,15 @@ use Rattle.rules.specs.Layout.{recWidths, recWidth, nodeWidths, nodeWidth, tabl
 
 -- ---- a record's bytes, in a node with this max
 
+abbrev pub keyLength : List ℕ → ℕ
+keyLength b = natOf (part (offset recWidths 0) 1 b)
+
+abbrev pub valueLength : List ℕ → ℕ
+valueLength b = natOf (part (offset recWidths 2) 1 b)
+
+abbrev pub versionOf : List ℕ → ℕ
+versionOf b = natOf (part (offset recWidths 4) 8 b)
+
 -- zeros behind the text of k bytes that stands at `at` in room for n
 abbrev pub clean : ℕ → ℕ → ℕ → List ℕ → Bool
 clean at n k b = allZero (part (at + k) (n - k) b)
@@ -24,15 +33,13 @@ clean at n k b = allZero (part (at + k) (n - k) b)
 -- lengths within the sizes, a version from 1 on and not above max, a status of the three, zeros behind key and value
 abbrev pub recTests : ℕ → List ℕ → List Bool
 recTests max b =
-    let k : ℕ = natOf (part (offset recWidths 0) 1 b) in
-    let v : ℕ = natOf (part (offset recWidths 2) 1 b) in
-    leb k maxKey
-    ∷ leb v maxValue
-    ∷ leb 1 (natOf (part (offset recWidths 4) 8 b))
-    ∷ leb (natOf (part (offset recWidths 4) 8 b)) max
+    leb (keyLength b) maxKey
+    ∷ leb (valueLength b) maxValue
+    ∷ leb 1 (versionOf b)
+    ∷ leb (versionOf b) max
     ∷ leb (natOf (part (offset recWidths 5) 1 b)) 2
-    ∷ clean (offset recWidths 1) maxKey k b
-    ∷ clean (offset recWidths 3) maxValue v b
+    ∷ clean (offset recWidths 1) maxKey (keyLength b) b
+    ∷ clean (offset recWidths 3) maxValue (valueLength b) b
     ∷ []
 
 unfoldable pub recGood : ℕ → List ℕ → Bool
