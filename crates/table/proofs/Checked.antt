@@ -12,7 +12,7 @@ use Rattle.fields.specs.Numbers.{natOf, bytesOf, Bytes}
 use Rattle.fields.specs.Parts.{part}
 use Rattle.fields.specs.Blocks.{flat, blocks, unblock, allZero, allBlocks}
 use Rattle.fields.specs.Widths.{joined}
-use Rattle.fields.proofs.Choice.{every-at, same-test, and-left, and-right, and-intro, and-last, all-in, at-in}
+use Rattle.fields.proofs.Choice.{every-at, same-test, and-left, and-right, and-intro, and-last, all-in, at-in, in-at}
 use Rattle.fields.proofs.Numbers.{part-back, bytes-part, bytes-drop}
 use Rattle.fields.proofs.Parts.{length-part, part-drop}
 use Rattle.fields.proofs.Blocks.{length-flat, length-unblock, unblock-at, block, blocks-back, all-blocks-at, at-all-blocks, fit-zeros}
@@ -33,7 +33,7 @@ table-good t o =
     let n : ℕ = length t in
     let d : Entry = decodeNode [] in
     let one : (i : ℕ) → i < n → nodeGood (part (i * nodeWidth) nodeWidth (blocks maxNodes nodeWidth encodeNode t)) ≡ true =
-    λ i h. ap nodeGood (block encodeNode nodeWidth length-node maxNodes t (p .few) i d h) ∙ node-good (getD t i d) (node-obeys t p i d h) in
+    λ i h. ap nodeGood (block encodeNode nodeWidth length-node maxNodes t (p .few) i d h) ∙ node-good (getD t i d) (node-obeys t p (getD t i d) (in-at t i d h)) in
     let goods : allBlocks nodeGood nodeWidth n (drop 1 (encode t)) ≡ true = ap (allBlocks nodeGood nodeWidth n) (nodes-room t) ∙ at-all-blocks nodeGood nodeWidth n _ one in
     let fl : length (flat encodeNode t) ≡ n * nodeWidth = length-flat encodeNode nodeWidth length-node t in
     let rest : maxNodes * nodeWidth - n * nodeWidth ≡ (maxNodes - n) * nodeWidth = omega arith in

@@ -23,8 +23,9 @@ use Rattle.rules.specs.Sizes.{maxRecords, numbers}
 use Rattle.rules.specs.Node.{Rec, Node, beats}
 use Rattle.rules.specs.Table.{Entry, recObeys, nodeObeys, entryObeys, keysRise, versions, differ}
 use Rattle.rules.specs.Layout.{recWidth, nodeWidths, nodeWidth, nodeFields, encodeRec, decodeRec, encodeNode, decodeNode}
+use Rattle.table.specs.Fits.{FitsRec, FitsEntry, LaidNode}
 use Rattle.table.specs.Tests.{recGood, nodeTests, nodeGood, countOf, maxOf, recsOf}
-use Rattle.table.proofs.Records.{ObeysRec, rec-obeys, obeys-rec, length-rec, decode-encode-rec, encode-decode-rec, obeys-decode-rec, rec-good, every-no}
+use Rattle.table.proofs.Records.{ObeysRec, rec-obeys, obeys-rec, fits-rec, length-rec, decode-encode-rec, encode-decode-rec, obeys-decode-rec, rec-good, every-no}
 
 -- ---- the fields of a node's bytes
 
@@ -95,11 +96,24 @@ obeys-entry e o =
     rw (entryObeys, nodeObeys, lt-ltb _ numbers (o .number-high), le-leb _ maxRecords (o .few), o .each, o .rise, o .differing, lt-ltb _ numbers (o .max-high), lt-ltb _ numbers (o .gc-high), lt-ltb _ numbers (o .beat-high))
 
 -- each of its records obeys
-pub each-obeys : (e : Entry) → ObeysEntry e → (i : ℕ) (d : Rec) → i < length (e .node .recs) → ObeysRec (e .node .max) (getD (e .node .recs) i d)
-each-obeys e o i d h =
-    rec-obeys (e .node .max) (getD (e .node .recs) i d) (all-from (recObeys (e .node .max)) (e .node .recs) (o .each) (getD (e .node .recs) i d) (in-at (e .node .recs) i d h))
+pub each-obeys : (e : Entry) → ObeysEntry e → (r : Rec) → r ∈ e .node .recs → ObeysRec (e .node .max) r
+each-obeys e o r m = rec-obeys (e .node .max) r (all-from (recObeys (e .node .max)) (e .node .recs) (o .each) r m)
 
-module _ (e : Entry) (o : ObeysEntry e) where
+-- ---- a node that fits
+
+-- one that obeys does
+pub fits-entry : (e : Entry) → ObeysEntry e → FitsEntry e
+fits-entry e o =
+    record {
+      number-high = o .number-high;
+      beat-high = o .beat-high;
+      max-high = o .max-high;
+      gc-high = o .gc-high;
+      few = o .few;
+      each = λ r m. fits-rec (e .node .max) r (each-obeys e o r m) (o .max-high);
+    }
+
+module _ (e : Entry) (o : FitsEntry e) where
   pub count-is : natOf (part (offset nodeWidths 4) 1 (encodeNode e)) ≡ length (e .node .recs)
   count-is = node-number e 4 1 (length (e .node .recs)) (omega arith) refl refl (omega (arith, o .few))
 
@@ -109,7 +123,7 @@ module _ (e : Entry) (o : ObeysEntry e) where
   pub room-is : drop (offset nodeWidths 5) (encodeNode e) ≡ blocks maxRecords recWidth encodeRec (e .node .recs)
   room-is = behind-header (encodeNode e) (length-node e) ∙ node-field e 5 (omega arith)
 
-  -- a node is read again from its bytes
+  -- it is read again from its bytes
   pub decode-encode-node : decodeNode (encodeNode e) ≡ e
   unfolding decodeNode
   decode-encode-node =
@@ -119,29 +133,37 @@ module _ (e : Entry) (o : ObeysEntry e) where
       let recs : unblock recWidth decodeRec (natOf (part 32 1 (encodeNode e))) (drop 33 (encodeNode e)) ≡ e .node .recs =
       ap (λ (k : ℕ). unblock recWidth decodeRec k (drop 33 (encodeNode e))) count-is
       ∙ ap (unblock recWidth decodeRec (length (e .node .recs))) room-is
-      ∙ blocks-read encodeRec decodeRec recWidth length-rec (ObeysRec (e .node .max)) (λ r p. decode-encode-rec (e .node .max) r p (o .max-high)) maxRecords (e .node .recs)
-      (o .few) (each-obeys e o) in
+      ∙ blocks-read encodeRec decodeRec recWidth length-rec FitsRec decode-encode-rec maxRecords (e .node .recs) (o .few)
+      (λ i d h. o .each (getD (e .node .recs) i d) (in-at (e .node .recs) i d h)) in
       λ i. record { number = number i; node = record { heartbeat = beats (beat i); max = max-is i; last-gc = gc i; recs = recs i } }
 
-  -- the bytes of a node that obeys pass the tests
-  pub node-good : nodeGood (encodeNode e) ≡ true
-  unfolding nodeGood blocks
-  node-good =
-      let n : ℕ = length (e .node .recs) in
-      let d : Rec = decodeRec [] in
-      let one : (i : ℕ) → i < n → recGood (e .node .max) (part (i * recWidth) recWidth (blocks maxRecords recWidth encodeRec (e .node .recs))) ≡ true =
-      λ i h. ap (recGood (e .node .max)) (block encodeRec recWidth length-rec maxRecords (e .node .recs) (o .few) i d h)
-      ∙ rec-good (e .node .max) (getD (e .node .recs) i d) (each-obeys e o i d h) (o .max-high) in
-      let goods : allBlocks (recGood (e .node .max)) recWidth n (drop 33 (encodeNode e)) ≡ true =
-      ap (allBlocks (recGood (e .node .max)) recWidth n) room-is ∙ at-all-blocks (recGood (e .node .max)) recWidth n _ one in
-      let fl : length (flat encodeRec (e .node .recs)) ≡ n * recWidth = length-flat encodeRec recWidth length-rec (e .node .recs) in
-      let rest : maxRecords * recWidth - n * recWidth ≡ (maxRecords - n) * recWidth = omega arith in
-      let zs : allZero (part (33 + n * recWidth) ((maxRecords - n) * recWidth) (encodeNode e)) ≡ true =
-      rw (fl, rest) at
-      (fit-zeros (maxRecords * recWidth) 33 (flat encodeRec (e .node .recs)) (encodeNode e) (rw fl (omega (arith, o .few))) (node-field e 5 (omega arith)) (rw length-node (omega arith))) in
-      let rise : keysRise (recsOf (encodeNode e)) ≡ true = ap (λ (x : Entry). keysRise (x .node .recs)) decode-encode-node ∙ o .rise in
-      let other : differ (versions (recsOf (encodeNode e))) ≡ true = ap (λ (x : Entry). differ (versions (x .node .recs))) decode-encode-node ∙ o .differing in
-      rw (nodeGood, count-is, max-is, le-leb n maxRecords (o .few), goods, rise, other, zs)
+  -- its bytes are laid out
+  pub laid-node : LaidNode (encodeNode e)
+  laid-node = record { fits = subst FitsEntry (sym decode-encode-node) o; is = ap encodeNode decode-encode-node }
+
+-- the bytes of a node that obeys pass the tests
+pub node-good : (e : Entry) → ObeysEntry e → nodeGood (encodeNode e) ≡ true
+unfolding nodeGood blocks
+node-good e o =
+    let f : FitsEntry e = fits-entry e o in
+    let n : ℕ = length (e .node .recs) in
+    let d : Rec = decodeRec [] in
+    let one : (i : ℕ) → i < n → recGood (e .node .max) (part (i * recWidth) recWidth (blocks maxRecords recWidth encodeRec (e .node .recs))) ≡ true =
+    λ i h. let r : Rec = getD (e .node .recs) i d in
+    let m : r ∈ e .node .recs = in-at (e .node .recs) i d h in
+    let p : ObeysRec (e .node .max) r = each-obeys e o r m in
+    ap (recGood (e .node .max)) (block encodeRec recWidth length-rec maxRecords (e .node .recs) (o .few) i d h)
+    ∙ rec-good r (f .each r m) (e .node .max) (p .version-low) (p .version-high) in
+    let goods : allBlocks (recGood (e .node .max)) recWidth n (drop 33 (encodeNode e)) ≡ true =
+    ap (allBlocks (recGood (e .node .max)) recWidth n) (room-is e f) ∙ at-all-blocks (recGood (e .node .max)) recWidth n _ one in
+    let fl : length (flat encodeRec (e .node .recs)) ≡ n * recWidth = length-flat encodeRec recWidth length-rec (e .node .recs) in
+    let rest : maxRecords * recWidth - n * recWidth ≡ (maxRecords - n) * recWidth = omega arith in
+    let zs : allZero (part (33 + n * recWidth) ((maxRecords - n) * recWidth) (encodeNode e)) ≡ true =
+    rw (fl, rest) at
+    (fit-zeros (maxRecords * recWidth) 33 (flat encodeRec (e .node .recs)) (encodeNode e) (rw fl (omega (arith, o .few))) (node-field e 5 (omega arith)) (rw length-node (omega arith))) in
+    let rise : keysRise (recsOf (encodeNode e)) ≡ true = ap (λ (x : Entry). keysRise (x .node .recs)) (decode-encode-node e f) ∙ o .rise in
+    let other : differ (versions (recsOf (encodeNode e))) ≡ true = ap (λ (x : Entry). differ (versions (x .node .recs))) (decode-encode-node e f) ∙ o .differing in
+    rw (nodeGood, count-is e f, max-is e f, le-leb n maxRecords (o .few), goods, rise, other, zs)
 
 -- ---- bytes that pass the tests
 

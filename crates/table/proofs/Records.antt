@@ -25,6 +25,7 @@ use Rattle.rules.specs.Delta.{statusByte}
 use Rattle.rules.specs.Layout.{recWidths, recWidth, recFields, encodeRec, decodeRec, statusOfByte}
 use Rattle.rules.specs.declared.Status.{Status}
 use Rattle.rules.specs.declared.Status.the-variants.{Set, Delete, Ttl}
+use Rattle.table.specs.Fits.{FitsRec}
 use Rattle.table.specs.Tests.{recTests, recGood, clean, keyLength, valueLength}
 
 -- ---- the fields of a record's bytes
@@ -100,7 +101,19 @@ unfolding recObeys
 obeys-rec max r o =
     rw (recObeys, le-leb _ maxKey (o .key-fits), le-leb _ maxValue (o .value-fits), le-leb 1 _ (o .version-low), le-leb _ max (o .version-high), lt-ltb _ numbers (o .start-high))
 
-module _ (max : ℕ) (r : Rec) (o : ObeysRec max r) (high : max < numbers) where
+-- ---- a record that fits
+
+-- one that obeys does
+pub fits-rec : (max : ℕ) (r : Rec) → ObeysRec max r → max < numbers → FitsRec r
+fits-rec max r o h =
+    record {
+      key-fits = o .key-fits;
+      value-fits = o .value-fits;
+      version-high = omega (arith, o .version-high);
+      start-high = o .start-high;
+    }
+
+module _ (r : Rec) (o : FitsRec r) where
   key-long : natOf (part (offset recWidths 0) 1 (encodeRec r)) ≡ length (r .kv .key)
   key-long = rec-number r 0 1 (length (r .kv .key)) (omega arith) refl refl (omega (arith, o .key-fits))
 
@@ -108,12 +121,12 @@ module _ (max : ℕ) (r : Rec) (o : ObeysRec max r) (high : max < numbers) where
   value-long = rec-number r 2 1 (length (r .kv .value)) (omega arith) refl refl (omega (arith, o .value-fits))
 
   version-is : natOf (part (offset recWidths 4) 8 (encodeRec r)) ≡ r .kv .version
-  version-is = rec-number r 4 8 (r .kv .version) (omega arith) refl refl (omega (arith, o .version-high))
+  version-is = rec-number r 4 8 (r .kv .version) (omega arith) refl refl (o .version-high)
 
   status-is : natOf (part (offset recWidths 5) 1 (encodeRec r)) ≡ statusByte (r .kv .status)
   status-is = rec-number r 5 1 (statusByte (r .kv .status)) (omega arith) refl refl (omega (arith, status-below (r .kv .status)))
 
-  -- a record is read again from its bytes
+  -- it is read again from its bytes
   pub decode-encode-rec : decodeRec (encodeRec r) ≡ r
   unfolding decodeRec
   decode-encode-rec =
@@ -127,13 +140,13 @@ module _ (max : ℕ) (r : Rec) (o : ObeysRec max r) (high : max < numbers) where
       let start : natOf (part 107 8 (encodeRec r)) ≡ r .start = rec-number r 6 8 (r .start) (omega arith) refl refl (o .start-high) in
       λ i. record { kv = record { key = key i; value = value i; version = version-is i; status = status i }; start = start i }
 
-  -- the bytes of a record that obeys pass the tests
-  pub rec-good : recGood max (encodeRec r) ≡ true
+  -- its bytes pass the tests where its version is one of the node's
+  pub rec-good : (max : ℕ) → 1 ≤ r .kv .version → r .kv .version ≤ max → recGood max (encodeRec r) ≡ true
   unfolding recGood
-  rec-good =
+  rec-good max low high =
       let kz = fit-zeros maxKey 1 (r .kv .key) (encodeRec r) (o .key-fits) (rec-field r 1 (omega arith)) (rw length-rec (omega arith)) in
       let vz = fit-zeros maxValue 34 (r .kv .value) (encodeRec r) (o .value-fits) (rec-field r 3 (omega arith)) (rw length-rec (omega arith)) in
-      rw (recGood, key-long, value-long, version-is, status-is, le-leb _ maxKey (o .key-fits), le-leb _ maxValue (o .value-fits), le-leb 1 _ (o .version-low), le-leb _ max (o .version-high), le-leb _ 2 (status-below (r .kv .status)), kz, vz)
+      rw (recGood, key-long, value-long, version-is, status-is, le-leb _ maxKey (o .key-fits), le-leb _ maxValue (o .value-fits), le-leb 1 _ low, le-leb _ max high, le-leb _ 2 (status-below (r .kv .status)), kz, vz)
 
 -- ---- bytes that pass the tests
 

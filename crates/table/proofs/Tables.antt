@@ -24,8 +24,9 @@ use Rattle.fields.proofs.Ordered.{same-true, same-self}
 use Rattle.rules.specs.Sizes.{maxNodes}
 use Rattle.rules.specs.Table.{Entry, Table, entryObeys, rising, numbersOf, obeys}
 use Rattle.rules.specs.Layout.{nodeWidth, tableWidths, tableWidth, tableFields, encodeNode, decodeNode, encode, decode, valid}
+use Rattle.table.specs.Fits.{FitsEntry, FitsTable, LaidTable}
 use Rattle.table.specs.Tests.{nodesOf}
-use Rattle.table.proofs.Nodes.{ObeysEntry, entry-obeys, length-node, decode-encode-node}
+use Rattle.table.proofs.Nodes.{ObeysEntry, entry-obeys, length-node, fits-entry, decode-encode-node}
 
 -- ---- the fields of a table's bytes
 
@@ -76,20 +77,37 @@ unfolding obeys
 obeys-table t o = rw (obeys, le-leb _ maxNodes (o .few), o .rise, o .each)
 
 -- each of its nodes obeys
-pub node-obeys : (t : Table) → ObeysTable t → (i : ℕ) (d : Entry) → i < length t → ObeysEntry (getD t i d)
-node-obeys t o i d h = entry-obeys (getD t i d) (all-from entryObeys t (o .each) (getD t i d) (in-at t i d h))
+pub node-obeys : (t : Table) → ObeysTable t → (e : Entry) → e ∈ t → ObeysEntry e
+node-obeys t o e m = entry-obeys e (all-from entryObeys t (o .each) e m)
+
+-- ---- a table that fits
+
+-- one that obeys does
+pub fits-table : (t : Table) → ObeysTable t → FitsTable t
+fits-table t o = record { few = o .few; each = λ e m. fits-entry e (node-obeys t o e m) }
+
+pub obeys-fits : (t : Table) → obeys t ≡ true → FitsTable t
+obeys-fits t o = fits-table t (table-obeys t o)
+
+module _ (t : Table) (o : FitsTable t) where
+  -- it is read again from its bytes
+  pub read-back : decode (encode t) ≡ t
+  unfolding decode
+  read-back =
+      ap (λ (k : ℕ). unblock nodeWidth decodeNode k (drop 1 (encode t))) (nodes-count t (o .few))
+      ∙ ap (unblock nodeWidth decodeNode (length t)) (nodes-room t)
+      ∙ blocks-read encodeNode decodeNode nodeWidth length-node FitsEntry decode-encode-node maxNodes t (o .few) (λ i d h. o .each (getD t i d) (in-at t i d h))
+
+  -- its bytes are laid out
+  pub laid-table : LaidTable (encode t)
+  laid-table = record { fits = subst FitsTable (sym read-back) o; is = ap encode read-back }
 
 module _ (t : Table) (o : obeys t ≡ true) where
-  -- a table is read again from its bytes
+  -- a table that obeys is read again from its bytes
   pub decode-encode : decode (encode t) ≡ t
-  unfolding decode
-  decode-encode =
-      let p : ObeysTable t = table-obeys t o in
-      ap (λ (k : ℕ). unblock nodeWidth decodeNode k (drop 1 (encode t))) (nodes-count t (p .few))
-      ∙ ap (unblock nodeWidth decodeNode (length t)) (nodes-room t)
-      ∙ blocks-read encodeNode decodeNode nodeWidth length-node ObeysEntry decode-encode-node maxNodes t (p .few) (node-obeys t p)
+  decode-encode = read-back t (obeys-fits t o)
 
-  -- its bytes are valid
+  -- and they are valid
   pub valid-encode : valid (encode t) ≡ true
   unfolding valid
   valid-encode =
@@ -111,6 +129,9 @@ module _ (l : List ℕ) (v : valid l ≡ true) where
   pub valid-obeys : obeys (decode l) ≡ true
   unfolding valid
   valid-obeys = and-left (obeys (decode l)) (sameBytes (encode (decode l)) l) v
+
+  pub valid-laid : LaidTable l
+  valid-laid = record { fits = obeys-fits (decode l) valid-obeys; is = encode-decode }
 
   pub valid-long : length l ≡ tableWidth
   valid-long = ap length (sym encode-decode) ∙ length-table (decode l)
