@@ -5,3 +5,4 @@ pub mod Checked
 pub mod Places
 pub mod Areas
 pub mod Changed
+pub mod Laid
