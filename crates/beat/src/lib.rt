@@ -2,11 +2,11 @@
 // is held, it is stored and the answer is no; if the offer is greater, it is stored and the answer is yes; else the answer is no. A local
 // beat raises the heartbeat by one; where it is 2^64-1 it cannot rise, and the header stays as it is.
 //
-// The rules stand here by value, for callers that hold a header: `offered` and `raised`. A heartbeat is a `Heartbeat` throughout, so none
-// is taken for a version.
+// The rules by value come first, for callers that hold a header: `offered` and `raised`. Over them stands the thin function on a header
+// that is lent, `offer_heartbeat`. A heartbeat is a `Heartbeat` throughout, so none is taken for a version.
 ghost use mathlib.Core.Path.{_≡_};
 ghost use Rattle.rules.specs.Node.{offerOf};
-ghost use Rattle.beat.specs.Headers.{offeredTo, canRise, risenFrom, raisedOf};
+ghost use Rattle.beat.specs.Headers.{offeredHeader, offeredTo, canRise, risenFrom, raisedOf};
 use rules::Header;
 use rules::Heartbeat;
 
@@ -89,4 +89,13 @@ pub fn raised(h: Header) -> RaisedHeader
         header: header,
         rose: can_rise(held),
     }
+}
+
+// A heartbeat offer to a header that is lent: whether the offer was news. max and last_gc are untouched.
+pub fn offer_heartbeat(h: &mut Header, got: Heartbeat) -> bool
+    ensures { λ r. ⌜ (r ≡ offerOf (now (h .entry) .heartbeat) got .news) × (now (h .exit) ≡ offeredHeader (now (h .entry)) got) ⌝ }
+{
+    let held = h.heartbeat;
+    h.heartbeat = kept(held, got);
+    told(held, got)
 }
