@@ -2,11 +2,11 @@
 // is held, it is stored and the answer is no; if the offer is greater, it is stored and the answer is yes; else the answer is no. A local
 // beat raises the heartbeat by one; where it is 2^64-1 it cannot rise, and the header stays as it is.
 //
-// The rules by value come first, for callers that hold a header: `offered` and `raised`. Over them stands the thin function on a header
-// that is lent, `offer_heartbeat`. A heartbeat is a `Heartbeat` throughout, so none is taken for a version.
+// The rules by value come first, for callers that hold a header: `offered` and `raised`. Over them stand the thin functions on a header
+// that is lent, `offer_heartbeat` and `raise_heartbeat`. A heartbeat is a `Heartbeat` throughout, so none is taken for a version.
 ghost use mathlib.Core.Path.{_≡_};
 ghost use Rattle.rules.specs.Node.{offerOf};
-ghost use Rattle.beat.specs.Headers.{offeredHeader, offeredTo, canRise, risenFrom, raisedOf};
+ghost use Rattle.beat.specs.Headers.{offeredHeader, offeredTo, canRise, risenFrom, raisedHeader, raisedOf};
 use rules::Header;
 use rules::Heartbeat;
 
@@ -98,4 +98,13 @@ pub fn offer_heartbeat(h: &mut Header, got: Heartbeat) -> bool
     let held = h.heartbeat;
     h.heartbeat = kept(held, got);
     told(held, got)
+}
+
+// A local beat on a header that is lent: whether the heartbeat rose. Where it did not, the header is untouched.
+pub fn raise_heartbeat(h: &mut Header) -> bool
+    ensures { λ r. ⌜ (r ≡ canRise (now (h .entry) .heartbeat)) × (now (h .exit) ≡ raisedHeader (now (h .entry))) ⌝ }
+{
+    let held = h.heartbeat;
+    h.heartbeat = risen(held);
+    can_rise(held)
 }
