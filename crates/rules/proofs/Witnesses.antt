@@ -1,4 +1,4 @@
--- The two runs of specs/Witnesses, computed.
+-- The four runs of specs/Witnesses, computed.
 -- the publisher holds one record and one node; one exchange brings the follower to (3,1), the second to (3,3); nothing was refused
 use Prim.Native.Nat.{ℕ}
 use mathlib.Core.Bool.{true}
@@ -21,7 +21,7 @@ use Rattle.rules.specs.Digest.{digestBytes, digestOf, entryBytes, entryO
 use Rattle.rules.specs.Local.{call, gc}
 use Rattle.rules.specs.Node.{KeyValue, Node, Rec, act, decide, find, lastGc, remove, store, wish, write}
 use Rattle.rules.specs.Table.{among, nodeOf, removeAll, setNode, versions}
-use Rattle.rules.specs.Witnesses.{caughtUp, dead, oneRecord, pair, pairIn, quiet, seven, tookLate, wasReset}
+use Rattle.rules.specs.Witnesses.{bothNodes, caughtUp, dead, forgotten, keys, keysOf, oneRecord, pair, pairAt, pairIn, quiet, removedThere, seven, tookLate, wasReset}
 use Rattle.rules.specs.World.{World, after, freshTable, happen, start}
 
 pub tight : (pair (oneRecord .publisher) ≡ 3 ∷ 3 ∷ [])
@@ -48,6 +48,19 @@ one-too-few s =
     let a = p .1 in
     let b = f .1 in
     omega arith
+
+-- the publisher is at (3,3) with b alone; the follower, which had k alone, is reset, has b alone, and is at (3,2)
+pub forgets : (keys (removedThere .publisher) ≡ (2 ∷ 98 ∷ []) ∷ [])
+    × (keys (removedThere .follower) ≡ (1 ∷ 107 ∷ []) ∷ [])
+    × (keys (forgotten .follower) ≡ (2 ∷ 98 ∷ []) ∷ [])
+    × (pair (forgotten .follower) ≡ 3 ∷ 2 ∷ [])
+unfolding keysOf after happen start freshTable call gc nodeOf setNode removeAll decide wish find act write store remove lastGc keep sameBytes lessBytes among writeDigest digestOf digestBytes entryBytes entryOf readEntries readDigest tell tellAll compute deltaFor cut allOps ordered queue sooner staleNodes toldOf fromOf stale byVersion keyValueOps sizeOf deltaBytes opBytes textBytes bytesOf natOf part put flat unblock apply applyEach applyNode deltaStatus statusOf newerOf outcome takeAll takes codes readDelta readOps readOp readNode readKeyValue readSetMaxVersion follow partsOf recsOf maxOf
+forgets = (refl, refl, refl, refl)
+
+-- both nodes have taken their parts
+pub both-nodes : (pairAt 7 (bothNodes .follower) ≡ 0 ∷ 1 ∷ []) × (pairAt 9 (bothNodes .follower) ≡ 0 ∷ 2 ∷ [])
+unfolding after happen start freshTable call gc nodeOf setNode removeAll decide wish find act write store remove lastGc keep sameBytes lessBytes among writeDigest digestOf digestBytes entryBytes entryOf readEntries readDigest tell tellAll compute deltaFor cut allOps ordered queue sooner staleNodes toldOf fromOf stale byVersion keyValueOps sizeOf deltaBytes opBytes textBytes bytesOf natOf part put flat unblock apply applyEach applyNode deltaStatus statusOf newerOf outcome takeAll takes codes readDelta readOps readOp readNode readKeyValue readSetMaxVersion follow partsOf recsOf maxOf
+both-nodes = (refl, refl)
 
 -- the follower at (10,3) takes a delta with last_gc 0, from 3 and max 5, and is at (10,5); at the end both are at (10,10)
 pub late : (pair (wasReset .publisher) ≡ 10 ∷ 10 ∷ [])
