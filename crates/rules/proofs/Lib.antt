@@ -26,7 +26,6 @@ pub mod Refusing
 pub mod EachNode
 pub mod Nearer
 pub mod OnTheWay
-pub mod TableKeeps
 pub mod Moments
 pub mod Undisturbed
 pub mod Closing
