@@ -21,6 +21,8 @@ use Rattle.rules.specs.Node.{Node, Rec, due, fresh, remove}
 use Rattle.rules.specs.Table.{Entry, Table, among, nodeOf, numbersOf, removeAll, setNode}
 use Rattle.rules.specs.World.{freshTable}
 
+-- ---- a node of a table
+
 abbrev pub mapped : (Node → Node) → Option Node → Option Node
 mapped f none = none
 mapped f (some n) = some (f n)
