@@ -30,7 +30,7 @@ unfolding total holdings
 most u [] = omega arith
 most u (e ∷ t) = let a = needed-most (e .node) (nodeAt (e .number) u) in let b = most u t in omega arith
 
-after-append : (es fs : List Event) (w : World) → after (es ++ fs) w ≡ after fs (after es w)
+pub after-append : (es fs : List Event) (w : World) → after (es ++ fs) w ≡ after fs (after es w)
 unfolding after
 after-append [] fs w = refl
 after-append (e ∷ es) fs w = after-append es fs (happen e w)
