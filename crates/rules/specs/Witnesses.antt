@@ -8,7 +8,7 @@ use lib.ListN.{replicate}
 use Rattle.rules.specs.Node.{KeyValue, Rec, Node, Setting, Deleting}
 use Rattle.rules.specs.Table.{Table, nodeOf}
 use Rattle.rules.specs.World.{World, Publishers, Event, Writing, Removing, Digesting, Computing, Applying, onExchange, start, after}
-use Rattle.rules.specs.Demand3.{Quiet, exchanges}
+use Rattle.rules.specs.Demand3.{Quiet}
 use Rattle.rules.specs.declared.Status.the-variants.{Set}
 
 -- one node, number 7, and its pair (last_gc, max)
