@@ -1,1 +1,118 @@
-fn main() {}
+//! Makes scripts, has them answered by the judge and by another side, and compares line by line.
+//!
+//!     compare run JUDGE N SEED OTHER..      the sweeps and N random scripts
+//!     compare script SEED INDEX             prints one random script
+//!     compare sweep NAME                    prints one sweep; without a name, lists them
+//!     compare shrink JUDGE FILE OTHER..     the smallest script found that still shows a difference
+
+mod count;
+mod damage;
+mod maker;
+mod pieces;
+mod random;
+mod scripts;
+mod shrink;
+mod sides;
+mod sweeps;
+
+use std::process::ExitCode;
+
+use count::Counts;
+use sides::Sides;
+
+/// Scripts answered by one start of each side.
+const BATCH: u64 = 100;
+
+fn usage() -> ExitCode {
+    eprintln!("compare run JUDGE N SEED OTHER.. | script SEED INDEX | sweep [NAME] | shrink JUDGE FILE OTHER..");
+    ExitCode::from(2)
+}
+
+fn main() -> ExitCode {
+    let words: Vec<String> = std::env::args().skip(1).collect();
+    let words: Vec<&str> = words.iter().map(String::as_str).collect();
+    match words[..] {
+        ["run", judge, count, seed, ref other @ ..] if !other.is_empty() => match (count.parse(), seed.parse()) {
+            (Ok(count), Ok(seed)) => run(&Sides::new(judge, other), count, seed),
+            _ => usage(),
+        },
+        ["script", seed, index] => match (seed.parse(), index.parse()) {
+            (Ok(seed), Ok(index)) => print(&scripts::random(seed, index)),
+            _ => usage(),
+        },
+        ["sweep"] => print(&sweeps::names()),
+        ["sweep", name] => sweeps::named(name).map_or_else(usage, |script| print(&script)),
+        ["shrink", judge, file, ref other @ ..] if !other.is_empty() => {
+            let text = std::fs::read_to_string(file).expect("the script can be read");
+            report(&Sides::new(judge, other), &text.lines().map(String::from).collect::<Vec<_>>())
+        }
+        _ => usage(),
+    }
+}
+
+fn print(lines: &[String]) -> ExitCode {
+    for line in lines {
+        println!("{line}");
+    }
+    ExitCode::SUCCESS
+}
+
+fn run(sides: &Sides, count: u64, seed: u64) -> ExitCode {
+    let mut counts = Counts::default();
+    for name in sweeps::names() {
+        let script = sweeps::named(&name).expect("a sweep of that name");
+        if let Err(failed) = answer(sides, &[script], &mut counts, &format!("sweep {name}")) {
+            return failed;
+        }
+    }
+    let mut first = 0;
+    while first < count {
+        let last = count.min(first + BATCH);
+        let batch: Vec<Vec<String>> = (first..last).map(|index| scripts::random(seed, index)).collect();
+        if let Err(failed) = answer(sides, &batch, &mut counts, &format!("seed {seed}, scripts {first} to {}", last - 1)) {
+            return failed;
+        }
+        first = last;
+    }
+    println!("seed={seed} {counts} differences=0");
+    ExitCode::SUCCESS
+}
+
+/// Lines that bring both tables back to empty, between two scripts that are answered by one start.
+const BETWEEN: [&str; 4] = ["hub 1", "new", "hub 0", "new"];
+
+/// Answers the scripts, counts, and reports the first difference.
+fn answer(sides: &Sides, batch: &[Vec<String>], counts: &mut Counts, what: &str) -> Result<(), ExitCode> {
+    let between: Vec<String> = BETWEEN.iter().map(|line| line.to_string()).collect();
+    let whole: Vec<String> = batch.iter().flat_map(|script| between.iter().chain(script)).cloned().collect();
+    let (judge, other) = sides.answers(&whole);
+    if judge == other && judge.len() == whole.len() {
+        counts.scripts += batch.len();
+        counts.add(&whole, &judge);
+        return Ok(());
+    }
+    println!("difference in {what}");
+    let alone = batch.iter().find(|script| sides.differ(script));
+    Err(report(sides, alone.unwrap_or(&whole)))
+}
+
+/// Shrinks a script and shows it with both answers. Says so where there is no difference.
+fn report(sides: &Sides, script: &[String]) -> ExitCode {
+    if !sides.differ(script) {
+        println!("no difference");
+        return ExitCode::SUCCESS;
+    }
+    let small = shrink::smallest(script, |lines| sides.differ(lines));
+    let (judge, other) = sides.answers(&small);
+    println!("smallest script that differs, {} lines:", small.len());
+    for (place, line) in small.iter().enumerate() {
+        println!("  {line}");
+        let nothing = "(no answer)".to_string();
+        let (judge, other) = (judge.get(place).unwrap_or(&nothing), other.get(place).unwrap_or(&nothing));
+        if judge != other {
+            println!("    judge: {judge}");
+            println!("    other: {other}");
+        }
+    }
+    ExitCode::FAILURE
+}
