@@ -1,6 +1,7 @@
 //! Makes scripts, has them answered by the judge and by another side, and compares line by line.
 //!
 //!     compare run JUDGE N SEED OTHER..      the sweeps and N random scripts
+//!     compare find JUDGE N SEED OTHER..     the same, but a difference is only told, not shrunk
 //!     compare script SEED INDEX             prints one random script
 //!     compare sweep NAME                    prints one sweep; without a name, lists them
 //!     compare shrink JUDGE FILE OTHER..     the smallest script found that still shows a difference
@@ -24,7 +25,7 @@ use sides::Sides;
 const BATCH: u64 = 100;
 
 fn usage() -> ExitCode {
-    eprintln!("compare run JUDGE N SEED OTHER.. | script SEED INDEX | sweep [NAME] | shrink JUDGE FILE OTHER..");
+    eprintln!("compare run|find JUDGE N SEED OTHER.. | script SEED INDEX | sweep [NAME] | shrink JUDGE FILE OTHER..");
     ExitCode::from(2)
 }
 
@@ -32,10 +33,15 @@ fn main() -> ExitCode {
     let words: Vec<String> = std::env::args().skip(1).collect();
     let words: Vec<&str> = words.iter().map(String::as_str).collect();
     match words[..] {
-        ["run", judge, count, seed, ref other @ ..] if !other.is_empty() => match (count.parse(), seed.parse()) {
-            (Ok(count), Ok(seed)) => run(&Sides::new(judge, other), count, seed),
-            _ => usage(),
-        },
+        [how @ ("run" | "find"), judge, count, seed, ref other @ ..] if !other.is_empty() => {
+            let (Ok(count), Ok(seed)) = (count.parse(), seed.parse()) else { return usage() };
+            let sides = Sides::new(judge, other);
+            match run(&sides, count, seed) {
+                Ok(()) => ExitCode::SUCCESS,
+                Err(script) if how == "run" => report(&sides, &script),
+                Err(_) => ExitCode::FAILURE,
+            }
+        }
         ["script", seed, index] => match (seed.parse(), index.parse()) {
             (Ok(seed), Ok(index)) => print(&scripts::random(seed, index)),
             _ => usage(),
@@ -57,32 +63,29 @@ fn print(lines: &[String]) -> ExitCode {
     ExitCode::SUCCESS
 }
 
-fn run(sides: &Sides, count: u64, seed: u64) -> ExitCode {
+/// The error is a script that shows a difference.
+fn run(sides: &Sides, count: u64, seed: u64) -> Result<(), Vec<String>> {
     let mut counts = Counts::default();
     for name in sweeps::names() {
         let script = sweeps::named(&name).expect("a sweep of that name");
-        if let Err(failed) = answer(sides, &[script], &mut counts, &format!("sweep {name}")) {
-            return failed;
-        }
+        answer(sides, &[script], &mut counts, &format!("sweep {name}"))?;
     }
     let mut first = 0;
     while first < count {
         let last = count.min(first + BATCH);
         let batch: Vec<Vec<String>> = (first..last).map(|index| scripts::random(seed, index)).collect();
-        if let Err(failed) = answer(sides, &batch, &mut counts, &format!("seed {seed}, scripts {first} to {}", last - 1)) {
-            return failed;
-        }
+        answer(sides, &batch, &mut counts, &format!("seed {seed}, scripts {first} to {}", last - 1))?;
         first = last;
     }
     println!("seed={seed} {counts} differences=0");
-    ExitCode::SUCCESS
+    Ok(())
 }
 
 /// Lines that bring both tables back to empty, between two scripts that are answered by one start.
 const BETWEEN: [&str; 4] = ["hub 1", "new", "hub 0", "new"];
 
-/// Answers the scripts, counts, and reports the first difference.
-fn answer(sides: &Sides, batch: &[Vec<String>], counts: &mut Counts, what: &str) -> Result<(), ExitCode> {
+/// Answers the scripts and counts. The error is the first script that shows a difference alone, else all of them.
+fn answer(sides: &Sides, batch: &[Vec<String>], counts: &mut Counts, what: &str) -> Result<(), Vec<String>> {
     let between: Vec<String> = BETWEEN.iter().map(|line| line.to_string()).collect();
     let whole: Vec<String> = batch.iter().flat_map(|script| between.iter().chain(script)).cloned().collect();
     let (judge, other) = sides.answers(&whole);
@@ -92,8 +95,7 @@ fn answer(sides: &Sides, batch: &[Vec<String>], counts: &mut Counts, what: &str)
         return Ok(());
     }
     println!("difference in {what}");
-    let alone = batch.iter().find(|script| sides.differ(script));
-    Err(report(sides, alone.unwrap_or(&whole)))
+    Err(batch.iter().find(|script| sides.differ(script)).unwrap_or(&whole).clone())
 }
 
 /// Shrinks a script and shows it with both answers. Says so where there is no difference.
@@ -104,7 +106,7 @@ fn report(sides: &Sides, script: &[String]) -> ExitCode {
     }
     let small = shrink::smallest(script, |lines| sides.differ(lines));
     let (judge, other) = sides.answers(&small);
-    println!("smallest script that differs, {} lines:", small.len());
+    println!("smallest script that differs, lines: {}", small.len());
     for (place, line) in small.iter().enumerate() {
         println!("  {line}");
         let nothing = "(no answer)".to_string();

@@ -257,6 +257,20 @@ impl Maker {
         }
     }
 
+    /// A node delta with records above `version`, some of their keys new; seldom a whole new set after a reset.
+    pub fn crowd(&mut self, number: u64, mut version: u64, ops: &mut Vec<Op>) {
+        let reset = self.random.once_in(5);
+        let last_gc = if reset { version + 3 } else { self.random.below(3) };
+        ops.push(Op::Node { number, last_gc, from: 0 });
+        let count = if reset { self.random.within(30, 38) } else { self.random.within(1, 5) };
+        for place in 0..count {
+            version += self.random.within(1, 2);
+            let key = if reset { place } else { self.random.below(36) };
+            let key = format!("k{key}").into_bytes();
+            ops.push(Op::KeyValue { key, value: Vec::new(), version, status: self.random.below(3) as u8 });
+        }
+    }
+
     pub fn apply(&mut self, delta: &str) {
         let (now, places) = (self.now(), self.places());
         self.line(format!("apply {delta} {now} {places}"));

@@ -11,7 +11,8 @@ pub fn random(seed: u64, index: u64) -> Vec<String> {
     match random.below(20) {
         0..=2 => local(random),
         3 => sizes(random),
-        4 | 5 => full_node(random),
+        4 => full_node(random),
+        5 => crowded(random),
         6..=10 => exchange(random),
         11..=13 => hand_deltas(random),
         14 | 15 => hand_digests(random),
@@ -112,6 +113,33 @@ fn near_the_end(m: &mut Maker, number: u64) {
     let max = u64::MAX - m.random.below(3);
     let ops = [pieces::Op::Node { number, last_gc: 0, from: 0 }, pieces::Op::SetMax { max }];
     m.line(format!("apply {} 0 1", hex(&pieces::delta(&ops))));
+}
+
+/// Deltas with new keys for nodes that have hardly room for them, beside nodes that have.
+fn crowded(random: Random) -> Vec<String> {
+    let mut m = Maker::new(random, 3, 3);
+    let nodes = m.nodes.clone();
+    for &node in &nodes {
+        m.add(node);
+    }
+    let held = m.random.within(28, 32);
+    for number in 0..held {
+        let line = match m.random.below(3) {
+            0 => format!("setttl {} {} x {}", nodes[0], hex(format!("k{number}").as_bytes()), m.now()),
+            _ => format!("set {} {} x", nodes[0], hex(format!("k{number}").as_bytes())),
+        };
+        m.line(line);
+    }
+    for round in 1..m.random.within(3, 8) {
+        let mut ops = Vec::new();
+        for &number in &nodes {
+            let version = 40 * round + m.random.below(9);
+            m.crowd(number, version, &mut ops);
+        }
+        m.apply(&hex(&pieces::delta(&ops)));
+        anything_local(&mut m);
+    }
+    m.finish()
 }
 
 /// Two hubs that send each other digests and deltas while both go on working.

@@ -5,15 +5,18 @@ use script::hex;
 use crate::damage::texts_are_utf8;
 use crate::pieces::{Op, delta, digest};
 
-const SWEEPS: [(&str, fn() -> Vec<String>); 8] = [
+const SWEEPS: [(&str, fn() -> Vec<String>); 11] = [
     ("bench", bench),
     ("writes", writes),
     ("verdicts", verdicts),
     ("taking", taking),
+    ("room", room),
     ("from", from),
     ("cuts", cuts),
     ("damaged-delta", damaged_delta),
     ("damaged-digest", damaged_digest),
+    ("two-faults", two_faults),
+    ("many-nodes", many_nodes),
 ];
 
 pub fn names() -> Vec<String> {
@@ -149,6 +152,32 @@ fn taking() -> Vec<String> {
     lines
 }
 
+/// All runs of three records on a node of 31 or 32 keys, with a second node behind it.
+fn room() -> Vec<String> {
+    // Key, status, whether its version is at or below the node's last_gc. k1 is held, n and m are new.
+    const RECORDS: [(&str, u8, bool); 6] =
+        [("n", 0, false), ("m", 1, false), ("n", 1, true), ("m", 0, true), ("k1", 2, false), ("n", 2, false)];
+    let mut lines = Vec::new();
+    for held in [30, 31, 32] {
+        let mut ops = vec![node(100, 0)];
+        ops.extend((1..=held).map(|version| record(&format!("k{version}"), version, 0)));
+        let fill = apply(&ops);
+        for run in 0..RECORDS.len().pow(3) {
+            lines.extend(["new".to_string(), "add 1".to_string(), "add 2".to_string(), fill.clone()]);
+            let (mut ops, mut rest, mut version) = (vec![node(0, 0)], run, 60);
+            for _ in 0..3 {
+                let (key, status, old) = RECORDS[rest % RECORDS.len()];
+                version = if old { version + 1 } else { version.max(100) + 1 };
+                ops.push(record(key, version, status));
+                rest /= RECORDS.len();
+            }
+            ops.extend([Op::Node { number: 2, last_gc: 0, from: 0 }, record("z", 1, 0)]);
+            lines.push(apply(&ops));
+        }
+    }
+    lines
+}
+
 /// All small own pairs against all small digest pairs.
 fn from() -> Vec<String> {
     let mut lines = Vec::new();
@@ -223,6 +252,40 @@ fn damaged_digest() -> Vec<String> {
             let mut damaged = good.clone();
             damaged[place] = byte;
             lines.push(format!("readdigest {}", hex(&damaged)));
+        }
+    }
+    lines
+}
+
+/// A record with every choice of faults at once, cut at each place: which one is told?
+fn two_faults() -> Vec<String> {
+    let mut lines = Vec::new();
+    for choice in 0..32 {
+        let wrong = |bit: usize| choice >> bit & 1 == 1;
+        let mut ops = if wrong(0) { vec![] } else { vec![node(0, 0), record("a", 2, 0)] };
+        let before = delta(&ops).len();
+        ops.push(Op::KeyValue {
+            key: vec![b'k'; if wrong(1) { 33 } else { 2 }],
+            value: vec![b'v'; if wrong(2) { 65 } else { 2 }],
+            version: if wrong(3) { 2 } else { 3 },
+            status: if wrong(4) { 3 } else { 1 },
+        });
+        let bytes = delta(&ops);
+        lines.extend((before..=bytes.len()).map(|len| format!("readdelta {}", hex(&bytes[..len]))));
+    }
+    lines
+}
+
+/// Seven to ten Nodes, the last one new or a repetition of each of the others, whole and cut by one byte.
+fn many_nodes() -> Vec<String> {
+    let mut lines = Vec::new();
+    for count in 7..=10 {
+        for last in 1..=count {
+            let numbers = (1..count).chain([last]);
+            let ops: Vec<Op> = numbers.map(|number| Op::Node { number, last_gc: 0, from: 0 }).collect();
+            let bytes = delta(&ops);
+            lines.push(format!("readdelta {}", hex(&bytes)));
+            lines.push(format!("apply {} 0 8", hex(&bytes[..bytes.len() - 1])));
         }
     }
     lines
