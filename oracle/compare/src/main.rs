@@ -1,6 +1,6 @@
 //! Makes scripts, has them answered by the judge and by another side, and compares line by line.
 //!
-//!     compare run JUDGE N SEED OTHER..      the sweeps and N random scripts
+//!     compare run JUDGE N SEED OTHER..      the sweeps (not with ORACLE_SWEEPS=0) and N random scripts
 //!     compare find JUDGE N SEED OTHER..     the same, but a difference is only told, not shrunk
 //!     compare script SEED INDEX             prints one random script
 //!     compare sweep NAME                    prints one sweep; without a name, lists them
@@ -66,7 +66,8 @@ fn print(lines: &[String]) -> ExitCode {
 /// The error is a script that shows a difference.
 fn run(sides: &Sides, count: u64, seed: u64) -> Result<(), Vec<String>> {
     let mut counts = Counts::default();
-    for name in sweeps::names() {
+    let sweeps = if std::env::var("ORACLE_SWEEPS").is_ok_and(|wanted| wanted == "0") { vec![] } else { sweeps::names() };
+    for name in sweeps {
         let script = sweeps::named(&name).expect("a sweep of that name");
         answer(sides, &[script], &mut counts, &format!("sweep {name}"))?;
     }

@@ -16,7 +16,7 @@ use tokio::time::{Instant, set_clock};
 use crate::delta::{Delta, Reader, operation_bytes};
 use crate::digest::Digest;
 use crate::message::ProtocolVersion;
-use crate::serialize::Deserializable;
+use crate::serialize::{Deserializable, Serializable};
 use crate::state::{ClusterState, NodeState, Status};
 use crate::types::{ChitchatId, DeletionStatus, Heartbeat, VersionedValue};
 use crate::wire;
@@ -189,7 +189,10 @@ fn original_mtu(mtu: usize, nodes: usize) -> usize {
     bytes + if bytes >= 16_384 { 7 } else { 4 }
 }
 
+/// The operations in document 01's bytes. The original must read its own stream of them as the same delta.
 fn operations(delta: &Delta) -> Vec<Vec<u8>> {
+    let read_again = Delta::deserialize(&mut &delta.serialize_to_vec()[..]);
+    assert_eq!(read_again.as_ref().ok(), Some(delta), "the original reads its own delta otherwise");
     operation_bytes(delta).iter().map(|bytes| wire::operation_01(bytes)).collect()
 }
 
