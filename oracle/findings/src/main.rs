@@ -74,6 +74,8 @@ fn max_below_running_in_silence() {
     let mut raw = Raw::new();
     assert_eq!(raw.apply(&[node(0, 0), record("k", 1), Op::SetMax { max: 0 }, record("l", 1)]), Ok(false));
     assert_eq!(key_and_version(&mut raw), [("k".into(), 1), ("l".into(), 1)]);
+    // And from now on no delta with this node can be computed.
+    panics_with("apply_op(delta_op).is_ok()", || raw.operations(1_000));
 }
 
 fn overflow(checked: bool) {
@@ -206,10 +208,23 @@ fn strangers_are_passed_over() {
     assert_eq!((raw.apply(&ops), raw.nodes()), (Ok(false), 1));
 }
 
+fn each_node_looks_at_the_clock() {
+    let mut raw = Raw::new();
+    raw.add(2);
+    let tombstone = |number| {
+        [Op::Node { number, last_gc: 0, from: 0 }, Op::KeyValue { key: b"k", value: b"", version: 1, status: 1 }]
+    };
+    for number in [1, 2] {
+        assert_eq!(raw.apply(&tombstone(number)), Ok(false));
+    }
+    // Both tombstones begin at 0. Under one now for all nodes both would stay at 9 and both would go at 10.
+    assert_eq!(raw.kept_under_a_running_clock(9, 10), [1, 0]);
+}
+
 fn main() {
     std::panic::set_hook(Box::new(|_| {}));
     let checked = panics(|| black_box(LAST) + black_box(1)).is_some();
-    let findings: [(&str, &dyn Fn()); 17] = [
+    let findings: [(&str, &dyn Fn()); 18] = [
         ("listener-set", &listener_set),
         ("listener-apply", &listener_apply),
         ("max-below-running-asserts", &max_below_running_asserts),
@@ -227,6 +242,7 @@ fn main() {
         ("mtu-is-counted-with-blocks", &mtu_is_counted_with_blocks),
         ("records-and-a-max-cannot-be-written-again", &records_and_a_max_cannot_be_written_again),
         ("strangers-are-passed-over", &strangers_are_passed_over),
+        ("each-node-looks-at-the-clock", &each_node_looks_at_the_clock),
     ];
     let mut wrong = 0;
     for (name, finding) in findings {

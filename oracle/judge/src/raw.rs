@@ -2,8 +2,10 @@
 //! A method panics where the original does.
 
 use std::collections::HashSet;
+use std::time::Duration;
 
 use tokio::sync::watch;
+use tokio::time::{set_clock, set_tick};
 
 use crate::delta::{Delta, operation_bytes};
 use crate::digest::Digest;
@@ -142,6 +144,16 @@ impl Raw {
     /// Reads the operations as one delta and applies it.
     pub fn apply(&mut self, ops: &[Op]) -> Result<bool, String> {
         read(ops).map(|delta| self.0.apply_delta(delta))
+    }
+
+    /// How many records each node holds after removal, with a clock that moves on by a millisecond a look.
+    pub fn kept_under_a_running_clock(&mut self, now: u64, grace: u64) -> Vec<usize> {
+        set_clock(now);
+        set_tick(1);
+        self.0.gc_keys_marked_for_deletion(Duration::from_millis(grace));
+        set_tick(0);
+        let nodes = self.0.node_states().values();
+        nodes.map(|node| node.key_values_including_deleted().count()).collect()
     }
 
     /// Operations of the delta for an empty digest under the original's own MTU.

@@ -7,11 +7,17 @@ pub mod time {
 
     thread_local! {
         static CLOCK: Cell<u64> = const { Cell::new(0) };
+        static TICK: Cell<u64> = const { Cell::new(0) };
     }
 
     /// Sets what `Instant::now` answers from now on. It may run back.
     pub fn set_clock(milliseconds: u64) {
         CLOCK.set(milliseconds);
+    }
+
+    /// From now on the clock moves on by so much after each look at it. 0 unless told.
+    pub fn set_tick(milliseconds: u64) {
+        TICK.set(milliseconds);
     }
 
     /// Milliseconds, wide enough that start + grace is the sum in whole numbers, as document 01 has it.
@@ -21,7 +27,9 @@ pub mod time {
 
     impl Instant {
         pub fn now() -> Instant {
-            Instant::at(CLOCK.get())
+            let now = CLOCK.get();
+            CLOCK.set(now.saturating_add(TICK.get()));
+            Instant::at(now)
         }
 
         pub fn at(milliseconds: u64) -> Instant {
