@@ -15,7 +15,9 @@ fn original(oracle: &Path) -> PathBuf {
         .ancestors()
         .map(|above| above.join("shared/docs/src"))
         .find(|folder| folder.join("chitchat/src/state.rs").is_file())
-        .expect("the original sources are not beside the project: set CHITCHAT_SRC to the folder that holds chitchat/src")
+        .expect(
+            "the original sources are not beside the project: set CHITCHAT_SRC to the folder that holds chitchat/src",
+        )
 }
 
 fn main() {

@@ -93,8 +93,7 @@ fn break_table(random: &mut Random, nodes: &[Node]) -> Option<Vec<u8>> {
         1 => nodes.get(at).map(|_| set(&nodes, node_start + NODE_HEAD_BYTES - 1, random.within(33, 255) as u8)),
         2 => has_record(&nodes, at).then(|| set(&nodes, record_start, random.within(33, 255) as u8)),
         3 => has_record(&nodes, at).then(|| set(&nodes, record_start + 1 + KEY, random.within(65, 255) as u8)),
-        4 => has_record(&nodes, at)
-            .then(|| set(&nodes, record_start + RECORD_BYTES - 9, random.within(3, 255) as u8)),
+        4 => has_record(&nodes, at).then(|| set(&nodes, record_start + RECORD_BYTES - 9, random.within(3, 255) as u8)),
         5 => {
             nodes.get_mut(at)?.records.get_mut(record_at)?.version = 0;
             Some(table::encode(&nodes))

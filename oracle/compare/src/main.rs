@@ -66,7 +66,8 @@ fn print(lines: &[String]) -> ExitCode {
 /// The error is a script that shows a difference.
 fn run(sides: &Sides, count: u64, seed: u64) -> Result<(), Vec<String>> {
     let mut counts = Counts::default();
-    let sweeps = if std::env::var("ORACLE_SWEEPS").is_ok_and(|wanted| wanted == "0") { vec![] } else { sweeps::names() };
+    let sweeps =
+        if std::env::var("ORACLE_SWEEPS").is_ok_and(|wanted| wanted == "0") { vec![] } else { sweeps::names() };
     for name in sweeps {
         let script = sweeps::named(&name).expect("a sweep of that name");
         answer(sides, &[script], &mut counts, &format!("sweep {name}"))?;

@@ -200,7 +200,12 @@ impl Maker {
         let entries: Vec<[u64; 4]> = (0..count)
             .map(|_| {
                 let node = self.node();
-                [node, pieces::version(&mut self.random), pieces::version(&mut self.random), pieces::version(&mut self.random)]
+                [
+                    node,
+                    pieces::version(&mut self.random),
+                    pieces::version(&mut self.random),
+                    pieces::version(&mut self.random),
+                ]
             })
             .collect();
         let mut bytes = pieces::digest(&entries);

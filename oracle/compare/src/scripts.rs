@@ -218,7 +218,12 @@ fn hand_deltas(mut random: Random) -> Vec<String> {
             bytes = damage::delta(&mut m.random, &bytes);
         }
         if m.random.once_in(40) {
-            pad(&mut m, &mut bytes);
+            let mut padded = bytes.clone();
+            pad(&mut m, &mut padded);
+            // Behind a damaged end the padding may be read as a text.
+            if damage::texts_are_utf8(&padded) {
+                bytes = padded;
+            }
         }
         let word = hex(&bytes);
         if m.random.once_in(4) {

@@ -118,3 +118,35 @@ fn operation_starts(bytes: &[u8]) -> Vec<usize> {
     }
     starts
 }
+
+#[cfg(test)]
+mod tests {
+    use super::*;
+
+    fn lines(text: &[&str]) -> Vec<String> {
+        text.iter().map(|line| line.to_string()).collect()
+    }
+
+    #[test]
+    fn keeps_only_what_shows_the_difference() {
+        let script = lines(&["add 1", "beat 1", "add 77", "get 1 x61", "beat 77", "gc 5 5"]);
+        let shows = |lines: &[String]| {
+            let beaten = lines.iter().position(|line| line.starts_with("beat"));
+            let added = lines.iter().position(|line| line.starts_with("add"));
+            added.zip(beaten).is_some_and(|(added, beaten)| added < beaten)
+        };
+        assert_eq!(smallest(&script, shows), lines(&["add 0", "beat 0"]));
+    }
+
+    #[test]
+    fn drops_operations_of_a_delta() {
+        let node = [vec![0], vec![7; 24]].concat();
+        let max = [vec![2], vec![9; 8]].concat();
+        let script = vec![format!("readdelta {}", hex(&[&node[..], &max, &node, &max].concat()))];
+        let shows = |lines: &[String]| {
+            let bytes = lines.last().and_then(|line| parse_hex(line.strip_prefix("readdelta ")?)).unwrap_or_default();
+            operation_starts(&bytes).last() == Some(&bytes.len()) && bytes.windows(9).any(|part| part == max)
+        };
+        assert_eq!(smallest(&script, shows), vec![format!("readdelta {}", hex(&max))]);
+    }
+}

@@ -5,7 +5,7 @@ use script::hex;
 use crate::damage::texts_are_utf8;
 use crate::pieces::{Op, delta, digest};
 
-const SWEEPS: [(&str, fn() -> Vec<String>); 11] = [
+const SWEEPS: [(&str, fn() -> Vec<String>); 12] = [
     ("bench", bench),
     ("writes", writes),
     ("verdicts", verdicts),
@@ -13,6 +13,7 @@ const SWEEPS: [(&str, fn() -> Vec<String>); 11] = [
     ("room", room),
     ("from", from),
     ("cuts", cuts),
+    ("exchanges", exchanges),
     ("damaged-delta", damaged_delta),
     ("damaged-digest", damaged_digest),
     ("two-faults", two_faults),
@@ -202,13 +203,40 @@ fn cuts() -> Vec<String> {
         }
     }
     for number in [1, 3, 5] {
-        lines.push(format!("apply {} 5 1", hex(&delta(&[Op::Node { number, last_gc: 0, from: 0 }, Op::SetMax { max: 20 + number }]))));
+        lines.push(format!(
+            "apply {} 5 1",
+            hex(&delta(&[Op::Node { number, last_gc: 0, from: 0 }, Op::SetMax { max: 20 + number }]))
+        ));
     }
     lines.push("delete 4 x61 1".to_string());
     let partly = hex(&digest(&[[3, 0, 0, 2], [5, 0, 0, 22], [4, 0, 0, 1], [6, 0, 0, 1]]));
     for mtu in 100..=620 {
         lines.push(format!("compute x0000 {mtu} - 0,0,0,0,0,0 0 {mtu}"));
         lines.push(format!("compute {partly} {mtu} - 1,0,1,0,1,0 0 {mtu}"));
+    }
+    lines
+}
+
+/// All runs of four steps of a publisher and a follower with one node.
+fn exchanges() -> Vec<String> {
+    const STEPS: [&[&str]; 6] = [
+        &["set 1 x61 x31"],
+        &["setttl 1 x62 x32 3"],
+        &["delete 1 x61 4"],
+        &["gc 5 1"],
+        &["hub 1", "digest - 0 34", "hub 0", "compute @digest 100 - 0 0 100", "hub 1", "apply @delta 4 1", "hub 0"],
+        &["hub 1", "gc 5 1", "set 1 x63 x", "hub 0"],
+    ];
+    let mut lines = Vec::new();
+    for run in 0..STEPS.len().pow(4) {
+        lines.extend(["hub 1", "new", "add 1", "hub 0", "new", "add 1"].map(String::from));
+        let mut rest = run;
+        for _ in 0..4 {
+            lines.extend(STEPS[rest % STEPS.len()].iter().map(|line| line.to_string()));
+            rest /= STEPS.len();
+        }
+        // Two more exchanges: does the follower arrive?
+        lines.extend([STEPS[4], STEPS[4]].concat().iter().map(|line| line.to_string()));
     }
     lines
 }

@@ -66,7 +66,9 @@ fn listener_apply() {
 
 fn max_below_running_asserts() {
     let mut raw = Raw::new();
-    panics_with("node_delta.max_version >= self.max_version", || raw.apply(&[node(0, 0), record("k", 2), Op::SetMax { max: 1 }]));
+    panics_with("node_delta.max_version >= self.max_version", || {
+        raw.apply(&[node(0, 0), record("k", 2), Op::SetMax { max: 1 }])
+    });
     assert_eq!(key_and_version(&mut raw), [("k".into(), 2)]);
 }
 
@@ -85,8 +87,12 @@ fn overflow(checked: bool) {
         raw.set_max(LAST);
         raw
     };
-    let changes: [fn(&mut Raw); 4] =
-        [|raw| raw.set("l", ""), |raw| raw.set_with_ttl("k", ""), |raw| raw.delete("k"), |raw| raw.delete_after_ttl("k")];
+    let changes: [fn(&mut Raw); 4] = [
+        |raw| raw.set("l", ""),
+        |raw| raw.set_with_ttl("k", ""),
+        |raw| raw.delete("k"),
+        |raw| raw.delete_after_ttl("k"),
+    ];
     for change in changes {
         let mut raw = fresh();
         let before = (raw.numbers(), raw.records());
@@ -162,12 +168,16 @@ fn no_sizes() {
         raw.add(number);
     }
     assert_eq!(raw.nodes(), 9);
+    let keys: Vec<String> = (0..33).map(|number| format!("n{number}")).collect();
+    let mut crowd = vec![node(0, 0)];
+    crowd.extend(keys.iter().zip(100..).map(|(key, version)| record(key, version)));
+    assert_eq!((raw.apply(&crowd), raw.records().len()), (Ok(false), 34 + 33));
     let nodes: Vec<Op> = (0..9).map(|number| Op::Node { number, last_gc: 0, from: 0 }).collect();
     assert_eq!(raw::nodes_read(&nodes), Ok(9));
     assert_eq!(raw::digest_nodes_read(9), Ok(9));
+    // 25 + 9 * 1,818 = 16,387 bytes as document 01 writes them.
     let mut long = vec![node(0, 0)];
     long.extend((0..1_818).map(|_| Op::SetMax { max: 1 }));
-    assert_eq!(25 + 9 * 1_818, 16_387);
     assert_eq!(raw::nodes_read(&long), Ok(1));
     let long_key = [b'k'; 33];
     let overlong = [node(0, 0), Op::KeyValue { key: &long_key, value: &[b'v'; 65], version: 1, status: 0 }];

@@ -436,7 +436,8 @@ fn decode(bytes: &[u8]) -> Option<Vec<table::Node>> {
     };
     let node = |part: &[u8]| {
         let (head, records) = part.split_at(table::NODE_HEAD_BYTES);
-        let records = records.chunks(table::RECORD_BYTES).take(head[32].into()).map(record).collect::<Option<Vec<_>>>()?;
+        let records =
+            records.chunks(table::RECORD_BYTES).take(head[32].into()).map(record).collect::<Option<Vec<_>>>()?;
         let [number, heartbeat, max, last_gc] = [0, 8, 16, 24].map(|at| number(&head[at..]));
         (records.len() == usize::from(head[32])).then_some(table::Node { number, heartbeat, max, last_gc, records })
     };

@@ -16,9 +16,20 @@ use crate::types::{DeletionStatusMutation, Heartbeat};
 use crate::wire;
 
 pub enum Op<'a> {
-    Node { number: u64, last_gc: u64, from: u64 },
-    KeyValue { key: &'a [u8], value: &'a [u8], version: u64, status: u8 },
-    SetMax { max: u64 },
+    Node {
+        number: u64,
+        last_gc: u64,
+        from: u64,
+    },
+    KeyValue {
+        key: &'a [u8],
+        value: &'a [u8],
+        version: u64,
+        status: u8,
+    },
+    SetMax {
+        max: u64,
+    },
     /// Any bytes.
     Bytes(&'a [u8]),
 }

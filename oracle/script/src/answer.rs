@@ -35,11 +35,25 @@ pub enum Answer {
     Value(Vec<u8>),
     /// Places of the hits among all records of the node in key order, hidden ones counted.
     Ranks(Vec<usize>),
-    Digest { entries: Vec<DigestEntry>, rest: usize },
+    Digest {
+        entries: Vec<DigestEntry>,
+        rest: usize,
+    },
     /// A digest was written: the whole datagram, and which part of it is the digest.
-    DigestWritten { datagram: Vec<u8>, start: usize, end: usize },
-    DeltaWritten { ops: usize, bytes: Vec<u8> },
-    DeltaRead { ops: usize, nodes: usize, bytes: usize },
+    DigestWritten {
+        datagram: Vec<u8>,
+        start: usize,
+        end: usize,
+    },
+    DeltaWritten {
+        ops: usize,
+        bytes: Vec<u8>,
+    },
+    DeltaRead {
+        ops: usize,
+        nodes: usize,
+        bytes: usize,
+    },
     Applied(Vec<Verdict>),
     Table(Vec<u8>),
     /// The original cannot be asked: the text is no UTF-8.

@@ -108,9 +108,8 @@ mod tests {
 
     #[test]
     fn checksum_is_the_byte_by_byte_one() {
-        let slow = |bytes: &[u8]| {
-            bytes.iter().fold(0, |h, &byte| (h * CHECKSUM_BASE + u64::from(byte)) % CHECKSUM_MODULUS)
-        };
+        let slow =
+            |bytes: &[u8]| bytes.iter().fold(0, |h, &byte| (h * CHECKSUM_BASE + u64::from(byte)) % CHECKSUM_MODULUS);
         let mut bytes = vec![0u8; 1_000];
         for (place, value) in [(0, 3u8), (114, 255), (115, 1), (700, 9), (999, 77)] {
             bytes[place] = value;
