@@ -307,28 +307,33 @@ impl Hub {
         let numbers: Vec<u64> = self.cluster.nodes().map(|id| id.generation_id).collect();
         rand::set_ties(numbers.into_iter().zip(ties.iter().copied()));
         let excluded = ids(excluded);
-        let excluded: HashSet<&ChitchatId> = excluded.iter().collect();
-        let under = |mtu: usize| {
-            ask(|| operations(&self.cluster.compute_partial_delta_respecting_mtu(&digest, mtu, &excluded)))
-        };
+        let cut = self.cut(&digest, mtu, &excluded.iter().collect())?;
+        Ok(Answer::DeltaWritten { ops: cut.len(), bytes: cut.concat() })
+    }
 
-        // A delta under an MTU is the beginning of the one without. How many Nodes it has decides the original's MTU.
+    /// The operations that fit document 01's MTU, as the original cuts them.
+    ///
+    /// A delta under an MTU is the beginning of the one without. How many Nodes it has decides the original's MTU; at that
+    /// MTU a next Node that fits could still be missed, so where one comes next the original is asked at one Node more.
+    fn cut(&self, digest: &Digest, mtu: usize, excluded: &HashSet<&ChitchatId>) -> Outcome<Vec<Vec<u8>>> {
         const NO_LIMIT: usize = 1 << 20;
+        let under = |mtu| ask(|| operations(&self.cluster.compute_partial_delta_respecting_mtu(digest, mtu, excluded)));
         let whole = under(NO_LIMIT)?;
         let mut bytes = 0;
-        let fitting = whole.iter().take_while(|op| {
+        let fits = |op: &&Vec<u8>| {
             bytes += op.len();
             bytes <= mtu
-        });
-        let fitting = fitting.count();
-        let nodes = node_count(&whole[..fitting]);
+        };
+        let foreseen = whole.iter().take_while(fits).count();
+        let nodes = node_count(&whole[..foreseen]);
         let cut = under(original_mtu(mtu, nodes))?;
-        let next_is_node = whole.get(fitting).is_some_and(|op| op[0] == wire::TAG_NODE);
+        let next_is_node = whole.get(foreseen).is_some_and(|op| op[0] == wire::TAG_NODE);
         let wider = if next_is_node { under(original_mtu(mtu, nodes + 1))? } else { cut.clone() };
-        if cut != whole[..fitting] || cut != wider {
-            return Err(Answer::Broken(format!("cut {}, wider {}, foreseen {fitting}", cut.len(), wider.len())));
+        if cut == whole[..foreseen] && cut == wider {
+            Ok(cut)
+        } else {
+            Err(Answer::Broken(format!("cut {}, wider {}, foreseen {foreseen}", cut.len(), wider.len())))
         }
-        Ok(Answer::DeltaWritten { ops: cut.len(), bytes: cut.concat() })
     }
 
     /// Layer: Unknown where the original passes over a node in silence, Room, 8. Original: status and change.

@@ -133,7 +133,8 @@ impl<'a> Walk<'a> {
 
     fn node(&mut self) -> Option<(u64, Node)> {
         let number = self.number()?;
-        let mut node = Node { heartbeat: self.number()?, max: self.number()?, last_gc: self.number()?, ..Node::default() };
+        let mut node =
+            Node { heartbeat: self.number()?, max: self.number()?, last_gc: self.number()?, ..Node::default() };
         let count = self.count(MOST_RECORDS)?;
         for _ in 0..count {
             let (key, record) = self.record()?;
