@@ -281,20 +281,20 @@ impl Maker {
         self.line(format!("apply {delta} {now} {places}"));
     }
 
-    /// A table that obeys the rules, in one line.
-    pub fn good_nodes(&mut self, nodes: u64, records: u64) -> Vec<Node> {
+    /// Nodes of a table that obeys the rules. `long`: with texts near their sizes.
+    pub fn good_nodes(&mut self, nodes: u64, records: u64, long: bool) -> Vec<Node> {
         let mut numbers: BTreeSet<u64> = self.nodes.iter().copied().take(nodes as usize).collect();
         while (numbers.len() as u64) < nodes.min(NODES as u64) {
             numbers.insert(pieces::node(&mut self.random));
         }
         let numbers: Vec<u64> = numbers.into_iter().take(NODES).collect();
-        numbers.into_iter().map(|number| self.good_node(number, records)).collect()
+        numbers.into_iter().map(|number| self.good_node(number, records, long)).collect()
     }
 
-    fn good_node(&mut self, number: u64, records: u64) -> Node {
+    fn good_node(&mut self, number: u64, records: u64, long: bool) -> Node {
         let mut keys: BTreeSet<Vec<u8>> = self.keys.iter().filter(|key| key.len() <= table::KEY).cloned().collect();
         while keys.len() < RECORDS {
-            let len = self.random.within(1, 32) as usize;
+            let len = self.random.within(if long { 24 } else { 1 }, 32) as usize;
             keys.insert(pieces::text(&mut self.random, len));
         }
         let mut keys: Vec<Vec<u8>> = keys.into_iter().collect();
@@ -312,7 +312,11 @@ impl Maker {
         let records = keys.into_iter().zip(versions).map(|(key, version)| {
             let status = self.random.below(3) as u8;
             let start = if status == table::SET { 0 } else { pieces::moment(&mut self.random) };
-            let len = if status == table::DELETE && !self.random.once_in(5) { 0 } else { self.random.below(65) };
+            let len = match status {
+                _ if long => self.random.within(48, 64),
+                table::DELETE if !self.random.once_in(5) => 0,
+                _ => self.random.below(65),
+            };
             Record { key, value: pieces::text(&mut self.random, len as usize), version, status, start }
         });
         let records = records.collect();

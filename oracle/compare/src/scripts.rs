@@ -281,7 +281,7 @@ fn hand_digests(mut random: Random) -> Vec<String> {
 fn given(mut random: Random) -> Vec<String> {
     let (nodes, keys) = (random.within(1, 4), random.within(1, 6));
     let mut m = Maker::new(random, nodes, keys);
-    let nodes = m.good_nodes(nodes, 6);
+    let nodes = m.good_nodes(nodes, 6, false);
     m.give(&nodes);
     for _ in 0..m.random.within(5, 25) {
         match m.random.below(5) {
@@ -305,7 +305,7 @@ fn broken(mut random: Random) -> Vec<String> {
     let nodes = random.within(1, 8);
     let mut m = Maker::new(random, nodes, 3);
     let records = *m.random.pick(&[1, 3, 32]);
-    let good = m.good_nodes(nodes, records);
+    let good = m.good_nodes(nodes, records, false);
     for _ in 0..3 {
         let bytes = damage::table(&mut m.random, &good);
         m.give_broken(&bytes);
@@ -326,7 +326,7 @@ fn broken(mut random: Random) -> Vec<String> {
 /// A table with nearly everything full, and deltas around the largest MTU.
 fn brim(random: Random) -> Vec<String> {
     let mut m = Maker::new(random, 8, 6);
-    let good = m.good_nodes(8, 32);
+    let good = m.good_nodes(8, 32, true);
     m.give(&good);
     m.hub(1);
     for node in &good {

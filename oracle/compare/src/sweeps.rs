@@ -1,11 +1,12 @@
 //! Short scripts, all of a kind.
 
 use script::hex;
+use script::table::{self, Node, RECORDS, Record, SET};
 
 use crate::damage::texts_are_utf8;
 use crate::pieces::{Op, delta, digest};
 
-const SWEEPS: [(&str, fn() -> Vec<String>); 12] = [
+const SWEEPS: [(&str, fn() -> Vec<String>); 13] = [
     ("bench", bench),
     ("writes", writes),
     ("verdicts", verdicts),
@@ -13,6 +14,7 @@ const SWEEPS: [(&str, fn() -> Vec<String>); 12] = [
     ("room", room),
     ("from", from),
     ("cuts", cuts),
+    ("brim", brim),
     ("exchanges", exchanges),
     ("damaged-delta", damaged_delta),
     ("damaged-digest", damaged_digest),
@@ -213,6 +215,33 @@ fn cuts() -> Vec<String> {
     for mtu in 100..=620 {
         lines.push(format!("compute x0000 {mtu} - 0,0,0,0,0,0 0 {mtu}"));
         lines.push(format!("compute {partly} {mtu} - 1,0,1,0,1,0 0 {mtu}"));
+    }
+    lines
+}
+
+/// Each MTU from 16,270 on, where five full nodes end, a sixth begins, and the original needs a second block. The sixth has
+/// records, or nothing but a max.
+fn brim() -> Vec<String> {
+    const VALUE: usize = 55;
+    let record = |place: usize, value: usize| Record {
+        key: format!("{place:032}").into_bytes(),
+        value: vec![b'v'; value],
+        version: 1 + place as u64,
+        status: SET,
+        start: 0,
+    };
+    let mut lines = Vec::new();
+    for (longer, sixth) in [(0, RECORDS), (7, RECORDS), (0, 0), (7, 0)] {
+        let nodes: Vec<Node> = (1..=6)
+            .map(|number| {
+                let count = if number == 6 { sixth } else { RECORDS };
+                let value = |place| if number == 1 && place < longer { table::VALUE } else { VALUE };
+                let records = (0..count).map(|place| record(place, value(place))).collect();
+                Node { number, heartbeat: 0, max: 32 + number, last_gc: 0, records }
+            })
+            .collect();
+        lines.push(format!("table {}", hex(&table::encode(&nodes))));
+        lines.extend((16_270..=16_384).map(|mtu| format!("compute x0000 {mtu} - 0,0,0,0,0,0 0 {mtu}")));
     }
     lines
 }
