@@ -62,6 +62,10 @@ fn listener_apply() {
     let keys: Vec<String> = raw.records().into_iter().map(|(key, ..)| key).collect();
     assert_eq!(keys, ["a", "é"]);
     assert_eq!(raw.numbers(), (0, 0, 2));
+    let tombstone = ListenerOp::KeyValue { key: "é".as_bytes(), value: b"", version: 1, status: 1 };
+    let mut raw = WithListener::new();
+    assert_eq!(raw.apply(&[ListenerOp::Node { number: 1, last_gc: 0, from: 0 }, tombstone]), Ok(false));
+    assert_eq!(raw.records(), [("é".into(), "".into(), 1, 1)]);
 }
 
 fn max_below_running_asserts() {
@@ -105,6 +109,12 @@ fn overflow(checked: bool) {
         let mut raw = fresh();
         raw.delete("k");
         assert_eq!((raw.numbers(), raw.records()), ((0, 0, 0), vec![("k".into(), "".into(), 0, 1)]));
+        let mut raw = fresh();
+        raw.delete_after_ttl("k");
+        assert_eq!((raw.numbers(), raw.records()), ((0, 0, 0), vec![("k".into(), "v".into(), 0, 2)]));
+        let mut raw = fresh();
+        raw.set_with_ttl("k", "");
+        assert_eq!((raw.numbers(), raw.records()), ((0, 0, LAST), vec![("k".into(), "v".into(), 1, 0)]));
         let mut raw = fresh();
         panics_with("version > self.max_version", || raw.set("l", ""));
         let mut raw = fresh();

@@ -1,5 +1,5 @@
-//! Document 01 in plain Rust: the second witness. Written from the document, not from the original, with maps and
-//! vectors in place of everything that the original or the port does for speed or proof.
+//! Document 01 in plain Rust: the second witness. It follows the document's words, with maps and vectors in place of
+//! everything that the original or the port does for speed or proof. Nothing of the original is used here.
 
 mod apply;
 mod compute;
