@@ -86,8 +86,8 @@ pub fn raised(h: Header) -> RaisedHeader
     ensures { λ r. ⌜ r ≡ raisedOf h ⌝ }
 {
     let held = h.heartbeat;
-    let stored = risen(held);
-    let header = with_heartbeat(h, stored);
+    let next = risen(held);
+    let header = with_heartbeat(h, next);
     RaisedHeader {
         header: header,
         rose: can_rise(held),
