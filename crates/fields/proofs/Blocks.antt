@@ -30,6 +30,13 @@ pub zeros-add : (n m : ℕ) → zeros n ++ zeros m ≡ zeros (n + m)
 unfolding zeros
 zeros-add n m = replicate-append-replicate n m 0
 
+-- one step of a loop over i below n
+pub zeros-next : (i n : ℕ) → i < n → zeros (n - i) ≡ 0 ∷ zeros (n - (i + 1))
+unfolding zeros
+zeros-next i n h =
+    let p : n - i ≡ suc (n - (i + 1)) = omega arith in
+    rw p refl
+
 pub zero-all : (xs : List ℕ) → allZero xs ≡ true → xs ≡ zeros (length xs)
 unfolding allZero zeros
 zero-all [] h = refl

@@ -58,6 +58,10 @@ module _ (a b : Bool) where
   pub and-intro : a ≡ true → b ≡ true → a && b ≡ true
   and-intro e f = and-yes e ∙ f
 
+pub and-assoc : (a b c : Bool) → (a && b && c) ≡ (a && (b && c))
+and-assoc true b c = refl
+and-assoc false b c = refl
+
 pub and-last : (a : Bool) → a && true ≡ a
 and-last true = refl
 and-last false = refl

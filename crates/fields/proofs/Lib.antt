@@ -5,3 +5,4 @@ pub mod Ordered
 pub mod Blocks
 pub mod Widths
 pub mod Lent
+pub mod Bits

@@ -1,11 +1,11 @@
 -- Laws of numbers as bytes, over the count of bytes: a number of n bytes is written and read back, some bytes are read and written back, and
 -- the bounds of both. A list of bytes (`Bytes`) stays one when it is cut, joined or put together. Assumes nothing.
 use Prim.Native.Nat.{ℕ, zero, suc, _+_, _*_, _-_, _/_, _%_, _^_, _≤_, _<_}
-use mathlib.Core.Path.{_≡_, refl, ap, sym, _∙_, subst}
+use mathlib.Core.Path.{_≡_, refl, ap, ap₂, sym, _∙_, subst}
 use mathlib.Core.Logic.{_⊎_, inl, inr}
 use mathlib.Core.List.{List, [], _∷_, _++_}
 use native.Mathlib.Omega.{arith}
-use native.Mathlib.Nat.{div-lt-iff-lt-mul, div-add-mod', pow-suc, pow-le-pow-right, lt-of-lt-of-le, zero-add}
+use native.Mathlib.Nat.{div-lt-iff-lt-mul, div-add-mod', pow-suc, pow-succ', pow-le-pow-right, lt-of-lt-of-le, zero-add, suc-add, mul-one, mul-assoc, div-one, div-div-eq-div-mul}
 use native.Mathlib.Decide.{decLt}
 use lib.Dec.{lit<}
 use lib.ListN.{length, take, drop, getD, set, List·getD-eq-default}
@@ -14,7 +14,7 @@ use Rattle.fields.specs.Choice.{_∈_, here, later}
 use Rattle.fields.specs.Numbers.{natOf, bytesOf, Bytes}
 use Rattle.fields.specs.Parts.{part, put}
 use Rattle.fields.proofs.Choice.{in-none, in-cons, in-append, in-take, in-drop, in-at, at-in}
-use Rattle.fields.proofs.Parts.{part-cons, part-put, length-part}
+use Rattle.fields.proofs.Parts.{part-cons, part-add, part-put, put-behind, length-part}
 
 -- ---- a list of bytes
 
@@ -109,7 +109,39 @@ nat-below (b ∷ bs) h = nat-grow (length bs) (natOf bs) b (nat-below bs (λ x m
 pub below-pow : {k m v : ℕ} → k ≤ m → v < 256 ^ k → v < 256 ^ m
 below-pow h g = lt-of-lt-of-le g (pow-le-pow-right (lit< tt) h)
 
+-- a number of two pieces: the first is the lower one
+pub nat-append : (xs ys : List ℕ) → natOf (xs ++ ys) ≡ natOf ys * 256 ^ length xs + natOf xs
+unfolding natOf
+nat-append [] ys = omega (arith, mul-one (natOf ys))
+nat-append (x ∷ xs) ys =
+    let e : natOf ys * 256 ^ suc (length xs) ≡ natOf ys * 256 ^ length xs * 256 =
+    ap (λ (k : ℕ). natOf ys * k) (pow-suc 256 (length xs)) ∙ sym (mul-assoc (natOf ys) (256 ^ length xs) 256) in
+    rw (nat-append xs ys, e) (omega arith)
+
+pub bytes-add : (n m v : ℕ) → bytesOf (n + m) v ≡ bytesOf n v ++ bytesOf m (v / 256 ^ n)
+unfolding bytesOf
+bytes-add zero m v = ap₂ bytesOf (zero-add m) (sym (div-one v))
+bytes-add (suc n) m v =
+    let e : v / 256 / 256 ^ n ≡ v / 256 ^ suc n = div-div-eq-div-mul v 256 (256 ^ n) ∙ ap (λ (k : ℕ). v / k) (sym (pow-succ' 256 n)) in
+    ap (λ (k : ℕ). bytesOf k v) (suc-add n m)
+    ∙ ap (λ (r : List ℕ). v % 256 ∷ r) (bytes-add n m (v / 256) ∙ ap (λ (k : ℕ). bytesOf n (v / 256) ++ bytesOf m k) e)
+
 -- ---- numbers in a list
+
+pub nat-add : (at n m : ℕ) (l : List ℕ) → at + n ≤ length l → natOf (part at (n + m) l) ≡ natOf (part (at + n) m l) * 256 ^ n + natOf (part at n l)
+nat-add at n m l h =
+    ap natOf (part-add at n m l)
+    ∙ nat-append (part at n l) (part (at + n) m l)
+    ∙ ap (λ (k : ℕ). natOf (part (at + n) m l) * 256 ^ k + natOf (part at n l)) (length-part at n l h)
+
+-- a number put in two pieces
+pub put-bytes : (at n m v : ℕ) (l : List ℕ) → at + (n + m) ≤ length l → put (at + n) (bytesOf m (v / 256 ^ n)) (put at (bytesOf n v) l) ≡ put at (bytesOf (n + m) v) l
+put-bytes at n m v l h =
+    let e : length (bytesOf n v) ≡ n = length-bytesOf n v in
+    let f : length (bytesOf m (v / 256 ^ n)) ≡ m = length-bytesOf m (v / 256 ^ n) in
+    ap (λ (k : ℕ). put (at + k) (bytesOf m (v / 256 ^ n)) (put at (bytesOf n v) l)) (sym e)
+    ∙ put-behind at (bytesOf n v) (bytesOf m (v / 256 ^ n)) l (rw (e, f) h)
+    ∙ ap (λ (r : List ℕ). put at r l) (sym (bytes-add n m v))
 
 -- the number of n bytes from `at` is below 256 ^ n
 pub nat-part : (at n : ℕ) (l : List ℕ) → Bytes l → at + n ≤ length l → natOf (part at n l) < 256 ^ n

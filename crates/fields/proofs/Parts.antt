@@ -221,6 +221,22 @@ put-swap a b vs ws l h g =
     ∙ ap (λ (r : List ℕ). take a l ++ r) (put-right (length vs) d ws vs (drop (a + length vs) l) refl) in
     left ∙ sym right
 
+pub put-behind : (at : ℕ) (vs ws l : List ℕ) → at + (length vs + length ws) ≤ length l → put (at + length vs) ws (put at vs l) ≡ put at (vs ++ ws) l
+put-behind at vs ws l h = sym (put-swap at (at + length vs) vs ws l (omega arith) (omega arith)) ∙ put-append at vs ws l h
+
+-- ---- one step of a loop over i below n, as the code counts: `i + 1`
+
+pub part-next : (at i n : ℕ) (l : List ℕ) → i < n → at + n ≤ length l → part (at + i) (n - i) l ≡ getD l (at + i) 0 ∷ part (at + (i + 1)) (n - (i + 1)) l
+part-next at i n l h g =
+    let p : n - i ≡ suc (n - (i + 1)) = omega arith in
+    let q : at + (i + 1) ≡ suc (at + i) = omega arith in
+    rw (p, q) (part-cons l (at + i) (n - (i + 1)) (omega arith))
+
+pub put-next : (at i b : ℕ) (vs l : List ℕ) → at + i < length l → put (at + (i + 1)) vs (set l (at + i) b) ≡ put (at + i) (b ∷ vs) l
+put-next at i b vs l h =
+    let q : at + (i + 1) ≡ suc (at + i) = omega arith in
+    rw q (put-cons (at + i) b vs l h)
+
 -- one byte put is one element set
 pub put-one : (at b : ℕ) (l : List ℕ) → at < length l → put at (b ∷ []) l ≡ set l at b
 put-one at b l h = sym (put-cons at b [] l h) ∙ put-nil (suc at) (set l at b)
