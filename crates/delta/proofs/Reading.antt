@@ -33,9 +33,9 @@ use Rattle.delta.specs.Places.{opOf, meant, textAt, onText, statusOf, no
 -- a number is at most another or above it
 pub le-or-lt : (a b : ℕ) → (a ≤ b) ⊎ (b < a)
 le-or-lt a b = elim (decLe a b) [
-      | yes p ↦ inl p
-      | no p ↦ inr (omega arith)
-    ]
+  | yes p ↦ inl p
+  | no p ↦ inr (omega arith)
+]
 
 -- the test for a field of w bytes, of what stands from `at` on
 module _ (w : ℕ) (l : List ℕ) (at : ℕ) where
@@ -51,26 +51,26 @@ module _ (l : List ℕ) (at : ℕ) (in-l : at ≤ length l) where
   pub set-max-version-read : rule.readSetMaxVersion (drop at l) ≡ meant l (setMaxVersionAt l at)
   unfolding rule.readSetMaxVersion setMaxVersionAt part
   set-max-version-read = elim (le-or-lt (at + 8) (length l)) [
-        | inl h ↦ rw (there 8 l at h, le-leb (at + 8) (length l) h, drop-drop 8 at l)
-        | inr h ↦ rw (cut 8 l at in-l h, lt-leb (at + 8) (length l) h)
-      ]
+    | inl h ↦ rw (there 8 l at h, le-leb (at + 8) (length l) h, drop-drop 8 at l)
+    | inr h ↦ rw (cut 8 l at in-l h, lt-leb (at + 8) (length l) h)
+  ]
 
   pub node-read : rule.readNode (drop at l) ≡ meant l (nodeAt l at)
   unfolding rule.readNode nodeAt part
   node-read = elim (le-or-lt (at + 8) (length l)) [
-        | inr h ↦ rw (cut 8 l at in-l h, lt-leb (at + 24) (length l) (omega arith))
-        | inl h ↦ elim (le-or-lt (at + 8 + 8) (length l)) [
-              | inr g ↦ rw (there 8 l at h, drop-drop 8 at l, cut 8 l (at + 8) h g, lt-leb (at + 24) (length l) (omega arith))
-              | inl g ↦
-                let p : at + 8 + 8 ≡ at + 16 = omega arith in
-                elim (le-or-lt (at + 16 + 8) (length l)) [
-                  | inr k ↦ rw (there 8 l at h, drop-drop 8 at l, there 8 l (at + 8) g, drop-drop 8 (at + 8) l, p, cut 8 l (at + 16) (omega arith) k, lt-leb (at + 24) (length l) (omega arith))
-                  | inl k ↦
-                    let q : at + 16 + 8 ≡ at + 24 = omega arith in
-                    rw (there 8 l at h, drop-drop 8 at l, there 8 l (at + 8) g, drop-drop 8 (at + 8) l, p, there 8 l (at + 16) k, drop-drop 8 (at + 16) l, q, le-leb (at + 24) (length l) (omega arith))
-                ]
-            ]
-      ]
+    | inr h ↦ rw (cut 8 l at in-l h, lt-leb (at + 24) (length l) (omega arith))
+    | inl h ↦ elim (le-or-lt (at + 8 + 8) (length l)) [
+      | inr g ↦ rw (there 8 l at h, drop-drop 8 at l, cut 8 l (at + 8) h g, lt-leb (at + 24) (length l) (omega arith))
+      | inl g ↦
+          let p : at + 8 + 8 ≡ at + 16 = omega arith in
+          elim (le-or-lt (at + 16 + 8) (length l)) [
+            | inr k ↦ rw (there 8 l at h, drop-drop 8 at l, there 8 l (at + 8) g, drop-drop 8 (at + 8) l, p, cut 8 l (at + 16) (omega arith) k, lt-leb (at + 24) (length l) (omega arith))
+            | inl k ↦
+                let q : at + 16 + 8 ≡ at + 24 = omega arith in
+                rw (there 8 l at h, drop-drop 8 at l, there 8 l (at + 8) g, drop-drop 8 (at + 8) l, p, there 8 l (at + 16) k, drop-drop 8 (at + 16) l, q, le-leb (at + 24) (length l) (omega arith))
+          ]
+    ]
+  ]
 
   -- a text, where what comes next is read alike behind it
   text-read : (most : ℕ) (next : List ℕ → List ℕ → rule.OpRead) (next′ : ℕ → ℕ → OpRead)
@@ -82,14 +82,14 @@ module _ (l : List ℕ) (at : ℕ) (in-l : at ≤ length l) where
       elim (le-or-lt (at + 2) (length l)) [
         | inr h ↦ rw (cut 2 l at in-l h, lt-leb (at + 2) (length l) h)
         | inl h ↦ elim (le-or-lt n most) [
-              | inr g ↦ rw (there 2 l at h, le-leb (at + 2) (length l) h, lt-leb n most g)
-              | inl g ↦ elim (le-or-lt (at + 2 + n) (length l)) [
-                  | inr k ↦ rw (there 2 l at h, le-leb (at + 2) (length l) h, le-leb n most g, drop-drop 2 at l, cut n l (at + 2) h k, lt-leb (at + 2 + n) (length l) k)
-                  | inl k ↦
-                    rw (there 2 l at h, le-leb (at + 2) (length l) h, le-leb n most g, drop-drop 2 at l, there n l (at + 2) k, le-leb (at + 2 + n) (length l) k, drop-drop n (at + 2) l)
-                    (alike (at + 2) n k)
-                ]
-            ]
+          | inr g ↦ rw (there 2 l at h, le-leb (at + 2) (length l) h, lt-leb n most g)
+          | inl g ↦ elim (le-or-lt (at + 2 + n) (length l)) [
+            | inr k ↦ rw (there 2 l at h, le-leb (at + 2) (length l) h, le-leb n most g, drop-drop 2 at l, cut n l (at + 2) h k, lt-leb (at + 2 + n) (length l) k)
+            | inl k ↦
+                rw (there 2 l at h, le-leb (at + 2) (length l) h, le-leb n most g, drop-drop 2 at l, there n l (at + 2) k, le-leb (at + 2 + n) (length l) k, drop-drop n (at + 2) l)
+                (alike (at + 2) n k)
+          ]
+        ]
       ]
 
 -- a status up to 2, and one above
@@ -124,16 +124,16 @@ module _ (l : List ℕ) (k n v m : ℕ) (in-l : v + m ≤ length l) where
       elim (le-or-lt (at + 8) (length l)) [
         | inr h ↦ rw (cut 8 l at in-l h, lt-leb (at + 9) (length l) (omega arith))
         | inl h ↦ elim (le-or-lt (at + 8 + 1) (length l)) [
-              | inr g ↦ rw (there 8 l at h, drop-drop 8 at l, cut 1 l (at + 8) h g, lt-leb (at + 9) (length l) (omega arith))
-              | inl g ↦
-                let q : at + 8 + 1 ≡ at + 9 = omega arith in
-                elim (le-or-lt b 2) [
-                  | inr i ↦ rw (there 8 l at h, drop-drop 8 at l, there 1 l (at + 8) g, le-leb (at + 9) (length l) (omega arith), lt-leb b 2 i) (status-bad _ b i)
-                  | inl i ↦
+          | inr g ↦ rw (there 8 l at h, drop-drop 8 at l, cut 1 l (at + 8) h g, lt-leb (at + 9) (length l) (omega arith))
+          | inl g ↦
+              let q : at + 8 + 1 ≡ at + 9 = omega arith in
+              elim (le-or-lt b 2) [
+                | inr i ↦ rw (there 8 l at h, drop-drop 8 at l, there 1 l (at + 8) g, le-leb (at + 9) (length l) (omega arith), lt-leb b 2 i) (status-bad _ b i)
+                | inl i ↦
                     rw (there 8 l at h, drop-drop 8 at l, there 1 l (at + 8) g, le-leb (at + 9) (length l) (omega arith), le-leb b 2 i, drop-drop 1 (at + 8) l, q)
                     (status-good _ b i)
-                ]
-            ]
+              ]
+        ]
       ]
 
 module _ (l : List ℕ) (at : ℕ) (in-l : at ≤ length l) where
@@ -172,24 +172,24 @@ abbrev pub Within : ℕ → ℕ → OpRead → Type 0
 Within len at (Got o next) = (at < next) × (next ≤ len) × Inside len o
 Within len at (Bad r) = Unit {0}
 
-abbrev TextWithin : ℕ → ℕ → ℕ → TextRead → Type 0
+abbrev pub TextWithin : ℕ → ℕ → ℕ → TextRead → Type 0
 TextWithin most len at (text.Held k n) = (at < k) × (k + n ≤ len) × (n ≤ most)
 TextWithin most len at (text.Bad r) = Unit {0}
 
 module _ (l : List ℕ) where
-  text-within : (most at : ℕ) → TextWithin most (length l) at (textAt most l at)
+  pub text-within : (most at : ℕ) → TextWithin most (length l) at (textAt most l at)
   unfolding textAt
   text-within most at =
       let n : ℕ = natOf (part at 2 l) in
       elim (le-or-lt (at + 2) (length l)) [
         | inr h ↦ rw (lt-leb (at + 2) (length l) h) tt
         | inl h ↦ elim (le-or-lt n most) [
-              | inr g ↦ rw (le-leb (at + 2) (length l) h, lt-leb n most g) tt
-              | inl g ↦ elim (le-or-lt (at + 2 + n) (length l)) [
-                  | inr k ↦ rw (le-leb (at + 2) (length l) h, le-leb n most g, lt-leb (at + 2 + n) (length l) k) tt
-                  | inl k ↦ rw (le-leb (at + 2) (length l) h, le-leb n most g, le-leb (at + 2 + n) (length l) k) (omega arith, k, g)
-                ]
-            ]
+          | inr g ↦ rw (le-leb (at + 2) (length l) h, lt-leb n most g) tt
+          | inl g ↦ elim (le-or-lt (at + 2 + n) (length l)) [
+            | inr k ↦ rw (le-leb (at + 2) (length l) h, le-leb n most g, lt-leb (at + 2 + n) (length l) k) tt
+            | inl k ↦ rw (le-leb (at + 2) (length l) h, le-leb n most g, le-leb (at + 2 + n) (length l) k) (omega arith, k, g)
+          ]
+        ]
       ]
 
   version-within : (at k n v m : ℕ) → at < v → k + n ≤ length l → n ≤ maxKey → m ≤ maxValue → Within (length l) at (versionAt l k n v m)
@@ -199,9 +199,9 @@ module _ (l : List ℕ) where
       elim (le-or-lt (v + m + 9) (length l)) [
         | inr h ↦ rw (lt-leb (v + m + 9) (length l) h) tt
         | inl h ↦ elim (le-or-lt b 2) [
-              | inr g ↦ rw (le-leb (v + m + 9) (length l) h, lt-leb b 2 g) tt
-              | inl g ↦ rw (le-leb (v + m + 9) (length l) h, le-leb b 2 g) (omega arith, h, (kn, omega arith, nk, mv))
-            ]
+          | inr g ↦ rw (le-leb (v + m + 9) (length l) h, lt-leb b 2 g) tt
+          | inl g ↦ rw (le-leb (v + m + 9) (length l) h, le-leb b 2 g) (omega arith, h, (kn, omega arith, nk, mv))
+        ]
       ]
 
   value-within : (at k n : ℕ) → at < k → k + n ≤ length l → n ≤ maxKey → Within (length l) at (valueAt l k n)
@@ -223,16 +223,16 @@ module _ (l : List ℕ) where
   node-within : (at : ℕ) → Within (length l) at (nodeAt l at)
   unfolding nodeAt
   node-within at = elim (le-or-lt (at + 24) (length l)) [
-        | inr h ↦ rw (lt-leb (at + 24) (length l) h) tt
-        | inl h ↦ rw (le-leb (at + 24) (length l) h) (omega arith, h, tt)
-      ]
+    | inr h ↦ rw (lt-leb (at + 24) (length l) h) tt
+    | inl h ↦ rw (le-leb (at + 24) (length l) h) (omega arith, h, tt)
+  ]
 
   max-within : (at : ℕ) → Within (length l) at (setMaxVersionAt l at)
   unfolding setMaxVersionAt
   max-within at = elim (le-or-lt (at + 8) (length l)) [
-        | inr h ↦ rw (lt-leb (at + 8) (length l) h) tt
-        | inl h ↦ rw (le-leb (at + 8) (length l) h) (omega arith, h, tt)
-      ]
+    | inr h ↦ rw (lt-leb (at + 8) (length l) h) tt
+    | inl h ↦ rw (le-leb (at + 8) (length l) h) (omega arith, h, tt)
+  ]
 
   tagged-within : (tag at : ℕ) → Within (length l) at (taggedAt tag l at)
   tagged-within zero at = node-within at
@@ -248,6 +248,6 @@ module _ (l : List ℕ) where
   pub op-within : (at : ℕ) → Within (length l) at (opAt l at)
   unfolding opAt
   op-within at = elim (le-or-lt (at + 1) (length l)) [
-        | inr h ↦ rw (lt-leb (at + 1) (length l) h) tt
-        | inl h ↦ rw (le-leb (at + 1) (length l) h) (earlier at (taggedAt (natOf (part at 1 l)) l (at + 1)) (tagged-within (natOf (part at 1 l)) (at + 1)))
-      ]
+    | inr h ↦ rw (lt-leb (at + 1) (length l) h) tt
+    | inl h ↦ rw (le-leb (at + 1) (length l) h) (earlier at (taggedAt (natOf (part at 1 l)) l (at + 1)) (tagged-within (natOf (part at 1 l)) (at + 1)))
+  ]
