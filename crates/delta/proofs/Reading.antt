@@ -167,13 +167,19 @@ Inside len (Node n g f) = Unit {0}
 Inside len (KeyValue k n v m ver st) = (k + n ≤ len) × (v + m ≤ len) × (n ≤ maxKey) × (m ≤ maxValue)
 Inside len (SetMaxVersion m) = Unit {0}
 
--- an operation takes a byte at least, and ends within n bytes
+-- how many bytes it takes
+abbrev pub widthOf : Op → ℕ
+widthOf (Node n g f) = 25
+widthOf (KeyValue k n v m ver st) = 14 + n + m
+widthOf (SetMaxVersion m) = 9
+
+-- an operation takes its bytes, one at least, and ends within n bytes
 abbrev pub Within : ℕ → ℕ → OpRead → Type 0
-Within len at (Got o next) = (at < next) × (next ≤ len) × Inside len o
+Within len at (Got o next) = (at < next) × (next ≤ len) × Inside len o × (next ≡ at + widthOf o)
 Within len at (Bad r) = Unit {0}
 
 abbrev pub TextWithin : ℕ → ℕ → ℕ → TextRead → Type 0
-TextWithin most len at (text.Held k n) = (at < k) × (k + n ≤ len) × (n ≤ most)
+TextWithin most len at (text.Held k n) = (k ≡ at + 2) × (k + n ≤ len) × (n ≤ most)
 TextWithin most len at (text.Bad r) = Unit {0}
 
 module _ (l : List ℕ) where
@@ -187,12 +193,12 @@ module _ (l : List ℕ) where
           | inr g ↦ rw (le-leb (at + 2) (length l) h, lt-leb n most g) tt
           | inl g ↦ elim (le-or-lt (at + 2 + n) (length l)) [
             | inr k ↦ rw (le-leb (at + 2) (length l) h, le-leb n most g, lt-leb (at + 2 + n) (length l) k) tt
-            | inl k ↦ rw (le-leb (at + 2) (length l) h, le-leb n most g, le-leb (at + 2 + n) (length l) k) (omega arith, k, g)
+            | inl k ↦ rw (le-leb (at + 2) (length l) h, le-leb n most g, le-leb (at + 2 + n) (length l) k) (refl, k, g)
           ]
         ]
       ]
 
-  version-within : (at k n v m : ℕ) → at < v → k + n ≤ length l → n ≤ maxKey → m ≤ maxValue → Within (length l) at (versionAt l k n v m)
+  version-within : (at k n v m : ℕ) → v ≡ at + 5 + n → k + n ≤ length l → n ≤ maxKey → m ≤ maxValue → Within (length l) at (versionAt l k n v m)
   unfolding versionAt
   version-within at k n v m a kn nk mv =
       let b : ℕ = natOf (part (v + m + 8) 1 l) in
@@ -200,11 +206,11 @@ module _ (l : List ℕ) where
         | inr h ↦ rw (lt-leb (v + m + 9) (length l) h) tt
         | inl h ↦ elim (le-or-lt b 2) [
           | inr g ↦ rw (le-leb (v + m + 9) (length l) h, lt-leb b 2 g) tt
-          | inl g ↦ rw (le-leb (v + m + 9) (length l) h, le-leb b 2 g) (omega arith, h, (kn, omega arith, nk, mv))
+          | inl g ↦ rw (le-leb (v + m + 9) (length l) h, le-leb b 2 g) (omega arith, h, (kn, omega arith, nk, mv), omega arith)
         ]
       ]
 
-  value-within : (at k n : ℕ) → at < k → k + n ≤ length l → n ≤ maxKey → Within (length l) at (valueAt l k n)
+  value-within : (at k n : ℕ) → k ≡ at + 3 → k + n ≤ length l → n ≤ maxKey → Within (length l) at (valueAt l k n)
   unfolding valueAt
   value-within at k n a kn nk = go (textAt maxValue l (k + n)) (text-within maxValue (k + n))
     where
@@ -212,42 +218,38 @@ module _ (l : List ℕ) where
       go (text.Held v m) w = version-within at k n v m (omega arith) kn nk (w .2)
       go (text.Bad r) w = tt
 
-  key-value-within : (at : ℕ) → Within (length l) at (keyValueAt l at)
+  -- behind the tag
+  key-value-within : (at : ℕ) → Within (length l) at (keyValueAt l (at + 1))
   unfolding keyValueAt
-  key-value-within at = go (textAt maxKey l at) (text-within maxKey at)
+  key-value-within at = go (textAt maxKey l (at + 1)) (text-within maxKey (at + 1))
     where
-      go : (t : TextRead) → TextWithin maxKey (length l) at t → Within (length l) at (onText (λ k n. valueAt l k n) t)
-      go (text.Held k n) w = value-within at k n (w .0) (w .1) (w .2)
+      go : (t : TextRead) → TextWithin maxKey (length l) (at + 1) t → Within (length l) at (onText (λ k n. valueAt l k n) t)
+      go (text.Held k n) w = value-within at k n (omega arith) (w .1) (w .2)
       go (text.Bad r) w = tt
 
-  node-within : (at : ℕ) → Within (length l) at (nodeAt l at)
+  node-within : (at : ℕ) → Within (length l) at (nodeAt l (at + 1))
   unfolding nodeAt
-  node-within at = elim (le-or-lt (at + 24) (length l)) [
-    | inr h ↦ rw (lt-leb (at + 24) (length l) h) tt
-    | inl h ↦ rw (le-leb (at + 24) (length l) h) (omega arith, h, tt)
+  node-within at = elim (le-or-lt (at + 1 + 24) (length l)) [
+    | inr h ↦ rw (lt-leb (at + 1 + 24) (length l) h) tt
+    | inl h ↦ rw (le-leb (at + 1 + 24) (length l) h) (omega arith, h, tt, omega arith)
   ]
 
-  max-within : (at : ℕ) → Within (length l) at (setMaxVersionAt l at)
+  max-within : (at : ℕ) → Within (length l) at (setMaxVersionAt l (at + 1))
   unfolding setMaxVersionAt
-  max-within at = elim (le-or-lt (at + 8) (length l)) [
-    | inr h ↦ rw (lt-leb (at + 8) (length l) h) tt
-    | inl h ↦ rw (le-leb (at + 8) (length l) h) (omega arith, h, tt)
+  max-within at = elim (le-or-lt (at + 1 + 8) (length l)) [
+    | inr h ↦ rw (lt-leb (at + 1 + 8) (length l) h) tt
+    | inl h ↦ rw (le-leb (at + 1 + 8) (length l) h) (omega arith, h, tt, omega arith)
   ]
 
-  tagged-within : (tag at : ℕ) → Within (length l) at (taggedAt tag l at)
+  tagged-within : (tag at : ℕ) → Within (length l) at (taggedAt tag l (at + 1))
   tagged-within zero at = node-within at
   tagged-within (suc zero) at = key-value-within at
   tagged-within (suc (suc zero)) at = max-within at
   tagged-within (suc (suc (suc n))) at = tt
 
-  -- from behind the tag to its place
-  earlier : (at : ℕ) (r : OpRead) → Within (length l) (at + 1) r → Within (length l) at r
-  earlier at (Got o next) w = (omega arith, w .1, w .2)
-  earlier at (Bad r) w = tt
-
   pub op-within : (at : ℕ) → Within (length l) at (opAt l at)
   unfolding opAt
   op-within at = elim (le-or-lt (at + 1) (length l)) [
     | inr h ↦ rw (lt-leb (at + 1) (length l) h) tt
-    | inl h ↦ rw (le-leb (at + 1) (length l) h) (earlier at (taggedAt (natOf (part at 1 l)) l (at + 1)) (tagged-within (natOf (part at 1 l)) (at + 1)))
+    | inl h ↦ rw (le-leb (at + 1) (length l) h) (tagged-within (natOf (part at 1 l)) at)
   ]
