@@ -26,7 +26,7 @@ use Rattle.delta.specs.declared.OpRead.{OpRead}
 use Rattle.delta.specs.declared.OpRead.the-variants.{Got, Bad}
 use Rattle.delta.specs.declared.TextRead.{TextRead}
 use Rattle.delta.specs.declared.TextRead.the-variants as text
-use Rattle.delta.specs.Places.{opOf, meant, textAt, onText, statusOf, nodeAt, versionAt, valueAt, keyValueAt, setMaxVersionAt, taggedAt, opAt}
+use Rattle.delta.specs.Places.{opOf, meant, textAt, onText, statusOf, nodeAt, versionAt, valueAt, keyValueAt, setMaxVersionAt, taggedAt, opAt, Inside, widthOf}
 
 -- ---- one field
 
@@ -160,18 +160,6 @@ read-at l at in-l =
     ]
 
 -- ---- where an operation ends, and where its key and value stand
-
--- key and value stand within n bytes and are no longer than the sizes
-abbrev pub Inside : ℕ → Op → Type 0
-Inside len (Node n g f) = Unit {0}
-Inside len (KeyValue k n v m ver st) = (k + n ≤ len) × (v + m ≤ len) × (n ≤ maxKey) × (m ≤ maxValue)
-Inside len (SetMaxVersion m) = Unit {0}
-
--- how many bytes it takes
-abbrev pub widthOf : Op → ℕ
-widthOf (Node n g f) = 25
-widthOf (KeyValue k n v m ver st) = 14 + n + m
-widthOf (SetMaxVersion m) = 9
 
 -- an operation takes its bytes, one at least, and ends within n bytes
 abbrev pub Within : ℕ → ℕ → OpRead → Type 0

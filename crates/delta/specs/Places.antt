@@ -1,7 +1,7 @@
 -- An operation at a place of the lent bytes: its numbers, where its key and value stand, and the place behind it. `opOf` and `meant` say what
 -- such an operation means in the words of the rules; proofs/Reading.antt shows that `opAt` is the rules' reading, field by field and refusal by
 -- refusal.
-use Prim.Native.Nat.{ℕ, zero, suc, _+_}
+use Prim.Native.Nat.{ℕ, zero, suc, _+_, _≤_}
 use mathlib.Core.List.{List, [], _∷_}
 use lib.ListN.{length, drop, getD}
 use lib.Dec.{leb, ltb}
@@ -88,6 +88,20 @@ taggedAt (suc (suc (suc n))) l at = Bad BadTag
 
 unfoldable pub opAt : List ℕ → ℕ → OpRead
 opAt l at = pick (leb (at + 1) (length l)) (taggedAt (natOf (part at 1 l)) l (at + 1)) (Bad Cut)
+
+-- ---- where its key and value stand, and how many bytes it takes
+
+-- key and value stand within n bytes and are no longer than the sizes
+abbrev pub Inside : ℕ → Op → Type 0
+Inside len (Node n g f) = Unit {0}
+Inside len (KeyValue k n v m ver st) = (k + n ≤ len) × (v + m ≤ len) × (n ≤ maxKey) × (m ≤ maxValue)
+Inside len (SetMaxVersion m) = Unit {0}
+
+-- how many bytes it takes
+abbrev pub widthOf : Op → ℕ
+widthOf (Node n g f) = 25
+widthOf (KeyValue k n v m ver st) = 14 + n + m
+widthOf (SetMaxVersion m) = 9
 
 -- ---- what may follow
 

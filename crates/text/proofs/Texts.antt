@@ -42,12 +42,12 @@ room-second at vs ws l m r h a =
 pub wrote-long : (at : ℕ) (vs l m : List ℕ) (r : ℕ) → Room at vs l → Wrote at vs l m r → length m ≡ length l
 wrote-long at vs l m r h a = ap length (a .stands) ∙ length-put at vs l h
 
--- three and four texts, one behind the other, and the room of each
-module _ (at : ℕ) (a b c l l₁ l₂ : List ℕ) (r₁ r₂ : ℕ) (room : Room at (a ++ (b ++ c)) l) (w₁ : Wrote at a l l₁ r₁) where
+-- three texts, one behind the other, and the room of each
+module _ (at : ℕ) (a b c l l₁ : List ℕ) (r₁ : ℕ) (room : Room at (a ++ (b ++ c)) l) (w₁ : Wrote at a l l₁ r₁) where
   pub room-two : Room r₁ b l₁
   room-two = room-first r₁ b c l₁ (room-second at a (b ++ c) l l₁ r₁ room w₁)
 
-  module _ (w₂ : Wrote r₁ b l₁ l₂ r₂) where
+  module _ (l₂ : List ℕ) (r₂ : ℕ) (w₂ : Wrote r₁ b l₁ l₂ r₂) where
     pub room-three : Room r₂ c l₂
     room-three = room-second r₁ b c l₁ l₂ r₂ (room-second at a (b ++ c) l l₁ r₁ room w₁) w₂
 
