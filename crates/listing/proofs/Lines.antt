@@ -1,7 +1,8 @@
 -- Laws of the listing: how long a line is, the lines one behind the other, and the listing by what reading the delta has answered. Assumes
 -- nothing.
-use Prim.Native.Nat.{ℕ, zero, suc, _+_, _*_, _≤_, _<_}
+use Prim.Native.Nat.{ℕ, zero, suc, _+_, _-_, _*_, _≤_, _<_}
 use mathlib.Core.Path.{_≡_, refl, ap, sym, _∙_, subst}
+use mathlib.Core.Logic.{_⊎_, inl, inr}
 use mathlib.Core.List.{List, [], _∷_, _++_}
 use native.Mathlib.Omega.{arith}
 use lib.ListN.{length, length-append}
@@ -19,12 +20,15 @@ use Rattle.rules.specs.declared.Status.the-variants.{Set, Delete, Ttl}
 use Rattle.rules.specs.declared.Refusal.{Refusal}
 use Rattle.rules.specs.declared.Refusal.the-variants.{NoPlace}
 use Rattle.rules.specs.declared.Written.the-variants.{Bytes, Refused}
+use Rattle.rules.specs.declared.DeltaRead.{DeltaRead}
 use Rattle.rules.specs.declared.DeltaRead.the-variants as read
 use Rattle.delta.specs.declared.Op.{Op}
 use Rattle.delta.specs.declared.Op.the-variants.{Node, KeyValue, SetMaxVersion}
+use Rattle.delta.specs.declared.OpRead.{OpRead}
 use Rattle.delta.specs.declared.OpRead.the-variants.{Got, Bad}
 use Rattle.delta.specs.Places.{opOf, opAt, Inside, widthOf}
 use Rattle.delta.specs.Plain.{opsFrom}
+use Rattle.delta.proofs.Reading.{Within, op-within, le-or-lt}
 use Rattle.delta.proofs.Plain.{plain-end, plain-bad, plain-next, good-plain}
 use Rattle.text.proofs.Texts.{decimal-long, shown-long}
 use Rattle.listing.specs.Front.{frontAnswer, frontOut, linesFrom, goodText, refusedText, lineLength}
@@ -115,3 +119,48 @@ pub width-most : (len : ℕ) (o : Op) → Inside len o → widthOf o ≤ 110
 width-most len (Node n g f) i = omega arith
 width-most len (KeyValue k n v m ver st) i = omega arith
 width-most len (SetMaxVersion m) i = omega arith
+
+-- ---- how long a listing is at most
+
+-- the lines are at most five times as long as the bytes
+lines-most : (k at : ℕ) (l : List ℕ) → length l ≤ at + k → length (linesFrom l at) ≤ 5 * (length l - at)
+lines-most zero at l h = omega (arith, ap length (lines-end l at (omega arith)))
+lines-most (suc k) at l h = elim (le-or-lt (length l) at) [
+  | inl g ↦ omega (arith, ap length (lines-end l at g))
+  | inr g ↦ go (opAt l at) refl (op-within l at) g (λ next e. lines-most k next l e)
+]
+  where
+    go : (r : OpRead) → opAt l at ≡ r → Within (length l) at r → at < length l → ((next : ℕ) → length l ≤ next + k → length (linesFrom l next) ≤ 5 * (length l - next))
+        → length (linesFrom l at) ≤ 5 * (length l - at)
+    go (Bad r) e w g ih = omega (arith, ap length (lines-bad l at g r e))
+    go (Got o next) e w g ih =
+        let d : length (linesFrom l at) ≡ length (opLine (opOf l o)) + length (linesFrom l next) =
+        ap length (lines-next l at g o next e) ∙ length-append (opLine (opOf l o)) (linesFrom l next) in
+        omega (arith, d, line-long l o (w .2), line-short o, ih next (omega arith), w .0, w .1, w .3)
+
+-- 81,979 bytes are room for every listing
+pub listing-most : (l : List ℕ) → length (listing l) ≤ 81979
+listing-most l = go (rule.deltaRead l) refl
+  where
+    go : (r : DeltaRead) → rule.deltaRead l ≡ r → length (listing l) ≤ 81979
+    go (read.Good ops nodes) e =
+        let g : (listing l ≡ goodText l ops) × (length l ≤ maxDelta) = listing-good l ops nodes e in
+        omega (arith, ap length (g .0), g .1, good-long l ops, lines-most (length l) 0 l (omega arith), decimal-long ops, decimal-long (length l))
+    go (read.Refused r at) e =
+        omega (arith, ap length (listing-refused l r at e), refused-long (numberOf r) at, decimal-long (numberOf r), decimal-long at)
+
+-- so a buffer of that size is never refused, and the answer is within it
+pub front-fits : (l : List ℕ) (n : ℕ) (r : Refusal) → 81979 ≤ n → frontAnswer (listing l) n ≡ Refused r → ⊥
+unfolding frontAnswer
+front-fits l n r h e =
+    let f : Bytes (length (listing l)) ≡ Refused r = sym (rw (le-leb (length (listing l)) n (omega (arith, listing-most l)))) ∙ e in
+    let z : _≡_ {A = ℕ} 0 1 = cc in
+    omega arith
+
+pub front-within : (l : List ℕ) (n k : ℕ) → 81979 ≤ n → frontAnswer (listing l) n ≡ Bytes k → k ≤ n
+unfolding frontAnswer
+front-within l n k h e =
+    let most : length (listing l) ≤ n = omega (arith, listing-most l) in
+    let f : Bytes (length (listing l)) ≡ Bytes k = sym (rw (le-leb (length (listing l)) n most)) ∙ e in
+    let g : length (listing l) ≡ k = cc in
+    omega arith

@@ -102,7 +102,14 @@ fn put_texts(out: &mut [u8], at: usize, key: &[u8], value: &[u8]) -> usize
     text::put_text(out, b, b"\n")
 }
 
-fn put_key_value(out: &mut [u8], at: usize, version: u64, status: Status, key: &[u8], value: &[u8]) -> usize
+fn put_key_value(
+    out: &mut [u8],
+    at: usize,
+    version: u64,
+    status: Status,
+    key: &[u8],
+    value: &[u8],
+) -> usize
     requires { ⌜ Room at (recordLine version status (now key) (now value)) (now out) ⌝ }
     ensures { λ r. ⌜ Wrote at (recordLine version status (now (key .entry)) (now (value .entry))) (now (out .entry)) (now (out .exit)) r ⌝ }
 {

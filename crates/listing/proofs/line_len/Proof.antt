@@ -62,19 +62,16 @@ status-len-requires c κs = search needs
 
 add-result-5 : tie.Need-add-result-5
 add-result-5 c =
-    
     let small = short _ _ _ _ _ _ _ (c .before .before .before .op2 .given .1) (c .before .before .before .before .before .pre) in
     omega (arith, small, c .before .decimal-len4 .ensures .1, c .status-len .ensures, status-long (c .before .before .before .op2 .given .0 .1 .1 .1 .1 .1 .0))
 
 add-result-6 : tie.Need-add-result-6
 add-result-6 c =
-    
     let small = short _ _ _ _ _ _ _ (c .before .before .before .op2 .given .1) (c .before .before .before .before .before .pre) in
     omega (arith, small, c .before .decimal-len4 .ensures .1, c .status-len .ensures, status-long (c .before .before .before .op2 .given .0 .1 .1 .1 .1 .1 .0))
 
 add-result-7 : tie.Need-add-result-7
 add-result-7 c =
-    
     let small = short _ _ _ _ _ _ _ (c .before .before .before .op2 .given .1) (c .before .before .before .before .before .pre) in
     omega (arith, small, c .before .decimal-len4 .ensures .1, c .status-len .ensures, status-long (c .before .before .before .op2 .given .0 .1 .1 .1 .1 .1 .0))
 

@@ -49,7 +49,6 @@ enum-told c = search needs
 
 returns : tie.Need-returns Inv-loop μ-loop
 returns c =
-    
     let at-loop = c .before .before .before .before in
     stopped _ _ _ _ (at-loop .loop .inv .2) (lines-bad _ _ (c .before .before .before .loop-test .taken) _ (sym (c .before .before .read-op .ensures) ∙ c .enum-told .given .1)) (omega (arith, at-loop .loop .inv .0, at-loop .loop .inv .1, at-loop .before .before .pre))
 
@@ -61,27 +60,23 @@ line-len-requires c κs = width-most (length (c .before .before .before .before 
 
 add-n : tie.Need-add-n Inv-loop μ-loop
 add-n c =
-    
     let at-loop = c .before .before .before .before .before .before in
     let t = turn _ _ _ _ _ (sym (c .before .before .before .before .read-op .ensures) ∙ c .before .before .read .given .1) (c .before .before .before .before .before .loop-test .taken) (at-loop .loop .inv .1) in
     omega (arith, t .1, t .0, c .line-len .ensures, at-loop .before .before .pre)
 
 loop-less : tie.Need-loop-less Inv-loop μ-loop
 loop-less c =
-    
     let w = turn-within _ _ _ _ (sym (c .before .before .before .before .read-op .ensures) ∙ c .before .before .read .given .1) in
     omega (arith, w .0, w .1)
 
 loop-again : tie.Need-loop-again Inv-loop μ-loop
 loop-again c =
-    
     let at-loop = c .before .before .before .before .before .before in
     let t = turn _ _ _ _ _ (sym (c .before .before .before .before .read-op .ensures) ∙ c .before .before .read .given .1) (c .before .before .before .before .before .loop-test .taken) (at-loop .loop .inv .1) in
     (t .0, omega (arith, t .1, c .line-len .ensures), omega (arith, t .2, c .line-len .ensures, at-loop .loop .inv .2))
 
 returns-2 : tie.Need-returns-2 Inv-loop μ-loop
 returns-2 c =
-    
     let at-loop = c .before in
     stopped _ _ _ _ (at-loop .loop .inv .2) (lines-end _ _ (c .loop-test .left)) (omega (arith, at-loop .loop .inv .0, at-loop .loop .inv .1, at-loop .before .before .pre))
 

@@ -37,7 +37,6 @@ same-length c = search needs
 
 returns : tie.Need-returns
 returns c =
-    
     let call = c .before .before .list-good in
     as-listing _ _ _ _ _ (listing-good _ _ _ (sym (c .before .before .before .before .before .before .before .read-delta .ensures) ∙ c .before .before .before .before .before .read .given .1) .0) (call .ensures)
 
@@ -46,7 +45,6 @@ same-length-2 c = search needs
 
 returns-2 : tie.Need-returns-2
 returns-2 c =
-    
     let call = c .before .before .list-refused in
     let code = c .before .before .before .number .ensures in
     as-listing _ _ _ _ _

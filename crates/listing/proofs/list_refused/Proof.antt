@@ -23,7 +23,6 @@ add-n-2 c = search needs
 
 returns : tie.Need-returns
 returns c =
-    
     let x = c .before .before .before .before .args in
     front-none (refusedText (x .code) (x .at)) (x .out .now) (omega (arith, refused-long (x .code) (x .at), c .before .before .decimal-len .ensures .0, c .before .decimal-len2 .ensures .0, c .if1 .taken))
 
@@ -36,7 +35,6 @@ slice-aggregate-put-last-2 c = search needs
 put-last-requires : tie.Need-put-last-requires
 unfolding refusedText
 put-last-requires c κs =
-    
     let x = c .before .before .before .before .before .before .before .args in
     omega (arith, refused-long (x .code) (x .at), c .before .before .before .before .before .decimal-len .ensures .0, c .before .before .before .before .decimal-len2 .ensures .0, c .before .before .before .if1 .left)
 
@@ -46,7 +44,6 @@ same-length c = search needs
 returns-2 : tie.Need-returns-2
 unfolding refusedText
 returns-2 c =
-    
     let x = c .before .before .before .before .before .before .before .before .before .before .args in
     let n = c .before .before .before .before .before .before .before .before .decimal-len .ensures .0 in
     let m = c .before .before .before .before .before .before .before .decimal-len2 .ensures .0 in

@@ -10,14 +10,12 @@ use Rattle.listing.proofs.put_key_value.Tie as tie
 
 put-version-requires : tie.Need-put-version-requires
 put-version-requires c κs =
-    
     let start = c .before .before .before .before in
     let x = start .args in
     room-first (x .at) (versionText (x .version) (x .status)) (textsText (x .key .now) (x .value .now)) (x .out .now) (start .pre)
 
 put-texts-requires : tie.Need-put-texts-requires
 put-texts-requires c κs =
-    
     let start = c .before .before .before .before .before .before .before .before in
     let x = start .args in
     room-second (x .at) (versionText (x .version) (x .status)) (textsText (x .key .now) (x .value .now)) (x .out .now) _ _ (start .pre) (c .before .before .before .put-version .ensures)
@@ -27,7 +25,6 @@ same-length c = search needs
 
 returns : tie.Need-returns
 returns c =
-    
     let start = c .before .before .before .before .before .before .before .before .before .before .before in
     let x = start .args in
     then (x .at) (versionText (x .version) (x .status)) (textsText (x .key .now) (x .value .now)) (x .out .now) _ _ _ _ (start .pre) (c .before .before .before .before .before .before .put-version .ensures) (c .before .before .put-texts .ensures)

@@ -9,14 +9,12 @@ use Rattle.listing.proofs.put_last.Tie as tie
 
 put-numbered-requires : tie.Need-put-numbered-requires
 put-numbered-requires c κs =
-    
     let start = c .before .before .before .before in
     let x = start .args in
     room-first (x .at) (numbered (x .first .now) (x .a)) (numbered (x .second .now) (x .b) ++ (lineFeed)) (x .out .now) (start .pre)
 
 put-numbered-requires-2 : tie.Need-put-numbered-requires-2
 put-numbered-requires-2 c κs =
-    
     let start = c .before .before .before .before .before .before .before .before in
     let x = start .args in
     room-two (x .at) (numbered (x .first .now) (x .a)) (numbered (x .second .now) (x .b)) (lineFeed) (x .out .now) _ _ (start .pre) (c .before .before .before .put-numbered .ensures)
@@ -26,7 +24,6 @@ slice-aggregate-put-text c = search needs
 
 put-text-requires : tie.Need-put-text-requires
 put-text-requires c κs =
-    
     let start = c .before .before .before .before .before .before .before .before .before .before .before .before .before in
     let x = start .args in
     room-three (x .at) (numbered (x .first .now) (x .a)) (numbered (x .second .now) (x .b)) (lineFeed) (x .out .now) _ _ (start .pre) (c .before .before .before .before .before .before .before .before .put-numbered .ensures) _ _ (c .before .before .before .before .put-numbered2 .ensures)
@@ -36,7 +33,6 @@ same-length c = search needs
 
 returns : tie.Need-returns
 returns c =
-    
     let start = c .before .before .before .before .before .before .before .before .before .before .before .before .before .before .before .before in
     let x = start .args in
     three (x .at) (numbered (x .first .now) (x .a)) (numbered (x .second .now) (x .b)) (lineFeed) (x .out .now) _ _ (start .pre) (c .before .before .before .before .before .before .before .before .before .before .before .put-numbered .ensures) _ _ (c .before .before .before .before .before .before .before .put-numbered2 .ensures) _ _ (c .before .before .put-text .ensures)

@@ -75,7 +75,6 @@ part-value-end c = inside _ _ _ _ _ _ _ _ (c .before .before .op2 .given .1) (c 
 
 put-key-value-requires : tie.Need-put-key-value-requires
 put-key-value-requires c κs =
-    
     let start = c .before .before .before .before .before .before .before .before in
     record-room (start .args .s .now) (start .args .out .now) (start .args .at) _ _ _ _ _ _ _ _ _ (c .before .before .before .before .op2 .given .1) (seen _ _ _) (seen _ _ _) (start .pre .1)
 
@@ -90,7 +89,6 @@ same-length c = search needs
 
 returns : tie.Need-returns
 returns c =
-    
     let start = c .before .before .before .before .before .before .before .before .before in
     let call = c .before .before .put-node in
     subst (λ (o : Op). Wrote (start .args .at) (opLine (opOf (start .args .s .now) o)) (start .args .out .now) (call .last .0) (call .result))
@@ -101,7 +99,6 @@ same-length-2 c = search needs
 
 returns-2 : tie.Need-returns-2
 returns-2 c =
-    
     let start = c .before .before .before .before .before .before .before .before .before .before .before in
     record-wrote (start .args .s .now) _ _ (start .args .at) _ _ _ _ _ _ _ _ _ _ (c .before .before .before .before .before .before .before .op2 .given .1) (seen _ _ _) (seen _ _ _) (c .before .before .put-key-value .ensures)
 
@@ -110,7 +107,6 @@ same-length-3 c = search needs
 
 returns-3 : tie.Need-returns-3
 returns-3 c =
-    
     let start = c .before .before .before .before .before .before .before .before .before in
     let call = c .before .before .put-set-max-version in
     subst (λ (o : Op). Wrote (start .args .at) (opLine (opOf (start .args .s .now) o)) (start .args .out .now) (call .last .0) (call .result))

@@ -37,10 +37,10 @@ module _ (l out : List ℕ) (n at : ℕ) (o : Op) (next : ℕ) (e : opAt l at �
         wrote-long n line out out′ n′ (room-first n line (linesFrom l next) out (turn .0)) w ∙ q,
         omega (arith, w .behind),
         ap (λ (j : ℕ). put j (linesFrom l next) out′) (w .behind)
-        ∙ ap (put (n + length line) (linesFrom l next)) (w .stands)
-        ∙ put-then n line (linesFrom l next) out (omega arith)
-        ∙ ap (λ (x : List ℕ). put n x out) (sym (lines-next l at h o next e))
-        ∙ p,
+            ∙ ap (put (n + length line) (linesFrom l next)) (w .stands)
+            ∙ put-then n line (linesFrom l next) out (omega arith)
+            ∙ ap (λ (x : List ℕ). put n x out) (sym (lines-next l at h o next e))
+            ∙ p,
       )
 
 -- nothing left
@@ -69,7 +69,6 @@ same-length c = c .before .before .before .before .loop .inv .1
 
 returns : tie.Need-returns Inv-loop μ-loop
 returns c =
-    
     let at-loop = c .before .before .before .before in
     stopped _ _ _ _ _ _ (at-loop .loop .inv .2) (at-loop .loop .inv .3) (lines-bad _ _ (c .before .before .before .loop-test .taken) _ (sym (c .before .before .read-op .ensures) ∙ c .enum-told .given .1))
 
@@ -78,7 +77,6 @@ enum-known-read c = search needs
 
 put-line-requires : tie.Need-put-line-requires Inv-loop μ-loop
 put-line-requires c κs =
-    
     let at-loop = c .before .before .before .before .before .before in
     let start = c .before .before .before .before .before .before .before .before .before in
     let t = turn (c .before .before .before .before .before .before .before .before .before .args .s .now) (at-loop .loop .out) (at-loop .loop .n) (at-loop .loop .at) _ _ (sym (c .before .before .before .before .read-op .ensures) ∙ c .before .before .read .given .1) (c .before .before .before .before .before .loop-test .taken) (omega (arith, at-loop .loop .inv .1, at-loop .loop .inv .2, start .pre)) in
@@ -86,13 +84,11 @@ put-line-requires c κs =
 
 loop-less : tie.Need-loop-less Inv-loop μ-loop
 loop-less c =
-    
     let w = turn-within _ _ _ _ (sym (c .before .before .before .before .before .before .before .read-op .ensures) ∙ c .before .before .before .before .before .read .given .1) in
     omega (arith, w .0, w .1)
 
 loop-again : tie.Need-loop-again Inv-loop μ-loop
 loop-again c =
-    
     let at-loop = c .before .before .before .before .before .before .before .before .before in
     let start = c .before .before .before .before .before .before .before .before .before .before .before .before in
     again (c .before .before .before .before .before .before .before .before .before .before .before .before .args .s .now) (at-loop .loop .out) (at-loop .loop .n) (at-loop .loop .at) _ _ (sym (c .before .before .before .before .before .before .before .read-op .ensures) ∙ c .before .before .before .before .before .read .given .1) (c .before .before .before .before .before .before .before .before .loop-test .taken) (omega (arith, at-loop .loop .inv .1, at-loop .loop .inv .2, start .pre)) (start .args .out .now) _ _ _ _ (c .before .before .put-line .ensures) (at-loop .loop .inv .1) (at-loop .loop .inv .2) (at-loop .loop .inv .3)
@@ -102,7 +98,6 @@ same-length-2 c = c .before .loop .inv .1
 
 returns-2 : tie.Need-returns-2 Inv-loop μ-loop
 returns-2 c =
-    
     let at-loop = c .before in
     stopped _ _ _ _ _ _ (at-loop .loop .inv .2) (at-loop .loop .inv .3) (lines-end _ _ (c .loop-test .left))
 

@@ -13,7 +13,6 @@ slice-aggregate-put-numbered c = search needs
 put-numbered-requires : tie.Need-put-numbered-requires
 unfolding opLine
 put-numbered-requires c κs =
-    
     let start = c .before .before .before in
     let x = start .args in
     room-first (x .at) (numbered (ascii "op=node id=") (x .number)) (numbered (ascii " gc=") (x .gc) ++ (numbered (ascii " from=") (x .from) ++ lineFeed)) (x .out .now) (start .pre)
@@ -34,7 +33,6 @@ slice-aggregate-put-numbered-3 c = search needs
 put-numbered-requires-3 : tie.Need-put-numbered-requires-3
 unfolding opLine
 put-numbered-requires-3 c κs =
-    
     let start = c .before .before .before .before .before .before .before .before .before .before .before .before .before in
     let x = start .args in
     room-two _ (numbered (ascii " gc=") (x .gc)) (numbered (ascii " from=") (x .from)) lineFeed _ _ _ (room-second (x .at) (numbered (ascii "op=node id=") (x .number)) (numbered (ascii " gc=") (x .gc) ++ (numbered (ascii " from=") (x .from) ++ lineFeed)) (x .out .now) _ _ (start .pre) (c .before .before .before .before .before .before .before .before .before .put-numbered .ensures)) (c .before .before .before .before .put-numbered2 .ensures)
@@ -45,7 +43,6 @@ slice-aggregate-put-text c = search needs
 put-text-requires : tie.Need-put-text-requires
 unfolding opLine
 put-text-requires c κs =
-    
     let start = c .before .before .before .before .before .before .before .before .before .before .before .before .before .before .before .before .before .before in
     let x = start .args in
     room-three _ (numbered (ascii " gc=") (x .gc)) (numbered (ascii " from=") (x .from)) lineFeed _ _ _ (room-second (x .at) (numbered (ascii "op=node id=") (x .number)) (numbered (ascii " gc=") (x .gc) ++ (numbered (ascii " from=") (x .from) ++ lineFeed)) (x .out .now) _ _ (start .pre) (c .before .before .before .before .before .before .before .before .before .before .before .before .before .before .put-numbered .ensures)) (c .before .before .before .before .before .before .before .before .before .put-numbered2 .ensures) _ _ (c .before .before .before .before .put-numbered3 .ensures)
@@ -56,7 +53,6 @@ same-length c = search needs
 returns : tie.Need-returns
 unfolding opLine
 returns c =
-    
     let start = c .before .before .before .before .before .before .before .before .before .before .before .before .before .before .before .before .before .before .before .before .before in
     let x = start .args in
     then (x .at) (numbered (ascii "op=node id=") (x .number)) (numbered (ascii " gc=") (x .gc) ++ (numbered (ascii " from=") (x .from) ++ lineFeed)) (x .out .now) _ _ _ _ (start .pre) (c .before .before .before .before .before .before .before .before .before .before .before .before .before .before .before .before .before .put-numbered .ensures)

@@ -14,7 +14,6 @@ slice-aggregate-put-numbered c = search needs
 put-numbered-requires : tie.Need-put-numbered-requires
 unfolding opLine
 put-numbered-requires c κs =
-    
     let start = c .before .before .before in
     let x = start .args in
     room-first (x .at) (numbered (ascii "op=max version=") (x .max)) (lineFeed) (x .out .now) (start .pre)
@@ -25,7 +24,6 @@ slice-aggregate-put-text c = search needs
 put-text-requires : tie.Need-put-text-requires
 unfolding opLine
 put-text-requires c κs =
-    
     let start = c .before .before .before .before .before .before .before .before in
     let x = start .args in
     room-second (x .at) (numbered (ascii "op=max version=") (x .max)) (lineFeed) (x .out .now) _ _ (start .pre) (c .before .before .before .before .put-numbered .ensures)
@@ -36,7 +34,6 @@ same-length c = search needs
 returns : tie.Need-returns
 unfolding opLine
 returns c =
-    
     let start = c .before .before .before .before .before .before .before .before .before .before .before in
     let x = start .args in
     then (x .at) (numbered (ascii "op=max version=") (x .max)) (lineFeed) (x .out .now) _ _ _ _ (start .pre) (c .before .before .before .before .before .before .before .put-numbered .ensures) (c .before .before .put-text .ensures)

@@ -12,7 +12,6 @@ slice-aggregate-put-named c = search needs
 
 put-named-requires : tie.Need-put-named-requires
 put-named-requires c κs =
-    
     let start = c .before .before .before .before .before in
     let x = start .args in
     room-first (x .at) (named (ascii " key=") (x .key .now)) (named (ascii " value=") (x .value .now) ++ (lineFeed)) (x .out .now) (start .pre)
@@ -22,7 +21,6 @@ slice-aggregate-put-named-2 c = search needs
 
 put-named-requires-2 : tie.Need-put-named-requires-2
 put-named-requires-2 c κs =
-    
     let start = c .before .before .before .before .before .before .before .before .before .before in
     let x = start .args in
     room-two (x .at) (named (ascii " key=") (x .key .now)) (named (ascii " value=") (x .value .now)) (lineFeed) (x .out .now) _ _ (start .pre) (c .before .before .before .before .put-named .ensures)
@@ -32,7 +30,6 @@ slice-aggregate-put-text c = search needs
 
 put-text-requires : tie.Need-put-text-requires
 put-text-requires c κs =
-    
     let start = c .before .before .before .before .before .before .before .before .before .before .before .before .before .before .before in
     let x = start .args in
     room-three (x .at) (named (ascii " key=") (x .key .now)) (named (ascii " value=") (x .value .now)) (lineFeed) (x .out .now) _ _ (start .pre) (c .before .before .before .before .before .before .before .before .before .put-named .ensures) _ _ (c .before .before .before .before .put-named2 .ensures)
@@ -42,7 +39,6 @@ same-length c = search needs
 
 returns : tie.Need-returns
 returns c =
-    
     let start = c .before .before .before .before .before .before .before .before .before .before .before .before .before .before .before .before .before .before in
     let x = start .args in
     three (x .at) (named (ascii " key=") (x .key .now)) (named (ascii " value=") (x .value .now)) (lineFeed) (x .out .now) _ _ (start .pre) (c .before .before .before .before .before .before .before .before .before .before .before .before .put-named .ensures) _ _ (c .before .before .before .before .before .before .before .put-named2 .ensures) _ _ (c .before .before .put-text .ensures)

@@ -12,7 +12,6 @@ slice-aggregate-put-numbered c = search needs
 
 put-numbered-requires : tie.Need-put-numbered-requires
 put-numbered-requires c κs =
-    
     let start = c .before .before .before in
     let x = start .args in
     room-first (x .at) (numbered (ascii "op=kv version=") (x .version)) (ascii " status=" ++ (statusText (x .status))) (x .out .now) (start .pre)
@@ -22,14 +21,12 @@ slice-aggregate-put-text c = search needs
 
 put-text-requires : tie.Need-put-text-requires
 put-text-requires c κs =
-    
     let start = c .before .before .before .before .before .before .before .before in
     let x = start .args in
     room-two (x .at) (numbered (ascii "op=kv version=") (x .version)) (ascii " status=") (statusText (x .status)) (x .out .now) _ _ (start .pre) (c .before .before .before .before .put-numbered .ensures)
 
 put-status-requires : tie.Need-put-status-requires
 put-status-requires c κs =
-    
     let start = c .before .before .before .before .before .before .before .before .before .before .before .before in
     let x = start .args in
     room-three (x .at) (numbered (ascii "op=kv version=") (x .version)) (ascii " status=") (statusText (x .status)) (x .out .now) _ _ (start .pre) (c .before .before .before .before .before .before .before .before .put-numbered .ensures) _ _ (c .before .before .before .put-text .ensures)
@@ -39,7 +36,6 @@ same-length c = search needs
 
 returns : tie.Need-returns
 returns c =
-    
     let start = c .before .before .before .before .before .before .before .before .before .before .before .before .before .before .before in
     let x = start .args in
     three (x .at) (numbered (ascii "op=kv version=") (x .version)) (ascii " status=") (statusText (x .status)) (x .out .now) _ _ (start .pre) (c .before .before .before .before .before .before .before .before .before .before .before .put-numbered .ensures) _ _ (c .before .before .before .before .before .before .put-text .ensures) _ _ (c .before .before .put-status .ensures)
