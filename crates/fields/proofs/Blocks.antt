@@ -1,16 +1,16 @@
 -- Laws of blocks of one width, over the width, the count and the encoding: each block stands at its place, one is replaced, put in or taken
 -- out, blocks are read and written back, and a test of every block is one of each. Before them, laws of zeros and of a list filled up with zeros.
 -- Assumes nothing.
-use Prim.Native.Nat.{ℕ, zero, suc, _+_, _*_, _-_, _≤_, _<_, zero-le, suc-le-suc}
-use mathlib.Core.Path.{_≡_, refl, ap, ap₂, sym, _∙_, subst}
-use mathlib.Core.Bool.{Bool, true, false, _&&_}
+use Prim.Native.Nat.{ℕ, zero, suc, _+_, _*_, _-_, _≤_, _<_}
+use mathlib.Core.Path.{_≡_, refl, ap, ap₂, sym, _∙_}
+use mathlib.Core.Bool.{Bool, true, _&&_}
 use mathlib.Core.List.{List, [], _∷_, _++_, append-assoc, append-nil}
 use native.Mathlib.Omega.{arith}
 use native.Mathlib.Numerals.{add-one}
 use native.Mathlib.Nat.{suc-mul, zero-mul, add-mul, add-sub-cancel-left, le-of-suc-le-suc, not-suc-le-zero, add-zero, zero-add}
 use lib.Dec.{eqb, lit<}
-use lib.ListN.{length, take, drop, getD, set, replicate, length-append, length-take, length-drop, length-replicate, take-append-drop, drop-of-length-le, replicate-append-replicate}
-use lib.Seq.{drop-cons, take-at, drop-at, length-take-le, drop-drop, take-append-add, take-add, take-all, split-at, set-split}
+use lib.ListN.{length, take, drop, getD, set, length-append, length-take, length-drop, length-replicate, take-append-drop, drop-of-length-le, replicate-append-replicate}
+use lib.Seq.{take-at, drop-at, length-take-le, drop-drop, take-append-add, take-add, take-all, split-at, set-split}
 use borrow.Author.Tests.{eqb-true}
 use Rattle.fields.specs.Choice.{_∈_, here, later}
 use Rattle.fields.specs.Numbers.{natOf, bytesOf, Bytes}
@@ -18,7 +18,7 @@ use Rattle.fields.specs.Parts.{part, put}
 use Rattle.fields.specs.Blocks.{zeros, allZero, fit, flat, blocks, unblock, allBlocks, insertAt, removeAt}
 use Rattle.fields.proofs.Choice.{and-left, and-right, and-intro}
 use Rattle.fields.proofs.Numbers.{bytes-none, bytes-cons, bytes-append, bytes-take}
-use Rattle.fields.proofs.Parts.{part-left, part-right, part-add, part-part, part-drop, part-whole, part-at, put-at, put-mid, length-part, length-put}
+use Rattle.fields.proofs.Parts.{part-right, part-add, part-part, part-drop, part-whole, part-at, put-at, put-mid, length-part}
 
 -- ---- zeros
 
@@ -125,6 +125,8 @@ fit-zeros n at xs l h e g =
     ∙ part-whole (n - k) z (length-zeros (n - k)) in
     ap allZero p ∙ all-zero (n - k)
 
+-- ---- room made and closed, in a list of pieces
+
 -- a block put in before t, where w places are free behind t
 pub gap-up : (m w : ℕ) (pre t g post b : List ℕ) → length pre ≡ m → length g ≡ w → length b ≡ w
     → put m b (put (m + w) t (pre ++ (t ++ (g ++ post)))) ≡ pre ++ (b ++ (t ++ post))
@@ -155,6 +157,8 @@ gap-down m w pre b t post z e f h =
     ∙ ap (λ (k : ℕ). pre ++ ((t ++ drop k (b ++ t)) ++ post)) (zero-add (length t))
     ∙ simp append-assoc in
     ap (put (m + length t) z) moved ∙ put-at (m + length t) z (pre ++ t) y post both (h ∙ sym long) ∙ append-assoc pre t (z ++ post)
+
+-- ---- blocks
 
 module _ {A : Type 0} (enc : A → List ℕ) (w : ℕ) (wide : (a : A) → length (enc a) ≡ w) where
   pub length-flat : (es : List A) → length (flat enc es) ≡ length es * w
@@ -215,7 +219,7 @@ module _ {A : Type 0} (enc : A → List ℕ) (w : ℕ) (wide : (a : A) → lengt
       let e : suc k * w ≡ w + k * w = suc-mul k w ∙ omega arith in
       ap zeros e ∙ sym (zeros-add w (k * w))
 
-  -- the four laws at a list in two or three parts
+  -- putting in and taking out, at a list in two or three parts
   insert-two : (n k : ℕ) (xs : List A) (a : A) (ys : List A) (m j : ℕ) → length xs + length ys + suc k ≡ n → m ≡ length xs * w → j ≡ length ys * w
       → let l : List ℕ = blocks n w enc (xs ++ ys) in put m (enc a) (put (m + w) (part m j l) l) ≡ blocks n w enc (xs ++ (a ∷ ys))
   insert-two n k xs a ys m j h em ej =
@@ -292,6 +296,8 @@ module _ {A : Type 0} (enc : A → List ℕ) (w : ℕ) (wide : (a : A) → lengt
         ∙ remove-two n (n - length es) (take i es) (getD es i d) (drop (suc i) es) (i * w) k
         (simp (length-take, length-drop) (omega arith)) (ap (λ (z : ℕ). z * w) (sym (length-take-le i es (omega arith)))) (ap (λ (z : ℕ). z * w) (sym (length-drop (suc i) es)))
 
+-- ---- elements out of blocks
+
 module _ {A : Type 0} (w : ℕ) (dec : List ℕ → A) where
   pub length-unblock : (n : ℕ) (l : List ℕ) → length (unblock w dec n l) ≡ n
   unfolding unblock
@@ -317,14 +323,7 @@ module _ {A : Type 0} (w : ℕ) (dec : List ℕ → A) where
       unblock-drop i n (drop w l) (le-of-suc-le-suc h)
       ∙ ap (λ (r : List ℕ). dec (take w r) ∷ drop (suc i) (unblock w dec n (drop w l))) (drop-drop (i * w) w l ∙ ap (λ (k : ℕ). drop k l) (sym e))
 
--- a test of each block
-pub all-blocks-at : (f : List ℕ → Bool) (w n : ℕ) (l : List ℕ) → allBlocks f w n l ≡ true → (i : ℕ) → i < n → f (part (i * w) w l) ≡ true
-unfolding allBlocks part
-all-blocks-at f w zero l t i h = absurd (not-suc-le-zero h)
-all-blocks-at f w (suc n) l t zero h = rw zero-mul (and-left (f (take w l)) (allBlocks f w n (drop w l)) t)
-all-blocks-at f w (suc n) l t (suc i) h =
-    let e : suc i * w ≡ w + i * w = suc-mul i w ∙ omega arith in
-    rw (e, ← drop-drop (i * w) w l) (all-blocks-at f w n (drop w l) (and-right (f (take w l)) (allBlocks f w n (drop w l)) t) i (le-of-suc-le-suc h))
+-- ---- a test of each block
 
 block-first : (w : ℕ) (l : List ℕ) → part (0 * w) w l ≡ take w l
 unfolding part
@@ -334,6 +333,32 @@ block-next : (i w : ℕ) (l : List ℕ) → part (i * w) w (drop w l) ≡ part (
 block-next i w l =
     let e : w + i * w ≡ suc i * w = omega (arith, suc-mul i w) in
     part-drop (i * w) w w l ∙ ap (λ (k : ℕ). part k w l) e
+
+pub all-blocks-at : (f : List ℕ → Bool) (w n : ℕ) (l : List ℕ) → allBlocks f w n l ≡ true → (i : ℕ) → i < n → f (part (i * w) w l) ≡ true
+unfolding allBlocks part
+all-blocks-at f w zero l t i h = absurd (not-suc-le-zero h)
+all-blocks-at f w (suc n) l t zero h = rw zero-mul (and-left (f (take w l)) (allBlocks f w n (drop w l)) t)
+all-blocks-at f w (suc n) l t (suc i) h =
+    let e : suc i * w ≡ w + i * w = suc-mul i w ∙ omega arith in
+    rw (e, ← drop-drop (i * w) w l) (all-blocks-at f w n (drop w l) (and-right (f (take w l)) (allBlocks f w n (drop w l)) t) i (le-of-suc-le-suc h))
+
+pub at-all-blocks : (f : List ℕ → Bool) (w n : ℕ) (l : List ℕ) → ((i : ℕ) → i < n → f (part (i * w) w l) ≡ true) → allBlocks f w n l ≡ true
+unfolding allBlocks
+at-all-blocks f w zero l h = refl
+at-all-blocks f w (suc n) l h =
+    and-intro (f (take w l)) (allBlocks f w n (drop w l)) (rw block-first at (h 0 (omega arith)))
+    (at-all-blocks f w n (drop w l) (λ i g. rw (block-next i w l) (h (suc i) (omega arith))))
+
+-- one block of those that are left, in a loop over i below n from `base` on
+pub blocks-turn : (f : List ℕ → Bool) (w base n i : ℕ) (l : List ℕ) → i < n
+    → allBlocks f w (n - i) (drop (base + i * w) l) ≡ (f (part (base + i * w) w l) && allBlocks f w (n - (i + 1)) (drop (base + (i + 1) * w) l))
+unfolding allBlocks part
+blocks-turn f w base n i l h =
+    let p : n - i ≡ suc (n - (i + 1)) = omega arith in
+    let q : base + (i + 1) * w ≡ base + i * w + w = ap (λ (j : ℕ). base + j * w) (add-one i) ∙ ap (λ (j : ℕ). base + j) (suc-mul i w) ∙ omega arith in
+    rw (p, q, ← drop-drop w (base + i * w) l)
+
+-- ---- read and written
 
 module _ {A : Type 0} (enc : A → List ℕ) (dec : List ℕ → A) (w : ℕ) (wide : (a : A) → length (enc a) ≡ w) where
   -- blocks that are read and written again are as they were
@@ -359,37 +384,19 @@ module _ {A : Type 0} (enc : A → List ℕ) (dec : List ℕ → A) (w : ℕ) (w
       ∙ take-append-drop (k * w) l
 
   -- elements that are written and read again are as they were
-  flat-read : (P : A → Type 0) → ((a : A) → P a → dec (enc a) ≡ a) → (es : List A) (z : List ℕ) → ((i : ℕ) (d : A) → i < length es → P (getD es i d))
-      → unblock w dec (length es) (flat enc es ++ z) ≡ es
+  flat-read : (es : List A) (z : List ℕ) → ((a : A) → a ∈ es → dec (enc a) ≡ a) → unblock w dec (length es) (flat enc es ++ z) ≡ es
   unfolding flat unblock
-  flat-read P back [] z p = refl
-  flat-read P back (a ∷ es) z p =
+  flat-read [] z back = refl
+  flat-read (a ∷ es) z back =
       let e : enc a ++ flat enc es ++ z ≡ enc a ++ (flat enc es ++ z) = append-assoc (enc a) (flat enc es) z in
       let head : dec (take w (enc a ++ flat enc es ++ z)) ≡ a =
-      ap dec (ap (take w) e ∙ take-at (enc a) (flat enc es ++ z) w (wide a)) ∙ back a (p 0 a (omega arith)) in
+      ap dec (ap (take w) e ∙ take-at (enc a) (flat enc es ++ z) w (wide a)) ∙ back a (here refl) in
       let rest : drop w (enc a ++ flat enc es ++ z) ≡ flat enc es ++ z = ap (drop w) e ∙ drop-at (enc a) (flat enc es ++ z) w (wide a) in
-      ap₂ (λ (x : A) (xs : List A). x ∷ xs) head (ap (unblock w dec (length es)) rest ∙ flat-read P back es z (λ i d g. p (suc i) d (suc-le-suc g)))
+      ap₂ (λ (x : A) (xs : List A). x ∷ xs) head (ap (unblock w dec (length es)) rest ∙ flat-read es z (λ x m. back x (later m)))
 
-  pub blocks-read : (P : A → Type 0) → ((a : A) → P a → dec (enc a) ≡ a) → (n : ℕ) (es : List A) → length es ≤ n → ((i : ℕ) (d : A) → i < length es → P (getD es i d))
-      → unblock w dec (length es) (blocks n w enc es) ≡ es
-  blocks-read P back n es h p =
-      ap (unblock w dec (length es)) (blocks-is enc w wide n (n - length es) es (omega arith)) ∙ flat-read P back es (zeros ((n - length es) * w)) p
-
--- one block of those that are left, in a loop over i below n from `base` on
-pub blocks-turn : (f : List ℕ → Bool) (w base n i : ℕ) (l : List ℕ) → i < n
-    → allBlocks f w (n - i) (drop (base + i * w) l) ≡ (f (part (base + i * w) w l) && allBlocks f w (n - (i + 1)) (drop (base + (i + 1) * w) l))
-unfolding allBlocks part
-blocks-turn f w base n i l h =
-    let p : n - i ≡ suc (n - (i + 1)) = omega arith in
-    let q : base + (i + 1) * w ≡ base + i * w + w = ap (λ (j : ℕ). base + j * w) (add-one i) ∙ ap (λ (j : ℕ). base + j) (suc-mul i w) ∙ omega arith in
-    rw (p, q, ← drop-drop w (base + i * w) l)
-
-pub at-all-blocks : (f : List ℕ → Bool) (w n : ℕ) (l : List ℕ) → ((i : ℕ) → i < n → f (part (i * w) w l) ≡ true) → allBlocks f w n l ≡ true
-unfolding allBlocks
-at-all-blocks f w zero l h = refl
-at-all-blocks f w (suc n) l h =
-    and-intro (f (take w l)) (allBlocks f w n (drop w l)) (rw block-first at (h 0 (omega arith)))
-    (at-all-blocks f w n (drop w l) (λ i g. rw (block-next i w l) (h (suc i) (omega arith))))
+  pub blocks-read : (n : ℕ) (es : List A) → length es ≤ n → ((a : A) → a ∈ es → dec (enc a) ≡ a) → unblock w dec (length es) (blocks n w enc es) ≡ es
+  blocks-read n es h back =
+      ap (unblock w dec (length es)) (blocks-is enc w wide n (n - length es) es (omega arith)) ∙ flat-read es (zeros ((n - length es) * w)) back
 
 -- ---- how long a list is with an element more or less
 

@@ -1,6 +1,6 @@
 -- Laws of numbers as bytes, over the count of bytes: a number of n bytes is written and read back, some bytes are read and written back, and
 -- the bounds of both. A list of bytes (`Bytes`) stays one when it is cut, joined or put together. Assumes nothing.
-use Prim.Native.Nat.{ℕ, zero, suc, _+_, _*_, _-_, _/_, _%_, _^_, _≤_, _<_}
+use Prim.Native.Nat.{ℕ, zero, suc, _+_, _*_, _/_, _%_, _^_, _≤_, _<_}
 use mathlib.Core.Path.{_≡_, refl, ap, ap₂, sym, _∙_, subst}
 use mathlib.Core.Logic.{_⊎_, inl, inr}
 use mathlib.Core.List.{List, [], _∷_, _++_}
@@ -8,8 +8,7 @@ use native.Mathlib.Omega.{arith}
 use native.Mathlib.Nat.{div-lt-iff-lt-mul, div-add-mod', pow-suc, pow-succ', pow-le-pow-right, lt-of-lt-of-le, zero-add, suc-add, mul-one, mul-assoc, div-one, div-div-eq-div-mul}
 use native.Mathlib.Decide.{decLt}
 use lib.Dec.{lit<}
-use lib.ListN.{length, take, drop, getD, set, List·getD-eq-default}
-use lib.Seq.{getD-set-same, getD-set-other, set-split, set-out}
+use lib.ListN.{length, take, drop, getD, List·getD-eq-default}
 use Rattle.fields.specs.Choice.{_∈_, here, later}
 use Rattle.fields.specs.Numbers.{natOf, bytesOf, Bytes}
 use Rattle.fields.specs.Parts.{part, put}

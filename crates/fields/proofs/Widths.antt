@@ -1,11 +1,11 @@
 -- Laws of fields of fixed widths: each stands where its offset says, one is replaced or changed within, and the fields cut out of a list are
 -- of their widths and joined give the part again. Assumes nothing.
-use Prim.Native.Nat.{ℕ, zero, suc, _+_, _*_, _-_, _≤_, _<_}
+use Prim.Native.Nat.{ℕ, zero, suc, _+_, _≤_, _<_}
 use mathlib.Core.Path.{_≡_, refl, ap, ap₂, sym, _∙_, subst}
 use mathlib.Core.List.{List, [], _∷_, _++_, append-assoc}
 use native.Mathlib.Omega.{arith}
 use native.Mathlib.Nat.{le-of-suc-le-suc, not-suc-le-zero, add-assoc, add-zero}
-use lib.ListN.{length, take, drop, getD, set, length-append}
+use lib.ListN.{length, getD, set, length-append}
 use Rattle.fields.specs.Parts.{part, put}
 use Rattle.fields.specs.Widths.{joined, offset, total, Widths, cutAt}
 use Rattle.fields.proofs.Parts.{part-right, part-add, part-at, part-whole, put-at, put-mid, put-right, length-part}

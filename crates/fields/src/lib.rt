@@ -1,7 +1,7 @@
 // Numbers and parts in lent bytes: what every format of this project is made of. A number stands lowest byte first.
 // Each function asks only that the bytes it names are there; what it answers or leaves is one equation with a definition of specs/.
 ghost use mathlib.Core.Path.{_≡_};
-ghost use Prim.Native.Nat.{_+_, _*_, _/_, _%_, _≤_, _<_};
+ghost use Prim.Native.Nat.{_+_, _*_, _/_, _%_, _^_, _≤_, _<_};
 ghost use lib.ListN.{length};
 ghost use Rattle.fields.specs.Blocks.{zeros, allZero};
 ghost use Rattle.fields.specs.Numbers.{natOf, bytesOf};
@@ -15,6 +15,7 @@ pub enum Order {
     More,
 }
 
+// A byte as a number.
 fn wide(b: u8) -> u64
     ensures { λ r. ⌜ r ≡ b ⌝ }
 {
@@ -23,7 +24,7 @@ fn wide(b: u8) -> u64
 
 // `high` with one byte below it. Every number that is read is put together here.
 fn join(high: u64, low: u8) -> u64
-    requires { ⌜ high < 72057594037927936 ⌝ }
+    requires { ⌜ high < 256 ^ 7 ⌝ }
     ensures { λ r. ⌜ r ≡ high * 256 + low ⌝ }
 {
     high * 256 + wide(low)
@@ -31,16 +32,16 @@ fn join(high: u64, low: u8) -> u64
 
 // `high` with the two bytes from `at` below it.
 fn join_two(s: &[u8], at: usize, high: u64) -> u64
-    requires { ⌜ (high < 281474976710656) × (at + 2 ≤ length (now s)) ⌝ }
-    ensures { λ r. ⌜ (r ≡ high * 65536 + natOf (part at 2 (now (s .entry)))) × (r < (high + 1) * 65536) ⌝ }
+    requires { ⌜ (high < 256 ^ 6) × (at + 2 ≤ length (now s)) ⌝ }
+    ensures { λ r. ⌜ (r ≡ high * 256 ^ 2 + natOf (part at 2 (now (s .entry)))) × (r < (high + 1) * 256 ^ 2) ⌝ }
 {
     join(join(high, s[at + 1]), s[at])
 }
 
 // `high` with the four bytes from `at` below it.
 fn join_four(s: &[u8], at: usize, high: u64) -> u64
-    requires { ⌜ (high < 4294967296) × (at + 4 ≤ length (now s)) ⌝ }
-    ensures { λ r. ⌜ (r ≡ high * 4294967296 + natOf (part at 4 (now (s .entry)))) × (r < (high + 1) * 4294967296) ⌝ }
+    requires { ⌜ (high < 256 ^ 4) × (at + 4 ≤ length (now s)) ⌝ }
+    ensures { λ r. ⌜ (r ≡ high * 256 ^ 4 + natOf (part at 4 (now (s .entry)))) × (r < (high + 1) * 256 ^ 4) ⌝ }
 {
     join_two(s, at, join_two(s, at + 2, high))
 }
@@ -69,13 +70,14 @@ pub fn read_u64(s: &[u8], at: usize) -> u64
     join_four(s, at, join_four(s, at + 4, 0))
 }
 
-// The lowest byte of `v`, and what is above it. Every number that is written is taken apart here.
+// The lowest byte of `v`. Every number that is written is taken apart here and in `above`.
 fn low(v: u64) -> u8
     ensures { λ r. ⌜ r ≡ v % 256 ⌝ }
 {
     (v % 256) as u8
 }
 
+// What is above the lowest byte of `v`.
 fn above(v: u64) -> u64
     ensures { λ r. ⌜ r ≡ v / 256 ⌝ }
 {
@@ -85,7 +87,7 @@ fn above(v: u64) -> u64
 // Stores the two lowest bytes of `v` from `at` on, and answers what is above them.
 fn write_two(s: &mut [u8], at: usize, v: u64) -> u64
     requires { ⌜ at + 2 ≤ length (now s) ⌝ }
-    ensures { λ r. ⌜ (r ≡ v / 65536) × (now (s .exit) ≡ put at (bytesOf 2 v) (now (s .entry))) ⌝ }
+    ensures { λ r. ⌜ (r ≡ v / 256 ^ 2) × (now (s .exit) ≡ put at (bytesOf 2 v) (now (s .entry))) ⌝ }
 {
     s[at] = low(v);
     let high = above(v);
@@ -96,7 +98,7 @@ fn write_two(s: &mut [u8], at: usize, v: u64) -> u64
 // Stores the four lowest bytes of `v` from `at` on, and answers what is above them.
 fn write_four(s: &mut [u8], at: usize, v: u64) -> u64
     requires { ⌜ at + 4 ≤ length (now s) ⌝ }
-    ensures { λ r. ⌜ (r ≡ v / 4294967296) × (now (s .exit) ≡ put at (bytesOf 4 v) (now (s .entry))) ⌝ }
+    ensures { λ r. ⌜ (r ≡ v / 256 ^ 4) × (now (s .exit) ≡ put at (bytesOf 4 v) (now (s .entry))) ⌝ }
 {
     let high = write_two(s, at, v);
     write_two(s, at + 2, high)
@@ -175,7 +177,7 @@ pub fn move_up(s: &mut [u8], from: usize, to: usize, n: usize)
     }
 }
 
-// Whether all bytes are zero. There is no early way out: so the loop takes 32 bytes a turn.
+// Whether all bytes are zero. It has no early way out, so that the compiler takes many bytes a turn.
 pub fn is_zero(s: &[u8]) -> bool
     ensures { λ r. ⌜ r ≡ allZero (now (s .entry)) ⌝ }
 {
@@ -188,7 +190,7 @@ pub fn is_zero(s: &[u8]) -> bool
     seen == 0
 }
 
-// Whether the two are the same bytes. No early way out behind the lengths, for the same reason.
+// Whether the two are the same bytes. Behind the lengths it has no early way out, for the same reason.
 pub fn same(a: &[u8], b: &[u8]) -> bool
     ensures { λ r. ⌜ r ≡ sameBytes (now (a .entry)) (now (b .entry)) ⌝ }
 {
