@@ -1,0 +1,5 @@
+pub mod Records
+pub mod Nodes
+pub mod Tables
+pub mod Checked
+pub mod Places
