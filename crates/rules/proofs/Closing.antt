@@ -10,12 +10,13 @@ use lib.ListN.{length}
 use borrow.Author.Tests.{leb-false, leb-true}
 use Rattle.fields.proofs.Choice.{and-intro, and-left, and-right}
 use Rattle.fields.specs.Choice.{_∈_}
+use Rattle.rules.proofs.Calls.{node-in}
 use Rattle.rules.proofs.EachNode.{nodeAt, orFresh}
 use Rattle.rules.proofs.Moments.{InOrder, Moment, moment, moments}
 use Rattle.rules.proofs.Nearer.{Small, lack, lack-falls, lack-stays, next, queued, sent, told, total, total-le, total-none}
 use Rattle.rules.proofs.Needed.{needed-most, needed-none}
 use Rattle.rules.proofs.Obeys.{number-in}
-use Rattle.rules.proofs.TableKeeps.{node-from, node-there}
+use Rattle.rules.proofs.Tables.{node-there}
 use Rattle.rules.proofs.Undisturbed.{ended, stream, undisturbed}
 use Rattle.rules.specs.Demand3.{Quiet, SameMax, Wide, allGranted, exchangeOf, exchanges, granted, holdings, leastWidth}
 use Rattle.rules.specs.Node.{Node}
@@ -29,7 +30,7 @@ unfolding total holdings
 most u [] = omega arith
 most u (e ∷ t) = let a = needed-most (e .node) (nodeAt (e .number) u) in let b = most u t in omega arith
 
-after-append : (es fs : List Event) (w : World) → after (es ++ fs) w ≡ after fs (after es w)
+pub after-append : (es fs : List Event) (w : World) → after (es ++ fs) w ≡ after fs (after es w)
 unfolding after
 after-append [] fs w = refl
 after-append (e ∷ es) fs w = after-append es fs (happen e w)
@@ -94,7 +95,7 @@ module _ (is : List ℕ) (ok : obeys (freshTable is) ≡ true) where
       → SameMax (after (exchanges qs) (after es (start is)) .publisher) (after (exchanges qs) (after es (start is)) .follower)
   closing es qs wide g h i a b p q =
       let low : b .max ≤ a .max = subst₂ (λ (x y : Node). y .max ≤ x .max) (ap orFresh p) (ap orFresh q) (m .facts i .follower .max-low) in
-      let x = node-from i (end .publisher) p in
+      let x = node-in i (end .publisher) p in
       let z : total (lack (end .follower)) (end .publisher) ≡ 0 = ends is qs w (moment is ok es) wide g (let k = most (w .follower) (w .publisher) in omega arith) in
       let y : x .0 .node .max ≤ nodeAt (x .0 .number) (end .follower) .max = needed-none _ _ (total-none (lack (end .follower)) z (x .1)) in
       let n : x .0 .node .max ≡ a .max = ap (λ (k : Node). k .max) (x .2) in

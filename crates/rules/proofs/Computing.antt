@@ -16,6 +16,7 @@ use Rattle.rules.specs.Compute.{fromOf, stale}
 use Rattle.rules.specs.Delta.{NodeDelta}
 use Rattle.rules.specs.Node.{KeyValue, Node, Rec}
 
+-- a delta with this from, for any count of the records above it
 module _ (h : List KeyValue) (p : Node) (ok : Publisher h p) (from count : ℕ) (fits : Bool) where
   abbrev made : List KeyValue → NodeDelta
   made all = record { from = from; last-gc = p .last-gc; recs = take count all; max = carried fits (p .max) all (take count all) }

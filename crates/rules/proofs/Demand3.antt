@@ -1,18 +1,22 @@
 -- Demand 3: the theorem. Whatever happens to a publisher and a follower that began fresh with the same nodes, the claims of specs/Demand3 hold
 -- at every moment, no pair falls, and the closing count ends it. Nothing is assumed but that the fresh tables obey document 01's rules: at most
 -- eight nodes, ascending numbers below 2^64.
-use Prim.Native.Nat.{ℕ}
+use Prim.Native.Nat.{_≤_, ℕ}
 use mathlib.Core.Bool.{true}
-use mathlib.Core.List.{List}
-use mathlib.Core.Path.{_≡_, ap, subst₂}
-use Rattle.rules.proofs.Closing.{closing}
+use mathlib.Core.List.{List, _++_}
+use mathlib.Core.Option.{some}
+use mathlib.Core.Path.{_≡_, ap, subst, subst₂}
+use lib.ListN.{length}
+use Rattle.rules.proofs.Closing.{after-append, closing}
 use Rattle.rules.proofs.EachNode.{at, nodeAt, orFresh}
 use Rattle.rules.proofs.Moments.{InOrder, Moment, moment, run-rises}
 use Rattle.rules.proofs.Obeys.{facts-table}
 use Rattle.rules.proofs.OneNode.{claims-of}
-use Rattle.rules.specs.Demand3.{AllRise, Claims, Demand3, Rises, Sound}
-use Rattle.rules.specs.Table.{obeys}
+use Rattle.rules.specs.Demand3.{AllRise, Claims, Demand3, Holds, Quiet, Rises, Sound, Wide, allGranted, exchanges, holdings}
+use Rattle.rules.specs.Node.{KeyValue, Node}
+use Rattle.rules.specs.Table.{nodeOf, obeys}
 use Rattle.rules.specs.World.{Event, World, after, freshTable, start}
+use Rattle.rules.specs.declared.Status.the-variants.{Set}
 
 module _ (is : List ℕ) (ok : obeys (freshTable is) ≡ true) where
   -- At every moment: both tables hold their nodes and obey document 01's rules; the follower's max never passes the publisher's; and where they
@@ -53,3 +57,18 @@ module _ (is : List ℕ) (ok : obeys (freshTable is) ≡ true) where
 
   pub demand3 : Demand3 is
   demand3 = record { at-every-moment = sound; between-moments = never-falls; closing-count = closing is ok }
+
+  -- So that in the end every Set record of the publisher has arrived, and the follower has no other.
+  pub all-arrives : (es : List Event) (qs : List Quiet)
+      → Wide qs
+      → allGranted (exchanges qs) (after es (start is)) ≡ true
+      → holdings (after es (start is) .publisher) ≤ length qs
+      → (i : ℕ) (p f : Node)
+      → nodeOf i (after (exchanges qs) (after es (start is)) .publisher) ≡ some p
+      → nodeOf i (after (exchanges qs) (after es (start is)) .follower) ≡ some f
+      → (s : KeyValue)
+      → s .status ≡ Set
+      → (Holds p s → Holds f s) × (Holds f s → Holds p s)
+  all-arrives es qs wide g h i p f a b =
+      let end = subst (Sound is) (after-append es (exchanges qs) (start is)) (sound (es ++ exchanges qs)) in
+      end .claims i p f a b .same-set (closing is ok es qs wide g h i p f a b)

@@ -1,4 +1,5 @@
--- A follower's node beside the publisher's: each event but the taking of a delta keeps these facts.
+-- A follower's node beside the publisher's: each event but the taking of a delta keeps these facts. They are the invariant that
+-- carries demand 3.
 use Prim.Native.Nat.{_+_, _≤_, max, ℕ}
 use mathlib.Core.Bool.{Bool, _&&_, false, not, true, true≢false}
 use mathlib.Core.List.{List, [], _∷_}
@@ -17,6 +18,9 @@ use Rattle.rules.specs.Node.{Change, KeyValue, Node, Rec, due, fresh, go
 use Rattle.rules.specs.World.{givenBy}
 use Rattle.rules.specs.declared.Heartbeat.{Heartbeat}
 
+-- Neither number is above the publisher's max. Every record was given and is not above max. `current`: a record is the last that its key was
+-- given, or the key was given a version above both max and last_gc, which right after a reset may exceed max. `live`: every Set record of the
+-- publisher up to the follower's max stands here.
 pub record Follower (h : List KeyValue) (p f : Node) : Type 0 where
   pub sorted : Sorted (f .recs)
   pub max-low : f .max ≤ p .max
@@ -125,7 +129,7 @@ module _ (h : List KeyValue) (p f : Node) (pub-ok : Publisher h p) (ok : Followe
         live r q x =
             (x .0, keep-in (λ r. not (goes due r)) (x .1) (stay _ (due (x .0)) (ap (λ (y : KeyValue). scheduled (y .status)) (x .2) ∙ q)), x .2)
 
--- a removal of the follower keeps the fence open
+-- a removal of the follower keeps its last_gc within its max and g
 pub unfenced-remove : (due : Rec → Bool) (f : Node) (g : ℕ) → ((r : Rec) → r ∈ f .recs → r .kv .version ≤ f .max) → f .last-gc ≤ max (f .max) g → remove due f .last-gc ≤ max (f .max) g
 unfolding remove
 unfenced-remove due f g b e = gc-below due (f .last-gc) (max (f .max) g) (f .recs) e (λ x m. let a = b x m in omega arith)

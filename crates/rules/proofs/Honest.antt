@@ -18,6 +18,8 @@ use Rattle.rules.specs.Demand3.{Last}
 use Rattle.rules.specs.Node.{Change, KeyValue, Node, Rec, scheduled}
 use Rattle.rules.specs.World.{givenBy}
 
+-- Honest: last_gc is the publisher's, and the records are exactly those of the publisher above from and not above the delta's max. Records up to a
+-- cut, a SetMaxVersion alone and a Node left alone all are this.
 pub record Honest (p : Node) (d : NodeDelta) : Type 0 where
   pub gc-is : d .last-gc ≡ p .last-gc
   pub max-low : d .max ≤ p .max
@@ -32,6 +34,7 @@ pub data Covered (d : NodeDelta) (u : KeyValue) : Type 0 where
   before : u .version ≤ d .from → Covered d u
   removed : scheduled (u .status) ≡ true → u .version ≤ d .last-gc → Covered d u
 
+-- for every entry of the history there is one of its key, not older, that the delta brings or need not bring
 pub record Cover (h : List KeyValue) (d : NodeDelta) (t : KeyValue) : Type 0 where
   pub kv : KeyValue
   pub told : kv ∈ h

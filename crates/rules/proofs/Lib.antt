@@ -1,8 +1,9 @@
+pub mod Cases
+pub mod Runs
 pub mod Records
 pub mod Taking
 pub mod Stale
 pub mod Next
-pub mod Cases
 pub mod Ops
 pub mod Deltas
 pub mod Received
@@ -26,7 +27,6 @@ pub mod Refusing
 pub mod EachNode
 pub mod Nearer
 pub mod OnTheWay
-pub mod TableKeeps
 pub mod Moments
 pub mod Undisturbed
 pub mod Closing

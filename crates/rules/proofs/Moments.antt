@@ -1,7 +1,7 @@
 -- Every moment of a run: both tables hold their nodes and obey the rules, a delta on its way is one that reading accepts, and each node's facts
 -- hold. Each event keeps this, and is a step of every node.
 use Prim.Native.Nat.{_+_, _<_, ℕ}
-use mathlib.Core.Bool.{Bool, false, true}
+use mathlib.Core.Bool.{Bool, false, true, true≢false}
 use mathlib.Core.List.{List, [], _∷_}
 use mathlib.Core.Logic.{_⊎_, inl, inr}
 use mathlib.Core.Option.{Option, none, some}
@@ -9,27 +9,27 @@ use mathlib.Core.Path.{_∙_, _≡_, ap, refl, subst, sym}
 use lib.Dec.{leb, ltb}
 use lib.ListN.{length}
 use borrow.Author.Tests.{ltb-true}
-use Rattle.fields.specs.Choice.{pick}
+use Rattle.fields.specs.Choice.{here, pick}
 use Rattle.fields.specs.Parts.{put}
 use Rattle.rules.proofs.Accepted.{computed-chain, computed-small, read-computed}
-use Rattle.rules.proofs.Deltas.{AllSmall, Chain}
+use Rattle.rules.proofs.Calls.{beat-keeps, call-keeps, gc-keeps, offer-keeps, ok-each}
+use Rattle.rules.proofs.Deltas.{AllSmall, Chain, follow-node}
 use Rattle.rules.proofs.EachNode.{Seen, at, nodeAt, orFresh, partsIn, seen-applying, seen-beating, seen-digesting, seen-facts, seen-offering, seen-removing, seen-rises, seen-sent, seen-writing}
 use Rattle.rules.proofs.Keeps.{ClockFits}
-use Rattle.rules.proofs.Obeys.{OkTable, facts-table, table-facts}
+use Rattle.rules.proofs.Obeys.{OkTable, facts-table, in-among, table-facts}
 use Rattle.rules.proofs.OnTheWay.{Comes, comes, delta-written, refuses, writes}
 use Rattle.rules.proofs.OneNode.{Facts, facts-fresh, rises-same, rises-trans, stays}
-use Rattle.rules.proofs.Received.{parts-ok}
-use Rattle.rules.proofs.TableKeeps.{beat-ok, call-ok, gc-ok, offer-ok, parts-kept, read-once}
-use Rattle.rules.proofs.Tables.{node-fresh, numbers-each, numbers-fresh, numbers-remove, numbers-set, repeated}
+use Rattle.rules.proofs.Received.{parts-new, parts-ok}
+use Rattle.rules.proofs.Tables.{node-fresh, numbers-each, numbers-fresh, numbers-remove, numbers-set, part-in, partAt, present, repeated}
 use Rattle.rules.specs.Apply.{ApplyOutcome, apply, applyEach, applyNode, applyOps, codes}
 use Rattle.rules.specs.Compute.{deltaFor}
-use Rattle.rules.specs.Delta.{Good, Op, Ops, deltaBytes, nothingRead, partsOf, readDelta}
+use Rattle.rules.specs.Delta.{Good, KeyValueOp, NodeDelta, NodeOp, Op, Ops, Reading, SetMaxVersionOp, deltaBytes, nothingRead, partsOf, readDelta}
 use Rattle.rules.specs.Demand3.{Rises}
 use Rattle.rules.specs.Digest.{writeDigest}
 use Rattle.rules.specs.Local.{Filled, beatOn, call, callOn, gc, gives, localBeat, offer, offerOn}
 use Rattle.rules.specs.Node.{Call, Deleting, DeletingAfterTtl, KeyValue, Node, Setting, SettingTtl, beats, due, fresh, withHeartbeat}
 use Rattle.rules.specs.Sizes.{numbers, top}
-use Rattle.rules.specs.Table.{Table, nodeOf, numbersOf, obeys, setNode}
+use Rattle.rules.specs.Table.{Table, among, nodeOf, numbersOf, obeys, setNode}
 use Rattle.rules.specs.World.{Applying, Beating, Computing, DeltaSent, DigestSent, Digesting, Event, Exchange, Followers, Idle, Offering, Publishers, Removing, World, Writing, after, afterDelta, afterDigest, appliedTo, calls, computedFor, freshTable, happen, onExchange, onSide, possible, start, timeOf}
 use Rattle.rules.specs.declared.Answer.the-variants.{Done, Refused}
 use Rattle.rules.specs.declared.Computed.{Computed}
@@ -95,6 +95,24 @@ numbers-offer i h t = go (nodeOf i t)
     go none = refl
     go (some n) = numbers-set i _ t
 
+-- ---- a delta that was read
+
+-- it names no node twice
+pub read-once : (ops : List Op) (s : Reading) → Chain s ops → repeated (partsOf ops) ≡ false
+unfolding Chain partsOf repeated
+read-once [] s c = refl
+read-once (NodeOp n g f ∷ ops) s c = go (partAt n (partsOf ops)) refl (read-once ops (c .0) (c .2))
+  where
+    go : (o : Option NodeDelta) → partAt n (partsOf ops) ≡ o → repeated (partsOf ops) ≡ false → pick (present o) true (repeated (partsOf ops)) ≡ false
+    go none q ih = ih
+    go (some d) q ih =
+        let x = part-in n (partsOf ops) q in
+        let seen : among n (c .0 .seen) ≡ true = ap (among n) (follow-node s (c .0) n g f (c .1) .2) ∙ in-among (here refl) in
+        let new : among n (c .0 .seen) ≡ false = ap (λ (k : ℕ). among k (c .0 .seen)) (x .3) ∙ parts-new ops (c .0) (c .2) (x .0) (x .1) in
+        absurd (true≢false (sym seen ∙ new))
+read-once (KeyValueOp r ∷ ops) s c = read-once ops (c .0) (c .2)
+read-once (SetMaxVersionOp m ∷ ops) s c = read-once ops (c .0) (c .2)
+
 -- ---- a table after a delta that is read
 
 -- a law of the table as it is and as its nodes have taken their parts
@@ -111,6 +129,10 @@ clock-fits (Setting v) h = tt
 clock-fits (SettingTtl v now) h = h
 clock-fits (Deleting now) h = h
 clock-fits (DeletingAfterTtl now) h = h
+
+-- a call keeps the table rules
+kept : (t u : Table) → (obeys t ≡ true → obeys u ≡ true) → OkTable t → OkTable u
+kept t u f ok = table-facts u (f (facts-table t ok))
 
 -- ---- each event
 
@@ -165,7 +187,7 @@ module _ (is : List ℕ) (w : World) (ok : InOrder is w) where
             theirs _
             (applied-table (λ t. numbersOf t ≡ numbersOf (w .follower)) b ops now (w .follower) l (r .1) refl (numbers-each (applyNode now) (partsOf ops) (w .follower)))
             (applied-table OkTable b ops now (w .follower) l (r .1) (ok .follower-ok)
-            (parts-kept (w .follower) (ok .follower-ok) now clock (partsOf ops) (parts-ok ops nothingRead (r .2) (r .3)) once));
+            (ok-each now clock (partsOf ops) (w .follower) (parts-ok ops nothingRead (r .2) (r .3)) (ok .follower-ok)));
       }
     where
       ops : List Op
@@ -178,31 +200,31 @@ module _ (is : List ℕ) (w : World) (ok : InOrder is w) where
   next-calls (Writing i k c) p =
       record {
         seen = λ j. seen-writing j w i k c;
-        order = ours _ (numbers-call c i k (w .publisher)) (call-ok (w .publisher) (ok .publisher-ok) c i k (clock-fits c (ltb-true _ _ p))) _;
+        order = ours _ (numbers-call c i k (w .publisher)) (kept (w .publisher) _ (call-keeps c i k (w .publisher) (clock-fits c (ltb-true _ _ p))) (ok .publisher-ok)) _;
       }
   next-calls (Beating Publishers i) p =
-      record { seen = λ j. seen-beating j w Publishers i; order = ours _ (numbers-beat i (w .publisher)) (beat-ok (w .publisher) (ok .publisher-ok) i) _ }
+      record { seen = λ j. seen-beating j w Publishers i; order = ours _ (numbers-beat i (w .publisher)) (kept (w .publisher) _ (beat-keeps i (w .publisher)) (ok .publisher-ok)) _ }
   next-calls (Beating Followers i) p =
-      record { seen = λ j. seen-beating j w Followers i; order = theirs _ (numbers-beat i (w .follower)) (beat-ok (w .follower) (ok .follower-ok) i) }
+      record { seen = λ j. seen-beating j w Followers i; order = theirs _ (numbers-beat i (w .follower)) (kept (w .follower) _ (beat-keeps i (w .follower)) (ok .follower-ok)) }
   next-calls (Offering Publishers i h) p =
       record {
         seen = λ j. seen-offering j w Publishers i h;
-        order = ours _ (numbers-offer i h (w .publisher)) (offer-ok (w .publisher) (ok .publisher-ok) i h (ltb-true _ _ p)) _;
+        order = ours _ (numbers-offer i h (w .publisher)) (kept (w .publisher) _ (offer-keeps i h (w .publisher) (ltb-true _ _ p)) (ok .publisher-ok)) _;
       }
   next-calls (Offering Followers i h) p =
       record {
         seen = λ j. seen-offering j w Followers i h;
-        order = theirs _ (numbers-offer i h (w .follower)) (offer-ok (w .follower) (ok .follower-ok) i h (ltb-true _ _ p));
+        order = theirs _ (numbers-offer i h (w .follower)) (kept (w .follower) _ (offer-keeps i h (w .follower) (ltb-true _ _ p)) (ok .follower-ok));
       }
   next-calls (Removing Publishers now grace) p =
       record {
         seen = λ j. seen-removing j w Publishers now grace;
-        order = ours _ (numbers-gc now grace (w .publisher)) (gc-ok (w .publisher) (ok .publisher-ok) now grace) _;
+        order = ours _ (numbers-gc now grace (w .publisher)) (kept (w .publisher) _ (gc-keeps now grace (w .publisher)) (ok .publisher-ok)) _;
       }
   next-calls (Removing Followers now grace) p =
       record {
         seen = λ j. seen-removing j w Followers now grace;
-        order = theirs _ (numbers-gc now grace (w .follower)) (gc-ok (w .follower) (ok .follower-ok) now grace);
+        order = theirs _ (numbers-gc now grace (w .follower)) (kept (w .follower) _ (gc-keeps now grace (w .follower)) (ok .follower-ok));
       }
   next-calls (Digesting excluded place l) p = record { seen = λ j. seen-digesting j w excluded place l; order = sent-out _ (go (writeDigest excluded place (w .follower) l .answer)) }
     where

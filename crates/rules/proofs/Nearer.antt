@@ -27,6 +27,8 @@ use Rattle.rules.specs.Table.{Entry, Table, among, nodeOf, numbersOf}
 use Rattle.rules.specs.declared.NodeAnswer.{NodeAnswer}
 use Rattle.rules.specs.declared.NodeAnswer.the-variants as node
 
+-- ---- sums over a table
+
 unfoldable pub total : (Entry → ℕ) → Table → ℕ
 total f [] = 0
 total f (e ∷ t) = f e + total f t
@@ -59,7 +61,9 @@ unfolding total
 total-none f h {x} (here {a = e} {l = t} q) = let a : f x ≡ f e = ap f q in omega arith
 total-none f h (later {a = e} {l = t} m) = total-none f (omega arith) m
 
--- what the digest tells of a node that is held
+-- ---- the digest
+
+-- what it tells of a node that is held
 pub told-held : (i : ℕ) (t : Table) (f : Node) → nodeOf i t ≡ some f → toldOf i (digestOf [] t) ≡ record { number = i; heartbeat = f .heartbeat; last-gc = f .last-gc; max = f .max }
 unfolding toldOf digestOf among nodeOf
 told-held i [] f e = let z : _≡_ {A = ℕ} 0 1 = cc in absurd (omega arith)
@@ -75,7 +79,9 @@ told-held i (a ∷ t) f e = go (eqb i (a .number)) refl e (told-held i t f)
         λ z. record { number = n z; heartbeat = g z .heartbeat; last-gc = g z .last-gc; max = g z .max }
     go false q e ih = ih e
 
--- a stale node is behind-of
+-- ---- the queue
+
+-- a node that is behind is in it
 stale-in-table : (l : List NodeDigest) (ties : List ℕ) {t : Table} {e : Entry} → e ∈ t → toldOf (e .number) l .max < e .node .max → (o : StaleNode) × (o ∈ staleNodes [] l ties t)
 unfolding staleNodes among
 stale-in-table l ties {e = e} (here {a = a} {l = t} q) h =
@@ -118,7 +124,7 @@ part-first : (mtu : ℕ) (x : StaleNode) (r : List StaleNode) → 25 ≤ mtu →
 unfolding partAt emit
 part-first mtu x r h = rw (le-leb 25 mtu h, eq-eqb (x .number) (x .number) refl)
 
--- one exchange, with no other event in it
+-- ---- the exchange
 module _ (now mtu : ℕ) (ties : List ℕ) (ours theirs : Table) (asc : Ascending (numbersOf ours)) (both : (e : Entry) → e ∈ ours → (f : Node) × (nodeOf (e .number) theirs ≡ some f)) where
   unfoldable pub told : List NodeDigest
   told = digestOf [] theirs

@@ -1,4 +1,4 @@
--- How many exchanges a node still needs, once all is quiet: none at equal max, else one, and one for each record that is to come.
+-- How many exchanges a node still needs, once all is quiet, and that a delta which brings something makes them fewer.
 use Prim.Native.Nat.{_<_, _≤_, max, suc, zero, ℕ}
 use mathlib.Core.Bool.{Bool, false, true}
 use mathlib.Core.List.{List, [], _∷_}
@@ -19,6 +19,7 @@ use Rattle.rules.specs.Node.{KeyValue, Node, Rec}
 use Rattle.rules.specs.declared.DeltaStatus.{DeltaStatus}
 use Rattle.rules.specs.declared.DeltaStatus.the-variants.{Apply, ApplyAfterReset}
 
+-- none at equal max; else one, and one for each record that is to come, which is each record where a reset is due
 unfoldable pub needed : Node → Node → ℕ
 needed p f = pick (leb (p .max) (f .max)) 0 (suc (length (stale (fromOf (p .last-gc) (f .last-gc) (f .max)) (p .recs))))
 

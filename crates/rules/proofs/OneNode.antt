@@ -1,6 +1,5 @@
 -- One node of a publisher and of a follower: whatever happens to it is one of a few steps, each step keeps the facts that demand 3 rests on,
 -- and none makes a pair (last_gc, max) fall. A delta that is sent is any honest one, and a removal takes any scheduled records.
--- what the publisher gave, its node, the follower's, and the delta on its way
 use Prim.Native.Nat.{_≤_, max, ℕ}
 use mathlib.Core.Bool.{Bool, false, false≢true, true}
 use mathlib.Core.List.{List, [], _∷_}
@@ -29,6 +28,7 @@ use Rattle.rules.specs.declared.DeltaStatus.the-variants.{Apply, ApplyAf
 use Rattle.rules.specs.declared.Heartbeat.{Heartbeat}
 use Rattle.rules.specs.declared.Status.the-variants.{Set}
 
+-- what the publisher gave, its node, the follower's, and the delta on its way
 pub record One : Type 0 where
   pub given : List KeyValue
   pub ours : Node

@@ -14,6 +14,8 @@ use Rattle.rules.specs.Node.{Change, KeyValue, Node, Rec, due, fresh, go
 use Rattle.rules.specs.World.{givenBy, start}
 use Rattle.rules.specs.declared.Heartbeat.{Heartbeat}
 
+-- Versions of what was given are 1 to max, each given once. Every record is the last that its key was given. What a key was given last stands in
+-- the node, or was scheduled and removed, at or below last_gc. The publisher is never reset, so last_gc is not above max.
 pub record Publisher (h : List KeyValue) (p : Node) : Type 0 where
   pub sorted : Sorted (p .recs)
   pub low : (s : KeyValue) → s ∈ h → 0 < s .version

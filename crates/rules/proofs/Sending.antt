@@ -1,6 +1,5 @@
 -- A computed delta, node by node: how many of a node's stale records fit, and what they leave of the MTU. Proofs work on this form; `sends` says
 -- that it is what the operations of document 01's computing bring.
--- the max that comes over: that of the records sent, or own max where there are none to send and a SetMaxVersion fits
 use Prim.Native.Nat.{_+_, _-_, max, suc, ℕ}
 use mathlib.Core.Bool.{Bool, false, true}
 use mathlib.Core.List.{List, [], _++_, _∷_, append-nil}
@@ -16,6 +15,7 @@ use Rattle.rules.specs.Delta.{KeyValueOp, NodeDelta, NodeOp, Op, Part, S
 use Rattle.rules.specs.Local.{gc}
 use Rattle.rules.specs.Node.{KeyValue, Node}
 
+-- the max that comes over: that of the records sent, or own max where there are none to send and a SetMaxVersion fits
 abbrev pub carried : Bool → ℕ → List KeyValue → List KeyValue → ℕ
 carried fits max [] sent = pick fits max 0
 carried fits max (s ∷ ss) sent = topOf 0 sent

@@ -125,7 +125,7 @@ module _ (h : List KeyValue) (p : Node) (ok : Publisher h p) (now : ℕ) (d : No
             subst (λ (y : Rec). Last h (y .kv) ⊎ Newer h (max (d .max) (d .last-gc)) (keyOf y)) (sym (s .3)) (new-current 0 (d .last-gc) [] (omega arith) (s .0) (s .1))
         current r (inr m) = absurd (in-none (m .0))
 
-    -- without one, if the fence is open
+    -- without one, where last_gc is within max and the delta's last_gc
     after-apply : d .from ≤ f .max → d .last-gc ≤ max (f .last-gc) (f .max) → f .max < d .max → f .last-gc ≤ max (f .max) (d .last-gc) → Follower h p (outcome Apply now d f)
     unfolding outcome Out
     after-apply a g m u =

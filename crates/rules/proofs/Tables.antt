@@ -21,6 +21,8 @@ use Rattle.rules.specs.Node.{Node, Rec, due, fresh, remove}
 use Rattle.rules.specs.Table.{Entry, Table, among, nodeOf, numbersOf, removeAll, setNode}
 use Rattle.rules.specs.World.{freshTable}
 
+-- ---- a node of a table
+
 abbrev pub mapped : (Node → Node) → Option Node → Option Node
 mapped f none = none
 mapped f (some n) = some (f n)
@@ -87,6 +89,17 @@ node-entry e asc (here {a = a} {l = t} q) = rw (eq-eqb (e .number) (a .number) (
 node-entry e asc (later {a = a} {l = t} m) =
     let h = asc .0 (e .number) (number-in m) in
     rw (ne-eqb (e .number) (a .number) (λ q. omega arith)) (node-entry e (asc .1) m)
+
+-- a number of the table has its node
+pub node-there : (i : ℕ) (t : Table) → i ∈ numbersOf t → (f : Node) × (nodeOf i t ≡ some f)
+unfolding numbersOf nodeOf
+node-there i [] m = absurd (in-none m)
+node-there i (a ∷ t) m = go (eqb i (a .number)) refl (in-cons m) (node-there i t)
+  where
+    go : (b : Bool) → eqb i (a .number) ≡ b → (i ≡ a .number) ⊎ (i ∈ numbersOf t) → (i ∈ numbersOf t → (f : Node) × (nodeOf i t ≡ some f)) → (f : Node) × (pick b (some (a .node)) (nodeOf i t) ≡ some f)
+    go true q x ih = (a .node, refl)
+    go false q (inl e) ih = absurd (eqb-false i (a .number) q e)
+    go false q (inr m) ih = ih m
 
 -- ---- a delta at a table
 

@@ -5,20 +5,17 @@ use mathlib.Core.Path.{_≡_}
 use mathlib.Core.Logic.{_⊎_}
 use mathlib.Core.Bool.{Bool, true, false, not, _&&_}
 use mathlib.Core.List.{List, [], _∷_, _++_}
-use mathlib.Core.Option.{Option, none, some}
+use mathlib.Core.Option.{some}
 use lib.ListN.{length, take}
-use Rattle.fields.specs.Choice.{pick, _∈_}
+use Rattle.fields.specs.Choice.{_∈_}
 use Rattle.rules.specs.Answers.{codeOf}
 use Rattle.rules.specs.Node.{KeyValue, Rec, Node}
 use Rattle.rules.specs.Table.{Table, nodeOf, numbersOf, among, obeys}
-use Rattle.rules.specs.Local.{call, gc, offer, localBeat}
 use Rattle.rules.specs.Digest.{writeDigest}
 use Rattle.rules.specs.Compute.{compute}
-use Rattle.rules.specs.Apply.{ApplyOutcome, apply}
-use Rattle.rules.specs.World.{World, Exchange, Idle, DigestSent, DeltaSent, Side, Event, Writing, Beating, Offering, Removing, Digesting, Computing, Applying, possible, happen, after, freshTable, start}
-use Rattle.rules.specs.declared.Status.{Status}
+use Rattle.rules.specs.Apply.{apply}
+use Rattle.rules.specs.World.{World, Exchange, Idle, DigestSent, DeltaSent, Event, Writing, Beating, Offering, Removing, Digesting, Computing, Applying, possible, happen, after, start}
 use Rattle.rules.specs.declared.Status.the-variants.{Set}
-use Rattle.rules.specs.declared.NodeAnswer.{NodeAnswer}
 use Rattle.rules.specs.declared.NodeAnswer.the-variants as node
 use Rattle.rules.specs.declared.Written.{Written}
 use Rattle.rules.specs.declared.Written.the-variants as written

@@ -1,14 +1,14 @@
--- Two runs that show where demand 3 ends. The first needs every exchange that the closing count grants. In the second a delta arrives late, after
--- the next digest, which no run of demand 3's world has; it brings a deleted key back, so that the demand must not be carried over to late
--- deltas. Both are computed in proofs/Witnesses.
+-- Four runs, computed in proofs/Witnesses. The first needs every exchange that the closing count grants. In the second a reset forgets a deleted
+-- key and takes a live one below last_gc; in the third one delta brings two nodes. In the fourth a delta arrives late, after the next digest,
+-- which no run of demand 3's world has; it brings a deleted key back, so that the demand must not be carried over to late deltas.
 use Prim.Native.Nat.{ℕ}
 use mathlib.Core.List.{List, [], _∷_, _++_}
 use mathlib.Core.Option.{Option, none, some}
 use lib.ListN.{replicate}
-use Rattle.rules.specs.Node.{KeyValue, Node, Setting, Deleting}
+use Rattle.rules.specs.Node.{KeyValue, Rec, Node, Setting, Deleting}
 use Rattle.rules.specs.Table.{Table, nodeOf}
 use Rattle.rules.specs.World.{World, Publishers, Event, Writing, Removing, Digesting, Computing, Applying, onExchange, start, after}
-use Rattle.rules.specs.Demand3.{Quiet, exchanges}
+use Rattle.rules.specs.Demand3.{Quiet}
 use Rattle.rules.specs.declared.Status.the-variants.{Set}
 
 -- one node, number 7, and its pair (last_gc, max)
@@ -19,8 +19,11 @@ abbrev pub pairIn : Option Node → List ℕ
 pairIn none = []
 pairIn (some n) = n .last-gc ∷ n .max ∷ []
 
+abbrev pub pairAt : ℕ → Table → List ℕ
+pairAt i t = pairIn (nodeOf i t)
+
 abbrev pub pair : Table → List ℕ
-pair t = pairIn (nodeOf 7 t)
+pair t = pairAt 7 t
 
 -- keys of one letter, and their values
 abbrev a : List ℕ
@@ -41,6 +44,13 @@ n = 110 ∷ []
 abbrev one : List ℕ
 one = 49 ∷ []
 
+-- a delta on its way, and applied
+abbrev delta : ℕ → List Event
+delta mtu = Digesting [] 0 (replicate 34 0) ∷ Computing [] (0 ∷ []) mtu 0 (replicate 300 0) ∷ []
+
+abbrev exchange : ℕ → List Event
+exchange mtu = delta mtu ++ (Applying 50 (0 ∷ []) ∷ [])
+
 -- ---- every exchange of the count is needed
 
 -- b is set at 1, a at 2; a is deleted at 3 and the tombstone removed: the publisher is at (3,3) with one record
@@ -60,13 +70,45 @@ quiet =
       answers = 0 ∷ [];
     }
 
+-- ---- a reset forgets what was removed, and takes what is live
+
+-- the keys of node 7 with their versions
+unfoldable pub keysOf : List Rec → List (List ℕ)
+keysOf [] = []
+keysOf (r ∷ l) = (r .kv .version ∷ r .kv .key) ∷ keysOf l
+
+abbrev keysIn : Option Node → List (List ℕ)
+keysIn none = []
+keysIn (some x) = keysOf (x .recs)
+
+abbrev pub keys : Table → List (List ℕ)
+keys t = keysIn (nodeOf 7 t)
+
+-- the follower has k at 1; then b is set at 2, and k is deleted at 3 and removed
+abbrev pub removedThere : World
+removedThere =
+    after
+    ((Writing 7 k (Setting one) ∷ []) ++ (exchange 300 ++ (Writing 7 b (Setting one) ∷ Writing 7 k (Deleting 0) ∷ Removing Publishers 9 5 ∷ [])))
+    (start seven)
+
+abbrev pub forgotten : World
+forgotten = after (exchange 300) removedThere
+
+-- ---- two nodes in one delta
+
+abbrev pub bothNodes : World
+bothNodes =
+    after
+    (Writing 7 k (Setting one)
+    ∷ Writing 9 b (Setting one)
+    ∷ Writing 9 b (Setting [])
+    ∷ Digesting [] 0 (replicate 66 0)
+    ∷ Computing [] (0 ∷ 0 ∷ []) 300 0 (replicate 300 0)
+    ∷ Applying 50 (0 ∷ 0 ∷ [])
+    ∷ [])
+    (start (7 ∷ 9 ∷ []))
+
 -- ---- a late delta
-
-abbrev delta : ℕ → List Event
-delta mtu = Digesting [] 0 (replicate 34 0) ∷ Computing [] (0 ∷ []) mtu 0 (replicate 300 0) ∷ []
-
-abbrev exchange : ℕ → List Event
-exchange mtu = delta mtu ++ (Applying 50 (0 ∷ []) ∷ [])
 
 -- The follower is at (0,3). Then b is set at 4, with a long value, and k at 5, and a delta from 3 with last_gc 0 and max 5 is on its way.
 abbrev pub onItsWay : World

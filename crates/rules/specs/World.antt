@@ -2,7 +2,7 @@
 -- events, and `after` gives the world after it. Whatever happens is a call of document 01, as the files beside this one define it: local
 -- calls and removal (Local), digest writing (Digest), computing (Compute), applying (Apply). Bytes go from one side to the other.
 use Prim.Native.Nat.{ℕ, _+_}
-use mathlib.Core.Bool.{Bool, true, false}
+use mathlib.Core.Bool.{Bool, true}
 use mathlib.Core.List.{List, [], _∷_}
 use mathlib.Core.Option.{Option, none, some}
 use lib.Dec.{ltb, eqb}
