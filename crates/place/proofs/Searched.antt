@@ -138,13 +138,13 @@ less-number i n e = go (eqb i n) (ltb i n) refl e
     go false true q e = ltb-true i n q
     go false false q e = let z : _≡_ {A = ℕ} 0 1 = cc in absurd (omega arith)
 
-pub ordered-nodes : (n : ℕ) (t : Table) → Ascending (numbersOf t) → Ordered (toNode n) t
+ordered-nodes : (n : ℕ) (t : Table) → Ascending (numbersOf t) → Ordered (toNode n) t
 unfolding Ordered Ascending numbersOf
 ordered-nodes n [] h = tt
 ordered-nodes n (e ∷ t) h =
     (λ q x m. number-less n (x .number) (omega (arith, less-number n (e .number) q, h .0 (x .number) (number-in m))), ordered-nodes n t (h .1))
 
-pub ordered-recs : (k : List ℕ) (l : List Rec) → Sorted l → Ordered (toKey k) l
+ordered-recs : (k : List ℕ) (l : List Rec) → Sorted l → Ordered (toKey k) l
 unfolding Ordered Sorted Above
 ordered-recs k [] h = tt
 ordered-recs k (r ∷ l) h =
@@ -187,6 +187,9 @@ module _ (l : List ℕ) (v : valid l ≡ true) where
 
 -- ---- in the bytes of a node whose keys rise
 
+pub recs-ordered : (b : List ℕ) → keysRise (recsOf b) ≡ true → (k : List ℕ) → Ordered (toKey k) (recsOf b)
+recs-ordered b s k = ordered-recs k (recsOf b) (keys-sorted (recsOf b) s)
+
 pub rec-in : (b k : List ℕ) (j : ℕ) → findKey k (recsOf b) ≡ At j → j < countOf b
 rec-in b k j e = rw length-recs at (place-in (toKey k) (recsOf b) j e)
 
@@ -201,4 +204,4 @@ pub rec-missing : (b k : List ℕ) (j : ℕ) → keysRise (recsOf b) ≡ true �
 unfolding find
 rec-missing b k j s e =
     search-free (toKey k) (λ (r : Rec). sameBytes k (r .kv .key)) (key-hit k) (λ (i : ℕ) (r : Rec). some r) none (λ (i : ℕ) (l : List Rec). find k l)
-    (λ i. refl) (λ i a l. refl) (recsOf b) 0 j (ordered-recs k (recsOf b) (keys-sorted (recsOf b) s)) e
+    (λ i. refl) (λ i a l. refl) (recsOf b) 0 j (recs-ordered b s k) e
