@@ -90,7 +90,7 @@ pub fn find(table: &[u8], number: u64, key: &[u8]) -> Found
 }
 
 // The part of the slice that was found, and where nothing was, the empty part at its front.
-fn held(table: &[u8], found: Found) -> &[u8]
+pub fn held(table: &[u8], found: Found) -> &[u8]
     requires { ⌜ Within (length (now table)) found ⌝ }
     ensures { λ r. ⌜ (now r ≡ part (startOf found) (lenOf found) (now (table .entry))) × (r .ptr .0 ≡ table .entry .ptr .0) × (r .ptr .1 ≡ table .entry .ptr .1 + startOf found) ⌝ }
 {
