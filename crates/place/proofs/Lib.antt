@@ -1,1 +1,3 @@
 pub mod Found
+pub mod Searched
+pub mod Entry

@@ -1,0 +1,118 @@
+// Looking a value up in a lent table. `find` tells where it stands, or that there is none, or why the call is refused; `lookup` hands out the value as
+// those very bytes of the caller's slice. Both take any bytes. `find_good` and `lookup_good` do the same on a table known to be good, without the check.
+use place::Place;
+use rules::Record;
+use rules::Refusal;
+use rules::Status;
+use table::layout;
+ghost use mathlib.Core.Path.{_≡_};
+ghost use mathlib.Core.Bool.{true};
+ghost use Prim.Native.Nat.{_+_, _*_, _<_};
+ghost use lib.ListN.{length};
+ghost use Rattle.fields.specs.Parts.{part};
+ghost use Rattle.rules.specs.Sizes.{maxNodes};
+ghost use Rattle.rules.specs.Table.{keysRise};
+ghost use Rattle.rules.specs.Local as rule;
+ghost use Rattle.rules.specs.Layout.{recWidth, decodeRec, decode, valid};
+ghost use Rattle.rules.specs.Lent.{lentLookup};
+ghost use Rattle.table.specs.Tests.{countOf, recsOf};
+ghost use Rattle.table.specs.Fits.{LaidNode};
+ghost use Rattle.lookup.specs.Lookup.{foundRec, findRec, foundIn, lentFind, startOf, lenOf, Within, handed};
+
+// What a lookup finds.
+pub enum Found {
+    // The value is the `len` bytes from `start` on of the lent table. An empty value is found too.
+    At { start: usize, len: usize },
+    // No such key, or its record is hidden.
+    Nothing,
+    Refused(Refusal),
+}
+
+// The value of record `j` in the bytes of node `i`.
+fn in_record(b: &[u8], i: usize, j: usize) -> Found
+    requires { ⌜ LaidNode (now b) × (i < maxNodes) × (j < countOf (now b)) ⌝ }
+    ensures { λ r. ⌜ r ≡ foundRec i j (decodeRec (part (33 + j * recWidth) recWidth (now (b .entry)))) ⌝ }
+{
+    let r = place::read_record(table::record_of(b, j));
+    let start = layout::NODES
+        + i * layout::NODE
+        + (layout::RECORDS + j * layout::RECORD + layout::VALUE);
+    let status = r.status;
+    match status {
+        Status::Delete => Found::Nothing,
+        Status::Set => Found::At {
+            start: start,
+            len: r.valuelen,
+        },
+        Status::Ttl => Found::At {
+            start: start,
+            len: r.valuelen,
+        },
+    }
+}
+
+// The value of the key in the bytes of node `i`.
+fn in_node(b: &[u8], i: usize, key: &[u8]) -> Found
+    requires { ⌜ LaidNode (now b) × (keysRise (recsOf (now b)) ≡ true) × (i < maxNodes) ⌝ }
+    ensures { λ r. ⌜ r ≡ findRec (now (key .entry)) i 0 (recsOf (now (b .entry))) ⌝ }
+{
+    match place::find_key(b, key) {
+        Place::At(j) => in_record(b, i, j),
+        Place::Free(_) => Found::Nothing,
+    }
+}
+
+// Where the value of the key stands in a good table.
+pub fn find_good(table: &[u8], number: u64, key: &[u8]) -> Found
+    requires { ⌜ valid (now table) ≡ true ⌝ }
+    ensures { λ r. ⌜ r ≡ foundIn number (now (key .entry)) (decode (now (table .entry))) ⌝ }
+{
+    match place::find_node(table, number) {
+        Place::At(i) => {
+            if Record::KEY < key.len() {
+                return Found::Refused(Refusal::TooLong);
+            }
+            in_node(table::node_of(table, i), i, key)
+        }
+        Place::Free(_) => Found::Refused(Refusal::NoNode),
+    }
+}
+
+// Where the value of the key stands in lent bytes: 14, 2, 1.
+pub fn find(table: &[u8], number: u64, key: &[u8]) -> Found
+    ensures { λ r. ⌜ r ≡ lentFind number (now (key .entry)) (now (table .entry)) ⌝ }
+{
+    if valid::check_table(table) {
+        find_good(table, number, key)
+    } else {
+        Found::Refused(Refusal::BadTable)
+    }
+}
+
+// The part of the slice that was found, and where nothing was, the empty part at its front.
+pub fn held(table: &[u8], found: Found) -> &[u8]
+    requires { ⌜ Within (length (now table)) found ⌝ }
+    ensures { λ r. ⌜ (now r ≡ part (startOf found) (lenOf found) (now (table .entry))) × (r .ptr .0 ≡ table .entry .ptr .0) × (r .ptr .1 ≡ table .entry .ptr .1 + startOf found) ⌝ }
+{
+    match found {
+        Found::At { start, len } => &table[start..start + len],
+        Found::Nothing => &table[..0],
+        Found::Refused(_) => &table[..0],
+    }
+}
+
+// The value of the key as those very bytes of a good table; where there is none, the empty part at the table's front.
+pub fn lookup_good<'a>(table: &'a [u8], number: u64, key: &[u8]) -> &'a [u8]
+    requires { ⌜ valid (now table) ≡ true ⌝ }
+    ensures { λ r. ⌜ (now r ≡ handed (rule.lookup number (now (key .entry)) (decode (now (table .entry))))) × (r .ptr .0 ≡ table .entry .ptr .0) × (r .ptr .1 ≡ table .entry .ptr .1 + startOf (foundIn number (now (key .entry)) (decode (now (table .entry))))) ⌝ }
+{
+    held(table, find_good(table, number, key))
+}
+
+// The value of the key as those very bytes of the lent table; where there is none or the call is refused, the empty part at the table's front. `find`
+// tells these apart.
+pub fn lookup<'a>(table: &'a [u8], number: u64, key: &[u8]) -> &'a [u8]
+    ensures { λ r. ⌜ (now r ≡ handed (lentLookup number (now (key .entry)) (now (table .entry)))) × (r .ptr .0 ≡ table .entry .ptr .0) × (r .ptr .1 ≡ table .entry .ptr .1 + startOf (lentFind number (now (key .entry)) (now (table .entry)))) ⌝ }
+{
+    held(table, find(table, number, key))
+}

@@ -1,0 +1,113 @@
+// Listing the records of a node whose keys begin with a prefix. A hit is a record that is not hidden; its place among all records of the node goes to
+// the caller's list, one byte each, in key order from the front. The hits are counted before the first is written, so that a call without room for them
+// writes nothing. `list_prefix` takes any bytes, and `list_good` a table known to be good, without the check.
+use place::Place;
+use rules::Listed;
+use rules::Record;
+use rules::Refusal;
+use rules::Status;
+use table::layout;
+ghost use mathlib.Core.Path.{_≡_};
+ghost use mathlib.Core.Bool.{true};
+ghost use Prim.Native.Nat.{_+_, _*_, _≤_, _<_};
+ghost use lib.ListN.{length};
+ghost use Rattle.fields.specs.Parts.{part, put};
+ghost use Rattle.rules.specs.Node.{hits, hitsFrom};
+ghost use Rattle.rules.specs.Local.{listInto, prefixed};
+ghost use Rattle.rules.specs.Layout.{recWidth, decodeRec, decode, valid};
+ghost use Rattle.rules.specs.Lent.{lentPrefixed};
+ghost use Rattle.table.specs.Tests.{countOf, recsOf};
+ghost use Rattle.table.specs.Fits.{LaidNode};
+
+// Whether record `j` of a node's bytes is a hit.
+fn is_hit(b: &[u8], j: usize, prefix: &[u8]) -> bool
+    requires { ⌜ LaidNode (now b) × (j < countOf (now b)) ⌝ }
+    ensures { λ r. ⌜ r ≡ hits (now (prefix .entry)) (decodeRec (part (33 + j * recWidth) recWidth (now (b .entry)))) ⌝ }
+{
+    let record = table::record_of(b, j);
+    if fields::starts_with(prefix, table::key_of(record)) {
+        let r = place::read_record(record);
+        let status = r.status;
+        match status {
+            Status::Delete => false,
+            Status::Set => true,
+            Status::Ttl => true,
+        }
+    } else {
+        false
+    }
+}
+
+// How many hits a node has.
+fn count_hits(b: &[u8], prefix: &[u8]) -> usize
+    requires { ⌜ LaidNode (now b) ⌝ }
+    ensures { λ r. ⌜ r ≡ length (hitsFrom (now (prefix .entry)) 0 (recsOf (now (b .entry)))) ⌝ }
+{
+    let n = fields::byte_at(b, layout::COUNT);
+    let mut found = 0;
+    let mut j = 0;
+    while j < n {
+        if is_hit(b, j, prefix) {
+            found += 1;
+        }
+        j += 1;
+    }
+    found
+}
+
+// The places of a node's hits, to the front of a list that has room for them.
+fn write_hits(b: &[u8], prefix: &[u8], out: &mut [u8])
+    requires { ⌜ LaidNode (now b) × (length (hitsFrom (now prefix) 0 (recsOf (now b))) ≤ length (now out)) ⌝ }
+    ensures { λ _. ⌜ now (out .exit) ≡ put 0 (hitsFrom (now (prefix .entry)) 0 (recsOf (now (b .entry)))) (now (out .entry)) ⌝ }
+{
+    let n = fields::byte_at(b, layout::COUNT);
+    let mut found = 0;
+    let mut j = 0;
+    while j < n {
+        if is_hit(b, j, prefix) {
+            out[found] = j as u8;
+            found += 1;
+        }
+        j += 1;
+    }
+}
+
+// The listing of one node's bytes: 8.
+fn in_node(b: &[u8], prefix: &[u8], out: &mut [u8]) -> Listed
+    requires { ⌜ LaidNode (now b) ⌝ }
+    ensures { λ r. ⌜ (r ≡ listInto (hitsFrom (now (prefix .entry)) 0 (recsOf (now (b .entry)))) (now (out .entry)) .answer) × (now (out .exit) ≡ listInto (hitsFrom (now (prefix .entry)) 0 (recsOf (now (b .entry)))) (now (out .entry)) .list) ⌝ }
+{
+    let found = count_hits(b, prefix);
+    if out.len() < found {
+        return Listed::Refused(Refusal::NoPlace);
+    }
+    write_hits(b, prefix, out);
+    Listed::Hits(found)
+}
+
+// The listing in a good table: 2, 1, 8.
+pub fn list_good(table: &[u8], number: u64, prefix: &[u8], out: &mut [u8]) -> Listed
+    requires { ⌜ valid (now table) ≡ true ⌝ }
+    ensures { λ r. ⌜ (r ≡ prefixed number (now (prefix .entry)) (decode (now (table .entry))) (now (out .entry)) .answer) × (now (out .exit) ≡ prefixed number (now (prefix .entry)) (decode (now (table .entry))) (now (out .entry)) .list) ⌝ }
+{
+    match place::find_node(table, number) {
+        Place::At(i) => {
+            if Record::KEY < prefix.len() {
+                return Listed::Refused(Refusal::TooLong);
+            }
+            in_node(table::node_of(table, i), prefix, out)
+        }
+        Place::Free(_) => Listed::Refused(Refusal::NoNode),
+    }
+}
+
+// The listing in lent bytes: 14, 2, 1, 8.
+pub fn list_prefix(table: &[u8], number: u64, prefix: &[u8], out: &mut [u8]) -> Listed
+    ensures { λ r. ⌜ (r ≡ lentPrefixed number (now (prefix .entry)) (now (out .entry)) (now (table .entry)) .answer) × (now (out .exit) ≡ lentPrefixed number (now (prefix .entry)) (now (out .entry)) (now (table .entry)) .list) ⌝ }
+{
+    if valid::check_table(table) {
+        list_good(table, number, prefix, out)
+    } else {
+        Listed::Refused(Refusal::BadTable)
+    }
+}
