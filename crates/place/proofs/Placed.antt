@@ -110,8 +110,8 @@ module _ (r : Rec) where
   store-free =
       change-free (toKey (keyOf r)) (store r) store-past (λ (j : ℕ) (l : List Rec). insertAt j r l) (λ j a l. refl) refl
       (λ a l q.
-        let less : lessBytes (keyOf r) (a .kv .key) ≡ true = order-less (keyOf r) (a .kv .key) q in
-        rw (store, less-same (keyOf r) (a .kv .key) less, less))
+      let less : lessBytes (keyOf r) (a .kv .key) ≡ true = order-less (keyOf r) (a .kv .key) q in
+      rw (store, less-same (keyOf r) (a .kv .key) less, less))
 
 -- ---- nodes by number
 
