@@ -1,26 +1,21 @@
 -- The small readings: what a hub needs to print a table. Each is a reading of the table that the bytes are, or a refusal; in lent bytes 14 comes first.
 -- A node is named by its number (2 where there is none), a record by its place among the node's records in key order, or by its key (1 where that is
 -- too long). A place past the end is 8, as document 01 has it for places. Hidden records are told too: their status says so.
-use Prim.Native.Nat.{ℕ, zero, suc, _+_, _*_}
+use Prim.Native.Nat.{ℕ, zero, suc}
 use mathlib.Core.List.{List, [], _∷_}
 use mathlib.Core.Option.{Option, none, some}
 use lib.ListN.{length}
-use lib.Dec.{leb, eqb}
+use lib.Dec.{leb}
 use Rattle.fields.specs.Choice.{pick}
-use Rattle.fields.specs.Widths.{offset}
 use Rattle.rules.specs.Sizes.{maxKey}
 use Rattle.rules.specs.Answers.{Told, numberOf}
 use Rattle.rules.specs.Node.{Rec, Node, find}
 use Rattle.rules.specs.Table.{Entry, Table, nodeOf}
 use Rattle.rules.specs.Delta.{statusByte}
-use Rattle.rules.specs.Layout.{recWidths, recWidth, nodeWidths, nodeWidth, tableWidths}
 use Rattle.rules.specs.Lent.{fromTable}
 use Rattle.rules.specs.declared.Refusal.the-variants.{TooLong, NoNode, NoPlace, BadTable}
 use Rattle.rules.specs.declared.Record.{Record}
 use Rattle.place.specs.Find.{headerOf, recordOf}
-use Rattle.lookup.specs.Lookup.{valuePlace}
-use Rattle.lookup.specs.declared.Found.{Found}
-use Rattle.lookup.specs.declared.Found.the-variants as found
 use Rattle.look.specs.declared.Count.{Count}
 use Rattle.look.specs.declared.Count.the-variants as count
 use Rattle.look.specs.declared.NodeNumber.{NodeNumber}
@@ -29,8 +24,6 @@ use Rattle.look.specs.declared.NodeHeader.{NodeHeader}
 use Rattle.look.specs.declared.NodeHeader.the-variants as header
 use Rattle.look.specs.declared.RecordRead.{RecordRead}
 use Rattle.look.specs.declared.RecordRead.the-variants as rec
-use Rattle.look.specs.declared.Text.{Text}
-use Rattle.look.specs.declared.Text.the-variants.{Key, Value}
 
 -- what stands in place i, if the list goes so far
 unfoldable pub elementAt : {A : Type 0} → ℕ → List A → Option A
@@ -94,44 +87,6 @@ recordByKeyOn k (some x) = pick (leb (length k) maxKey) (readKey (find k (x .rec
 abbrev pub recordByKey : ℕ → List ℕ → Table → RecordRead
 recordByKey n k t = recordByKeyOn k (nodeOf n t)
 
--- ---- a record's key and value, and where they stand
-
-abbrev pub textOf : Text → Rec → List ℕ
-textOf Key r = r .kv .key
-textOf Value r = r .kv .value
-
--- where the text of record j of node i begins in a table's bytes
-abbrev pub textOffset : Text → ℕ
-textOffset Key = offset recWidths 1
-textOffset Value = offset recWidths 3
-
-abbrev pub textPlace : Text → ℕ → ℕ → ℕ
-textPlace x i j = offset tableWidths 1 + i * nodeWidth + (offset nodeWidths 5 + j * recWidth + textOffset x)
-
-abbrev pub placeOn : Text → ℕ → ℕ → Option Rec → Found
-placeOn x i j none = found.Refused NoPlace
-placeOn x i j (some r) = found.At (textPlace x i j) (length (textOf x r))
-
--- of the record in place j of node n, the first node's place being i: 2, 8
-unfoldable pub textFrom : Text → ℕ → ℕ → ℕ → Table → Found
-textFrom x n j i [] = found.Refused NoNode
-textFrom x n j i (e ∷ t) = pick (eqb n (e .number)) (placeOn x i j (elementAt j (e .node .recs))) (textFrom x n j (suc i) t)
-
-abbrev pub textFound : Text → ℕ → ℕ → Table → Found
-textFound x n j t = textFrom x n j 0 t
-
--- the bytes themselves, none where the call is refused
-abbrev pub bytesOn : Text → Option Rec → List ℕ
-bytesOn x none = []
-bytesOn x (some r) = textOf x r
-
-abbrev pub textBytesOn : Text → ℕ → Option Node → List ℕ
-textBytesOn x j none = []
-textBytesOn x j (some a) = bytesOn x (elementAt j (a .recs))
-
-abbrev pub textBytes : Text → ℕ → ℕ → Table → List ℕ
-textBytes x n j t = textBytesOn x j (nodeOf n t)
-
 -- ---- in lent bytes: 14 first
 
 abbrev pub lentNodeCount : List ℕ → Count
@@ -151,12 +106,6 @@ lentRecordAt n j l = fromTable (rec.Refused BadTable) (recordAt n j) l
 
 abbrev pub lentRecordByKey : ℕ → List ℕ → List ℕ → RecordRead
 lentRecordByKey n k l = fromTable (rec.Refused BadTable) (recordByKey n k) l
-
-abbrev pub lentTextFound : Text → ℕ → ℕ → List ℕ → Found
-lentTextFound x n j l = fromTable (found.Refused BadTable) (textFound x n j) l
-
-abbrev pub lentTextBytes : Text → ℕ → ℕ → List ℕ → List ℕ
-lentTextBytes x n j l = fromTable [] (textBytes x n j) l
 
 -- ---- the number and the values of each answer
 

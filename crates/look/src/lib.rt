@@ -1,7 +1,6 @@
-// Small readings of a lent table: which nodes are held, a node's header, its records one by one, their keys and values as those very bytes. Each takes
-// any bytes and answers a refusal where there is nothing to read; the one that ends in `_good` does the same on a table known to be good, without the
-// check. A place past the end is refused with 8.
-use lookup::Found;
+// Small readings of a lent table: which nodes are held, a node's header, its records one by one. Each takes any bytes and answers a refusal where there
+// is nothing to read; the one that ends in `_good` does the same on a table known to be good, without the check. A place past the end is refused with 8.
+// The keys and values themselves are handed out by the crate recordtext.
 use place::Place;
 use rules::Header;
 use rules::Record;
@@ -9,16 +8,12 @@ use rules::Refusal;
 use table::layout;
 ghost use mathlib.Core.Path.{_≡_};
 ghost use mathlib.Core.Bool.{true};
-ghost use Prim.Native.Nat.{_+_, _<_};
-ghost use lib.ListN.{length};
-ghost use Rattle.rules.specs.Sizes.{maxNodes};
 ghost use Rattle.rules.specs.Node.{find};
 ghost use Rattle.rules.specs.Table.{keysRise};
 ghost use Rattle.rules.specs.Layout.{decode, valid};
 ghost use Rattle.table.specs.Tests.{recsOf};
 ghost use Rattle.table.specs.Fits.{LaidNode};
-ghost use Rattle.lookup.specs.Lookup.{startOf};
-ghost use Rattle.look.specs.Look.{elementAt, nodeCount, nodeNumber, nodeHeader, recordCount, readAt, recordAt, readKey, recordByKey, placeOn, textFound, textBytes, lentNodeCount, lentNodeNumber, lentNodeHeader, lentRecordCount, lentRecordAt, lentRecordByKey, lentTextFound, lentTextBytes};
+ghost use Rattle.look.specs.Look.{elementAt, nodeCount, nodeNumber, nodeHeader, recordCount, readAt, recordAt, readKey, recordByKey, lentNodeCount, lentNodeNumber, lentNodeHeader, lentRecordCount, lentRecordAt, lentRecordByKey};
 
 // How many there are.
 pub enum Count {
@@ -44,12 +39,6 @@ pub enum RecordRead {
     // No such key.
     Nothing,
     Refused(Refusal),
-}
-
-// One of a record's two texts.
-pub enum Text {
-    Key,
-    Value,
 }
 
 // How many nodes a good table holds.

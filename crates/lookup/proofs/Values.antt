@@ -18,7 +18,7 @@ use Rattle.rules.specs.Node.{Rec, Node, hidden, shown, find}
 use Rattle.rules.specs.Table.{Entry, Table, nodeOf, keysRise}
 use Rattle.rules.specs.Local as rule
 use Rattle.rules.specs.Local.{foundOf, lookupOn}
-use Rattle.rules.specs.Layout.{decodeRec, decodeNode, decode, valid}
+use Rattle.rules.specs.Layout.{recWidth, decodeRec, decodeNode, decode, valid}
 use Rattle.rules.specs.Lent.{fromTable, lentLookup}
 use Rattle.rules.specs.declared.Refusal.the-variants.{TooLong, NoNode, BadTable}
 use Rattle.table.specs.Tests.{valueLength, countOf, nodesOf, recsOf}
@@ -69,30 +69,24 @@ module _ (l : List ℕ) (v : valid l ≡ true) (n : ℕ) (k : List ℕ) (i : ℕ
 
 -- ---- the bytes that stand there
 
-module _ (l : List ℕ) (v : valid l ≡ true) (i j : ℕ) (h : i < nodesOf l) (g : j < countOf (nodeBytes i l)) where
-  b : List ℕ
-  b = nodeBytes i l
+-- a text of record j of node i: the n bytes from o on of the record's
+module _ (l : List ℕ) (v : valid l ≡ true) (i j : ℕ) (h : i < nodesOf l) (g : j < countOf (nodeBytes i l)) (o n : ℕ) (k : o + n ≤ recWidth) (text : List ℕ)
+    (is : text ≡ part o n (recBytes j (nodeBytes i l))) where
+  laid : LaidNode (nodeBytes i l)
+  laid = node-laid l v i h
 
-  o : LaidNode (nodeBytes i l)
-  o = node-laid l v i h
+  text-length : length text ≡ n
+  text-length = ap length is ∙ length-part o n (recBytes j (nodeBytes i l)) (omega (arith, rec-long (nodeBytes i l) laid j g))
 
-  short : valueLength (recBytes j (nodeBytes i l)) ≤ 64
-  short = laid-value (nodeBytes i l) o j g
+  pub text-within : nodePlace i + (recPlace j + o) + length text ≤ length l
+  text-within = rw text-length (omega (arith, valid-long l v, valid-few l v, laid .few))
 
-  value-length : length (recAt j (nodeBytes i l) .kv .value) ≡ valueLength (recBytes j (nodeBytes i l))
-  unfolding decodeRec
-  value-length = length-part 34 (valueLength (recBytes j (nodeBytes i l))) (recBytes j (nodeBytes i l)) (omega (arith, short, rec-long (nodeBytes i l) o j g))
-
-  pub value-within : valuePlace i j + length (recAt j (nodeBytes i l) .kv .value) ≤ length l
-  value-within = rw value-length (omega (arith, short, valid-long l v, valid-few l v, o .few))
-
-  pub value-there : part (valuePlace i j) (length (recAt j (nodeBytes i l) .kv .value)) l ≡ recAt j (nodeBytes i l) .kv .value
-  unfolding decodeRec
-  value-there =
-      let n : ℕ = valueLength (recBytes j (nodeBytes i l)) in
-      ap (λ (m : ℕ). part (valuePlace i j) m l) value-length
-      ∙ sym (in-node i (recPlace j + 34) n l (valid-long l v) (omega (arith, valid-few l v)) (omega (arith, short, o .few)))
-      ∙ sym (in-rec j 34 n (nodeBytes i l) (o .long) (omega (arith, o .few)) (omega (arith, short)))
+  pub text-there : part (nodePlace i + (recPlace j + o)) (length text) l ≡ text
+  text-there =
+      ap (λ (m : ℕ). part (nodePlace i + (recPlace j + o)) m l) text-length
+      ∙ sym (in-node i (recPlace j + o) n l (valid-long l v) (omega (arith, valid-few l v)) (omega (arith, laid .few)))
+      ∙ sym (in-rec j o n (nodeBytes i l) (laid .long) (omega (arith, laid .few)) k)
+      ∙ sym is
 
 -- ---- the rules' answer
 
@@ -102,22 +96,26 @@ Means l f r = Within (length l) f × (valueIn l f ≡ r)
 -- by record j of node i
 rec-means : (l : List ℕ) (v : valid l ≡ true) (i j : ℕ) → i < nodesOf l → j < countOf (nodeBytes i l)
     → Means l (foundRec i j (recAt j (nodeBytes i l))) (foundOf (shown (some (recAt j (nodeBytes i l)))))
+unfolding decodeRec
 rec-means l v i j h g = go (hidden (r .kv .status))
   where
     r : Rec
     r = recAt j (nodeBytes i l)
 
+    n : ℕ
+    n = valueLength (recBytes j (nodeBytes i l))
+
+    fits : 34 + n ≤ recWidth
+    fits = omega (arith, laid-value (nodeBytes i l) (node-laid l v i h) j g)
+
     go : (t : Bool) → Means l (pick t Nothing (At (valuePlace i j) (length (r .kv .value)))) (foundOf (pick t none (some (r .kv .value))))
     go true = (omega arith, refl)
-    go false = (value-within l v i j h g, ap rule.Value (value-there l v i j h g))
+    go false = (text-within l v i j h g 34 n fits (r .kv .value) refl, ap rule.Value (text-there l v i j h g 34 n fits (r .kv .value) refl))
 
 -- in node i
 node-means : (l : List ℕ) (v : valid l ≡ true) (i : ℕ) (k : List ℕ) → i < nodesOf l → Means l (findIn k i (nodeAt i l .node)) (lookupOn k (some (nodeAt i l .node)))
 node-means l v i k h = long (leb (length k) maxKey)
   where
-    b : List ℕ
-    b = nodeBytes i l
-
     key : (p : Place) → findKey k (recsOf (nodeBytes i l)) ≡ p → Means l (findRec k i 0 (recsOf (nodeBytes i l))) (foundOf (shown (find k (recsOf (nodeBytes i l)))))
     key (place.At j) e =
         let g : j < countOf (nodeBytes i l) = rec-in (nodeBytes i l) k j e in

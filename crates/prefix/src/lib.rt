@@ -61,12 +61,12 @@ fn write_hits(b: &[u8], prefix: &[u8], out: &mut [u8])
     ensures { λ _. ⌜ now (out .exit) ≡ put 0 (hitsFrom (now (prefix .entry)) 0 (recsOf (now (b .entry)))) (now (out .entry)) ⌝ }
 {
     let n = fields::byte_at(b, layout::COUNT);
-    let mut found = 0;
+    let mut next = 0;
     let mut j = 0;
     while j < n {
         if is_hit(b, j, prefix) {
-            out[found] = j as u8;
-            found += 1;
+            out[next] = j as u8;
+            next += 1;
         }
         j += 1;
     }

@@ -20,25 +20,25 @@ use Rattle.fields.proofs.byte_at.Reads as byte-at-reads
 use Rattle.prefix.proofs.is_hit.Reads as is-hit-reads
 
 abbrev Inv-loop : tie.InvT-loop
-Inv-loop b prefix out₀ n found₀ j₀ out found j =
+Inv-loop b prefix out₀ n next₀ j₀ out next j =
     (j ≤ n)
     × (length out ≡ length out₀)
-    × (found + length (hitsLeft prefix j b) ≡ length (hitsFrom prefix 0 (recsOf b)))
-    × (put found (hitsLeft prefix j b) out ≡ put 0 (hitsFrom prefix 0 (recsOf b)) out₀)
+    × (next + length (hitsLeft prefix j b) ≡ length (hitsFrom prefix 0 (recsOf b)))
+    × (put next (hitsLeft prefix j b) out ≡ put 0 (hitsFrom prefix 0 (recsOf b)) out₀)
 
 abbrev μ-loop : tie.MeasureT-loop
-μ-loop b prefix out₀ n found₀ j₀ out found j = n - j
+μ-loop b prefix out₀ n next₀ j₀ out next j = n - j
 
 within : (c : tie.In-loop Inv-loop μ-loop) → c .before .loop .j < countOf (c .before .before .before .before .before .before .args .b .now)
 within c = omega (arith, c .before .before .byte-at .ensures .0)
 
 -- a hit has a place in the list
-room : (c : tie.Then1 Inv-loop μ-loop) → c .before .before .before .loop .found < length (c .before .before .before .loop .out)
+room : (c : tie.Then1 Inv-loop μ-loop) → c .before .before .before .loop .next < length (c .before .before .before .loop .out)
 room c =
     let i = c .before in
     let q = i .before .before in
     let s = q .before .before .before .before .before in
-    hit-room (s .args .prefix .now) (s .args .b .now) (q .loop .j) (q .loop .found) (length (q .loop .out)) (within (i .before)) (sym (i .is-hit .ensures) ∙ c .if1 .taken)
+    hit-room (s .args .prefix .now) (s .args .b .now) (q .loop .j) (q .loop .next) (length (q .loop .out)) (within (i .before)) (sym (i .is-hit .ensures) ∙ c .if1 .taken)
     (omega (arith, q .loop .inv .1, q .loop .inv .2, s .pre .1))
 
 byte-at-requires : tie.Need-byte-at-requires Inv-loop μ-loop
@@ -61,8 +61,8 @@ cast-out c =
 slice-write-out : tie.Need-slice-write-out Inv-loop μ-loop
 slice-write-out c = room c
 
-add-found : tie.Need-add-found Inv-loop μ-loop
-add-found c = search needs
+add-next : tie.Need-add-next Inv-loop μ-loop
+add-next c = search needs
 
 add-j : tie.Need-add-j Inv-loop μ-loop
 add-j c = search needs
@@ -78,7 +78,7 @@ loop-again c =
     let k : List ℕ = s .args .prefix .now in
     let b : List ℕ = s .args .b .now in
     let j : ℕ = q .loop .j in
-    let f : ℕ = q .loop .found in
+    let f : ℕ = q .loop .next in
     let h = within (i .before) in
     let left : List ℕ = hitsLeft k (j + 1) b in
     let n : ℕ = length (hitsFrom k 0 (recsOf b)) in
@@ -105,7 +105,7 @@ returns c =
     let q = c .before in
     let a = q .before .before .before .before .before .args in
     let none = none-left (a .prefix .now) (a .b .now) (q .loop .j) (omega (arith, q .before .byte-at .ensures .0)) in
-    sym (ap (λ (x : List ℕ). put (q .loop .found) x (q .loop .out)) none ∙ put-nil (q .loop .found) (q .loop .out)) ∙ q .loop .inv .3
+    sym (ap (λ (x : List ℕ). put (q .loop .next) x (q .loop .out)) none ∙ put-nil (q .loop .next) (q .loop .out)) ∙ q .loop .inv .3
 
 pub write-hits-spec : {M : Type 1} → statement M
 write-hits-spec =
@@ -118,7 +118,7 @@ write-hits-spec =
     is-hit-requires
     cast-out
     slice-write-out
-    add-found
+    add-next
     add-j
     loop-less
     loop-again
