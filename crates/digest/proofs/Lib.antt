@@ -1,0 +1,3 @@
+pub mod Places
+pub mod Counts
+pub mod Telling
