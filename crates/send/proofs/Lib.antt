@@ -1,0 +1,2 @@
+pub mod Located
+pub mod Steps
