@@ -1,2 +1,3 @@
 pub mod Located
 pub mod Steps
+pub mod Lines

@@ -53,3 +53,42 @@ fn send_max(s: &[u8], p: usize, stale: usize, d: &mut [u8]) -> Sent
         Wrote::NoFit => Sent { ops: 0, bytes: 0 },
     }
 }
+
+// Writes the operations of the `n` nodes in line, first to last, while they fit. The first record that does not fit ends the whole delta, and so
+// does a Node.
+pub fn send(s: &[u8], froms: &[u64], line: &[usize], n: usize, d: &mut [u8]) -> Sent
+    requires { ⌜ LaidTable (now s) × (length (now froms) ≡ 8) × (length (now line) ≡ 8) × (n ≤ 8)
+        × ((p : ℕ) → p ∈ listed n (now line) → p < nodesOf (now s)) ⌝ }
+    ensures { λ r. ⌜ (r ≡ sending 0 0 (opsAt (decode (now (s .entry))) (now (froms .entry)) (listed n (now (line .entry)))) (now (d .entry)) .answer)
+        × (now (d .exit) ≡ sending 0 0 (opsAt (decode (now (s .entry))) (now (froms .entry)) (listed n (now (line .entry)))) (now (d .entry)) .list) ⌝ }
+{
+    let mut ops = 0;
+    let mut used = 0;
+    let mut j = n;
+    'nodes: while 0 < j {
+        j -= 1;
+        let p = line[j];
+        let from = froms[p];
+        let Wrote::Bytes(size) = send_node(s, p, from, &mut d[used..]) else {
+            break 'nodes;
+        };
+        ops += 1;
+        used += size;
+        let stale = stale::stale_places(table::node_of(s, p), from);
+        let at = stale.at;
+        let mut k = stale.count;
+        let sent = send_max(s, p, k, &mut d[used..]);
+        ops += sent.ops;
+        used += sent.bytes;
+        while 0 < k {
+            k -= 1;
+            let q = at[k];
+            let Wrote::Bytes(size) = send_record(s, p, q, &mut d[used..]) else {
+                break 'nodes;
+            };
+            ops += 1;
+            used += size;
+        }
+    }
+    Sent { ops, bytes: used }
+}
