@@ -1,0 +1,76 @@
+-- What is known of bytes that are laid out: how long they are, how many records or nodes they hold, that each record's lengths are within the
+-- sizes, and that each node of a table is laid out itself. Assumes nothing.
+use Prim.Native.Nat.{ℕ, _+_, _*_, _-_, _≤_, _<_}
+use mathlib.Core.Path.{_≡_, refl, ap, sym, _∙_, subst}
+use mathlib.Core.Bool.{true}
+use mathlib.Core.List.{List, []}
+use native.Mathlib.Omega.{arith}
+use lib.ListN.{length, getD, length-take, length-drop}
+use Rattle.fields.specs.Choice.{_∈_}
+use Rattle.fields.specs.Parts.{part}
+use Rattle.fields.proofs.Choice.{in-at}
+use Rattle.fields.proofs.Parts.{length-part}
+use Rattle.rules.specs.Sizes.{maxNodes, maxRecords, maxKey, maxValue}
+use Rattle.rules.specs.Node.{Rec}
+use Rattle.rules.specs.Table.{Entry, Table}
+use Rattle.rules.specs.Layout.{recWidth, nodeWidth, tableWidth, decodeRec, decodeNode, encodeNode, decode, encode, valid}
+use Rattle.table.specs.Fits.{FitsRec, FitsEntry, LaidNode, LaidTable}
+use Rattle.table.specs.Tests.{keyLength, valueLength, countOf, nodesOf, recsOf}
+use Rattle.table.proofs.Nodes.{length-node, laid-node}
+use Rattle.table.proofs.Tables.{length-table, length-decode, valid-laid}
+use Rattle.table.proofs.Places.{recPlace, recBytes, recAt, recs-at, length-recs, nodePlace, nodeBytes, nodeAt, decode-at}
+use Rattle.table.proofs.Changed.{table-node}
+
+-- a length of a text that was read within the sizes is within them itself
+key-short : (x : List ℕ) → length x ≡ recWidth → length (decodeRec x .kv .key) ≤ maxKey → keyLength x ≤ maxKey
+unfolding decodeRec part
+key-short x e h =
+    let p : length (part 1 (keyLength x) x) ≤ maxKey = h in
+    omega (arith, simp (part, length-take, length-drop) at p)
+
+value-short : (x : List ℕ) → length x ≡ recWidth → length (decodeRec x .kv .value) ≤ maxValue → valueLength x ≤ maxValue
+unfolding decodeRec part
+value-short x e h =
+    let p : length (part 34 (valueLength x) x) ≤ maxValue = h in
+    omega (arith, simp (part, length-take, length-drop) at p)
+
+module _ (b : List ℕ) (o : LaidNode b) where
+  pub laid-long : length b ≡ nodeWidth
+  laid-long = ap length (sym (o .is)) ∙ length-node (decodeNode b)
+
+  pub laid-few : countOf b ≤ maxRecords
+  laid-few = subst (λ (n : ℕ). n ≤ maxRecords) (length-recs b) (o .fits .few)
+
+  module _ (j : ℕ) (h : j < countOf b) where
+    pub laid-rec : FitsRec (recAt j b)
+    laid-rec =
+        let d : Rec = decodeRec [] in
+        o .fits .each (recAt j b) (subst (λ (r : Rec). r ∈ recsOf b) (recs-at j b d h) (in-at (recsOf b) j d (rw length-recs h)))
+
+    pub rec-long : length (recBytes j b) ≡ recWidth
+    rec-long = length-part (recPlace j) recWidth b (omega (arith, laid-long, laid-few))
+
+    pub laid-key : keyLength (recBytes j b) ≤ maxKey
+    laid-key = key-short (recBytes j b) rec-long (laid-rec .key-fits)
+
+    pub laid-value : valueLength (recBytes j b) ≤ maxValue
+    laid-value = value-short (recBytes j b) rec-long (laid-rec .value-fits)
+
+module _ (l : List ℕ) (o : LaidTable l) where
+  pub table-long : length l ≡ tableWidth
+  table-long = ap length (sym (o .is)) ∙ length-table (decode l)
+
+  pub table-few : nodesOf l ≤ maxNodes
+  table-few = subst (λ (n : ℕ). n ≤ maxNodes) (length-decode l) (o .fits .few)
+
+  -- node i is laid out, and is the table's
+  module _ (i : ℕ) (h : i < nodesOf l) where
+    d : Entry
+    d = decodeNode []
+
+    node-is : nodeBytes i l ≡ encodeNode (getD (decode l) i d)
+    node-is = ap (part (nodePlace i) nodeWidth) (sym (o .is)) ∙ table-node (decode l) (o .fits .few) i d (rw length-decode h)
+
+    pub laid-at : LaidNode (nodeBytes i l)
+    laid-at =
+        subst LaidNode (sym node-is) (laid-node (getD (decode l) i d) (o .fits .each (getD (decode l) i d) (in-at (decode l) i d (rw length-decode h))))

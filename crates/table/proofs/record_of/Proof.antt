@@ -1,0 +1,33 @@
+-- `table::record_of` meets its contract. Assumes nothing.
+use Prim.Native.Nat.{_+_, _*_}
+use Rattle.fields.proofs.Lent.{seen}
+use borrow.Author.Needs.{needs}
+use Rattle.table.proofs.record_of.Statement.{statement}
+use Rattle.table.proofs.record_of.Tie as tie
+use Rattle.table.proofs.record_of.Reads as reads
+use Rattle.table.proofs.record_of.Lts as lts
+
+mul-a : tie.Need-mul-a
+mul-a c = search needs
+
+add-a : tie.Need-add-a
+add-a c = search needs
+
+add-e : tie.Need-add-e
+add-e c = search needs
+
+sub-result : tie.Need-sub-result
+sub-result c = search needs
+
+part-result-start : tie.Need-part-result-start
+part-result-start c = search needs
+
+part-result-end : tie.Need-part-result-end
+part-result-end c = search needs
+
+returns : tie.Need-returns
+returns c = seen (33 + c .before .args .j * 115) 115 (c .before .args .b .now)
+
+pub record-of-spec : {M : Type 1} → statement M
+record-of-spec =
+    tie.close (tie.spec mul-a add-a add-e sub-result part-result-start part-result-end returns)

@@ -1,0 +1,39 @@
+-- What fits into the layout, whether or not it obeys the rules: lengths within the sizes and numbers of eight bytes. A writer on a good table needs
+-- no more than this of what it finds, and a chain of writers may break a rule between its first step and its last.
+use Prim.Native.Nat.{ℕ, _≤_, _<_}
+use mathlib.Core.Path.{_≡_}
+use mathlib.Core.List.{List}
+use lib.ListN.{length}
+use Rattle.fields.specs.Choice.{_∈_}
+use Rattle.rules.specs.Sizes.{maxNodes, maxRecords, maxKey, maxValue, numbers}
+use Rattle.rules.specs.Node.{Rec}
+use Rattle.rules.specs.Table.{Entry, Table}
+use Rattle.rules.specs.Layout.{encodeNode, decodeNode, encode, decode}
+
+pub record FitsRec (r : Rec) : Type 0 where
+  pub key-fits : length (r .kv .key) ≤ maxKey
+  pub value-fits : length (r .kv .value) ≤ maxValue
+  pub version-high : r .kv .version < numbers
+  pub start-high : r .start < numbers
+
+pub record FitsEntry (e : Entry) : Type 0 where
+  pub number-high : e .number < numbers
+  pub beat-high : e .node .heartbeat .0 < numbers
+  pub max-high : e .node .max < numbers
+  pub gc-high : e .node .last-gc < numbers
+  pub few : length (e .node .recs) ≤ maxRecords
+  pub each : (r : Rec) → r ∈ e .node .recs → FitsRec r
+
+pub record FitsTable (t : Table) : Type 0 where
+  pub few : length t ≤ maxNodes
+  pub each : (e : Entry) → e ∈ t → FitsEntry e
+
+-- the bytes are those of the node that is read in them, and it fits
+pub record LaidNode (b : List ℕ) : Type 0 where
+  pub fits : FitsEntry (decodeNode b)
+  pub is : encodeNode (decodeNode b) ≡ b
+
+-- the bytes are those of the table that is read in them, and it fits
+pub record LaidTable (l : List ℕ) : Type 0 where
+  pub fits : FitsTable (decode l)
+  pub is : encode (decode l) ≡ l

@@ -1,0 +1,88 @@
+-- The check behind number 14 as plain tests of bytes, from left to right. `valid` says what a good table is: the bytes of a table that obeys the
+-- rules. These tests say how one sees it on the bytes; that they come to the same is proved (proofs/Checked.antt).
+use Prim.Native.Nat.{ℕ, _+_, _*_, _-_}
+use mathlib.Core.Bool.{Bool, true, false, _&&_}
+use mathlib.Core.List.{List, [], _∷_}
+use lib.ListN.{length, drop}
+use lib.Dec.{leb, eqb}
+use Rattle.fields.specs.Choice.{every}
+use Rattle.fields.specs.Numbers.{natOf}
+use Rattle.fields.specs.Parts.{part}
+use Rattle.fields.specs.Blocks.{allZero, allBlocks}
+use Rattle.fields.specs.Widths.{offset}
+use Rattle.rules.specs.Sizes.{maxNodes, maxRecords, maxKey, maxValue}
+use Rattle.rules.specs.Node.{Rec}
+use Rattle.rules.specs.Table.{keysRise, versions, differ, rising, numbersOf}
+use Rattle.rules.specs.Layout.{recWidths, recWidth, nodeWidths, nodeWidth, tableWidths, tableWidth, decodeNode, decode}
+
+-- ---- a record's bytes, in a node with this max
+
+abbrev pub keyLength : List ℕ → ℕ
+keyLength b = natOf (part (offset recWidths 0) 1 b)
+
+abbrev pub valueLength : List ℕ → ℕ
+valueLength b = natOf (part (offset recWidths 2) 1 b)
+
+abbrev pub versionOf : List ℕ → ℕ
+versionOf b = natOf (part (offset recWidths 4) 8 b)
+
+-- zeros behind the text of k bytes that stands at `at` in room for n
+abbrev pub clean : ℕ → ℕ → ℕ → List ℕ → Bool
+clean at n k b = allZero (part (at + k) (n - k) b)
+
+-- lengths within the sizes, a version from 1 on and not above max, a status of the three, zeros behind key and value
+abbrev pub recTests : ℕ → List ℕ → List Bool
+recTests max b =
+    leb (keyLength b) maxKey
+    ∷ leb (valueLength b) maxValue
+    ∷ leb 1 (versionOf b)
+    ∷ leb (versionOf b) max
+    ∷ leb (natOf (part (offset recWidths 5) 1 b)) 2
+    ∷ clean (offset recWidths 1) maxKey (keyLength b) b
+    ∷ clean (offset recWidths 3) maxValue (valueLength b) b
+    ∷ []
+
+unfoldable pub recGood : ℕ → List ℕ → Bool
+recGood max b = every (recTests max b)
+
+-- ---- a node's bytes
+
+abbrev pub maxOf : List ℕ → ℕ
+maxOf b = natOf (part (offset nodeWidths 2) 8 b)
+
+abbrev pub countOf : List ℕ → ℕ
+countOf b = natOf (part (offset nodeWidths 4) 1 b)
+
+-- the records that stand in a node's bytes
+abbrev pub recsOf : List ℕ → List Rec
+recsOf b = decodeNode b .node .recs
+
+-- at most 32 records, each good, their keys rising, their versions different, zeros behind them
+abbrev pub nodeTests : List ℕ → List Bool
+nodeTests b =
+    leb (countOf b) maxRecords
+    ∷ allBlocks (recGood (maxOf b)) recWidth (countOf b) (drop (offset nodeWidths 5) b)
+    ∷ keysRise (recsOf b)
+    ∷ differ (versions (recsOf b))
+    ∷ allZero (part (offset nodeWidths 5 + countOf b * recWidth) ((maxRecords - countOf b) * recWidth) b)
+    ∷ []
+
+unfoldable pub nodeGood : List ℕ → Bool
+nodeGood b = every (nodeTests b)
+
+-- ---- a table's bytes
+
+abbrev pub nodesOf : List ℕ → ℕ
+nodesOf l = natOf (part (offset tableWidths 0) 1 l)
+
+-- at most 8 nodes, each good, their numbers rising, zeros behind them
+abbrev pub tableTests : List ℕ → List Bool
+tableTests l =
+    leb (nodesOf l) maxNodes
+    ∷ allBlocks nodeGood nodeWidth (nodesOf l) (drop (offset tableWidths 1) l)
+    ∷ rising (numbersOf (decode l))
+    ∷ allZero (part (offset tableWidths 1 + nodesOf l * nodeWidth) ((maxNodes - nodesOf l) * nodeWidth) l)
+    ∷ []
+
+unfoldable pub tableGood : List ℕ → Bool
+tableGood l = eqb (length l) tableWidth && every (tableTests l)

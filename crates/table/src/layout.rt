@@ -1,0 +1,43 @@
+// Where everything stands in the bytes of a lent table: a structure is its fields, one behind the other.
+use rules::Header;
+use rules::Record;
+
+// The most nodes of a table.
+pub const MOST_NODES: usize = 8;
+
+// A record, from its first byte: key length, key, value length, value, version, status, start.
+pub const KEY_LENGTH: usize = 0;
+
+pub const KEY: usize = KEY_LENGTH + 1;
+
+pub const VALUE_LENGTH: usize = KEY + Record::KEY;
+
+pub const VALUE: usize = VALUE_LENGTH + 1;
+
+pub const VERSION: usize = VALUE + Record::VALUE;
+
+pub const STATUS: usize = VERSION + 8;
+
+pub const START: usize = STATUS + 1;
+
+pub const RECORD: usize = START + 8;
+
+// A node, from its first byte: number, heartbeat, max, last_gc, count of records, room for 32 of them.
+pub const NUMBER: usize = 0;
+
+pub const HEARTBEAT: usize = NUMBER + 8;
+
+pub const MAX: usize = HEARTBEAT + 8;
+
+pub const LAST_GC: usize = MAX + 8;
+
+pub const COUNT: usize = LAST_GC + 8;
+
+pub const RECORDS: usize = COUNT + 1;
+
+pub const NODE: usize = RECORDS + Header::RECORDS * RECORD;
+
+// A table: count of nodes, room for 8 of them.
+pub const NODES: usize = 1;
+
+pub const TABLE: usize = NODES + MOST_NODES * NODE;
