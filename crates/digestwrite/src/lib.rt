@@ -6,12 +6,12 @@ ghost use lib.ListN.{length};
 ghost use Rattle.fields.specs.Blocks.{flat};
 ghost use Rattle.fields.specs.Parts.{put};
 ghost use Rattle.rules.specs.Digest.{digestBytes, digestOf, digestOfNode, entryBytes};
-ghost use Rattle.rules.specs.Layout.{decode, decodeNode, nodeWidth, tableWidth};
+ghost use Rattle.rules.specs.Layout.{decode, decodeNode, nodeWidth};
 ghost use Rattle.rules.specs.Sizes.{maxNodes};
 ghost use Rattle.rules.specs.Table.{among};
-ghost use Rattle.table.specs.Tests.{nodesOf};
+ghost use Rattle.table.specs.Fits.{LaidTable};
 ghost use Rattle.digest.specs.Held.{back, held};
-ghost use Rattle.digestwrite.specs.Digests.{Room, TableBytes, WritesDigest};
+ghost use Rattle.digestwrite.specs.Digests.{Room, WritesDigest};
 use digest::NodeDigest;
 use rules::Refusal;
 use rules::Written;
@@ -55,7 +55,7 @@ fn entry_of(b: &[u8]) -> NodeDigest
 
 // How many nodes of the table are not excluded.
 fn count_written(table: &[u8], excluded: &[u64]) -> usize
-    requires { ⌜ TableBytes (now table) ⌝ }
+    requires { ⌜ LaidTable (now table) ⌝ }
     ensures { λ r. ⌜ (r ≡ length (digestOf (now (excluded .entry)) (decode (now (table .entry))))) × (r ≤ maxNodes) ⌝ }
 {
     let nodes = fields::byte_at(table, 0);
@@ -86,7 +86,7 @@ fn write_entry(d: &mut [u8], e: NodeDigest)
 
 // Stores the entries of the nodes that are not excluded, one behind the other.
 fn write_entries(table: &[u8], excluded: &[u64], d: &mut [u8])
-    requires { ⌜ TableBytes (now table) × Room 0 (now excluded) (now table) (now d) ⌝ }
+    requires { ⌜ LaidTable (now table) × Room 0 (now excluded) (now table) (now d) ⌝ }
     ensures { λ _. ⌜ now (d .exit) ≡ put 0 (flat entryBytes (digestOf (now (excluded .entry)) (decode (now (table .entry))))) (now (d .entry)) ⌝ }
 {
     let nodes = fields::byte_at(table, 0);
@@ -107,7 +107,7 @@ fn write_entries(table: &[u8], excluded: &[u64], d: &mut [u8])
 
 // Stores the count and the entries at the front of what is lent.
 fn store_digest(table: &[u8], excluded: &[u64], d: &mut [u8], count: usize)
-    requires { ⌜ TableBytes (now table) × Room 2 (now excluded) (now table) (now d) × (count ≡ length (digestOf (now excluded) (decode (now table)))) ⌝ }
+    requires { ⌜ LaidTable (now table) × Room 2 (now excluded) (now table) (now d) × (count ≡ length (digestOf (now excluded) (decode (now table)))) ⌝ }
     ensures { λ _. ⌜ now (d .exit) ≡ put 0 (digestBytes (digestOf (now (excluded .entry)) (decode (now (table .entry))))) (now (d .entry)) ⌝ }
 {
     fields::write_u16(d, 0, count);
