@@ -10,10 +10,12 @@ use Rattle.fields.specs.Blocks.{flat}
 use Rattle.fields.specs.Numbers.{bytesOf}
 use Rattle.fields.specs.Parts.{put}
 use Rattle.fields.proofs.Numbers.{length-bytesOf}
+use Rattle.fields.proofs.Parts.{put-field}
 use Rattle.rules.specs.Digest.{NodeDigest, digestBytes, digestOf, entryBytes, writeDigest}
 use Rattle.rules.specs.Layout.{decode, valid}
 use Rattle.rules.specs.Lent.{fromTable, lentDigest}
 use Rattle.rules.specs.declared.Refusal.the-variants.{BadTable, NoPlace}
+use Rattle.rules.specs.declared.Written.{Written}
 use Rattle.rules.specs.declared.Written.the-variants.{Bytes, Refused}
 use Rattle.digestwrite.specs.Digests.{WritesDigest}
 use Rattle.digestwrite.proofs.Entries.{entries-long}
@@ -24,6 +26,14 @@ digest-long ds =
     let e = entries-long ds in
     let b = length-bytesOf 2 (length ds) in
     length-append (bytesOf 2 (length ds)) (flat entryBytes ds) ∙ (let g : length (bytesOf 2 (length ds)) + length (flat entryBytes ds) ≡ 2 + length ds * 32 = omega arith in g)
+
+-- the count, and the entries behind it
+pub stored : (ds : List NodeDigest) (n : ℕ) (l a b : List ℕ) → n ≡ length ds → 2 + length ds * 32 ≤ length l → a ≡ put 0 (bytesOf 2 n) l → b ≡ put 2 (flat entryBytes ds) a
+    → b ≡ put 0 (digestBytes ds) l
+unfolding digestBytes
+stored ds n l a b e h p q =
+    let k = entries-long ds in
+    put-field 2 (bytesOf 2 (length ds)) (flat entryBytes ds) l a b (length-bytesOf 2 (length ds)) (omega arith) (p ∙ ap (λ (m : ℕ). put 0 (bytesOf 2 m) l) e) q
 
 module _ (excluded : List ℕ) (place : ℕ) (d l : List ℕ) where
   pub not-a-table : valid l ≡ false → WritesDigest excluded place d l (Refused BadTable) d
@@ -53,3 +63,7 @@ module _ (excluded : List ℕ) (place : ℕ) (d l : List ℕ) where
           let t = le-leb place (length d) h in
           let u = le-leb (2 + n * 32) (length d - place) g in
           record { answered = rw (v, t, size, u); written = rw (v, t, size, u) e }
+
+-- no second outcome is promised
+pub only : (excluded : List ℕ) (place : ℕ) (d l : List ℕ) (r s : Written) (a b : List ℕ) → WritesDigest excluded place d l r a → WritesDigest excluded place d l s b → (r ≡ s) × (a ≡ b)
+only excluded place d l r s a b x y = (x .answered ∙ sym (y .answered), x .written ∙ sym (y .written))

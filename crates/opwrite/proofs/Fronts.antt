@@ -118,3 +118,7 @@ unfolding writeOp
 no-fit o n l e h =
     let t = lt-leb (sizeOf o) (length l) (omega arith) in
     record { answered = rw t; written = rw t }
+
+-- no second outcome is promised
+pub only : (o : Op) (l : List ℕ) (r s : Wrote) (a b : List ℕ) → WritesOp o l r a → WritesOp o l s b → (r ≡ s) × (a ≡ b)
+only o l r s a b x y = (x .answered ∙ sym (y .answered), x .written ∙ sym (y .written))

@@ -1,38 +1,42 @@
+-- The entries go behind the count. Assumes nothing.
+use native.Mathlib.Omega.{arith}
+use Rattle.fields.specs.Blocks.{flat}
+use Rattle.fields.proofs.Lent.{lent-rest-put}
+use Rattle.rules.specs.Digest.{digestOf, entryBytes}
+use Rattle.rules.specs.Layout.{decode}
+use Rattle.digestwrite.proofs.Outcomes.{stored}
 use borrow.Author.Needs.{needs}
 use Rattle.digestwrite.proofs.store_digest.Statement.{statement}
 use Rattle.digestwrite.proofs.store_digest.Tie as tie
-use Rattle.digestwrite.proofs.store_digest.Reads as reads
-use Rattle.digestwrite.proofs.store_digest.Lts as lts
-use Rattle.digestwrite.proofs.write_entries.Reads as write-entries-reads
-use Rattle.fields.proofs.write_u16.Reads as write-u16-reads
 
--- src/lib.rt:113:5
 write-u16-requires : tie.Need-write-u16-requires
 write-u16-requires c κs = search needs
 
--- src/lib.rt:114:36
 sub-write-entries : tie.Need-sub-write-entries
 sub-write-entries c = search needs
 
--- src/lib.rt:114:36
 part-write-entries-start : tie.Need-part-write-entries-start
 part-write-entries-start c = search needs
 
--- src/lib.rt:114:36
 part-write-entries-end : tie.Need-part-write-entries-end
 part-write-entries-end c = search needs
 
--- src/lib.rt:114:5
 write-entries-requires : tie.Need-write-entries-requires
 write-entries-requires c κs = search needs
 
--- src/lib.rt:109:1
 same-length : tie.Need-same-length
 same-length c = search needs
 
--- src/lib.rt:109:1
 returns : tie.Need-returns
-returns c = ?
+returns c =
+    let s = c .before .before .before .before .before .before .before .before .before .before .before in
+    let ds = digestOf (s .args .excluded .now) (decode (s .args .table .now)) in
+    let x = c .before .before .before .before .before .before .write-u16 .last .0 in
+    let k = c .before .before .before .before .before .before .write-u16 .kept .0 in
+    let r = s .pre .1 in
+    let w = c .before .before .write-entries in
+    stored ds (s .args .count) (s .args .d .now) x _ (s .pre .2) (omega arith) (c .before .before .before .before .before .before .write-u16 .ensures)
+    (lent-rest-put 2 0 (flat entryBytes ds) x (w .last .1 .1 .0) (omega arith) (w .ensures))
 
 pub store-digest-spec : {M : Type 1} → statement M
 store-digest-spec =

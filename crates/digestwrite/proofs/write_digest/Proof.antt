@@ -1,67 +1,80 @@
+-- Each answer is its case of the definition. Assumes nothing.
+use Prim.Native.Nat.{ℕ}
+use mathlib.Core.Path.{_≡_, _∙_, ap, sym}
+use mathlib.Core.Bool.{true}
+use native.Mathlib.Nat.{add-zero}
+use native.Mathlib.Omega.{arith}
+use lib.ListN.{length, length-drop}
+use Rattle.fields.specs.Parts.{put}
+use Rattle.fields.proofs.Lent.{lent-rest-put, seen-rest}
+use Rattle.rules.specs.Digest.{digestBytes, digestOf}
+use Rattle.rules.specs.Layout.{decode, valid}
+use Rattle.table.proofs.Tables.{valid-laid}
+use Rattle.digestwrite.proofs.Outcomes.{no-room, not-a-table, past-end, written}
 use borrow.Author.Needs.{needs}
 use Rattle.digestwrite.proofs.write_digest.Statement.{statement}
 use Rattle.digestwrite.proofs.write_digest.Tie as tie
-use Rattle.digestwrite.proofs.write_digest.Reads as reads
-use Rattle.digestwrite.proofs.write_digest.Lts as lts
-use Rattle.digestwrite.proofs.count_written.Reads as count-written-reads
-use Rattle.digestwrite.proofs.store_digest.Reads as store-digest-reads
-use Rattle.valid.proofs.check_table.Reads as check-table-reads
 
--- src/lib.rt:121:8
+-- the table passed the check
+good : (c : tie.Then1) → valid (c .before .before .before .before .before .args .table .now) ≡ true
+good c = sym (c .before .check-table .ensures) ∙ c .if1 .taken
+
 check-table-requires : tie.Need-check-table-requires
 check-table-requires c κs = search needs
 
--- src/lib.rt:123:13
 returns : tie.Need-returns
-returns c = ?
+returns c =
+    let a = c .before .before .before .before .before .before .args in
+    past-end (a .excluded .now) (a .place) (a .datagram .now) (a .table .now) (good (c .before)) (omega arith)
 
--- src/lib.rt:125:13
 count-written-requires : tie.Need-count-written-requires
-count-written-requires c κs = ?
+count-written-requires c κs = valid-laid _ (good (c .before))
 
--- src/lib.rt:126:28
 mul-size : tie.Need-mul-size
 mul-size c = search needs
 
--- src/lib.rt:126:20
 add-size : tie.Need-add-size
 add-size c = search needs
 
--- src/lib.rt:127:12
 sub-if3 : tie.Need-sub-if3
 sub-if3 c = search needs
 
--- src/lib.rt:128:13
 returns-2 : tie.Need-returns-2
-returns-2 c = ?
+returns-2 c =
+    let a = c .before .before .before .before .before .before .before .before .args in
+    no-room (a .excluded .now) (a .place) (a .datagram .now) (a .table .now) (good (c .before .before .before)) (c .before .count-written .result) (c .before .count-written .ensures .0) (omega arith) (omega arith)
 
--- src/lib.rt:130:39
 sub-store-digest : tie.Need-sub-store-digest
 sub-store-digest c = search needs
 
--- src/lib.rt:130:39
 part-store-digest-start : tie.Need-part-store-digest-start
 part-store-digest-start c = search needs
 
--- src/lib.rt:130:39
 part-store-digest-end : tie.Need-part-store-digest-end
 part-store-digest-end c = search needs
 
--- src/lib.rt:130:9
 store-digest-requires : tie.Need-store-digest-requires
-store-digest-requires c κs = ?
+store-digest-requires c κs =
+    let a = c .before .before .before .before .before .before .before .before .before .args in
+    let n = c .before .before .count-written .ensures .0 in
+    let k = ap length (seen-rest (a .place) (a .datagram .now)) ∙ length-drop (a .place) (a .datagram .now) in
+    (valid-laid _ (good (c .before .before .before .before)), omega arith, n)
 
--- src/lib.rt:131:9
 same-length : tie.Need-same-length
 same-length c = search needs
 
--- src/lib.rt:131:9
 returns-3 : tie.Need-returns-3
-returns-3 c = ?
+returns-3 c =
+    let a = c .before .before .before .before .before .before .before .before .before .before .before .before .args in
+    let b = digestBytes (digestOf (a .excluded .now) (decode (a .table .now))) in
+    let w = c .before .before .store-digest in
+    written (a .excluded .now) (a .place) (a .datagram .now) (a .table .now) (good (c .before .before .before .before .before .before .before)) (c .before .before .before .before .before .count-written .result) (c .before .before .before .before .before .count-written .ensures .0) (omega arith) _ (omega arith)
+    (lent-rest-put (a .place) 0 b (a .datagram .now) (w .last .1 .1 .0) (omega arith) (w .ensures) ∙ ap (λ (n : ℕ). put n b (a .datagram .now)) (add-zero (a .place)))
 
--- src/lib.rt:118:1
 returns-4 : tie.Need-returns-4
-returns-4 c = ?
+returns-4 c =
+    let a = c .before .before .before .before .before .args in
+    not-a-table (a .excluded .now) (a .place) (a .datagram .now) (a .table .now) (sym (c .before .check-table .ensures) ∙ c .if1 .left)
 
 pub write-digest-spec : {M : Type 1} → statement M
 write-digest-spec =
