@@ -103,7 +103,7 @@ refused l r e = read-by l ∙ ap (readBy l) e
 -- ---- the digest
 
 module _ (l : List ℕ) (n : ℕ) (e : countIn l ≡ counted.Entries n) where
-  whole : readDigest l ≡ Entries (tellAll (entriesAt n l) []) (drop (2 + n * 32) l)
+  pub whole : readDigest l ≡ Entries (tellAll (entriesAt n l) []) (drop (2 + n * 32) l)
   unfolding readDigest
   whole = ap wire.gathered (announced l n e .read)
 
@@ -125,7 +125,7 @@ module _ (l : List ℕ) (n : ℕ) (e : countIn l ≡ counted.Entries n) where
   rest-begins = rw whole (sym begins)
 
 module _ (l : List ℕ) (r : Refusal) (e : countIn l ≡ counted.Refused r) where
-  none : readDigest l ≡ Refused r
+  pub none : readDigest l ≡ Refused r
   unfolding readDigest
   none = ap wire.gathered (refused l r e)
 

@@ -2,3 +2,5 @@ pub mod Places
 pub mod Counts
 pub mod Telling
 pub mod Pairs
+pub mod Gathering
+pub mod Reading

@@ -9,25 +9,13 @@ use borrow.Author.Tests.{le-leb, lt-leb}
 use Rattle.fields.specs.Numbers.{bytesOf}
 use Rattle.fields.specs.Parts.{put}
 use Rattle.fields.proofs.Numbers.{length-bytesOf}
-use Rattle.fields.proofs.Parts.{put-behind}
+use Rattle.fields.proofs.Parts.{put-behind, put-field}
 use Rattle.rules.specs.Delta.{Op, NodeOp, KeyValueOp, SetMaxVersionOp, opBytes, sizeOf, statusByte, textBytes}
 use Rattle.rules.specs.declared.Status.{Status}
 use Rattle.rules.specs.declared.Status.the-variants.{Set, Delete, Ttl}
 use Rattle.opwrite.specs.Written.{WritesOp, keyValue, writeOp}
 use Rattle.opwrite.specs.declared.Wrote.{Wrote}
 use Rattle.opwrite.specs.declared.Wrote.the-variants.{Bytes, NoFit}
-
--- ---- one field more
-
--- ws behind the n bytes vs that stand at the front
-pub behind : (n : ℕ) (vs ws l : List ℕ) → length vs ≡ n → n + length ws ≤ length l → put n ws (put 0 vs l) ≡ put 0 (vs ++ ws) l
-behind n vs ws l e h =
-    let q : n ≡ 0 + length vs = omega arith in
-    ap (λ (k : ℕ). put k ws (put 0 vs l)) q ∙ put-behind 0 vs ws l (omega arith)
-
--- the same of lists that are known by what wrote them
-pub next : (n : ℕ) (vs ws l a b : List ℕ) → length vs ≡ n → n + length ws ≤ length l → a ≡ put 0 vs l → b ≡ put n ws a → b ≡ put 0 (vs ++ ws) l
-next n vs ws l a b e h p q = q ∙ ap (put n ws) p ∙ behind n vs ws l e h
 
 -- ---- a status as a byte
 
@@ -85,15 +73,15 @@ node-fields n g f l a b c d h p q r s =
     let N : List ℕ = bytesOf 8 n in
     let G : List ℕ = bytesOf 8 g in
     let F : List ℕ = bytesOf 8 f in
-    let x : b ≡ put 0 (t ++ N) l = next 1 t N l a b (length-bytesOf 1 0) (simp length-bytesOf (omega arith)) p q in
-    let y : c ≡ put 0 ((t ++ N) ++ G) l = next 9 (t ++ N) G l b c (simp (length-append, length-bytesOf)) (simp length-bytesOf (omega arith)) x r in
-    let z : d ≡ put 0 (((t ++ N) ++ G) ++ F) l = next 17 ((t ++ N) ++ G) F l c d (simp (length-append, length-bytesOf)) (simp length-bytesOf (omega arith)) y s in
+    let x : b ≡ put 0 (t ++ N) l = put-field 1 t N l a b (length-bytesOf 1 0) (simp length-bytesOf (omega arith)) p q in
+    let y : c ≡ put 0 ((t ++ N) ++ G) l = put-field 9 (t ++ N) G l b c (simp (length-append, length-bytesOf)) (simp length-bytesOf (omega arith)) x r in
+    let z : d ≡ put 0 (((t ++ N) ++ G) ++ F) l = put-field 17 ((t ++ N) ++ G) F l c d (simp (length-append, length-bytesOf)) (simp length-bytesOf (omega arith)) y s in
     z ∙ ap (λ (v : List ℕ). put 0 v l) (simp (append-assoc, tag-node))
 
 pub set-max-version-fields : (m : ℕ) (l a b : List ℕ) → 9 ≤ length l → a ≡ put 0 (bytesOf 1 2) l → b ≡ put 1 (bytesOf 8 m) a → b ≡ put 0 (opBytes (SetMaxVersionOp m)) l
 unfolding opBytes
 set-max-version-fields m l a b h p q =
-    next 1 (bytesOf 1 2) (bytesOf 8 m) l a b (length-bytesOf 1 2) (simp length-bytesOf (omega arith)) p q
+    put-field 1 (bytesOf 1 2) (bytesOf 8 m) l a b (length-bytesOf 1 2) (simp length-bytesOf (omega arith)) p q
     ∙ ap (λ (v : List ℕ). put 0 (v ++ bytesOf 8 m) l) tag-set-max-version
 
 pub key-value-fields : (k v : List ℕ) (n : ℕ) (s : Status) (l a b c d e : List ℕ) → 14 + length k + length v ≤ length l → a ≡ put 0 (bytesOf 1 1) l
@@ -108,13 +96,13 @@ key-value-fields k v n s l a b c d e h p q r u w =
     let S : List ℕ = bytesOf 1 (statusByte s) in
     let lk = text-long k in
     let lv = text-long v in
-    let x : b ≡ put 0 (t ++ K) l = next 1 t K l a b (length-bytesOf 1 1) (omega arith) p q in
+    let x : b ≡ put 0 (t ++ K) l = put-field 1 t K l a b (length-bytesOf 1 1) (omega arith) p q in
     let y : c ≡ put 0 ((t ++ K) ++ W) l =
-    next (1 + 2 + length k) (t ++ K) W l b c (simp (length-append, length-bytesOf) (omega arith)) (omega arith) x r in
+    put-field (1 + 2 + length k) (t ++ K) W l b c (simp (length-append, length-bytesOf) (omega arith)) (omega arith) x r in
     let z : d ≡ put 0 (((t ++ K) ++ W) ++ N) l =
-    next (1 + 2 + length k + 2 + length v) ((t ++ K) ++ W) N l c d (simp (length-append, length-bytesOf) (omega arith)) (simp length-bytesOf (omega arith)) y u in
+    put-field (1 + 2 + length k + 2 + length v) ((t ++ K) ++ W) N l c d (simp (length-append, length-bytesOf) (omega arith)) (simp length-bytesOf (omega arith)) y u in
     let o : e ≡ put 0 ((((t ++ K) ++ W) ++ N) ++ S) l =
-    next (1 + 2 + length k + 2 + length v + 8) (((t ++ K) ++ W) ++ N) S l d e (simp (length-append, length-bytesOf) (omega arith)) (simp length-bytesOf (omega arith)) z w in
+    put-field (1 + 2 + length k + 2 + length v + 8) (((t ++ K) ++ W) ++ N) S l d e (simp (length-append, length-bytesOf) (omega arith)) (simp length-bytesOf (omega arith)) z w in
     o ∙ ap (λ (x : List ℕ). put 0 x l) (simp (append-assoc, tag-key-value, status-one))
 
 -- ---- what is promised
@@ -130,3 +118,7 @@ unfolding writeOp
 no-fit o n l e h =
     let t = lt-leb (sizeOf o) (length l) (omega arith) in
     record { answered = rw t; written = rw t }
+
+-- no second outcome is promised
+pub only : (o : Op) (l : List ℕ) (r s : Wrote) (a b : List ℕ) → WritesOp o l r a → WritesOp o l s b → (r ≡ s) × (a ≡ b)
+only o l r s a b x y = (x .answered ∙ sym (y .answered), x .written ∙ sym (y .written))

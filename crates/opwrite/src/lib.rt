@@ -106,8 +106,9 @@ pub fn write_key_value(
     ensures { λ r. ⌜ WritesOp (keyValue (now (key .entry)) (now (value .entry)) version status) (now (d .entry)) r (now (d .exit)) ⌝ }
 {
     if record_fits(d.len(), key.len(), value.len()) {
+        let size = BESIDE + key.len() + value.len();
         store_key_value(d, key, value, version, status);
-        return Wrote::Bytes(BESIDE + key.len() + value.len());
+        return Wrote::Bytes(size);
     }
     Wrote::NoFit
 }

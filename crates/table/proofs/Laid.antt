@@ -35,12 +35,6 @@ value-short x e h =
     omega (arith, simp (part, length-take, length-drop) at p)
 
 module _ (b : List ℕ) (o : LaidNode b) where
-  pub laid-long : length b ≡ nodeWidth
-  laid-long = ap length (sym (o .is)) ∙ length-node (decodeNode b)
-
-  pub laid-few : countOf b ≤ maxRecords
-  laid-few = subst (λ (n : ℕ). n ≤ maxRecords) (length-recs b) (o .fits .few)
-
   module _ (j : ℕ) (h : j < countOf b) where
     pub laid-rec : FitsRec (recAt j b)
     laid-rec =
@@ -48,7 +42,7 @@ module _ (b : List ℕ) (o : LaidNode b) where
         o .fits .each (recAt j b) (subst (λ (r : Rec). r ∈ recsOf b) (recs-at j b d h) (in-at (recsOf b) j d (rw length-recs h)))
 
     pub rec-long : length (recBytes j b) ≡ recWidth
-    rec-long = length-part (recPlace j) recWidth b (omega (arith, laid-long, laid-few))
+    rec-long = length-part (recPlace j) recWidth b (omega (arith, o .long, o .few))
 
     pub laid-key : keyLength (recBytes j b) ≤ maxKey
     laid-key = key-short (recBytes j b) rec-long (laid-rec .key-fits)
@@ -57,12 +51,6 @@ module _ (b : List ℕ) (o : LaidNode b) where
     laid-value = value-short (recBytes j b) rec-long (laid-rec .value-fits)
 
 module _ (l : List ℕ) (o : LaidTable l) where
-  pub table-long : length l ≡ tableWidth
-  table-long = ap length (sym (o .is)) ∙ length-table (decode l)
-
-  pub table-few : nodesOf l ≤ maxNodes
-  table-few = subst (λ (n : ℕ). n ≤ maxNodes) (length-decode l) (o .fits .few)
-
   -- node i is laid out, and is the table's
   module _ (i : ℕ) (h : i < nodesOf l) where
     d : Entry

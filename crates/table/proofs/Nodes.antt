@@ -138,7 +138,8 @@ module _ (e : Entry) (o : FitsEntry e) where
 
   -- its bytes are laid out
   pub laid-node : LaidNode (encodeNode e)
-  laid-node = record { fits = subst FitsEntry (sym decode-encode-node) o; is = ap encodeNode decode-encode-node }
+  laid-node =
+      record { long = length-node e; few = subst (λ (n : ℕ). n ≤ maxRecords) (sym count-is) (o .few); fits = subst FitsEntry (sym decode-encode-node) o; is = ap encodeNode decode-encode-node }
 
 -- the bytes of a node that obeys pass the tests
 pub node-good : (e : Entry) → ObeysEntry e → nodeGood (encodeNode e) ≡ true

@@ -100,7 +100,8 @@ module _ (t : Table) (o : FitsTable t) where
 
   -- its bytes are laid out
   pub laid-table : LaidTable (encode t)
-  laid-table = record { fits = subst FitsTable (sym read-back) o; is = ap encode read-back }
+  laid-table =
+      record { long = length-table t; few = subst (λ (n : ℕ). n ≤ maxNodes) (sym (nodes-count t (o .few))) (o .few); fits = subst FitsTable (sym read-back) o; is = ap encode read-back }
 
 module _ (t : Table) (o : obeys t ≡ true) where
   -- a table that obeys is read again from its bytes
@@ -130,14 +131,14 @@ module _ (l : List ℕ) (v : valid l ≡ true) where
   unfolding valid
   valid-obeys = and-left (obeys (decode l)) (sameBytes (encode (decode l)) l) v
 
-  pub valid-laid : LaidTable l
-  valid-laid = record { fits = obeys-fits (decode l) valid-obeys; is = encode-decode }
-
   pub valid-long : length l ≡ tableWidth
   valid-long = ap length (sym encode-decode) ∙ length-table (decode l)
 
   pub valid-few : nodesOf l ≤ maxNodes
   valid-few = subst (λ (n : ℕ). n ≤ maxNodes) (length-decode l) (table-obeys (decode l) valid-obeys .few)
+
+  pub valid-laid : LaidTable l
+  valid-laid = record { long = valid-long; few = valid-few; fits = obeys-fits (decode l) valid-obeys; is = encode-decode }
 
 -- bytes that are those of a table that obeys are valid
 pub valid-by : (l : List ℕ) → obeys (decode l) ≡ true → encode (decode l) ≡ l → valid l ≡ true

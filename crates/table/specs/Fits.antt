@@ -8,7 +8,8 @@ use Rattle.fields.specs.Choice.{_∈_}
 use Rattle.rules.specs.Sizes.{maxNodes, maxRecords, maxKey, maxValue, numbers}
 use Rattle.rules.specs.Node.{Rec}
 use Rattle.rules.specs.Table.{Entry, Table}
-use Rattle.rules.specs.Layout.{encodeNode, decodeNode, encode, decode}
+use Rattle.rules.specs.Layout.{nodeWidth, tableWidth, encodeNode, decodeNode, encode, decode}
+use Rattle.table.specs.Tests.{countOf, nodesOf}
 
 pub record FitsRec (r : Rec) : Type 0 where
   pub key-fits : length (r .kv .key) ≤ maxKey
@@ -30,10 +31,14 @@ pub record FitsTable (t : Table) : Type 0 where
 
 -- the bytes are those of the node that is read in them, and it fits
 pub record LaidNode (b : List ℕ) : Type 0 where
+  pub long : length b ≡ nodeWidth
+  pub few : countOf b ≤ maxRecords
   pub fits : FitsEntry (decodeNode b)
   pub is : encodeNode (decodeNode b) ≡ b
 
 -- the bytes are those of the table that is read in them, and it fits
 pub record LaidTable (l : List ℕ) : Type 0 where
+  pub long : length l ≡ tableWidth
+  pub few : nodesOf l ≤ maxNodes
   pub fits : FitsTable (decode l)
   pub is : encode (decode l) ≡ l

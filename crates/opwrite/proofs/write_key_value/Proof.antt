@@ -16,14 +16,14 @@ room c = leb-true _ _ (sym (c .before .record-fits .ensures) ∙ c .if1 .taken)
 record-fits-requires : tie.Need-record-fits-requires
 record-fits-requires c κs = search needs
 
+add-size : tie.Need-add-size
+add-size c = search needs
+
+add-size-2 : tie.Need-add-size-2
+add-size-2 c = let h = room c in omega arith
+
 store-key-value-requires : tie.Need-store-key-value-requires
 store-key-value-requires c κs = room (c .before)
-
-add-t14 : tie.Need-add-t14
-add-t14 c = search needs
-
-add-t16 : tie.Need-add-t16
-add-t16 c = let h = room (c .before .before .before .before) in omega arith
 
 same-length : tie.Need-same-length
 same-length c = search needs
@@ -44,9 +44,9 @@ write-key-value-spec =
     tie.close
     (tie.spec
     record-fits-requires
+    add-size
+    add-size-2
     store-key-value-requires
-    add-t14
-    add-t16
     same-length
     returns
     returns-2)

@@ -14,7 +14,7 @@ use Rattle.table.specs.Fits.{LaidNode}
 use Rattle.table.proofs.Places.{recs-drop, length-recs, recAt, recBytes, recPlace}
 use Rattle.rules.specs.Sizes.{maxKey}
 use Rattle.table.specs.Tests.{keyLength}
-use Rattle.table.proofs.Laid.{laid-long, laid-few, laid-key, rec-long}
+use Rattle.table.proofs.Laid.{laid-key, rec-long}
 use Rattle.place.specs.Find.{further, findBy, toKey, findKey}
 use Rattle.place.specs.declared.Place.{Place}
 use Rattle.place.specs.declared.Place.the-variants.{At, Free}
@@ -36,7 +36,7 @@ abbrev μ-loop : tie.MeasureT-loop
 μ-loop b key n j₀ j = n - j
 
 byte-at-requires : tie.Need-byte-at-requires Inv-loop μ-loop
-byte-at-requires c κs = omega (arith, laid-long (c .before .before .args .b .now) (c .before .before .pre))
+byte-at-requires c κs = search needs
 
 -- record j, as the bytes tell its key
 module _ (key b : List ℕ) (j : ℕ) (h : j < countOf b) (o : Order) (e : o ≡ orderOf key (recAt j b .kv .key)) where
@@ -67,9 +67,7 @@ loop-holds c =
     (omega arith, start (toKey (a .key .now)) (recsOf (a .b .now)))
 
 record-of-requires : tie.Need-record-of-requires Inv-loop μ-loop
-record-of-requires c κs =
-    let s = c .before .before .before .before .before in
-    (laid-long (s .args .b .now) (s .pre), omega (arith, within c, laid-few (s .args .b .now) (s .pre)))
+record-of-requires c κs = (search needs, omega (arith, within c))
 
 key-of-requires : tie.Need-key-of-requires Inv-loop μ-loop
 key-of-requires c κs =

@@ -1,0 +1,162 @@
+-- The stores of each writer, one after the other, on plain lists: what the last of them leaves is the changed node or table. Assumes nothing.
+use Prim.Native.Nat.{ℕ, zero, suc, _+_, _*_, _-_, _≤_, _<_}
+use mathlib.Core.Path.{_≡_, refl, ap, ap₂, sym, _∙_, subst}
+use mathlib.Core.List.{List, [], _∷_, _++_, append-nil, append-assoc}
+use native.Mathlib.Omega.{arith}
+use native.Mathlib.Nat.{add-zero, zero-add}
+use native.Mathlib.Numerals.{add-one}
+use lib.ListN.{length, take, drop, getD, set, length-append, drop-of-length-le}
+use lib.Seq.{drop-at}
+use Rattle.fields.specs.Numbers.{natOf, bytesOf}
+use Rattle.fields.specs.Parts.{part, put}
+use Rattle.fields.specs.Blocks.{zeros, fit, insertAt, removeAt}
+use Rattle.fields.specs.Widths.{joined}
+use Rattle.fields.proofs.Numbers.{length-bytesOf}
+use Rattle.fields.proofs.Parts.{put-put, put-behind, length-put, length-part}
+use Rattle.fields.proofs.Blocks.{length-zeros, zeros-add, length-fit, fit-pad}
+use Rattle.rules.specs.Sizes.{maxNodes, maxRecords}
+use Rattle.rules.specs.Node.{Rec}
+use Rattle.rules.specs.Delta.{statusByte}
+use Rattle.rules.specs.Table.{Entry, Table}
+use Rattle.rules.specs.Layout.{recWidth, nodeWidth, recFields, encodeRec, encodeNode, decodeNode, decodeRec, encode, decode}
+use Rattle.rules.specs.declared.Status.{Status}
+use Rattle.table.specs.Tests.{countOf, nodesOf, recsOf}
+use Rattle.table.specs.Fits.{LaidNode, LaidTable}
+use Rattle.table.specs.Changes.{withRecs, freshEntry, recOf}
+use Rattle.table.proofs.Tables.{length-decode}
+use Rattle.table.proofs.Places.{recPlace, nodePlace, length-recs}
+use Rattle.table.proofs.Changed.{node-rec-set, node-rec-insert, node-rec-remove, table-insert, table-remove, fresh-bytes}
+
+-- ---- a text in its room
+
+drop-zeros : (k n : ℕ) → k ≤ n → drop k (zeros n) ≡ zeros (n - k)
+drop-zeros k n h =
+    let e : n ≡ k + (n - k) = omega arith in
+    ap (λ (m : ℕ). drop k (zeros m)) e
+    ∙ ap (drop k) (sym (zeros-add k (n - k)))
+    ∙ drop-at (zeros k) (zeros (n - k)) k (length-zeros k)
+
+put-zeros : (room : ℕ) (text : List ℕ) → length text ≤ room → put 0 text (zeros room) ≡ fit room text
+unfolding put
+put-zeros room text h =
+    ap (λ (k : ℕ). text ++ drop k (zeros room)) (zero-add (length text))
+    ∙ ap (λ (r : List ℕ). text ++ r) (drop-zeros (length text) room h)
+    ∙ sym (fit-pad room text h)
+
+pub text-steps : (l s1 s2 s3 text : List ℕ) (at room : ℕ) → length text ≤ room → at + 1 + room ≤ length l
+    → s1 ≡ put at (bytesOf 1 (length text)) l → s2 ≡ put (at + 1) (zeros room) s1 → s3 ≡ put (at + 1) text s2
+    → s3 ≡ put at (bytesOf 1 (length text) ++ fit room text) l
+text-steps l s1 s2 s3 text at room h g e1 e2 e3 =
+    let b : List ℕ = bytesOf 1 (length text) in
+    let bl : length b ≡ 1 = length-bytesOf 1 (length text) in
+    let long : length s1 ≡ length l = ap length e1 ∙ length-put at b l (rw bl (omega arith)) in
+    e3
+    ∙ ap (put (at + 1) text) e2
+    ∙ put-put (at + 1) text (zeros room) s1 (rw length-zeros h) (rw length-zeros (omega arith))
+    ∙ ap₂ (λ (v s : List ℕ). put (at + 1) v s) (put-zeros room text h) e1
+    ∙ ap (λ (k : ℕ). put (at + k) (fit room text) (put at b l)) (sym bl)
+    ∙ put-behind at b (fit room text) l (rw (bl, length-fit) (omega arith))
+
+-- ---- a record
+
+-- one more store right behind what is stored from the start
+behind : (at n : ℕ) (vs ws l s t : List ℕ) → s ≡ put 0 vs l → length vs ≡ at → length ws ≡ n → at + n ≤ length l → t ≡ put at ws s → t ≡ put 0 (vs ++ ws) l
+behind at n vs ws l s t e p q h f =
+    f
+    ∙ ap (put at ws) e
+    ∙ ap (λ (k : ℕ). put k ws (put 0 vs l)) (sym p ∙ sym (zero-add (length vs)))
+    ∙ put-behind 0 vs ws l (rw (p, q) (omega arith))
+
+put-whole : (vs l : List ℕ) → length vs ≡ length l → put 0 vs l ≡ vs
+unfolding put
+put-whole vs l e = ap (λ (r : List ℕ). vs ++ r) (drop-of-length-le l {i = 0 + length vs} (omega arith)) ∙ append-nil vs
+
+pub record-steps : (l s1 s2 s3 s4 s5 k v : List ℕ) (n code start : ℕ) (s : Status) → length l ≡ recWidth → code ≡ statusByte s
+    → s1 ≡ put 0 (bytesOf 1 (length k) ++ fit 32 k) l → s2 ≡ put 33 (bytesOf 1 (length v) ++ fit 64 v) s1 → s3 ≡ put 98 (bytesOf 8 n) s2
+    → s4 ≡ put 106 (bytesOf 1 code) s3 → s5 ≡ put 107 (bytesOf 8 start) s4 → s5 ≡ encodeRec (recOf k v n s start)
+unfolding encodeRec joined
+record-steps l s1 s2 s3 s4 s5 k v n code start s e c e1 e2 e3 e4 e5 =
+    let a : List ℕ = bytesOf 1 (length k) ++ fit 32 k in
+    let b : List ℕ = bytesOf 1 (length v) ++ fit 64 v in
+    let al : length a ≡ 33 = simp (length-append, length-bytesOf, length-fit) in
+    let bl : length b ≡ 65 = simp (length-append, length-bytesOf, length-fit) in
+    let w1 : List ℕ = a ++ b in
+    let w1l : length w1 ≡ 98 = length-append a b ∙ rw (al, bl) in
+    let w2 : List ℕ = w1 ++ bytesOf 8 n in
+    let w2l : length w2 ≡ 106 = length-append w1 (bytesOf 8 n) ∙ rw (w1l, length-bytesOf 8 n) in
+    let w3 : List ℕ = w2 ++ bytesOf 1 code in
+    let w3l : length w3 ≡ 107 = length-append w2 (bytesOf 1 code) ∙ rw (w2l, length-bytesOf 1 code) in
+    let w4 : List ℕ = w3 ++ bytesOf 8 start in
+    let w4l : length w4 ≡ 115 = length-append w3 (bytesOf 8 start) ∙ rw (w3l, length-bytesOf 8 start) in
+    let p2 = behind 33 65 a b l s1 s2 e1 al bl (omega arith) e2 in
+    let p3 = behind 98 8 w1 (bytesOf 8 n) l s2 s3 p2 w1l (length-bytesOf 8 n) (omega arith) e3 in
+    let p4 = behind 106 1 w2 (bytesOf 1 code) l s3 s4 p3 w2l (length-bytesOf 1 code) (omega arith) e4 in
+    let p5 = behind 107 8 w3 (bytesOf 8 start) l s4 s5 p4 w3l (length-bytesOf 8 start) (omega arith) e5 in
+    p5 ∙ put-whole w4 l (w4l ∙ sym e) ∙ ap (λ (x : ℕ). w2 ++ bytesOf 1 x ++ bytesOf 8 start) c ∙ simp (encodeRec, joined, append-assoc, append-nil)
+
+-- ---- the records of a node
+
+module _ (b : List ℕ) (o : LaidNode b) (j : ℕ) (r : Rec) where
+  pub put-steps : (s : List ℕ) → j < countOf b → s ≡ put (recPlace j) (encodeRec r) b → s ≡ encodeNode (withRecs (set (recsOf b) j r) (decodeNode b))
+  put-steps s h e =
+      e ∙ ap (put (recPlace j) (encodeRec r)) (sym (o .is)) ∙ node-rec-set (decodeNode b) (o .fits .few) j r (rw length-recs h)
+
+  pub insert-steps : (s1 s2 s3 : List ℕ) (n : ℕ) → n ≡ countOf b → j ≤ countOf b → countOf b < maxRecords
+      → s1 ≡ put (recPlace j + recWidth) (part (recPlace j) ((n - j) * recWidth) b) b → s2 ≡ put (recPlace j) (encodeRec r) s1 → s3 ≡ put 32 (bytesOf 1 (n + 1)) s2
+      → s3 ≡ encodeNode (withRecs (insertAt j r (recsOf b)) (decodeNode b))
+  insert-steps s1 s2 s3 n en h g e1 e2 e3 =
+      let f : ℕ → List ℕ → List ℕ = λ m l. put 32 (bytesOf 1 (m + 1)) (put (recPlace j) (encodeRec r) (put (recPlace j + recWidth) (part (recPlace j) ((m - j) * recWidth) l) l)) in
+      let all : s3 ≡ f n b = e3 ∙ ap (put 32 (bytesOf 1 (n + 1))) (e2 ∙ ap (put (recPlace j) (encodeRec r)) e1) in
+      all
+      ∙ ap₂ f (en ∙ sym (length-recs b)) (sym (o .is))
+      ∙ node-rec-insert (decodeNode b) (o .fits .few) j r (rw length-recs h) (rw length-recs g)
+
+pub remove-steps : (b : List ℕ) → LaidNode b → (j : ℕ) (s1 s2 s3 : List ℕ) (n : ℕ) → n ≡ countOf b → j < countOf b
+    → let m : ℕ = (n - (j + 1)) * recWidth in
+    s1 ≡ put (recPlace j) (part (recPlace j + recWidth) m b) b → s2 ≡ put (recPlace j + m) (zeros recWidth) s1 → s3 ≡ put 32 (bytesOf 1 (n - 1)) s2
+    → s3 ≡ encodeNode (withRecs (removeAt j (recsOf b)) (decodeNode b))
+remove-steps b o j s1 s2 s3 n en h e1 e2 e3 =
+    let m : ℕ = (n - (j + 1)) * recWidth in
+    let f : ℕ → ℕ → List ℕ → List ℕ = λ k q l.
+    put 32 (bytesOf 1 (k - 1)) (put (recPlace j + (k - q) * recWidth) (zeros recWidth) (put (recPlace j) (part (recPlace j + recWidth) ((k - q) * recWidth) l) l)) in
+    let all : s3 ≡ f n (j + 1) b = e3 ∙ ap (put 32 (bytesOf 1 (n - 1))) (e2 ∙ ap (put (recPlace j + m) (zeros recWidth)) e1) in
+    all
+    ∙ ap (λ (q : ℕ). f n q b) (add-one j)
+    ∙ ap₂ (λ (k : ℕ) (l : List ℕ). f k (suc j) l) (en ∙ sym (length-recs b)) (sym (o .is))
+    ∙ node-rec-remove (decodeNode b) (o .fits .few) j (decodeRec []) (rw length-recs h)
+
+-- ---- the nodes of a table
+
+module _ (l : List ℕ) (o : LaidTable l) (i : ℕ) where
+  pub add-steps : (s1 s2 s3 s4 : List ℕ) (n k : ℕ) → n ≡ nodesOf l → i ≤ nodesOf l → nodesOf l < maxNodes
+      → s1 ≡ put (nodePlace i + nodeWidth) (part (nodePlace i) ((n - i) * nodeWidth) l) l → s2 ≡ put (nodePlace i) (zeros nodeWidth) s1
+      → s3 ≡ put (nodePlace i) (bytesOf 8 k) s2 → s4 ≡ put 0 (bytesOf 1 (n + 1)) s3 → s4 ≡ encode (insertAt i (freshEntry k) (decode l))
+  add-steps s1 s2 s3 s4 n k en h g e1 e2 e3 e4 =
+      let e : length l ≡ 29705 = o .long in
+      let ml : length (part (nodePlace i) ((n - i) * nodeWidth) l) ≡ (n - i) * nodeWidth = length-part (nodePlace i) ((n - i) * nodeWidth) l (omega arith) in
+      let q : length s1 ≡ 29705 = ap length e1 ∙ length-put (nodePlace i + nodeWidth) (part (nodePlace i) ((n - i) * nodeWidth) l) l (rw ml (omega arith)) ∙ e in
+      let a : ℕ = nodePlace i in
+      let node : s3 ≡ put a (encodeNode (freshEntry k)) s1 =
+      e3
+      ∙ ap (put a (bytesOf 8 k)) e2
+      ∙ put-put a (bytesOf 8 k) (zeros nodeWidth) s1 (rw (length-bytesOf, length-zeros) (omega arith)) (rw length-zeros (omega arith))
+      ∙ ap (λ (v : List ℕ). put a v s1) (fresh-bytes k) in
+      let f : ℕ → List ℕ → List ℕ = λ m x. put 0 (bytesOf 1 (m + 1)) (put a (encodeNode (freshEntry k)) (put (a + nodeWidth) (part a ((m - i) * nodeWidth) x) x)) in
+      let all : s4 ≡ f n l = e4 ∙ ap (put 0 (bytesOf 1 (n + 1))) (node ∙ ap (put a (encodeNode (freshEntry k))) e1) in
+      all
+      ∙ ap₂ f (en ∙ sym (length-decode l)) (sym (o .is))
+      ∙ table-insert (decode l) (o .fits .few) i (freshEntry k) (rw length-decode h) (rw length-decode g)
+
+  pub drop-steps : (s1 s2 s3 : List ℕ) (n : ℕ) → n ≡ nodesOf l → i < nodesOf l
+      → let m : ℕ = (n - (i + 1)) * nodeWidth in
+      s1 ≡ put (nodePlace i) (part (nodePlace i + nodeWidth) m l) l → s2 ≡ put (nodePlace i + m) (zeros nodeWidth) s1 → s3 ≡ put 0 (bytesOf 1 (n - 1)) s2
+      → s3 ≡ encode (removeAt i (decode l))
+  drop-steps s1 s2 s3 n en h e1 e2 e3 =
+      let m : ℕ = (n - (i + 1)) * nodeWidth in
+      let f : ℕ → ℕ → List ℕ → List ℕ = λ k q x.
+      put 0 (bytesOf 1 (k - 1)) (put (nodePlace i + (k - q) * nodeWidth) (zeros nodeWidth) (put (nodePlace i) (part (nodePlace i + nodeWidth) ((k - q) * nodeWidth) x) x)) in
+      let all : s3 ≡ f n (i + 1) l = e3 ∙ ap (put 0 (bytesOf 1 (n - 1))) (e2 ∙ ap (put (nodePlace i + m) (zeros nodeWidth)) e1) in
+      all
+      ∙ ap (λ (q : ℕ). f n q l) (add-one i)
+      ∙ ap₂ (λ (k : ℕ) (x : List ℕ). f k (suc i) x) (en ∙ sym (length-decode l)) (sym (o .is))
+      ∙ table-remove (decode l) (o .fits .few) i (decodeNode []) (rw length-decode h)

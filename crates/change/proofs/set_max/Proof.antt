@@ -1,0 +1,28 @@
+-- `change::set_max` meets its contract. Assumes nothing.
+use mathlib.Core.Path.{_≡_, ap, sym, _∙_}
+use Rattle.fields.specs.Numbers.{bytesOf}
+use Rattle.fields.specs.Parts.{put}
+use Rattle.rules.specs.Layout.{decodeNode}
+use Rattle.table.proofs.Changed.{put-max}
+use borrow.Author.Needs.{needs}
+use Rattle.change.proofs.set_max.Statement.{statement}
+use Rattle.change.proofs.set_max.Tie as tie
+use Rattle.change.proofs.set_max.Reads as reads
+use Rattle.change.proofs.set_max.Lts as lts
+use Rattle.fields.proofs.write_u64.Reads as write-u64-reads
+
+write-u64-requires : tie.Need-write-u64-requires
+write-u64-requires c κs = search needs
+
+same-length : tie.Need-same-length
+same-length c = search needs
+
+returns : tie.Need-returns
+returns c =
+    let w = c .before .before in
+    let st = w .before .before .before in
+    let a = st .args in
+    w .write-u64 .ensures ∙ ap (put 16 (bytesOf 8 (a .max))) (sym (st .pre .is)) ∙ put-max (decodeNode (a .b .now)) (a .max)
+
+pub set-max-spec : {M : Type 1} → statement M
+set-max-spec = tie.close (tie.spec write-u64-requires same-length returns)
