@@ -13,16 +13,16 @@ use Rattle.rules.specs.Layout.{recWidth, nodeWidth, tableWidth, decodeRec, deco
 use Rattle.table.specs.Fits.{LaidTable, LaidNode}
 use Rattle.table.specs.Tests.{keyLength, valueLength, countOf, nodesOf, recsOf}
 use Rattle.table.proofs.Places.{nodeBytes, recBytes, recAt, recs-at, length-recs}
-use Rattle.table.proofs.Laid.{laid-long, laid-few, rec-long, laid-key, laid-value, table-long, table-few, laid-at}
+use Rattle.table.proofs.Laid.{rec-long, laid-key, laid-value, laid-at}
 use Rattle.line.specs.Line.{entryAt}
 use Rattle.line.proofs.Ranks.{entry-at}
 
 module _ (l : List ℕ) (o : LaidTable l) (p : ℕ) (h : p < nodesOf l) where
   pub held : (length l ≡ tableWidth) × (nodesOf l ≤ maxNodes) × (p < nodesOf l)
-  held = (table-long l o, table-few l o, h)
+  held = (o .long, o .few, h)
 
   pub lent-node : (length l ≡ tableWidth) × (p < maxNodes)
-  lent-node = (table-long l o, omega (arith, table-few l o))
+  lent-node = (o .long, omega arith)
 
   module _ (b : List ℕ) (e : b ≡ nodeBytes p l) where
     pub laid : LaidNode b
@@ -35,10 +35,10 @@ module _ (l : List ℕ) (o : LaidTable l) (p : ℕ) (h : p < nodesOf l) where
     recs-are = ap (λ (x : Entry). x .node .recs) node-is
 
     pub node-long : length b ≡ nodeWidth
-    node-long = laid-long b laid
+    node-long = laid .long
 
     pub count-low : countOf b ≤ maxRecords
-    count-low = laid-few b laid
+    count-low = laid .few
 
     module _ (q : ℕ) (g : q < length (entryAt (decode l) p .node .recs)) where
       pub counted : q < countOf b

@@ -12,7 +12,6 @@ use Rattle.rules.specs.Delta.{Op, KeyValueOp}
 use Rattle.rules.specs.Compute.{stale, bodyOps}
 use Rattle.rules.specs.Layout.{decode}
 use Rattle.table.specs.Tests.{nodesOf}
-use Rattle.table.proofs.Laid.{table-few}
 use Rattle.rules.specs.Table.{Table}
 use Rattle.stale.specs.Arranged.{span, listed}
 use Rattle.stale.proofs.Arranged.{listed-in, listed-lower}
@@ -220,10 +219,10 @@ shared-slice-read-p : tie.Need-shared-slice-read-p Inv-loop μ-loop Inv-nodes μ
 shared-slice-read-p c = search needs
 
 mul-from : tie.Need-mul-from Inv-loop μ-loop Inv-nodes μ-nodes
-mul-from c = let h = node-in (c .before) in let g = table-few (c .before .before .before .before .before .before .before .args .s .now) (c .before .before .before .before .before .before .before .pre .0) in omega arith
+mul-from c = let h = node-in (c .before) in let g = c .before .before .before .before .before .before .before .pre .0 .few in omega arith
 
 shared-slice-read-from : tie.Need-shared-slice-read-from Inv-loop μ-loop Inv-nodes μ-nodes
-shared-slice-read-from c = let h = node-in (c .before .before) in let g = table-few (c .before .before .before .before .before .before .before .before .args .s .now) (c .before .before .before .before .before .before .before .before .pre .0) in omega arith
+shared-slice-read-from c = let h = node-in (c .before .before) in let g = c .before .before .before .before .before .before .before .before .pre .0 .few in omega arith
 
 sub-send-node : tie.Need-sub-send-node Inv-loop μ-loop Inv-nodes μ-nodes
 sub-send-node c = search needs
