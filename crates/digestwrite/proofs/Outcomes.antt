@@ -15,10 +15,6 @@ use Rattle.rules.specs.Digest.{NodeDigest, digestBytes, digestOf, entryBytes, w
 use Rattle.rules.specs.Layout.{decode, valid}
 use Rattle.rules.specs.Lent.{fromTable, lentDigest}
 use Rattle.rules.specs.declared.Refusal.the-variants.{BadTable, NoPlace}
-<<<<<<< HEAD
-=======
-use Rattle.rules.specs.declared.Written.{Written}
->>>>>>> f575e60afbe311235ab72ba149a08c3de5baba78
 use Rattle.rules.specs.declared.Written.the-variants.{Bytes, Refused}
 use Rattle.digestwrite.specs.Digests.{WritesDigest}
 use Rattle.digestwrite.proofs.Entries.{entries-long}
@@ -41,20 +37,12 @@ stored ds n l a b e h p q =
 module _ (excluded : List ℕ) (place : ℕ) (d l : List ℕ) where
   pub not-a-table : valid l ≡ false → WritesDigest excluded place d l (Refused BadTable) d
   unfolding fromTable
-<<<<<<< HEAD
   not-a-table v = (rw v, rw v)
-=======
-  not-a-table v = record { answered = rw v; written = rw v }
->>>>>>> f575e60afbe311235ab72ba149a08c3de5baba78
 
   module _ (v : valid l ≡ true) where
     pub past-end : length d < place → WritesDigest excluded place d l (Refused NoPlace) d
     unfolding fromTable writeDigest
-<<<<<<< HEAD
     past-end h = let t = lt-leb place (length d) h in (rw (v, t), rw (v, t))
-=======
-    past-end h = let t = lt-leb place (length d) h in record { answered = rw (v, t); written = rw (v, t) }
->>>>>>> f575e60afbe311235ab72ba149a08c3de5baba78
 
     module _ (n : ℕ) (is : n ≡ length (digestOf excluded (decode l))) (h : place ≤ length d) where
       size : length (digestBytes (digestOf excluded (decode l))) ≡ 2 + n * 32
@@ -65,11 +53,7 @@ module _ (excluded : List ℕ) (place : ℕ) (d l : List ℕ) where
       no-room g =
           let t = le-leb place (length d) h in
           let u = lt-leb (2 + n * 32) (length d - place) g in
-<<<<<<< HEAD
           (rw (v, t, size, u), rw (v, t, size, u))
-=======
-          record { answered = rw (v, t, size, u); written = rw (v, t, size, u) }
->>>>>>> f575e60afbe311235ab72ba149a08c3de5baba78
 
       pub written : (a : List ℕ) → 2 + n * 32 ≤ length d - place → a ≡ put place (digestBytes (digestOf excluded (decode l))) d
           → WritesDigest excluded place d l (Bytes (2 + n * 32)) a
@@ -77,12 +61,4 @@ module _ (excluded : List ℕ) (place : ℕ) (d l : List ℕ) where
       written a g e =
           let t = le-leb place (length d) h in
           let u = le-leb (2 + n * 32) (length d - place) g in
-<<<<<<< HEAD
           (rw (v, t, size, u), rw (v, t, size, u) e)
-=======
-          record { answered = rw (v, t, size, u); written = rw (v, t, size, u) e }
-
--- no second outcome is promised
-pub only : (excluded : List ℕ) (place : ℕ) (d l : List ℕ) (r s : Written) (a b : List ℕ) → WritesDigest excluded place d l r a → WritesDigest excluded place d l s b → (r ≡ s) × (a ≡ b)
-only excluded place d l r s a b x y = (x .answered ∙ sym (y .answered), x .written ∙ sym (y .written))
->>>>>>> f575e60afbe311235ab72ba149a08c3de5baba78

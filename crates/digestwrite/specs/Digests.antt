@@ -9,15 +9,9 @@ use Rattle.rules.specs.Lent.{lentDigest}
 use Rattle.rules.specs.declared.Written.{Written}
 
 -- the answer, and the datagram's bytes afterwards
-<<<<<<< HEAD
 abbrev pub WritesDigest : List ℕ → ℕ → List ℕ → List ℕ → Written → List ℕ → Type 0
 WritesDigest excluded place datagram table answer after =
     (answer ≡ lentDigest excluded place datagram table .answer) × (after ≡ lentDigest excluded place datagram table .list)
-=======
-pub record WritesDigest (excluded : List ℕ) (place : ℕ) (datagram table : List ℕ) (answer : Written) (after : List ℕ) : Type 0 where
-  pub answered : answer ≡ lentDigest excluded place datagram table .answer
-  pub written : after ≡ lentDigest excluded place datagram table .list
->>>>>>> f575e60afbe311235ab72ba149a08c3de5baba78
 
 -- room for n bytes and the entries of the nodes that are not excluded
 abbrev pub Room : ℕ → List ℕ → List ℕ → List ℕ → Type 0

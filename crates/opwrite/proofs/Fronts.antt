@@ -111,22 +111,10 @@ pub fits : (o : Op) (n : ℕ) (l a : List ℕ) → sizeOf o ≡ n → n ≤ leng
 unfolding writeOp
 fits o n l a e h p =
     let t = le-leb (sizeOf o) (length l) (omega arith) in
-<<<<<<< HEAD
     (rw (t, e), rw t p)
-=======
-    record { answered = rw (t, e); written = rw t p }
->>>>>>> f575e60afbe311235ab72ba149a08c3de5baba78
 
 pub no-fit : (o : Op) (n : ℕ) (l : List ℕ) → sizeOf o ≡ n → length l < n → WritesOp o l NoFit l
 unfolding writeOp
 no-fit o n l e h =
     let t = lt-leb (sizeOf o) (length l) (omega arith) in
-<<<<<<< HEAD
     (rw t, rw t)
-=======
-    record { answered = rw t; written = rw t }
-
--- no second outcome is promised
-pub only : (o : Op) (l : List ℕ) (r s : Wrote) (a b : List ℕ) → WritesOp o l r a → WritesOp o l s b → (r ≡ s) × (a ≡ b)
-only o l r s a b x y = (x .answered ∙ sym (y .answered), x .written ∙ sym (y .written))
->>>>>>> f575e60afbe311235ab72ba149a08c3de5baba78

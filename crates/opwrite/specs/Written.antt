@@ -21,11 +21,5 @@ abbrev pub keyValue : List ℕ → List ℕ → ℕ → Status → Op
 keyValue k v n s = KeyValueOp (record { key = k; value = v; version = n; status = s })
 
 -- what the three functions promise of the answer and of the bytes afterwards
-<<<<<<< HEAD
 abbrev pub WritesOp : Op → List ℕ → Wrote → List ℕ → Type 0
 WritesOp o l answer after = (answer ≡ writeOp o l .answer) × (after ≡ writeOp o l .list)
-=======
-pub record WritesOp (o : Op) (l : List ℕ) (answer : Wrote) (after : List ℕ) : Type 0 where
-  pub answered : answer ≡ writeOp o l .answer
-  pub written : after ≡ writeOp o l .list
->>>>>>> f575e60afbe311235ab72ba149a08c3de5baba78
