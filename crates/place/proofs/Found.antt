@@ -1,25 +1,24 @@
 -- Laws of finding: one step of a search, the bounds of a place, and what the rules' own searches are in terms of a place. Assumes nothing.
-use Prim.Native.Nat.{ℕ, zero, suc, _+_, _-_, _≤_, _<_, suc-le-suc, zero-le}
-use mathlib.Core.Path.{_≡_, refl, ap, sym, _∙_, subst}
-use mathlib.Core.Bool.{Bool, true, false, _&&_, true≢false, false≢true}
+use Prim.Native.Nat.{ℕ, suc, _+_, _-_, _≤_, _<_}
+use mathlib.Core.Path.{_≡_, refl, ap, sym, _∙_}
+use mathlib.Core.Bool.{Bool, true, false}
 use mathlib.Core.List.{List, [], _∷_}
-use mathlib.Core.Option.{Option, none, some}
 use native.Mathlib.Omega.{arith}
 use native.Mathlib.Nat.{add-zero, add-assoc, zero-add}
 use native.Mathlib.Numerals.{add-one}
-use lib.ListN.{length, getD, set, drop, drop-of-length-le}
+use lib.ListN.{length, set, drop, drop-of-length-le}
 use lib.Dec.{eqb, ltb}
-use borrow.Author.Tests.{eq-eqb, ne-eqb, lt-ltb, le-ltb, ltb-true, ltb-false, eqb-true, eqb-false}
+use borrow.Author.Tests.{eq-eqb, ne-eqb, lt-ltb, le-ltb}
 use Rattle.fields.specs.Choice.{pick}
-use Rattle.fields.specs.Blocks.{insertAt, removeAt}
+use Rattle.fields.specs.Blocks.{insertAt}
 use Rattle.fields.specs.Order.{sameBytes, lessBytes, orderOf}
 use Rattle.fields.proofs.Ordered.{same-order, less-order, more-order, less-total}
 use Rattle.fields.specs.declared.Order.{Order}
 use Rattle.fields.specs.declared.Order.the-variants.{Less, Same, More}
-use Rattle.rules.specs.Node.{Rec, Node, find, store}
-use Rattle.rules.specs.Table.{Entry, Table, nodeOf, setNode, addNode, dropNode}
-use Rattle.table.specs.Changes.{withNode, freshEntry}
-use Rattle.place.specs.Find.{further, seek, findBy, numberOrder, toNode, toKey, findNode, findKey}
+use Rattle.rules.specs.Node.{Rec, store}
+use Rattle.rules.specs.Table.{Table, addNode}
+use Rattle.table.specs.Changes.{freshEntry}
+use Rattle.place.specs.Find.{further, seek, findBy, numberOrder, findNode, findKey}
 use Rattle.place.specs.declared.Place.{Place}
 use Rattle.place.specs.declared.Place.the-variants.{At, Free}
 
