@@ -18,7 +18,7 @@ use Rattle.fields.proofs.Ordered.{same-order, less-order, more-order, less-tota
 use Rattle.fields.specs.declared.Order.{Order}
 use Rattle.fields.specs.declared.Order.the-variants.{Less, Same, More}
 use Rattle.rules.specs.Node.{Rec, store, Node, find}
-use Rattle.rules.specs.Table.{Table, addNode, Entry, nodeOf, keysRise, rising, numbersOf}
+use Rattle.rules.specs.Table.{setNode, dropNode, Table, addNode, Entry, nodeOf, keysRise, rising, numbersOf}
 use Rattle.table.specs.Changes.{freshEntry, withNode}
 use Rattle.place.specs.Find.{further, seek, findBy, numberOrder, findNode, findKey}
 use Rattle.place.specs.declared.Place.{Place}
@@ -217,3 +217,45 @@ module _ (i : ℕ) where
       go false true f p ih = number-none e t (ltb-true i (e .number) f) r
       go false false f (At j) ih = ih ∙ ap (λ (k : ℕ). some (getD (e ∷ t) k d .node)) (next j)
       go false false f (Free j) ih = ih
+
+  set-none : (n : Node) (e : Entry) (t : Table) → i < e .number → rising (numbersOf (e ∷ t)) ≡ true → setNode i n t ≡ t
+  unfolding setNode rising numbersOf
+  set-none n e [] h r = refl
+  set-none n e (b ∷ t) h r =
+      let up : e .number < b .number = ltb-true (e .number) (b .number) (and-left (ltb (e .number) (b .number)) (rising (numbersOf (b ∷ t))) r) in
+      let far : i < b .number = omega arith in
+      rw (ne-eqb i (b .number) (λ q. omega arith))
+      (ap (λ (x : Table). b ∷ x) (set-none n b t far (and-right (ltb (e .number) (b .number)) (rising (numbersOf (b ∷ t))) r)))
+
+  drop-none : (e : Entry) (t : Table) → i < e .number → rising (numbersOf (e ∷ t)) ≡ true → dropNode i t ≡ t
+  unfolding dropNode rising numbersOf
+  drop-none e [] h r = refl
+  drop-none e (b ∷ t) h r =
+      let up : e .number < b .number = ltb-true (e .number) (b .number) (and-left (ltb (e .number) (b .number)) (rising (numbersOf (b ∷ t))) r) in
+      let far : i < b .number = omega arith in
+      rw (ne-eqb i (b .number) (λ q. omega arith))
+      (ap (λ (x : Table). b ∷ x) (drop-none b t far (and-right (ltb (e .number) (b .number)) (rising (numbersOf (b ∷ t))) r)))
+
+  pub set-place : (n : Node) (d : Entry) (t : Table) → rising (numbersOf t) ≡ true → setNode i n t ≡ replacedAt d n t (findNode i t)
+  unfolding setNode findBy numberOrder
+  set-place n d [] r = refl
+  set-place n d (e ∷ t) r = go (eqb i (e .number)) (ltb i (e .number)) refl (findNode i t) (set-place n d t (numbers-tail e t r))
+    where
+      go : (s u : Bool) → ltb i (e .number) ≡ u → (p : Place) → setNode i n t ≡ replacedAt d n t p
+          → pick s (withNode n e ∷ t) (e ∷ setNode i n t) ≡ replacedAt d n (e ∷ t) (seek (pick s Same (pick u Less More)) p)
+      go true u f p ih = refl
+      go false true f p ih = ap (λ (x : Table). e ∷ x) (set-none n e t (ltb-true i (e .number) f) r)
+      go false false f (At j) ih = ap (λ (x : Table). e ∷ x) ih ∙ ap (λ (k : ℕ). set (e ∷ t) k (withNode n (getD (e ∷ t) k d))) (next j)
+      go false false f (Free j) ih = ap (λ (x : Table). e ∷ x) ih
+
+  pub drop-place : (t : Table) → rising (numbersOf t) ≡ true → dropNode i t ≡ droppedAt t (findNode i t)
+  unfolding dropNode findBy numberOrder removeAt
+  drop-place [] r = refl
+  drop-place (e ∷ t) r = go (eqb i (e .number)) (ltb i (e .number)) refl (findNode i t) (drop-place t (numbers-tail e t r))
+    where
+      go : (s u : Bool) → ltb i (e .number) ≡ u → (p : Place) → dropNode i t ≡ droppedAt t p
+          → pick s t (e ∷ dropNode i t) ≡ droppedAt (e ∷ t) (seek (pick s Same (pick u Less More)) p)
+      go true u f p ih = refl
+      go false true f p ih = ap (λ (x : Table). e ∷ x) (drop-none e t (ltb-true i (e .number) f) r)
+      go false false f (At j) ih = ap (λ (x : Table). e ∷ x) ih ∙ ap (λ (k : ℕ). removeAt k (e ∷ t)) (next j)
+      go false false f (Free j) ih = ap (λ (x : Table). e ∷ x) ih
