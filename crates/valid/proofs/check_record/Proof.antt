@@ -1,25 +1,19 @@
 -- `valid::check_record` meets its contract: a test that fails is one of the record's tests, and past all but the zeros only these are left.
 -- Assumes nothing.
-use Prim.Native.Nat.{ℕ, _+_, _-_, _≤_, _<_}
-use mathlib.Core.Path.{_≡_, _∙_, ap, sym}
-use mathlib.Core.Bool.{Bool, true, false, _&&_}
+use Prim.Native.Nat.{ℕ, _-_, _≤_}
+use mathlib.Core.Path.{_≡_, _∙_, sym}
+use mathlib.Core.Bool.{true, _&&_}
 use mathlib.Core.List.{List}
 use native.Mathlib.Omega.{arith}
-use lib.ListN.{getD}
 use borrow.Author.Tests.{le-leb, lt-leb}
 use Rattle.fields.specs.Numbers.{natOf}
 use Rattle.fields.specs.Parts.{part}
 use Rattle.fields.proofs.Choice.{and-yes, and-no, and-last}
-use Rattle.table.specs.Tests.{recTests, recGood, keyLength, valueLength, versionOf, clean}
+use Rattle.table.specs.Tests.{recGood, keyLength, valueLength, versionOf, clean}
 use Rattle.table.proofs.Records.{rec-stop}
 use borrow.Author.Needs.{needs}
 use Rattle.valid.proofs.check_record.Statement.{statement}
 use Rattle.valid.proofs.check_record.Tie as tie
-use Rattle.valid.proofs.check_record.Reads as reads
-use Rattle.valid.proofs.check_record.Lts as lts
-use Rattle.fields.proofs.byte_at.Reads as byte-at-reads
-use Rattle.fields.proofs.read_u64.Reads as read-u64-reads
-use Rattle.valid.proofs.clean_behind.Reads as clean-behind-reads
 
 byte-at-requires : tie.Need-byte-at-requires
 byte-at-requires c κs = search needs

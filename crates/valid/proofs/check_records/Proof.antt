@@ -1,12 +1,9 @@
 -- `valid::check_records` meets its contract: what is left to be tested has the whole's answer. Assumes nothing.
-use Prim.Native.Nat.{ℕ, suc, _+_, _-_, _*_, _≤_, _<_}
+use Prim.Native.Nat.{ℕ, _+_, _-_, _*_, _≤_}
 use mathlib.Core.Path.{_≡_, refl, sym, ap, _∙_}
-use mathlib.Core.Bool.{Bool, true, false}
-use mathlib.Core.List.{List}
 use native.Mathlib.Omega.{arith}
-use native.Mathlib.Nat.{add-zero, sub-zero}
-use lib.ListN.{length, drop, take}
-use Rattle.fields.specs.Parts.{part}
+use native.Mathlib.Nat.{sub-zero}
+use lib.ListN.{drop}
 use Rattle.fields.specs.Blocks.{allBlocks}
 use Rattle.fields.proofs.Choice.{and-yes, and-no}
 use Rattle.fields.proofs.Blocks.{blocks-turn}
@@ -16,10 +13,6 @@ use Rattle.table.specs.Tests.{recGood}
 use borrow.Author.Needs.{needs}
 use Rattle.valid.proofs.check_records.Statement.{statement}
 use Rattle.valid.proofs.check_records.Tie as tie
-use Rattle.valid.proofs.check_records.Reads as reads
-use Rattle.valid.proofs.check_records.Lts as lts
-use Rattle.valid.proofs.check_record.Reads as check-record-reads
-use Rattle.valid.proofs.mask.Reads as mask-reads
 
 abbrev Inv-loop : tie.InvT-loop
 Inv-loop b n max m i₀ i = (i ≤ n) × (allBlocks (recGood max) recWidth (n - i) (drop (33 + i * recWidth) b) ≡ allBlocks (recGood max) recWidth n (drop 33 b))

@@ -1,13 +1,13 @@
 -- `valid::clean_behind` meets its contract: what was seen is zero where the bytes passed behind the text are. Assumes nothing.
-use Prim.Native.Nat.{ℕ, zero, suc, _%_, _+_, _-_, _≤_, _<_}
+use Prim.Native.Nat.{ℕ, zero, suc, _+_, _-_, _≤_, _<_}
 use mathlib.Core.Path.{_≡_, refl, sym, ap, _∙_}
-use mathlib.Core.Bool.{Bool, true, false, _&&_}
+use mathlib.Core.Bool.{Bool, true, _&&_}
 use mathlib.Core.List.{List, [], _∷_, _++_}
 use native.Mathlib.Omega.{arith}
 use lib.Bits.{bitOr, bitAnd, and-mask, and-zero-r, or-zero-r}
 use native.Mathlib.Nat.{le-of-suc-le-suc, not-suc-le-zero}
 use lib.Dec.{eqb}
-use lib.ListN.{length, getD, replicate, length-replicate}
+use lib.ListN.{length, getD, replicate}
 use lib.Seq.{getD-append-add}
 use native.Mathlib.Decide.{decLt}
 use Rattle.valid.specs.Mask.{maskBytes}
@@ -19,8 +19,6 @@ use Rattle.fields.specs.Blocks.{allZero}
 use borrow.Author.Needs.{needs}
 use Rattle.valid.proofs.clean_behind.Statement.{statement}
 use Rattle.valid.proofs.clean_behind.Tie as tie
-use Rattle.valid.proofs.clean_behind.Reads as reads
-use Rattle.valid.proofs.clean_behind.Lts as lts
 
 abbrev Inv-loop : tie.InvT-loop
 Inv-loop b at n k m seen₀ i₀ seen i = (i ≤ n) × (eqb seen 0 ≡ allZero (part (at + k) (i - k) b))

@@ -10,8 +10,6 @@ use Rattle.valid.specs.Mask.{maskBytes}
 use borrow.Author.Needs.{needs}
 use Rattle.valid.proofs.mask.Statement.{statement}
 use Rattle.valid.proofs.mask.Tie as tie
-use Rattle.valid.proofs.mask.Reads as reads
-use Rattle.valid.proofs.mask.Lts as lts
 
 abbrev Inv-loop : tie.InvT-loop
 Inv-loop m₀ i₀ m i = (64 ≤ i) × (i ≤ 128) × (length m ≡ 128) × (take i m ≡ replicate 64 0 ++ replicate (i - 64) 255)
