@@ -13,10 +13,10 @@ use Rattle.fields.specs.Choice.{pick}
 use Rattle.fields.specs.Numbers.{natOf}
 use Rattle.fields.specs.Parts.{part}
 use Rattle.rules.specs.Digest as wire
-use Rattle.rules.specs.Digest.{NodeDigest, DigestRead, Entries, Refused, readDigest, readEntries, tellAll}
+use Rattle.rules.specs.Digest.{DigestRead, Entries, Refused, readDigest, readEntries, tellAll}
 use Rattle.rules.specs.declared.Refusal.{Refusal}
 use Rattle.rules.specs.declared.Refusal.the-variants.{Cut, TooMany}
-use Rattle.digest.specs.Held.{backs, countIn, digestIn, entriesAt, entriesIn, entriesRead, gathered, heldOf, places, restAt, restOf}
+use Rattle.digest.specs.Held.{countIn, digestIn, entriesAt, gathered, heldOf, places, restAt, restOf}
 use Rattle.digest.specs.declared.Counted.{Counted}
 use Rattle.digest.specs.declared.Counted.the-variants as counted
 use Rattle.digest.specs.declared.DigestRead.the-variants as answer

@@ -8,7 +8,7 @@ use lib.ListN.{length, drop}
 use Rattle.fields.proofs.Blocks.{length-unblock}
 use Rattle.rules.specs.Digest.{NodeDigest, DigestRead, Entries, Refused, entryOf, readDigest, tell, tellAll}
 use Rattle.rules.specs.declared.Refusal.{Refusal}
-use Rattle.digest.specs.Held.{countIn, digestIn, entriesAt, entriesIn, entriesRead, heldOf, places, restOf}
+use Rattle.digest.specs.Held.{countIn, digestIn, entriesAt, entriesIn, entriesRead, heldOf, restOf}
 use Rattle.digest.specs.declared.Counted.{Counted}
 use Rattle.digest.specs.declared.Counted.the-variants as counted
 use Rattle.digest.specs.declared.DigestRead.the-variants as answer

@@ -1,7 +1,6 @@
 -- A digest as the code holds it: the answer, and eight places for the entries. What each function makes of the bytes, by the definitions of
 -- `rules`.
-use Prim.Native.Nat.{ℕ, zero, suc, _+_, _*_, _-_}
-use mathlib.Core.Bool.{Bool, true, false}
+use Prim.Native.Nat.{ℕ, zero, suc, _*_, _-_}
 use mathlib.Core.List.{List, [], _∷_}
 use lib.ListN.{length, take, drop}
 use lib.Dec.{leb}
@@ -12,7 +11,6 @@ use Rattle.fields.specs.Blocks.{unblock}
 use Rattle.rules.specs.Sizes.{maxNodes}
 use Rattle.rules.specs.Node.{beats}
 use Rattle.rules.specs.Digest.{NodeDigest, DigestRead, Entries, Refused, countWidth, entryWidth, entryOf, readDigest}
-use Rattle.rules.specs.declared.Refusal.{Refusal}
 use Rattle.rules.specs.declared.Refusal.the-variants.{Cut, TooMany}
 use Rattle.digest.specs.declared.NodeDigest.{NodeDigest as Place}
 use Rattle.digest.specs.declared.DigestRead.{DigestRead as Answer}

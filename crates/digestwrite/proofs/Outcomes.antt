@@ -1,8 +1,8 @@
 -- The outcome of writing a digest, case by case. Assumes nothing.
 use Prim.Native.Nat.{ℕ, _+_, _*_, _-_, _<_, _≤_}
-use mathlib.Core.Path.{_≡_, _∙_, ap, refl, sym}
-use mathlib.Core.Bool.{Bool, true, false}
-use mathlib.Core.List.{List, _++_}
+use mathlib.Core.Path.{_≡_, _∙_, ap, sym}
+use mathlib.Core.Bool.{true, false}
+use mathlib.Core.List.{List}
 use native.Mathlib.Omega.{arith}
 use lib.ListN.{length, length-append}
 use borrow.Author.Tests.{le-leb, lt-leb}
@@ -13,7 +13,7 @@ use Rattle.fields.proofs.Numbers.{length-bytesOf}
 use Rattle.fields.proofs.Parts.{put-field}
 use Rattle.rules.specs.Digest.{NodeDigest, digestBytes, digestOf, entryBytes, writeDigest}
 use Rattle.rules.specs.Layout.{decode, valid}
-use Rattle.rules.specs.Lent.{fromTable, lentDigest}
+use Rattle.rules.specs.Lent.{fromTable}
 use Rattle.rules.specs.declared.Refusal.the-variants.{BadTable, NoPlace}
 use Rattle.rules.specs.declared.Written.the-variants.{Bytes, Refused}
 use Rattle.digestwrite.specs.Digests.{WritesDigest}

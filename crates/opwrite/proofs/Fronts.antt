@@ -1,7 +1,7 @@
 -- Fields written one behind the other to the front of a list are one put of the operation's bytes, and how many bytes each operation takes.
 -- Assumes nothing.
 use Prim.Native.Nat.{ℕ, _+_, _<_, _≤_}
-use mathlib.Core.Path.{_≡_, _∙_, ap, refl, sym}
+use mathlib.Core.Path.{_≡_, _∙_, ap, refl}
 use mathlib.Core.List.{List, [], _∷_, _++_, append-assoc}
 use native.Mathlib.Omega.{arith}
 use lib.ListN.{length, length-append}
@@ -10,11 +10,10 @@ use Rattle.fields.specs.Numbers.{bytesOf}
 use Rattle.fields.specs.Parts.{put}
 use Rattle.fields.proofs.Numbers.{length-bytesOf}
 use Rattle.fields.proofs.Parts.{put-behind, put-field}
-use Rattle.rules.specs.Delta.{Op, NodeOp, KeyValueOp, SetMaxVersionOp, opBytes, sizeOf, statusByte, textBytes}
+use Rattle.rules.specs.Delta.{Op, NodeOp, SetMaxVersionOp, opBytes, sizeOf, statusByte, textBytes}
 use Rattle.rules.specs.declared.Status.{Status}
 use Rattle.rules.specs.declared.Status.the-variants.{Set, Delete, Ttl}
 use Rattle.opwrite.specs.Written.{WritesOp, keyValue, writeOp}
-use Rattle.opwrite.specs.declared.Wrote.{Wrote}
 use Rattle.opwrite.specs.declared.Wrote.the-variants.{Bytes, NoFit}
 
 -- ---- a status as a byte
