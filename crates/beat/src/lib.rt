@@ -6,7 +6,7 @@
 // that is lent, `offer_heartbeat` and `raise_heartbeat`. A heartbeat is a `Heartbeat` throughout, so none is taken for a version.
 ghost use mathlib.Core.Path.{_≡_};
 ghost use Rattle.rules.specs.Node.{offerOf};
-ghost use Rattle.beat.specs.Headers.{offeredHeader, offeredTo, canRise, risenFrom, raisedHeader, raisedOf};
+ghost use Rattle.beat.specs.Headers.{beating, offeredTo, canRise, risenFrom, raisedOf};
 use rules::Header;
 use rules::Heartbeat;
 
@@ -23,6 +23,17 @@ pub struct OfferedHeader {
 pub struct RaisedHeader {
     pub header: Header,
     pub rose: bool,
+}
+
+// The header with this heartbeat; max and last_gc stay.
+fn with_heartbeat(h: Header, heartbeat: Heartbeat) -> Header
+    ensures { λ r. ⌜ r ≡ beating heartbeat h ⌝ }
+{
+    Header {
+        heartbeat: heartbeat,
+        max: h.max,
+        last_gc: h.last_gc,
+    }
 }
 
 // The heartbeat that stands after an offer.
@@ -46,11 +57,7 @@ pub fn offered(h: Header, got: Heartbeat) -> OfferedHeader
     let held = h.heartbeat;
     let beat = rules::after_offer(held, got);
     let stored = beat.heartbeat;
-    let header = Header {
-        heartbeat: stored,
-        max: h.max,
-        last_gc: h.last_gc,
-    };
+    let header = with_heartbeat(h, stored);
     OfferedHeader {
         header: header,
         news: beat.news,
@@ -79,12 +86,8 @@ pub fn raised(h: Header) -> RaisedHeader
     ensures { λ r. ⌜ r ≡ raisedOf h ⌝ }
 {
     let held = h.heartbeat;
-    let stored = risen(held);
-    let header = Header {
-        heartbeat: stored,
-        max: h.max,
-        last_gc: h.last_gc,
-    };
+    let next = risen(held);
+    let header = with_heartbeat(h, next);
     RaisedHeader {
         header: header,
         rose: can_rise(held),
@@ -93,7 +96,7 @@ pub fn raised(h: Header) -> RaisedHeader
 
 // A heartbeat offer to a header that is lent: whether the offer was news. max and last_gc are untouched.
 pub fn offer_heartbeat(h: &mut Header, got: Heartbeat) -> bool
-    ensures { λ r. ⌜ (r ≡ offerOf (now (h .entry) .heartbeat) got .news) × (now (h .exit) ≡ offeredHeader (now (h .entry)) got) ⌝ }
+    ensures { λ r. ⌜ (r ≡ offeredTo (now (h .entry)) got .news) × (now (h .exit) ≡ offeredTo (now (h .entry)) got .header) ⌝ }
 {
     let held = h.heartbeat;
     h.heartbeat = kept(held, got);
@@ -102,7 +105,7 @@ pub fn offer_heartbeat(h: &mut Header, got: Heartbeat) -> bool
 
 // A local beat on a header that is lent: whether the heartbeat rose. Where it did not, the header is untouched.
 pub fn raise_heartbeat(h: &mut Header) -> bool
-    ensures { λ r. ⌜ (r ≡ canRise (now (h .entry) .heartbeat)) × (now (h .exit) ≡ raisedHeader (now (h .entry))) ⌝ }
+    ensures { λ r. ⌜ (r ≡ raisedOf (now (h .entry)) .rose) × (now (h .exit) ≡ raisedOf (now (h .entry)) .header) ⌝ }
 {
     let held = h.heartbeat;
     h.heartbeat = risen(held);

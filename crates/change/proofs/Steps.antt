@@ -1,13 +1,13 @@
 -- The stores of each writer, one after the other, on plain lists: what the last of them leaves is the changed node or table. Assumes nothing.
-use Prim.Native.Nat.{ℕ, zero, suc, _+_, _*_, _-_, _≤_, _<_}
-use mathlib.Core.Path.{_≡_, refl, ap, ap₂, sym, _∙_, subst}
-use mathlib.Core.List.{List, [], _∷_, _++_, append-nil, append-assoc}
+use Prim.Native.Nat.{ℕ, suc, _+_, _*_, _-_, _≤_, _<_}
+use mathlib.Core.Path.{_≡_, ap, ap₂, sym, _∙_}
+use mathlib.Core.List.{List, [], _++_, append-nil, append-assoc}
 use native.Mathlib.Omega.{arith}
-use native.Mathlib.Nat.{add-zero, zero-add}
+use native.Mathlib.Nat.{zero-add}
 use native.Mathlib.Numerals.{add-one}
-use lib.ListN.{length, take, drop, getD, set, length-append, drop-of-length-le}
+use lib.ListN.{length, drop, set, length-append, drop-of-length-le}
 use lib.Seq.{drop-at}
-use Rattle.fields.specs.Numbers.{natOf, bytesOf}
+use Rattle.fields.specs.Numbers.{bytesOf}
 use Rattle.fields.specs.Parts.{part, put}
 use Rattle.fields.specs.Blocks.{zeros, fit, insertAt, removeAt}
 use Rattle.fields.specs.Widths.{joined}
@@ -17,8 +17,7 @@ use Rattle.fields.proofs.Blocks.{length-zeros, zeros-add, length-fit, fit-pad}
 use Rattle.rules.specs.Sizes.{maxNodes, maxRecords}
 use Rattle.rules.specs.Node.{Rec}
 use Rattle.rules.specs.Delta.{statusByte}
-use Rattle.rules.specs.Table.{Entry, Table}
-use Rattle.rules.specs.Layout.{recWidth, nodeWidth, recFields, encodeRec, encodeNode, decodeNode, decodeRec, encode, decode}
+use Rattle.rules.specs.Layout.{recWidth, nodeWidth, encodeRec, encodeNode, decodeNode, decodeRec, encode, decode}
 use Rattle.rules.specs.declared.Status.{Status}
 use Rattle.table.specs.Tests.{countOf, nodesOf, recsOf}
 use Rattle.table.specs.Fits.{LaidNode, LaidTable}

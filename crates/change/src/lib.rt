@@ -19,7 +19,7 @@ ghost use Rattle.table.specs.Fits.{LaidNode, LaidTable};
 ghost use Rattle.table.specs.Changes.{withBeat, withMax, withGc, withRecs, freshEntry, recOf};
 
 // The byte of a status.
-fn status_byte(s: Status) -> usize
+pub fn status_byte(s: Status) -> usize
     ensures { λ r. ⌜ r ≡ statusByte s ⌝ }
 {
     match s {

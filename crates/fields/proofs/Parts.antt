@@ -249,3 +249,11 @@ pub put-next : (at i b : ℕ) (vs l : List ℕ) → at + i < length l → put (a
 put-next at i b vs l h =
     let q : at + (i + 1) ≡ suc (at + i) = omega arith in
     rw q (put-cons (at + i) b vs l h)
+
+-- ---- a field more behind those that were put to the front of a list
+
+-- ws behind the n bytes vs; a and b are the lists as the writes before and of this field left them
+pub put-field : (n : ℕ) (vs ws l a b : List ℕ) → length vs ≡ n → n + length ws ≤ length l → a ≡ put 0 vs l → b ≡ put n ws a → b ≡ put 0 (vs ++ ws) l
+put-field n vs ws l a b e h p q =
+    let k : n ≡ 0 + length vs = omega arith in
+    q ∙ ap (put n ws) p ∙ ap (λ (j : ℕ). put j ws (put 0 vs l)) k ∙ put-behind 0 vs ws l (omega arith)

@@ -3,7 +3,7 @@
 use Prim.Native.Nat.{_<_, _^_, _≤_, suc, zero, ℕ}
 use mathlib.Core.Bool.{Bool, false, true}
 use mathlib.Core.List.{List, [], _++_, _∷_, append-assoc}
-use mathlib.Core.Path.{_∙_, _≡_, _≡_, ap, refl, subst, subst₂, sym}
+use mathlib.Core.Path.{_∙_, _≡_, ap, refl, subst, subst₂, sym}
 use native.Mathlib.Nat.{mod-eq-of-lt}
 use native.Mathlib.Omega.{arith}
 use lib.Dec.{leb}

@@ -1,23 +1,23 @@
 -- How a change of bytes changes what is meant: a header number, a record replaced, put in or taken out, a node replaced, put in or taken out.
 -- Each law starts from the bytes of a node or table and ends at the bytes of the changed one, so that a writer's outcome is one equation.
 -- Assumes nothing.
-use Prim.Native.Nat.{ℕ, zero, suc, _+_, _*_, _-_, _≤_, _<_}
-use mathlib.Core.Path.{_≡_, refl, ap, ap₂, sym, _∙_, subst}
-use mathlib.Core.List.{List, [], _∷_, _++_, append-nil}
+use Prim.Native.Nat.{ℕ, suc, _+_, _*_, _-_, _≤_, _<_}
+use mathlib.Core.Path.{_≡_, refl, ap, ap₂, sym, _∙_}
+use mathlib.Core.List.{List, [], append-nil}
 use native.Mathlib.Omega.{arith}
 use native.Mathlib.Numerals.{add-one}
-use lib.ListN.{length, getD, set, take, drop, length-set}
-use Rattle.fields.specs.Numbers.{natOf, bytesOf}
+use lib.ListN.{length, getD, set, length-set}
+use Rattle.fields.specs.Numbers.{bytesOf}
 use Rattle.fields.specs.Parts.{part, put}
 use Rattle.fields.specs.Blocks.{zeros, flat, blocks, insertAt, removeAt}
-use Rattle.fields.specs.Widths.{joined, offset, Widths}
+use Rattle.fields.specs.Widths.{joined, offset}
 use Rattle.fields.proofs.Numbers.{length-bytesOf}
 use Rattle.fields.proofs.Blocks.{length-zeros, zeros-add, bytes-zero, blocks-is, block, block-set, block-insert, block-remove, length-blocks, length-insert, length-remove}
 use Rattle.fields.proofs.Widths.{field-set, field-put, widths-set}
 use Rattle.rules.specs.Sizes.{maxNodes, maxRecords}
-use Rattle.rules.specs.Node.{Rec, Node, beats, fresh}
+use Rattle.rules.specs.Node.{Rec, beats}
 use Rattle.rules.specs.Table.{Entry, Table}
-use Rattle.rules.specs.Layout.{recWidth, nodeWidths, nodeWidth, tableWidths, tableWidth, nodeFields, tableFields, encodeRec, encodeNode, encode}
+use Rattle.rules.specs.Layout.{recWidth, nodeWidths, nodeWidth, tableWidths, nodeFields, tableFields, encodeRec, encodeNode, encode}
 use Rattle.table.specs.Changes.{withBeat, withMax, withGc, withRecs, freshEntry}
 use Rattle.table.proofs.Records.{length-rec}
 use Rattle.table.proofs.Nodes.{node-widths, length-node}

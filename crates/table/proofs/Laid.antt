@@ -1,8 +1,7 @@
 -- What is known of bytes that are laid out: how long they are, how many records or nodes they hold, that each record's lengths are within the
 -- sizes, and that each node of a table is laid out itself. Assumes nothing.
-use Prim.Native.Nat.{ℕ, _+_, _*_, _-_, _≤_, _<_}
-use mathlib.Core.Path.{_≡_, refl, ap, sym, _∙_, subst}
-use mathlib.Core.Bool.{true}
+use Prim.Native.Nat.{ℕ, _-_, _≤_, _<_}
+use mathlib.Core.Path.{_≡_, ap, sym, _∙_, subst}
 use mathlib.Core.List.{List, []}
 use native.Mathlib.Omega.{arith}
 use lib.ListN.{length, getD, length-take, length-drop}
@@ -10,15 +9,15 @@ use Rattle.fields.specs.Choice.{_∈_}
 use Rattle.fields.specs.Parts.{part}
 use Rattle.fields.proofs.Choice.{in-at}
 use Rattle.fields.proofs.Parts.{length-part}
-use Rattle.rules.specs.Sizes.{maxNodes, maxRecords, maxKey, maxValue}
+use Rattle.rules.specs.Sizes.{maxKey, maxValue}
 use Rattle.rules.specs.Node.{Rec}
-use Rattle.rules.specs.Table.{Entry, Table}
-use Rattle.rules.specs.Layout.{recWidth, nodeWidth, tableWidth, decodeRec, decodeNode, encodeNode, decode, encode, valid}
-use Rattle.table.specs.Fits.{FitsRec, FitsEntry, LaidNode, LaidTable}
+use Rattle.rules.specs.Table.{Entry}
+use Rattle.rules.specs.Layout.{recWidth, nodeWidth, decodeRec, decodeNode, encodeNode, decode}
+use Rattle.table.specs.Fits.{FitsRec, LaidNode, LaidTable}
 use Rattle.table.specs.Tests.{keyLength, valueLength, countOf, nodesOf, recsOf}
-use Rattle.table.proofs.Nodes.{length-node, laid-node}
-use Rattle.table.proofs.Tables.{length-table, length-decode, valid-laid}
-use Rattle.table.proofs.Places.{recPlace, recBytes, recAt, recs-at, length-recs, nodePlace, nodeBytes, nodeAt, decode-at}
+use Rattle.table.proofs.Nodes.{laid-node}
+use Rattle.table.proofs.Tables.{length-decode}
+use Rattle.table.proofs.Places.{recPlace, recBytes, recAt, recs-at, length-recs, nodePlace, nodeBytes}
 use Rattle.table.proofs.Changed.{table-node}
 
 -- a length of a text that was read within the sizes is within them itself

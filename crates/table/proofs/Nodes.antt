@@ -1,11 +1,11 @@
 -- A node's bytes and back, as for a record: read again from its bytes where it obeys, written again from bytes that pass the tests, and the
 -- tests passed by the bytes of a node that obeys. Assumes nothing.
-use Prim.Native.Nat.{ℕ, zero, suc, _+_, _*_, _-_, _≤_, _<_, _^_}
+use Prim.Native.Nat.{ℕ, _+_, _*_, _-_, _≤_, _<_, _^_}
 use mathlib.Core.Path.{_≡_, refl, ap, sym, _∙_, subst}
-use mathlib.Core.Bool.{Bool, true, false, _&&_}
-use mathlib.Core.List.{List, [], _∷_, _++_}
+use mathlib.Core.Bool.{Bool, true, false}
+use mathlib.Core.List.{List, [], _∷_}
 use native.Mathlib.Omega.{arith}
-use lib.ListN.{length, take, drop, getD, length-drop}
+use lib.ListN.{length, drop, getD, length-drop}
 use lib.Seq.{take-all}
 use lib.Dec.{leb, ltb}
 use borrow.Author.Tests.{leb-true, ltb-true, le-leb, lt-ltb}
@@ -13,8 +13,8 @@ use Rattle.fields.specs.Choice.{every, all, _∈_}
 use Rattle.fields.specs.Numbers.{natOf, bytesOf, Bytes}
 use Rattle.fields.specs.Parts.{part}
 use Rattle.fields.specs.Blocks.{flat, blocks, unblock, allZero, allBlocks}
-use Rattle.fields.specs.Widths.{joined, Widths, offset}
-use Rattle.fields.proofs.Choice.{every-at, and-left, and-right, and-intro, all-from, all-in, in-at, at-in}
+use Rattle.fields.specs.Widths.{Widths, offset}
+use Rattle.fields.proofs.Choice.{every-at, and-left, and-right, all-from, all-in, in-at, at-in}
 use Rattle.fields.proofs.Numbers.{length-bytesOf, nat-bytes, part-back, nat-part, bytes-part, bytes-drop}
 use Rattle.fields.proofs.Parts.{length-part, part-drop}
 use Rattle.fields.proofs.Blocks.{length-flat, length-blocks, length-unblock, unblock-at, block, blocks-back, blocks-read, all-blocks-at, at-all-blocks, fit-zeros}
@@ -23,7 +23,7 @@ use Rattle.rules.specs.Sizes.{maxRecords, numbers}
 use Rattle.rules.specs.Node.{Rec, Node, beats}
 use Rattle.rules.specs.Table.{Entry, recObeys, nodeObeys, entryObeys, keysRise, versions, differ}
 use Rattle.rules.specs.Layout.{recWidth, nodeWidths, nodeWidth, nodeFields, encodeRec, decodeRec, encodeNode, decodeNode}
-use Rattle.table.specs.Fits.{FitsRec, FitsEntry, LaidNode}
+use Rattle.table.specs.Fits.{FitsEntry, LaidNode}
 use Rattle.table.specs.Tests.{recGood, nodeTests, nodeGood, countOf, maxOf, recsOf}
 use Rattle.table.proofs.Records.{ObeysRec, rec-obeys, obeys-rec, fits-rec, length-rec, decode-encode-rec, encode-decode-rec, obeys-decode-rec, rec-good, every-no}
 

@@ -1,12 +1,12 @@
 -- What is read at a place of the bytes: record i of a node and node i of a table, and their fields, for bytes of the right length with any
 -- contents. Assumes nothing.
-use Prim.Native.Nat.{ℕ, zero, suc, _+_, _*_, _-_, _≤_, _<_}
-use mathlib.Core.Path.{_≡_, refl, ap, sym, _∙_, subst}
+use Prim.Native.Nat.{ℕ, suc, _+_, _*_, _-_, _≤_, _<_}
+use mathlib.Core.Path.{_≡_, ap, sym, _∙_}
 use mathlib.Core.Bool.{true}
-use mathlib.Core.List.{List, [], _∷_, _++_}
+use mathlib.Core.List.{List, _∷_}
 use native.Mathlib.Omega.{arith}
 use native.Mathlib.Nat.{add-zero}
-use lib.ListN.{length, take, drop, getD, length-drop}
+use lib.ListN.{length, drop, getD}
 use Rattle.fields.specs.Numbers.{natOf}
 use Rattle.fields.specs.Parts.{part}
 use Rattle.fields.specs.Blocks.{unblock, allBlocks}
@@ -15,7 +15,7 @@ use Rattle.fields.proofs.Parts.{part-part, part-drop}
 use Rattle.fields.proofs.Blocks.{unblock-drop, unblock-at, length-unblock, all-blocks-at}
 use Rattle.rules.specs.Sizes.{maxNodes, maxRecords}
 use Rattle.rules.specs.Node.{Rec}
-use Rattle.rules.specs.Table.{Entry, Table}
+use Rattle.rules.specs.Table.{Entry}
 use Rattle.rules.specs.Layout.{recWidths, recWidth, nodeWidths, nodeWidth, tableWidths, tableWidth, decodeRec, decodeNode, decode}
 use Rattle.table.specs.Tests.{countOf, nodesOf, recsOf, recGood}
 

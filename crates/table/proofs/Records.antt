@@ -1,25 +1,24 @@
 -- A record's bytes and back. A record that keeps to the sizes is read again from its bytes; bytes that pass the tests are those of the record
 -- that is read in them, and it obeys the rules; and the bytes of a record that obeys pass the tests. Assumes nothing.
-use Prim.Native.Nat.{ℕ, zero, suc, _+_, _*_, _-_, _≤_, _<_, _^_}
-use mathlib.Core.Path.{_≡_, refl, ap, sym, _∙_, subst}
+use Prim.Native.Nat.{ℕ, zero, suc, _+_, _-_, _≤_, _<_, _^_}
+use mathlib.Core.Path.{_≡_, refl, ap, sym, _∙_}
 use mathlib.Core.Bool.{Bool, true, false, _&&_, true≢false}
-use mathlib.Core.List.{List, [], _∷_, _++_}
+use mathlib.Core.List.{List, [], _∷_}
 use native.Mathlib.Omega.{arith}
-use lib.ListN.{length, take, drop, getD}
+use lib.ListN.{length, getD}
 use lib.Dec.{leb, ltb}
 use borrow.Author.Tests.{leb-true, ltb-true, le-leb, lt-ltb}
 use Rattle.fields.specs.Choice.{every}
 use Rattle.fields.specs.Numbers.{natOf, bytesOf, Bytes}
 use Rattle.fields.specs.Parts.{part}
-use Rattle.fields.specs.Blocks.{fit, allZero}
-use Rattle.fields.specs.Widths.{joined, Widths, offset}
+use Rattle.fields.specs.Widths.{Widths, offset}
 use Rattle.fields.proofs.Choice.{every-at, and-no}
 use Rattle.fields.proofs.Numbers.{length-bytesOf, nat-bytes, part-back, nat-part}
 use Rattle.fields.proofs.Parts.{length-part}
 use Rattle.fields.proofs.Blocks.{length-fit, fit-back, fit-front, fit-zeros}
 use Rattle.fields.proofs.Widths.{field, length-joined, joined-whole}
 use Rattle.rules.specs.Sizes.{maxKey, maxValue, numbers}
-use Rattle.rules.specs.Node.{Rec, KeyValue}
+use Rattle.rules.specs.Node.{Rec}
 use Rattle.rules.specs.Table.{recObeys}
 use Rattle.rules.specs.Delta.{statusByte}
 use Rattle.rules.specs.Layout.{recWidths, recWidth, recFields, encodeRec, decodeRec, statusOfByte}

@@ -1,22 +1,22 @@
 -- A table's bytes and back. A table that obeys and its bytes determine each other: it is read again from them (`decode-encode`), they are valid
 -- (`valid-encode`, so that calls can be chained), and valid bytes are those of the table that is read in them (`encode-decode`), which obeys.
 -- Assumes nothing.
-use Prim.Native.Nat.{ℕ, zero, suc, _+_, _*_, _-_, _≤_, _<_, _^_}
-use mathlib.Core.Path.{_≡_, refl, ap, sym, _∙_, subst}
-use mathlib.Core.Bool.{Bool, true, false, _&&_}
-use mathlib.Core.List.{List, [], _∷_, _++_}
+use Prim.Native.Nat.{ℕ, _*_, _-_, _≤_, _<_}
+use mathlib.Core.Path.{_≡_, ap, sym, _∙_, subst}
+use mathlib.Core.Bool.{Bool, true}
+use mathlib.Core.List.{List, [], _∷_}
 use native.Mathlib.Omega.{arith}
-use lib.ListN.{length, take, drop, getD, length-drop}
+use lib.ListN.{length, drop, getD, length-drop}
 use lib.Seq.{take-all}
-use lib.Dec.{leb, ltb}
+use lib.Dec.{leb}
 use borrow.Author.Tests.{leb-true, le-leb}
-use Rattle.fields.specs.Choice.{every, all, _∈_}
-use Rattle.fields.specs.Numbers.{natOf, bytesOf, Bytes}
+use Rattle.fields.specs.Choice.{all, _∈_}
+use Rattle.fields.specs.Numbers.{natOf}
 use Rattle.fields.specs.Parts.{part}
 use Rattle.fields.specs.Blocks.{blocks, unblock}
-use Rattle.fields.specs.Widths.{joined, Widths, offset}
+use Rattle.fields.specs.Widths.{Widths, offset}
 use Rattle.fields.specs.Order.{sameBytes}
-use Rattle.fields.proofs.Choice.{every-at, and-left, and-right, and-intro, all-from, in-at}
+use Rattle.fields.proofs.Choice.{every-at, and-left, and-right, and-intro, all-from}
 use Rattle.fields.proofs.Numbers.{length-bytesOf, nat-bytes}
 use Rattle.fields.proofs.Blocks.{length-blocks, length-unblock, blocks-read}
 use Rattle.fields.proofs.Widths.{field, length-joined}
@@ -24,7 +24,7 @@ use Rattle.fields.proofs.Ordered.{same-true, same-self}
 use Rattle.rules.specs.Sizes.{maxNodes}
 use Rattle.rules.specs.Table.{Entry, Table, entryObeys, rising, numbersOf, obeys}
 use Rattle.rules.specs.Layout.{nodeWidth, tableWidths, tableWidth, tableFields, encodeNode, decodeNode, encode, decode, valid}
-use Rattle.table.specs.Fits.{FitsEntry, FitsTable, LaidTable}
+use Rattle.table.specs.Fits.{FitsTable, LaidTable}
 use Rattle.table.specs.Tests.{nodesOf}
 use Rattle.table.proofs.Nodes.{ObeysEntry, entry-obeys, length-node, fits-entry, decode-encode-node}
 

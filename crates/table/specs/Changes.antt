@@ -1,7 +1,7 @@
 -- A node under its number with one thing changed: what a writer on the bytes of a good table leaves.
 use Prim.Native.Nat.{ℕ}
 use mathlib.Core.List.{List}
-use Rattle.rules.specs.Node.{Rec, Node, KeyValue, fresh}
+use Rattle.rules.specs.Node.{Rec, Node, fresh}
 use Rattle.rules.specs.Table.{Entry}
 use Rattle.rules.specs.declared.Heartbeat.{Heartbeat}
 use Rattle.rules.specs.declared.Status.{Status}

@@ -1,7 +1,7 @@
 -- The check behind number 14 as plain tests of bytes, from left to right. `valid` says what a good table is: the bytes of a table that obeys the
 -- rules. These tests say how one sees it on the bytes; that they come to the same is proved (proofs/Checked.antt).
 use Prim.Native.Nat.{ℕ, _+_, _*_, _-_}
-use mathlib.Core.Bool.{Bool, true, false, _&&_}
+use mathlib.Core.Bool.{Bool, _&&_}
 use mathlib.Core.List.{List, [], _∷_}
 use lib.ListN.{length, drop}
 use lib.Dec.{leb, eqb}

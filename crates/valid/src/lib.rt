@@ -12,27 +12,40 @@ ghost use Rattle.fields.specs.Order.{lessBytes};
 ghost use Rattle.rules.specs.Sizes.{maxKey};
 ghost use Rattle.rules.specs.Table.{keysRise, versions, among, differ, rising, numbersOf};
 ghost use Rattle.rules.specs.Layout.{recWidth, nodeWidth, tableWidth, decodeRec, decode, valid};
+ghost use Rattle.valid.specs.Mask.{maskBytes};
 ghost use Rattle.table.specs.Tests.{keyLength, clean, recGood, nodeGood, countOf, maxOf, recsOf, nodesOf};
 
-// Whether zeros stand behind a text of `k` bytes in the room for `n` at `at`.
-fn clean_behind(b: &[u8], at: usize, n: usize, k: usize) -> bool
-    requires { ⌜ (k ≤ n) × (at + n ≤ length (now b)) ⌝ }
+// 64 bytes that drop, and 64 that keep.
+fn mask() -> [u8; 128]
+    ensures { λ r. ⌜ r ≡ maskBytes ⌝ }
+{
+    let mut m = [0u8; 128];
+    let mut i = 64;
+    while i < 128 {
+        m[i] = 255;
+        i += 1;
+    }
+    m
+}
+
+// Whether zeros stand behind a text of `k` bytes in the room for `n` at `at`. It looks at all n bytes and masks those of the text, so that the loop
+// has a fixed length and no branch.
+fn clean_behind(b: &[u8], at: usize, n: usize, k: usize, m: &[u8]) -> bool
+    requires { ⌜ (k ≤ n) × (n ≤ 64) × (at + n ≤ length (now b)) × (now m ≡ maskBytes) ⌝ }
     ensures { λ r. ⌜ r ≡ clean at n k (now (b .entry)) ⌝ }
 {
     let mut seen: u8 = 0;
     let mut i = 0;
     while i < n {
-        if k <= i {
-            seen = seen | b[at + i];
-        }
+        seen = seen | (b[at + i] & m[64 - k + i]);
         i += 1;
     }
     seen == 0
 }
 
 // Whether the bytes are those of a record, in a node with this max.
-fn check_record(b: &[u8], max: u64) -> bool
-    requires { ⌜ length (now b) ≡ recWidth ⌝ }
+fn check_record(b: &[u8], max: u64, m: &[u8]) -> bool
+    requires { ⌜ (length (now b) ≡ recWidth) × (now m ≡ maskBytes) ⌝ }
     ensures { λ r. ⌜ r ≡ recGood max (now (b .entry)) ⌝ }
 {
     let k = fields::byte_at(b, layout::KEY_LENGTH);
@@ -53,8 +66,8 @@ fn check_record(b: &[u8], max: u64) -> bool
     if 2 < fields::byte_at(b, layout::STATUS) {
         return false;
     }
-    if clean_behind(b, layout::KEY, Record::KEY, k) {
-        clean_behind(b, layout::VALUE, Record::VALUE, v)
+    if clean_behind(b, layout::KEY, Record::KEY, k, m) {
+        clean_behind(b, layout::VALUE, Record::VALUE, v, m)
     } else {
         false
     }
@@ -65,11 +78,12 @@ fn check_records(b: &[u8], n: usize, max: u64) -> bool
     requires { ⌜ (length (now b) ≡ nodeWidth) × (n ≤ 32) ⌝ }
     ensures { λ r. ⌜ r ≡ allBlocks (recGood max) recWidth n (drop 33 (now (b .entry))) ⌝ }
 {
+    let m = mask();
     let mut i = 0;
     while i < n {
         let a = layout::RECORDS + i * layout::RECORD;
         let e = a + layout::RECORD;
-        if check_record(&b[a..e], max) {
+        if check_record(&b[a..e], max, &m) {
             i += 1;
         } else {
             return false;

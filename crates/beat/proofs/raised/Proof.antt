@@ -10,20 +10,24 @@ use Rattle.beat.proofs.Rising.{beaten}
 use Rattle.beat.proofs.raised.Statement.{statement}
 use Rattle.beat.proofs.raised.Tie as tie
 
--- the header and the answer that come of a header and a test
+-- the record of a header and the answer
 abbrev given : Header → Bool → RaisedHeader
 given h t = record { header = h; rose = t }
 
 risen-requires : tie.Need-risen-requires
 risen-requires c κs = search needs
 
+with-heartbeat-requires : tie.Need-with-heartbeat-requires
+with-heartbeat-requires c κs = search needs
+
 can-rise-requires : tie.Need-can-rise-requires
 can-rise-requires c κs = search needs
 
 returns : tie.Need-returns
 returns c =
-    let h : Header = c .before .before .before .args .h in
-    ap₂ given (ap (λ (b : Heartbeat). beating b h) (c .before .risen .ensures) ∙ beaten h) (c .can-rise .ensures)
+    let h : Header = c .before .before .before .before .args .h in
+    ap₂ given (c .before .with-heartbeat .ensures ∙ ap (λ (b : Heartbeat). beating b h) (c .before .before .risen .ensures) ∙ beaten h)
+    (c .can-rise .ensures)
 
 pub raised-spec : {M : Type 1} → statement M
-raised-spec = tie.close (tie.spec risen-requires can-rise-requires returns)
+raised-spec = tie.close (tie.spec risen-requires with-heartbeat-requires can-rise-requires returns)

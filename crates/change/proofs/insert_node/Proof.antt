@@ -3,13 +3,6 @@ use Rattle.change.proofs.Steps.{add-steps}
 use borrow.Author.Needs.{needs}
 use Rattle.change.proofs.insert_node.Statement.{statement}
 use Rattle.change.proofs.insert_node.Tie as tie
-use Rattle.change.proofs.insert_node.Reads as reads
-use Rattle.change.proofs.insert_node.Lts as lts
-use Rattle.fields.proofs.byte_at.Reads as byte-at-reads
-use Rattle.fields.proofs.clear.Reads as clear-reads
-use Rattle.fields.proofs.move_up.Reads as move-up-reads
-use Rattle.fields.proofs.write_byte.Reads as write-byte-reads
-use Rattle.fields.proofs.write_u64.Reads as write-u64-reads
 
 byte-at-requires : tie.Need-byte-at-requires
 byte-at-requires c κs = search needs

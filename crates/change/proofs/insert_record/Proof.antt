@@ -1,6 +1,6 @@
 -- `change::insert_record` meets its contract. Assumes nothing.
-use Prim.Native.Nat.{ℕ, _+_, _*_}
-use mathlib.Core.Path.{_≡_, ap, _∙_}
+use Prim.Native.Nat.{_+_, _*_}
+use mathlib.Core.Path.{ap, _∙_}
 use lib.ListN.{length}
 use Rattle.fields.proofs.Lent.{lent}
 use Rattle.rules.specs.Layout.{encodeRec}
@@ -11,12 +11,6 @@ use Rattle.change.proofs.Steps.{insert-steps}
 use borrow.Author.Needs.{needs}
 use Rattle.change.proofs.insert_record.Statement.{statement}
 use Rattle.change.proofs.insert_record.Tie as tie
-use Rattle.change.proofs.insert_record.Reads as reads
-use Rattle.change.proofs.insert_record.Lts as lts
-use Rattle.change.proofs.write_record.Reads as write-record-reads
-use Rattle.fields.proofs.byte_at.Reads as byte-at-reads
-use Rattle.fields.proofs.move_up.Reads as move-up-reads
-use Rattle.fields.proofs.write_byte.Reads as write-byte-reads
 
 byte-at-requires : tie.Need-byte-at-requires
 byte-at-requires c κs = search needs

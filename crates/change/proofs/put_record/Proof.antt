@@ -1,6 +1,6 @@
 -- `change::put_record` meets its contract. Assumes nothing.
-use Prim.Native.Nat.{ℕ, _+_, _*_}
-use mathlib.Core.Path.{_≡_, ap, _∙_}
+use Prim.Native.Nat.{_+_, _*_}
+use mathlib.Core.Path.{ap, _∙_}
 use lib.ListN.{length}
 use Rattle.fields.proofs.Lent.{lent}
 use Rattle.rules.specs.Layout.{encodeRec}
@@ -11,9 +11,6 @@ use Rattle.change.proofs.Steps.{put-steps}
 use borrow.Author.Needs.{needs}
 use Rattle.change.proofs.put_record.Statement.{statement}
 use Rattle.change.proofs.put_record.Tie as tie
-use Rattle.change.proofs.put_record.Reads as reads
-use Rattle.change.proofs.put_record.Lts as lts
-use Rattle.change.proofs.write_record.Reads as write-record-reads
 
 mul-a : tie.Need-mul-a
 mul-a c = search needs

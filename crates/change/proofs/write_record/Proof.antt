@@ -3,12 +3,6 @@ use Rattle.change.proofs.Steps.{record-steps}
 use borrow.Author.Needs.{needs}
 use Rattle.change.proofs.write_record.Statement.{statement}
 use Rattle.change.proofs.write_record.Tie as tie
-use Rattle.change.proofs.write_record.Reads as reads
-use Rattle.change.proofs.write_record.Lts as lts
-use Rattle.change.proofs.status_byte.Reads as status-byte-reads
-use Rattle.change.proofs.write_text.Reads as write-text-reads
-use Rattle.fields.proofs.write_byte.Reads as write-byte-reads
-use Rattle.fields.proofs.write_u64.Reads as write-u64-reads
 
 status-byte-requires : tie.Need-status-byte-requires
 status-byte-requires c κs = search needs

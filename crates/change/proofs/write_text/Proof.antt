@@ -3,11 +3,6 @@ use Rattle.change.proofs.Steps.{text-steps}
 use borrow.Author.Needs.{needs}
 use Rattle.change.proofs.write_text.Statement.{statement}
 use Rattle.change.proofs.write_text.Tie as tie
-use Rattle.change.proofs.write_text.Reads as reads
-use Rattle.change.proofs.write_text.Lts as lts
-use Rattle.fields.proofs.clear.Reads as clear-reads
-use Rattle.fields.proofs.copy_to.Reads as copy-to-reads
-use Rattle.fields.proofs.write_byte.Reads as write-byte-reads
 
 write-byte-requires : tie.Need-write-byte-requires
 write-byte-requires c κs = search needs

@@ -1,33 +1,24 @@
 -- `place::find_key` meets its contract: what is left to be searched has the whole's answer. Assumes nothing.
-use Prim.Native.Nat.{ℕ, suc, _+_, _-_, _*_, _≤_, _<_}
-use mathlib.Core.Path.{_≡_, refl, sym, ap, _∙_, subst}
-use mathlib.Core.List.{List, [], _∷_}
+use Prim.Native.Nat.{ℕ, _+_, _-_, _≤_, _<_}
+use mathlib.Core.Path.{_≡_, sym, ap, _∙_, subst}
+use mathlib.Core.List.{List}
 use native.Mathlib.Omega.{arith}
 use lib.ListN.{length, drop}
-use Rattle.fields.specs.Parts.{part}
 use Rattle.fields.specs.Order.{orderOf}
 use Rattle.fields.specs.declared.Order.{Order}
 use Rattle.fields.specs.declared.Order.the-variants.{Less, Same, More}
-use Rattle.rules.specs.Layout.{decodeRec, nodeWidth, recWidth}
+use Rattle.rules.specs.Layout.{decodeRec}
 use Rattle.table.specs.Tests.{countOf, recsOf}
-use Rattle.table.specs.Fits.{LaidNode}
-use Rattle.table.proofs.Places.{recs-drop, length-recs, recAt, recBytes, recPlace}
+use Rattle.table.proofs.Places.{recs-drop, length-recs, recAt}
 use Rattle.rules.specs.Sizes.{maxKey}
 use Rattle.table.specs.Tests.{keyLength}
 use Rattle.table.proofs.Laid.{laid-key, rec-long}
-use Rattle.place.specs.Find.{further, findBy, toKey, findKey}
-use Rattle.place.specs.declared.Place.{Place}
+use Rattle.place.specs.Find.{further, toKey, findKey}
 use Rattle.place.specs.declared.Place.the-variants.{At, Free}
 use Rattle.place.proofs.Found.{start, end, step-same, step-less, step-more}
 use borrow.Author.Needs.{needs}
 use Rattle.place.proofs.find_key.Statement.{statement}
 use Rattle.place.proofs.find_key.Tie as tie
-use Rattle.place.proofs.find_key.Reads as reads
-use Rattle.place.proofs.find_key.Lts as lts
-use Rattle.fields.proofs.byte_at.Reads as byte-at-reads
-use Rattle.fields.proofs.compare.Reads as compare-reads
-use Rattle.table.proofs.record_of.Reads as record-of-reads
-use Rattle.table.proofs.key_of.Reads as key-of-reads
 
 abbrev Inv-loop : tie.InvT-loop
 Inv-loop b key n j₀ j = (j ≤ n) × (further j (findKey key (drop j (recsOf b))) ≡ findKey key (recsOf b))

@@ -1,27 +1,22 @@
 -- `place::find_node` meets its contract: what is left to be searched has the whole's answer. Assumes nothing.
-use Prim.Native.Nat.{ℕ, suc, _+_, _-_, _*_, _≤_, _<_}
-use mathlib.Core.Path.{_≡_, refl, sym, ap, _∙_}
-use mathlib.Core.List.{List, [], _∷_}
+use Prim.Native.Nat.{ℕ, _+_, _-_, _≤_, _<_}
+use mathlib.Core.Path.{_≡_, sym, _∙_}
+use mathlib.Core.List.{List}
 use native.Mathlib.Omega.{arith}
 use lib.ListN.{length, drop}
 use Rattle.fields.specs.Numbers.{natOf}
 use Rattle.fields.specs.Parts.{part}
 use Rattle.rules.specs.Table.{Table}
-use Rattle.rules.specs.Layout.{decode, nodeWidth, tableWidth}
+use Rattle.rules.specs.Layout.{decode, tableWidth}
 use Rattle.table.specs.Tests.{nodesOf}
 use Rattle.table.proofs.Tables.{length-decode}
 use Rattle.table.proofs.Places.{decode-drop, number-at, nodeAt, nodePlace}
-use Rattle.place.specs.Find.{further, findBy, numberOrder, toNode, findNode}
-use Rattle.place.specs.declared.Place.{Place}
+use Rattle.place.specs.Find.{further, toNode, findNode}
 use Rattle.place.specs.declared.Place.the-variants.{At, Free}
 use Rattle.place.proofs.Found.{start, end, step-same, step-less, step-more, number-same, number-less, number-more}
 use borrow.Author.Needs.{needs}
 use Rattle.place.proofs.find_node.Statement.{statement}
 use Rattle.place.proofs.find_node.Tie as tie
-use Rattle.place.proofs.find_node.Reads as reads
-use Rattle.place.proofs.find_node.Lts as lts
-use Rattle.fields.proofs.byte_at.Reads as byte-at-reads
-use Rattle.fields.proofs.read_u64.Reads as read-u64-reads
 
 abbrev Inv-loop : tie.InvT-loop
 Inv-loop s number n i₀ i = (i ≤ n) × (further i (findNode number (drop i (decode s))) ≡ findNode number (decode s))

@@ -5,14 +5,10 @@ use mathlib.Core.List.{List}
 use Rattle.fields.specs.Numbers.{natOf}
 use Rattle.fields.specs.Parts.{part}
 use Rattle.rules.specs.Layout.{decodeNode}
-use Rattle.rules.specs.declared.Header.{Header}
 use Rattle.place.specs.Find.{headerOf}
 use borrow.Author.Needs.{needs}
 use Rattle.place.proofs.read_header.Statement.{statement}
 use Rattle.place.proofs.read_header.Tie as tie
-use Rattle.place.proofs.read_header.Reads as reads
-use Rattle.place.proofs.read_header.Lts as lts
-use Rattle.fields.proofs.read_u64.Reads as read-u64-reads
 
 read-u64-requires : tie.Need-read-u64-requires
 read-u64-requires c κs = search needs

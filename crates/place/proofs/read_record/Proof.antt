@@ -9,18 +9,12 @@ use Rattle.fields.specs.Parts.{part}
 use Rattle.fields.proofs.Parts.{length-part}
 use Rattle.rules.specs.Sizes.{maxKey, maxValue}
 use Rattle.rules.specs.Layout.{recWidth, decodeRec, statusOfByte}
-use Rattle.rules.specs.declared.Record.{Record}
 use Rattle.rules.specs.declared.Status.{Status}
 use Rattle.table.specs.Tests.{keyLength, valueLength}
 use Rattle.place.specs.Find.{recordOf}
 use borrow.Author.Needs.{needs}
 use Rattle.place.proofs.read_record.Statement.{statement}
 use Rattle.place.proofs.read_record.Tie as tie
-use Rattle.place.proofs.read_record.Reads as reads
-use Rattle.place.proofs.read_record.Lts as lts
-use Rattle.fields.proofs.byte_at.Reads as byte-at-reads
-use Rattle.fields.proofs.read_u64.Reads as read-u64-reads
-use Rattle.place.proofs.status_of.Reads as status-of-reads
 
 byte-at-requires : tie.Need-byte-at-requires
 byte-at-requires c κs = search needs

@@ -2,13 +2,10 @@
 use Prim.Native.Nat.{ℕ, zero, suc}
 use mathlib.Core.Path.{_≡_, refl}
 use Rattle.rules.specs.Layout.{statusOfByte}
-use Rattle.rules.specs.declared.Status.{Status}
 use Rattle.rules.specs.declared.Status.the-variants.{Ttl}
 use borrow.Author.Needs.{needs}
 use Rattle.place.proofs.status_of.Statement.{statement}
 use Rattle.place.proofs.status_of.Tie as tie
-use Rattle.place.proofs.status_of.Reads as reads
-use Rattle.place.proofs.status_of.Lts as lts
 
 returns : tie.Need-returns
 returns c = search needs

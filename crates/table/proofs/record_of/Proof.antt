@@ -4,8 +4,6 @@ use Rattle.fields.proofs.Lent.{seen}
 use borrow.Author.Needs.{needs}
 use Rattle.table.proofs.record_of.Statement.{statement}
 use Rattle.table.proofs.record_of.Tie as tie
-use Rattle.table.proofs.record_of.Reads as reads
-use Rattle.table.proofs.record_of.Lts as lts
 
 mul-a : tie.Need-mul-a
 mul-a c = search needs

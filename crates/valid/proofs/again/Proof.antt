@@ -1,11 +1,10 @@
 -- `valid::again` meets its contract: a number found already, or among those that are left, is among the whole. Assumes nothing.
 use Prim.Native.Nat.{ℕ, suc, _+_, _-_, _≤_, _<_}
 use mathlib.Core.Path.{_≡_, refl, sym, ap, _∙_}
-use mathlib.Core.Bool.{Bool, true, false, _&&_}
+use mathlib.Core.Bool.{Bool, true, false}
 use mathlib.Core.Logic.{⊎-elim}
-use mathlib.Core.List.{List, [], _∷_, _++_}
+use mathlib.Core.List.{List, _∷_}
 use native.Mathlib.Omega.{arith}
-use lib.Dec.{eqb}
 use lib.ListN.{length, getD, take, drop}
 use lib.Seq.{drop-cons}
 use native.Mathlib.Numerals.{add-one}
@@ -15,8 +14,6 @@ use Rattle.rules.specs.Table.{among}
 use borrow.Author.Needs.{needs}
 use Rattle.valid.proofs.again.Statement.{statement}
 use Rattle.valid.proofs.again.Tie as tie
-use Rattle.valid.proofs.again.Reads as reads
-use Rattle.valid.proofs.again.Lts as lts
 
 abbrev Inv-loop : tie.InvT-loop
 Inv-loop vs i n x found₀ j₀ found j = (i + 1 ≤ j) × (j ≤ n) × (pick found true (among x (take (n - j) (drop j vs))) ≡ among x (take (n - (i + 1)) (drop (i + 1) vs)))

@@ -2,7 +2,7 @@
 use Prim.Native.Nat.{ℕ, suc, _+_, _-_, _≤_, _<_}
 use mathlib.Core.Path.{_≡_, refl, sym, ap, _∙_}
 use mathlib.Core.Bool.{Bool, true, false, not, _&&_}
-use mathlib.Core.List.{List, [], _∷_, _++_}
+use mathlib.Core.List.{List, _∷_}
 use native.Mathlib.Omega.{arith}
 use native.Mathlib.Nat.{sub-zero}
 use native.Mathlib.Numerals.{add-one}
@@ -12,9 +12,6 @@ use Rattle.rules.specs.Table.{among, differ}
 use borrow.Author.Needs.{needs}
 use Rattle.valid.proofs.all_differ.Statement.{statement}
 use Rattle.valid.proofs.all_differ.Tie as tie
-use Rattle.valid.proofs.all_differ.Reads as reads
-use Rattle.valid.proofs.all_differ.Lts as lts
-use Rattle.valid.proofs.again.Reads as again-reads
 
 abbrev Inv-loop : tie.InvT-loop
 Inv-loop vs n i₀ i = (i ≤ n) × (differ (take (n - i) (drop i vs)) ≡ differ (take n vs))

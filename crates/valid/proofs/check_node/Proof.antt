@@ -1,8 +1,8 @@
 -- `valid::check_node` meets its contract: a test that fails is one of the node's tests, and past four of them only the zeros are left.
 -- Assumes nothing.
-use Prim.Native.Nat.{ℕ, _+_, _-_, _*_, _≤_, _<_}
+use Prim.Native.Nat.{ℕ, _+_, _-_, _*_, _≤_}
 use mathlib.Core.Path.{_≡_, _∙_, ap, ap₂, sym}
-use mathlib.Core.Bool.{Bool, true, false, _&&_}
+use mathlib.Core.Bool.{Bool, true}
 use mathlib.Core.List.{List}
 use native.Mathlib.Omega.{arith}
 use lib.ListN.{getD, take, drop}
@@ -17,15 +17,6 @@ use Rattle.table.proofs.Nodes.{node-stop}
 use borrow.Author.Needs.{needs}
 use Rattle.valid.proofs.check_node.Statement.{statement}
 use Rattle.valid.proofs.check_node.Tie as tie
-use Rattle.valid.proofs.check_node.Reads as reads
-use Rattle.valid.proofs.check_node.Lts as lts
-use Rattle.fields.proofs.byte_at.Reads as byte-at-reads
-use Rattle.fields.proofs.is_zero.Reads as is-zero-reads
-use Rattle.fields.proofs.read_u64.Reads as read-u64-reads
-use Rattle.valid.proofs.all_differ.Reads as all-differ-reads
-use Rattle.valid.proofs.check_records.Reads as check-records-reads
-use Rattle.valid.proofs.keys_rise.Reads as keys-rise-reads
-use Rattle.valid.proofs.versions_of.Reads as versions-of-reads
 
 -- the tests of a node's bytes, as the calls answer them
 module _ (b : List ℕ) (n max : ℕ) (en : n ≡ countOf b) (em : max ≡ maxOf b) where

@@ -1,12 +1,9 @@
 -- `valid::check_nodes` meets its contract: what is left to be tested has the whole's answer. Assumes nothing.
-use Prim.Native.Nat.{ℕ, suc, _+_, _-_, _*_, _≤_, _<_}
+use Prim.Native.Nat.{ℕ, _+_, _-_, _*_, _≤_}
 use mathlib.Core.Path.{_≡_, refl, sym, ap, _∙_}
-use mathlib.Core.Bool.{Bool, true, false}
-use mathlib.Core.List.{List}
 use native.Mathlib.Omega.{arith}
-use native.Mathlib.Nat.{add-zero, sub-zero}
-use lib.ListN.{length, drop, take}
-use Rattle.fields.specs.Parts.{part}
+use native.Mathlib.Nat.{sub-zero}
+use lib.ListN.{drop}
 use Rattle.fields.specs.Blocks.{allBlocks}
 use Rattle.fields.proofs.Choice.{and-yes, and-no}
 use Rattle.fields.proofs.Blocks.{blocks-turn}
@@ -16,9 +13,6 @@ use Rattle.table.specs.Tests.{nodeGood}
 use borrow.Author.Needs.{needs}
 use Rattle.valid.proofs.check_nodes.Statement.{statement}
 use Rattle.valid.proofs.check_nodes.Tie as tie
-use Rattle.valid.proofs.check_nodes.Reads as reads
-use Rattle.valid.proofs.check_nodes.Lts as lts
-use Rattle.valid.proofs.check_node.Reads as check-node-reads
 
 abbrev Inv-loop : tie.InvT-loop
 Inv-loop s n i₀ i = (i ≤ n) × (allBlocks nodeGood nodeWidth (n - i) (drop (1 + i * nodeWidth) s) ≡ allBlocks nodeGood nodeWidth n (drop 1 s))

@@ -1,32 +1,26 @@
 -- `valid::check_record` meets its contract: a test that fails is one of the record's tests, and past all but the zeros only these are left.
 -- Assumes nothing.
-use Prim.Native.Nat.{ℕ, _+_, _-_, _≤_, _<_}
-use mathlib.Core.Path.{_≡_, _∙_, ap, sym}
-use mathlib.Core.Bool.{Bool, true, false, _&&_}
+use Prim.Native.Nat.{ℕ, _-_, _≤_}
+use mathlib.Core.Path.{_≡_, _∙_, sym}
+use mathlib.Core.Bool.{true, _&&_}
 use mathlib.Core.List.{List}
 use native.Mathlib.Omega.{arith}
-use lib.ListN.{getD}
 use borrow.Author.Tests.{le-leb, lt-leb}
 use Rattle.fields.specs.Numbers.{natOf}
 use Rattle.fields.specs.Parts.{part}
 use Rattle.fields.proofs.Choice.{and-yes, and-no, and-last}
-use Rattle.table.specs.Tests.{recTests, recGood, keyLength, valueLength, versionOf, clean}
+use Rattle.table.specs.Tests.{recGood, keyLength, valueLength, versionOf, clean}
 use Rattle.table.proofs.Records.{rec-stop}
 use borrow.Author.Needs.{needs}
 use Rattle.valid.proofs.check_record.Statement.{statement}
 use Rattle.valid.proofs.check_record.Tie as tie
-use Rattle.valid.proofs.check_record.Reads as reads
-use Rattle.valid.proofs.check_record.Lts as lts
-use Rattle.fields.proofs.byte_at.Reads as byte-at-reads
-use Rattle.fields.proofs.read_u64.Reads as read-u64-reads
-use Rattle.valid.proofs.clean_behind.Reads as clean-behind-reads
 
 byte-at-requires : tie.Need-byte-at-requires
 byte-at-requires c κs = search needs
 
 returns : tie.Need-returns
 returns c =
-    let a = c .before .before .before .args in
+    let a = c .before .before .before .before .args in
     rec-stop (a .max) (a .b .now) 0 (lt-leb (keyLength (a .b .now)) 32 (omega arith))
 
 byte-at-requires-2 : tie.Need-byte-at-requires-2
@@ -34,7 +28,7 @@ byte-at-requires-2 c κs = search needs
 
 returns-2 : tie.Need-returns-2
 returns-2 c =
-    let a = c .before .before .before .before .before .args in
+    let a = c .before .before .before .before .before .before .args in
     rec-stop (a .max) (a .b .now) 1 (lt-leb (valueLength (a .b .now)) 64 (omega arith))
 
 read-u64-requires : tie.Need-read-u64-requires
@@ -42,12 +36,12 @@ read-u64-requires c κs = search needs
 
 returns-3 : tie.Need-returns-3
 returns-3 c =
-    let a = c .before .before .before .before .before .before .before .args in
+    let a = c .before .before .before .before .before .before .before .before .args in
     rec-stop (a .max) (a .b .now) 2 (lt-leb 1 (versionOf (a .b .now)) (omega arith))
 
 returns-4 : tie.Need-returns-4
 returns-4 c =
-    let a = c .before .before .before .before .before .before .before .before .args in
+    let a = c .before .before .before .before .before .before .before .before .before .args in
     rec-stop (a .max) (a .b .now) 3 (lt-leb (versionOf (a .b .now)) (a .max) (omega arith))
 
 byte-at-requires-3 : tie.Need-byte-at-requires-3
@@ -55,7 +49,7 @@ byte-at-requires-3 c κs = search needs
 
 returns-5 : tie.Need-returns-5
 returns-5 c =
-    let a = c .before .before .before .before .before .before .before .before .before .before .args in
+    let a = c .before .before .before .before .before .before .before .before .before .before .before .args in
     rec-stop (a .max) (a .b .now) 4 (lt-leb (natOf (part 106 1 (a .b .now))) 2 (omega arith))
 
 clean-behind-requires : tie.Need-clean-behind-requires
@@ -73,14 +67,14 @@ past max b k v ek ev h1 h2 h3 h4 h5 =
 
 passed : (c : tie.Else5)
     → let l2 = c .before .before .before .before .before in
-    let b : List ℕ = l2 .before .before .before .before .before .args .b .now in
-    let max : ℕ = l2 .before .before .before .before .before .args .max in
+    let b : List ℕ = l2 .before .before .before .before .before .before .args .b .now in
+    let max : ℕ = l2 .before .before .before .before .before .before .args .max in
     let k : ℕ = l2 .before .before .before .byte-at .result in
     let v : ℕ = l2 .before .byte-at2 .result in
     recGood max b ≡ (clean 1 32 k b && (clean 34 64 v b && true))
 passed c =
     let l2 = c .before .before .before .before .before in
-    let a = l2 .before .before .before .before .before .args in
+    let a = l2 .before .before .before .before .before .before .args in
     past (a .max) (a .b .now) (l2 .before .before .before .byte-at .result) (l2 .before .byte-at2 .result) (l2 .before .before .before .byte-at .ensures .0) (l2 .before .byte-at2 .ensures .0)
     (omega arith) (omega arith) (omega arith) (omega arith) (omega arith)
 

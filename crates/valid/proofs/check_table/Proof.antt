@@ -1,8 +1,8 @@
 -- `valid::check_table` meets its contract: a test that fails is one of the table's tests, and past all others only the zeros are left.
 -- Assumes nothing.
-use Prim.Native.Nat.{ℕ, _+_, _-_, _*_, _≤_, _<_}
+use Prim.Native.Nat.{ℕ, _+_, _-_, _*_, _≤_}
 use mathlib.Core.Path.{_≡_, _∙_, ap, sym}
-use mathlib.Core.Bool.{Bool, true, false}
+use mathlib.Core.Bool.{Bool, true}
 use mathlib.Core.List.{List}
 use native.Mathlib.Omega.{arith}
 use lib.ListN.{getD, take, drop}
@@ -17,12 +17,6 @@ use Rattle.table.proofs.Checked.{length-stop, table-stop, table-pass}
 use borrow.Author.Needs.{needs}
 use Rattle.valid.proofs.check_table.Statement.{statement}
 use Rattle.valid.proofs.check_table.Tie as tie
-use Rattle.valid.proofs.check_table.Reads as reads
-use Rattle.valid.proofs.check_table.Lts as lts
-use Rattle.fields.proofs.byte_at.Reads as byte-at-reads
-use Rattle.fields.proofs.is_zero.Reads as is-zero-reads
-use Rattle.valid.proofs.check_nodes.Reads as check-nodes-reads
-use Rattle.valid.proofs.numbers_rise.Reads as numbers-rise-reads
 
 -- what is known of a slice
 bytes : (c : tie.After-shared-slice-known) → Bytes (c .before .args .s .now)

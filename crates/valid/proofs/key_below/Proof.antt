@@ -1,20 +1,15 @@
 -- `valid::key_below` meets its contract: what `compare` says of the two keys. Assumes nothing.
 use Prim.Native.Nat.{ℕ}
 use mathlib.Core.Path.{_≡_, sym, ap, ap₂, _∙_}
-use mathlib.Core.Bool.{Bool, true, false}
+use mathlib.Core.Bool.{false}
 use mathlib.Core.List.{List}
 use Rattle.fields.specs.Order.{lessBytes, orderOf}
-use Rattle.fields.specs.declared.Order.{Order}
-use Rattle.fields.specs.declared.Order.the-variants.{Less, Same, More}
+use Rattle.fields.specs.declared.Order.the-variants.{Same, More}
 use Rattle.fields.proofs.Ordered.{order-less, order-same, order-more, same-true, less-self, less-not}
 use Rattle.rules.specs.Layout.{decodeRec}
 use borrow.Author.Needs.{needs}
 use Rattle.valid.proofs.key_below.Statement.{statement}
 use Rattle.valid.proofs.key_below.Tie as tie
-use Rattle.valid.proofs.key_below.Reads as reads
-use Rattle.valid.proofs.key_below.Lts as lts
-use Rattle.fields.proofs.compare.Reads as compare-reads
-use Rattle.table.proofs.key_of.Reads as key-of-reads
 
 key-of-requires : tie.Need-key-of-requires
 key-of-requires c κs = search needs

@@ -1,7 +1,7 @@
 -- `valid::keys_rise` meets its contract: the keys that are left rise where all do. Assumes nothing.
-use Prim.Native.Nat.{ℕ, zero, suc, _+_, _-_, _*_, _≤_, _<_}
+use Prim.Native.Nat.{ℕ, suc, _+_, _-_, _≤_, _<_}
 use mathlib.Core.Path.{_≡_, refl, sym, ap, ap₂, _∙_}
-use mathlib.Core.Bool.{Bool, true, false, _&&_}
+use mathlib.Core.Bool.{Bool, true, _&&_}
 use mathlib.Core.List.{List, [], _∷_}
 use native.Mathlib.Omega.{arith}
 use native.Mathlib.Numerals.{add-one}
@@ -22,9 +22,6 @@ use Rattle.table.proofs.Places.{recPlace, recBytes, recAt, recs-drop, length-re
 use borrow.Author.Needs.{needs}
 use Rattle.valid.proofs.keys_rise.Statement.{statement}
 use Rattle.valid.proofs.keys_rise.Tie as tie
-use Rattle.valid.proofs.keys_rise.Reads as reads
-use Rattle.valid.proofs.keys_rise.Lts as lts
-use Rattle.valid.proofs.key_below.Reads as key-below-reads
 
 abbrev Inv-loop : tie.InvT-loop
 Inv-loop b n max i₀ i = (i ≤ n) × (keysRise (drop i (recsOf b)) ≡ keysRise (recsOf b))

@@ -1,7 +1,7 @@
 -- `valid::numbers_rise` meets its contract: the numbers that are left rise where all do. Assumes nothing.
-use Prim.Native.Nat.{ℕ, zero, suc, _+_, _-_, _*_, _≤_, _<_}
+use Prim.Native.Nat.{ℕ, suc, _+_, _-_, _≤_, _<_}
 use mathlib.Core.Path.{_≡_, refl, sym, ap, _∙_}
-use mathlib.Core.Bool.{Bool, true, false, _&&_}
+use mathlib.Core.Bool.{true, _&&_}
 use mathlib.Core.List.{List, [], _∷_}
 use native.Mathlib.Omega.{arith}
 use native.Mathlib.Numerals.{add-one}
@@ -11,17 +11,14 @@ use borrow.Author.Tests.{lt-ltb, le-ltb}
 use Rattle.fields.specs.Numbers.{natOf}
 use Rattle.fields.specs.Parts.{part}
 use Rattle.fields.proofs.Choice.{and-yes, and-no}
-use Rattle.rules.specs.Table.{Table, Entry, rising, numbersOf}
-use Rattle.rules.specs.Layout.{decode, tableWidth, nodeWidth}
+use Rattle.rules.specs.Table.{Table, rising, numbersOf}
+use Rattle.rules.specs.Layout.{decode, tableWidth}
 use Rattle.table.specs.Tests.{nodesOf}
 use Rattle.table.proofs.Places.{decode-drop, number-at, nodeAt, nodePlace}
 use Rattle.table.proofs.Tables.{length-decode}
 use borrow.Author.Needs.{needs}
 use Rattle.valid.proofs.numbers_rise.Statement.{statement}
 use Rattle.valid.proofs.numbers_rise.Tie as tie
-use Rattle.valid.proofs.numbers_rise.Reads as reads
-use Rattle.valid.proofs.numbers_rise.Lts as lts
-use Rattle.fields.proofs.read_u64.Reads as read-u64-reads
 
 abbrev Inv-loop : tie.InvT-loop
 Inv-loop s n i₀ i = (i ≤ n) × (rising (numbersOf (drop i (decode s))) ≡ rising (numbersOf (decode s)))

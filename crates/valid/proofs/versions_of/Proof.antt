@@ -1,5 +1,5 @@
 -- `valid::versions_of` meets its contract: the versions that are stored and those that are left are all. Assumes nothing.
-use Prim.Native.Nat.{ℕ, zero, suc, _+_, _-_, _*_, _≤_, _<_}
+use Prim.Native.Nat.{ℕ, suc, _+_, _-_, _≤_, _<_}
 use mathlib.Core.Path.{_≡_, refl, sym, ap, _∙_}
 use mathlib.Core.List.{List, [], _∷_, _++_, append-nil, append-assoc}
 use native.Mathlib.Omega.{arith}
@@ -10,15 +10,12 @@ use Rattle.fields.specs.Numbers.{natOf}
 use Rattle.fields.specs.Parts.{part}
 use Rattle.rules.specs.Node.{Rec}
 use Rattle.rules.specs.Table.{versions}
-use Rattle.rules.specs.Layout.{decodeRec, nodeWidth, recWidth}
+use Rattle.rules.specs.Layout.{nodeWidth}
 use Rattle.table.specs.Tests.{countOf, recsOf}
 use Rattle.table.proofs.Places.{recs-drop, version-at, recAt, recPlace, length-recs}
 use borrow.Author.Needs.{needs}
 use Rattle.valid.proofs.versions_of.Statement.{statement}
 use Rattle.valid.proofs.versions_of.Tie as tie
-use Rattle.valid.proofs.versions_of.Reads as reads
-use Rattle.valid.proofs.versions_of.Lts as lts
-use Rattle.fields.proofs.read_u64.Reads as read-u64-reads
 
 abbrev Inv-loop : tie.InvT-loop
 Inv-loop b n vs₀ i₀ vs i = (i ≤ n) × (length vs ≡ 32) × (take i vs ++ versions (drop i (recsOf b)) ≡ versions (recsOf b))

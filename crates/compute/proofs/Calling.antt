@@ -1,0 +1,143 @@
+-- The call to compute, case by case: refused by its numbers, by the digest, or done. Assumes nothing.
+use Prim.Native.Nat.{ℕ, _+_, _-_, _≤_, _<_}
+use mathlib.Core.Path.{_≡_, refl, sym, ap, _∙_}
+use mathlib.Core.Bool.{Bool, true, false, _&&_}
+use mathlib.Core.List.{List}
+use native.Mathlib.Omega.{arith}
+use lib.ListN.{length, take, drop}
+use native.Mathlib.Nat.{add-zero, zero-add}
+use lib.Dec.{leb, eqb}
+use borrow.Author.Tests.{leb-true, eqb-true, le-leb, lt-leb}
+use borrow.Rule.Slice.PartMut.{putMid}
+use Rattle.fields.specs.Choice.{pick}
+use Rattle.fields.specs.Parts.{put}
+use Rattle.fields.proofs.Choice.{and-left, and-right, pick-true, pick-false}
+use Rattle.fields.proofs.Parts.{length-part}
+use Rattle.fields.proofs.Lent.{seen, lent-put}
+use Rattle.rules.specs.Sizes.{leastMtu, maxDelta}
+use Rattle.rules.specs.Table.{Table}
+use Rattle.rules.specs.Digest.{NodeDigest, DigestRead, Entries, Refused, readDigest}
+use Rattle.rules.specs.Local.{Filled, fills}
+use Rattle.rules.specs.Delta.{Op, deltaBytes}
+use Rattle.rules.specs.Compute.{deltaFor, written, onDigest, compute}
+use Rattle.rules.specs.declared.Refusal.{Refusal}
+use Rattle.rules.specs.Layout.{decode, valid}
+use Rattle.rules.specs.Lent.{fromTable, lentCompute}
+use Rattle.rules.proofs.Accepted.{cut-bytes}
+use Rattle.rules.specs.declared.Refusal.the-variants.{BadMtu, NoPlace, BadTies, BadTable}
+use Rattle.send.specs.declared.Sent.{Sent}
+use Rattle.rules.specs.declared.Computed.{Computed}
+use Rattle.rules.specs.declared.Computed.the-variants as computed
+use Rattle.compute.specs.Asking.{mtuFits, isFree, askedOf}
+use Rattle.compute.specs.declared.Asked.{Asked}
+use Rattle.compute.specs.declared.Asked.the-variants as asked
+
+-- ---- what the numbers of a call say
+
+pub record Granted (mtu place room ties nodes : ℕ) : Type 0 where
+  pub before : place ≤ room
+  pub free : mtu ≤ room - place
+  pub one-each : ties ≡ nodes
+
+module _ (mtu place room ties nodes : ℕ) where
+  pub granted : askedOf mtu place room ties nodes ≡ asked.Good → Granted mtu place room ties nodes
+  unfolding askedOf
+  granted e = go (mtuFits mtu) (isFree place mtu room) refl (eqb ties nodes) refl e
+    where
+      go : (a b : Bool) → isFree place mtu room ≡ b → (c : Bool) → eqb ties nodes ≡ c
+          → pick a (pick b (pick c asked.Good (asked.Refused BadTies)) (asked.Refused NoPlace)) (asked.Refused BadMtu) ≡ asked.Good → Granted mtu place room ties nodes
+      go true true f true g q =
+          record {
+            before = leb-true place room (and-left (leb place room) (leb mtu (room - place)) f);
+            free = leb-true mtu (room - place) (and-right (leb place room) (leb mtu (room - place)) f);
+            one-each = eqb-true ties nodes g;
+          }
+      go true true f false g q = let z : _≡_ {A = ℕ} 0 1 = cc in absurd (omega arith)
+      go true false f c g q = let z : _≡_ {A = ℕ} 0 1 = cc in absurd (omega arith)
+      go false b f c g q = let z : _≡_ {A = ℕ} 0 1 = cc in absurd (omega arith)
+
+-- ---- the outcome
+
+delta-fits : (excluded ties : List ℕ) (mtu : ℕ) (ds : List NodeDigest) (t : Table) → length (deltaBytes (deltaFor excluded ties mtu ds t)) ≤ mtu
+unfolding deltaFor
+delta-fits excluded ties mtu ds t = cut-bytes mtu _
+
+module _ (excluded ties : List ℕ) (mtu place : ℕ) (digest : List ℕ) (t : Table) (l : List ℕ) where
+  abbrev numbers : Asked
+  numbers = askedOf mtu place (length l) (length ties) (length t)
+
+  abbrev on : Asked → Filled Computed
+  on asked.Good = onDigest excluded ties mtu place (readDigest digest) t l
+  on (asked.Refused r) = fills (computed.Refused r) l
+
+  by-numbers : on numbers ≡ compute excluded ties mtu place digest t l
+  unfolding askedOf compute
+  by-numbers = go (mtuFits mtu) (isFree place mtu (length l)) (eqb (length ties) (length t))
+    where
+      go : (a b c : Bool) → on (pick a (pick b (pick c asked.Good (asked.Refused BadTies)) (asked.Refused NoPlace)) (asked.Refused BadMtu))
+          ≡ pick a (pick b (pick c (onDigest excluded ties mtu place (readDigest digest) t l) (fills (computed.Refused BadTies) l)) (fills (computed.Refused NoPlace) l)) (fills (computed.Refused BadMtu) l)
+      go true true true = refl
+      go true true false = refl
+      go true false c = refl
+      go false b c = refl
+
+  -- 7, 8, 15
+  pub by-refused : (r : Refusal) → numbers ≡ asked.Refused r → fills (computed.Refused r) l ≡ compute excluded ties mtu place digest t l
+  by-refused r e = ap on (sym e) ∙ by-numbers
+
+  -- 9, 13, 9
+  pub by-digest : (r : Refusal) → numbers ≡ asked.Good → readDigest digest ≡ Refused r → fills (computed.Refused r) l ≡ compute excluded ties mtu place digest t l
+  by-digest r e f = ap (λ (d : DigestRead). onDigest excluded ties mtu place d t l) (sym f) ∙ ap on (sym e) ∙ by-numbers
+
+  -- the delta is written
+  pub by-delta : (ds : List NodeDigest) (rest : List ℕ) → numbers ≡ asked.Good → readDigest digest ≡ Entries ds rest
+      → written (deltaFor excluded ties mtu ds t) place l ≡ compute excluded ties mtu place digest t l
+  by-delta ds rest e f = ap (λ (d : DigestRead). onDigest excluded ties mtu place d t l) (sym f) ∙ ap on (sym e) ∙ by-numbers
+
+  -- what was written into the part of the datagram that is as long as the MTU
+  pub by-part : (ds : List NodeDigest) (rest : List ℕ) (r : Sent) (after : List ℕ) → place + mtu ≤ length l → numbers ≡ asked.Good → readDigest digest ≡ Entries ds rest
+      → let seen : List ℕ = take (place + mtu - place) (drop place l) in
+      let d : List Op = deltaFor excluded ties (length seen) ds t in
+      r .ops ≡ length d → r .bytes ≡ length (deltaBytes d) → after ≡ put 0 (deltaBytes d) seen → length after ≡ length seen
+      → fills (computed.Delta (r .ops) (r .bytes)) (putMid place (place + mtu - place) l after) ≡ compute excluded ties mtu place digest t l
+  by-part ds rest r after h e f a b c k =
+      let long : length (take (place + mtu - place) (drop place l)) ≡ mtu = ap length (seen place mtu l) ∙ length-part place mtu l h in
+      let d : List Op = deltaFor excluded ties mtu ds t in
+      let is : deltaFor excluded ties (length (take (place + mtu - place) (drop place l))) ds t ≡ d = ap (λ (n : ℕ). deltaFor excluded ties n ds t) long in
+      let back : putMid place (place + mtu - place) l after ≡ put place (deltaBytes d) l =
+      lent-put place mtu 0 (deltaBytes d) l after h (rw zero-add (delta-fits excluded ties mtu ds t))
+      (c ∙ ap (λ (os : List Op). put 0 (deltaBytes os) (take (place + mtu - place) (drop place l))) is) k
+      ∙ ap (λ (n : ℕ). put n (deltaBytes d) l) (add-zero place) in
+      (λ i. fills (computed.Delta ((a ∙ ap length is) i) ((b ∙ ap (λ (os : List Op). length (deltaBytes os)) is) i)) (back i)) ∙ by-delta ds rest e f
+
+-- ---- 14
+
+pub bad-table : (excluded ties : List ℕ) (mtu place : ℕ) (digest l datagram : List ℕ) → valid l ≡ false
+    → fills (computed.Refused BadTable) datagram ≡ lentCompute excluded ties mtu place digest datagram l
+unfolding fromTable
+bad-table excluded ties mtu place digest l datagram e = sym (pick-false (valid l) _ _ e)
+
+pub good-table : (excluded ties : List ℕ) (mtu place : ℕ) (digest l datagram : List ℕ) → valid l ≡ true
+    → compute excluded ties mtu place digest (decode l) datagram ≡ lentCompute excluded ties mtu place digest datagram l
+unfolding fromTable
+good-table excluded ties mtu place digest l datagram e = sym (pick-true (valid l) _ _ e)
+
+-- ---- the numbers
+
+module _ (mtu place room ties nodes : ℕ) where
+  pub mtu-low : mtu < leastMtu → false ≡ mtuFits mtu
+  mtu-low h = rw (lt-leb leastMtu mtu h) refl
+
+  pub mtu-high : leastMtu ≤ mtu → leb mtu maxDelta ≡ mtuFits mtu
+  mtu-high h = rw (le-leb leastMtu mtu h) refl
+
+  pub past-end : room < place → false ≡ isFree place mtu room
+  past-end h = rw (lt-leb place room h) refl
+
+  pub before-end : place ≤ room → leb mtu (room - place) ≡ isFree place mtu room
+  before-end h = rw (le-leb place room h) refl
+
+  pub asks : (a b c : Bool) → mtuFits mtu ≡ a → isFree place mtu room ≡ b → eqb ties nodes ≡ c
+      → pick a (pick b (pick c asked.Good (asked.Refused BadTies)) (asked.Refused NoPlace)) (asked.Refused BadMtu) ≡ askedOf mtu place room ties nodes
+  unfolding askedOf
+  asks a b c e f g = λ i. pick (sym e i) (pick (sym f i) (pick (sym g i) asked.Good (asked.Refused BadTies)) (asked.Refused NoPlace)) (asked.Refused BadMtu)

@@ -1,0 +1,4 @@
+pub mod Behind
+pub mod Lining
+pub mod Whole
+pub mod Calling

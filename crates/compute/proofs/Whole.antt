@@ -1,0 +1,46 @@
+-- The operations of the line, written while they fit, are the delta of the rules. Assumes nothing.
+use Prim.Native.Nat.{ℕ, _+_, _-_, _≤_, _<_}
+use mathlib.Core.Path.{_≡_, refl, sym, ap, ap₂, _∙_, subst}
+use mathlib.Core.List.{List, [], _∷_, _++_, map}
+use native.Mathlib.Nat.{zero-add, sub-zero}
+use lib.ListN.{length, getD}
+use Rattle.fields.specs.Choice.{_∈_, here, later}
+use Rattle.fields.specs.Parts.{put}
+use Rattle.rules.specs.Table.{Table}
+use Rattle.rules.specs.Digest.{NodeDigest}
+use Rattle.rules.specs.Local.{Filled, fills}
+use Rattle.rules.specs.Delta.{Op, NodeOp, deltaBytes}
+use Rattle.rules.specs.Compute.{stale, bodyOps, allOps, cut, ordered, staleNodes, deltaFor}
+use Rattle.stale.specs.Arranged.{listed}
+use Rattle.line.specs.Line.{entryAt, staleAt, lineOf}
+use Rattle.line.proofs.Lined.{line-nodes, line-in}
+use Rattle.send.specs.Sending.{opsOfNode, opsAt, counts, behind, sending}
+use Rattle.send.specs.declared.Sent.{Sent}
+use Rattle.compute.specs.Plan.{fromAt, Planned}
+use Rattle.compute.specs.declared.Plan.{Plan}
+
+module _ (excluded : List ℕ) (ds : List NodeDigest) (ties : List ℕ) (t : Table) where
+  -- the operations of nodes at places whose froms are right
+  ops-at : (froms l : List ℕ) → ((p : ℕ) → p ∈ l → getD froms p 0 ≡ fromAt ds t p) → opsAt t froms l ≡ allOps (map (staleAt ds ties t) l)
+  unfolding opsAt allOps
+  ops-at froms [] h = refl
+  ops-at froms (p ∷ l) h =
+      ap₂ (λ (from : ℕ) (os : List Op). (NodeOp (entryAt t p .number) (entryAt t p .node .last-gc) from ∷ bodyOps (entryAt t p .node .max) (stale from (entryAt t p .node .recs))) ++ os)
+      (h p (here refl)) (ops-at froms l (λ q m. h q (later m)))
+
+  module _ (r : Plan) (k : Planned excluded ds ties t r) where
+    planned : opsAt t (r .froms) (listed (r .count) (r .line)) ≡ allOps (ordered (staleNodes excluded ds ties t))
+    planned =
+        ops-at (r .froms) (listed (r .count) (r .line)) (k .from-of)
+        ∙ ap (λ (l : List ℕ). allOps (map (staleAt ds ties t) l)) (k .in-line)
+        ∙ ap allOps (line-nodes excluded ds ties t)
+
+    pub delta-is : (l : List ℕ) → let d : List Op = deltaFor excluded ties (length l) ds t in
+        sending 0 0 (opsAt t (r .froms) (listed (r .count) (r .line))) l ≡ fills (counts (length d) (length (deltaBytes d))) (put 0 (deltaBytes d) l)
+    unfolding sending deltaFor
+    delta-is l =
+        (λ i. behind 0 0 (cut (sub-zero (length l) i) (planned i)) l)
+        ∙ (λ i. fills (counts (zero-add (length (cut (length l) (allOps (ordered (staleNodes excluded ds ties t))))) i) (zero-add (length (deltaBytes (cut (length l) (allOps (ordered (staleNodes excluded ds ties t)))))) i)) (put 0 (deltaBytes (cut (length l) (allOps (ordered (staleNodes excluded ds ties t))))) l))
+
+    pub line-within : (p : ℕ) → p ∈ listed (r .count) (r .line) → p < length t
+    line-within p m = line-in excluded ds ties t (subst (λ (l : List ℕ). p ∈ l) (k .in-line) m)

@@ -1,0 +1,39 @@
+-- `compute::compute` meets its contract: 14 exactly where the table is not valid, else the rule on it. Assumes nothing.
+use mathlib.Core.Path.{_≡_, sym, ap, _∙_}
+use mathlib.Core.List.{List}
+use Rattle.rules.specs.Local.{Filled}
+use Rattle.rules.specs.declared.Computed.{Computed}
+use Rattle.compute.proofs.Calling.{bad-table, good-table}
+use borrow.Author.Needs.{needs}
+use Rattle.compute.proofs.compute.Statement.{statement}
+use Rattle.compute.proofs.compute.Tie as tie
+use Rattle.compute.proofs.compute.Reads as reads
+use Rattle.compute.proofs.compute.Lts as lts
+use Rattle.compute.proofs.compute_good.Reads as compute-good-reads
+use Rattle.valid.proofs.check_table.Reads as check-table-reads
+
+check-table-requires : tie.Need-check-table-requires
+check-table-requires c κs = search needs
+
+compute-good-requires : tie.Need-compute-good-requires
+compute-good-requires c κs = sym (c .before .before .check-table .ensures) ∙ c .before .if1 .taken
+
+same-length : tie.Need-same-length
+same-length c = search needs
+
+returns : tie.Need-returns
+returns c =
+    let a = c .before .before .before .before .before .before .before .before .before .before .before .args in
+    let call = c .before .before .compute-good .ensures in
+    let e = good-table (a .excluded .now) (a .ties .now) (a .mtu) (a .place) (a .digest .now) (a .table .now) (a .datagram .now) (sym (c .before .before .before .before .before .check-table .ensures) ∙ c .before .before .before .before .if1 .taken) in
+    (call .0 ∙ ap (λ (x : Filled Computed). x .answer) e, call .1 ∙ ap (λ (x : Filled Computed). x .list) e)
+
+returns-2 : tie.Need-returns-2
+returns-2 c =
+    let a = c .before .before .before .before .before .before .before .args in
+    let e = bad-table (a .excluded .now) (a .ties .now) (a .mtu) (a .place) (a .digest .now) (a .table .now) (a .datagram .now) (sym (c .before .check-table .ensures) ∙ c .if1 .left) in
+    (ap (λ (x : Filled Computed). x .answer) e, ap (λ (x : Filled Computed). x .list) e)
+
+pub compute-spec : {M : Type 1} → statement M
+compute-spec =
+    tie.close (tie.spec check-table-requires compute-good-requires same-length returns returns-2)

@@ -1,0 +1,214 @@
+// Computing a delta for a digest that a peer sent: which nodes it is behind with, their line, and what fits of them under the MTU, written into the
+// lent datagram from a stated place on. Any table bytes, any digest bytes and any lists are an input.
+use digest::Digest;
+use digest::DigestRead;
+use rules::Computed;
+use rules::Refusal;
+use send::Sent;
+ghost use mathlib.Core.Path.{_≡_};
+ghost use mathlib.Core.Bool.{true};
+ghost use Prim.Native.Nat.{ℕ, _+_, _≤_, _<_};
+ghost use lib.ListN.{length};
+ghost use Rattle.fields.specs.Parts.{put};
+ghost use Rattle.rules.specs.Delta.{deltaBytes};
+ghost use Rattle.rules.specs.Compute.{fromOf, deltaFor, compute};
+ghost use Rattle.rules.specs.Layout.{decode, valid};
+ghost use Rattle.table.specs.Fits.{LaidTable};
+ghost use Rattle.table.specs.Tests.{nodesOf};
+ghost use Rattle.digest.specs.Held.{entriesIn};
+ghost use Rattle.rules.specs.Lent.{lentCompute};
+ghost use Rattle.compute.specs.Asking.{mtuFits, isFree, askedOf};
+ghost use Rattle.compute.specs.Plan.{stalenessOf, Planned};
+
+// How a digest stands to a node of the table.
+pub enum Staleness {
+    // Nothing is to be sent: the node is excluded, or the digest's max is not below its own.
+    UpToDate,
+    // The versions above this one are to be sent; all of them, from a fresh node on, where it is 0.
+    From(u64),
+}
+
+// The stale nodes by their places in the table, the first of the line last; a from stands at its node's place.
+pub struct Plan {
+    pub line: [usize; 8],
+    pub froms: [u64; 8],
+    pub count: usize,
+}
+
+// From is 0 where own last_gc exceeds both digest numbers, else the digest max.
+fn from_of(owngc: u64, gc: u64, max: u64) -> u64
+    ensures { λ r. ⌜ r ≡ fromOf owngc gc max ⌝ }
+{
+    if owngc <= gc {
+        return max;
+    }
+    if owngc <= max {
+        return max;
+    }
+    0
+}
+
+// How the digest stands to the node at a place.
+fn stale_from(s: &[u8], p: usize, d: Digest, excluded: &[u64]) -> Staleness
+    requires { ⌜ LaidTable (now s) × (p < nodesOf (now s)) ⌝ }
+    ensures { λ r. ⌜ r ≡ stalenessOf (now (excluded .entry)) (entriesIn d) (decode (now (s .entry))) p ⌝ }
+{
+    let number = line::number_at(s, p);
+    if digestwrite::is_excluded(excluded, number) {
+        return Staleness::UpToDate;
+    }
+    let told = digest::told(d, number);
+    let max = told.max;
+    if line::max_at(s, p) <= max {
+        return Staleness::UpToDate;
+    }
+    Staleness::From(from_of(line::last_gc_at(s, p), told.last_gc, max))
+}
+
+// The line of the stale nodes.
+fn line_up(s: &[u8], d: Digest, excluded: &[u64], ties: &[u64]) -> Plan
+    requires { ⌜ LaidTable (now s) × (nodesOf (now s) ≤ length (now ties)) ⌝ }
+    ensures { λ r. ⌜ Planned (now (excluded .entry)) (entriesIn d) (now (ties .entry)) (decode (now (s .entry))) r ⌝ }
+{
+    let mut line = [0usize; 8];
+    let mut froms = [0u64; 8];
+    let mut counts = [0u64; 8];
+    let mut n = 0;
+    let mut i = fields::byte_at(s, 0);
+    while 0 < i {
+        i -= 1;
+        if let Staleness::From(from) = stale_from(s, i, d, excluded) {
+            froms[i] = from;
+            counts[i] = stale::count_stale(table::node_of(s, i), from) as u64;
+            line::queue(s, &froms, &counts, ties, &mut line, n, i);
+            n += 1;
+        }
+    }
+    Plan {
+        line,
+        froms,
+        count: n,
+    }
+}
+
+// The delta for a digest that was read, written into a part of the datagram that is as long as the MTU.
+pub fn write_delta(s: &[u8], d: Digest, excluded: &[u64], ties: &[u64], part: &mut [u8]) -> Sent
+    requires { ⌜ LaidTable (now s) × (nodesOf (now s) ≤ length (now ties)) ⌝ }
+    ensures { λ r. ⌜ (r .ops ≡ length (deltaFor (now (excluded .entry)) (now (ties .entry)) (length (now (part .entry))) (entriesIn d) (decode (now (s .entry)))))
+        × (r .bytes ≡ length (deltaBytes (deltaFor (now (excluded .entry)) (now (ties .entry)) (length (now (part .entry))) (entriesIn d) (decode (now (s .entry))))))
+        × (now (part .exit)
+        ≡ put 0 (deltaBytes (deltaFor (now (excluded .entry)) (now (ties .entry)) (length (now (part .entry))) (entriesIn d) (decode (now (s .entry))))) (now (part .entry))) ⌝ }
+{
+    let p = line_up(s, d, excluded, ties);
+    let line = p.line;
+    let froms = p.froms;
+    send::send(s, &froms, &line, p.count, part)
+}
+
+// Whether a call can go ahead, by its numbers alone.
+pub enum Asked {
+    Good,
+    Refused(Refusal),
+}
+
+// The least and the largest MTU.
+const LEAST: usize = 100;
+
+const MOST: usize = 16384;
+
+// Whether the MTU is one.
+fn mtu_fits(mtu: usize) -> bool
+    ensures { λ r. ⌜ r ≡ mtuFits mtu ⌝ }
+{
+    if mtu < LEAST {
+        return false;
+    }
+    mtu <= MOST
+}
+
+// Whether a whole MTU is free from the place on, in a datagram of so many bytes.
+fn is_free(place: usize, mtu: usize, room: usize) -> bool
+    ensures { λ r. ⌜ r ≡ isFree place mtu room ⌝ }
+{
+    if room < place {
+        return false;
+    }
+    mtu <= room - place
+}
+
+// 7, 8, 15: the MTU, the place in the datagram, a tie number for each node.
+fn ask(mtu: usize, place: usize, room: usize, ties: usize, nodes: usize) -> Asked
+    ensures { λ r. ⌜ r ≡ askedOf mtu place room ties nodes ⌝ }
+{
+    if mtu_fits(mtu) {
+        if is_free(place, mtu, room) {
+            if ties == nodes {
+                return Asked::Good;
+            }
+            return Asked::Refused(Refusal::BadTies);
+        }
+        return Asked::Refused(Refusal::NoPlace);
+    }
+    Asked::Refused(Refusal::BadMtu)
+}
+
+// The delta for a digest from a table that is known to be good: 7, 8, 15, then the digest's 9, 13, 9, or the delta.
+pub fn compute_good(
+    table: &[u8],
+    digest: &[u8],
+    mtu: usize,
+    excluded: &[u64],
+    ties: &[u64],
+    datagram: &mut [u8],
+    place: usize,
+) -> Computed
+    requires { ⌜ valid (now table) ≡ true ⌝ }
+    ensures { λ r. ⌜ (r ≡ compute (now (excluded .entry)) (now (ties .entry)) mtu place (now (digest .entry)) (decode (now (table .entry))) (now (datagram .entry)) .answer)
+        × (now (datagram .exit)
+        ≡ compute (now (excluded .entry)) (now (ties .entry)) mtu place (now (digest .entry)) (decode (now (table .entry))) (now (datagram .entry)) .list) ⌝ }
+{
+    let asked = ask(
+        mtu,
+        place,
+        datagram.len(),
+        ties.len(),
+        fields::byte_at(table, 0),
+    );
+    if let Asked::Refused(why) = asked {
+        return Computed::Refused(why);
+    }
+    let d = digest::read_digest(digest);
+    let read = d.read;
+    match read {
+        DigestRead::Nodes { count: _, rest: _ } => {
+            let end = place + mtu;
+            let sent = write_delta(table, d, excluded, ties, &mut datagram[place..end]);
+            Computed::Delta {
+                ops: sent.ops,
+                bytes: sent.bytes,
+            }
+        }
+        DigestRead::Refused(why) => Computed::Refused(why),
+    }
+}
+
+// The delta for a digest, from any lent table: 14, then as above. A refusal leaves the datagram as it was; a delta leaves the bytes before its place
+// and those behind its end.
+pub fn compute(
+    table: &[u8],
+    digest: &[u8],
+    mtu: usize,
+    excluded: &[u64],
+    ties: &[u64],
+    datagram: &mut [u8],
+    place: usize,
+) -> Computed
+    ensures { λ r. ⌜ (r ≡ lentCompute (now (excluded .entry)) (now (ties .entry)) mtu place (now (digest .entry)) (now (datagram .entry)) (now (table .entry)) .answer)
+        × (now (datagram .exit)
+        ≡ lentCompute (now (excluded .entry)) (now (ties .entry)) mtu place (now (digest .entry)) (now (datagram .entry)) (now (table .entry)) .list) ⌝ }
+{
+    if valid::check_table(table) {
+        return compute_good(table, digest, mtu, excluded, ties, datagram, place);
+    }
+    Computed::Refused(Refusal::BadTable)
+}

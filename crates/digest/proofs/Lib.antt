@@ -1,0 +1,6 @@
+pub mod Places
+pub mod Counts
+pub mod Telling
+pub mod Pairs
+pub mod Gathering
+pub mod Reading

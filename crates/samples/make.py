@@ -1,0 +1,191 @@
+#!/usr/bin/env python3
+"""Makes the folder of samples that the program `samples` replays, and what it must write for them.
+
+    python3 crates/samples/make.py
+
+writes, beside this file, a file for each sample into data/, their names into args, and into stdout for each the name and its listing. The
+listings come from `listing` below, which was written from document 01 ("Bytes", "Numbers given on refusal", "The listing") and shares nothing
+with the Rattle code or its definitions.
+"""
+import os, shutil, struct
+
+SET, DELETE, TTL = 0, 1, 2
+
+
+class Refused(Exception):
+    pass
+
+
+# ---- document 01's reading
+
+def take(b, at, n):
+    if len(b) - at < n:
+        raise Refused(9)
+    return b[at:at + n], at + n
+
+
+def number(b, at, n):
+    field, at = take(b, at, n)
+    return int.from_bytes(field, 'little'), at
+
+
+def text(b, at, most):
+    n, at = number(b, at, 2)
+    if n > most:
+        raise Refused(1)
+    return take(b, at, n)
+
+
+def operation(b, at):
+    tag, at = number(b, at, 1)
+    if tag == 0:
+        node, at = number(b, at, 8)
+        gc, at = number(b, at, 8)
+        start, at = number(b, at, 8)
+        return ('node', node, gc, start), at
+    if tag == 1:
+        key, at = text(b, at, 32)
+        value, at = text(b, at, 64)
+        version, at = number(b, at, 8)
+        status, at = number(b, at, 1)
+        if status > 2:
+            raise Refused(10)
+        return ('kv', key, value, version, status), at
+    if tag == 2:
+        most, at = number(b, at, 8)
+        return ('max', most), at
+    raise Refused(10)
+
+
+def shown(s):
+    return ''.join(chr(c) if 33 <= c <= 126 else '?' for c in s)
+
+
+def listing(b):
+    if len(b) > 16384:
+        return 'end=refused code=13 at=0\n'
+    at, lines, nodes, most = 0, [], [], None
+    while at < len(b):
+        place = at
+        try:
+            op, at = operation(b, at)
+            if op[0] == 'node':
+                if op[1] in nodes:
+                    raise Refused(12)
+                if len(nodes) == 8:
+                    raise Refused(13)
+                nodes.append(op[1])
+                most = 0
+                lines.append('op=node id=%d gc=%d from=%d\n' % op[1:])
+            elif op[0] == 'kv':
+                if most is None or op[3] <= most:
+                    raise Refused(11)
+                most = op[3]
+                lines.append('op=kv version=%d status=%s key=%s value=%s\n' % (op[3], ('set', 'delete', 'ttl')[op[4]], shown(op[1]), shown(op[2])))
+            else:
+                if most is None or op[1] < most:
+                    raise Refused(11)
+                most = op[1]
+                lines.append('op=max version=%d\n' % op[1])
+        except Refused as r:
+            return 'end=refused code=%d at=%d\n' % (r.args[0], place)
+    return ''.join(lines) + 'end=ok ops=%d bytes=%d\n' % (len(lines), len(b))
+
+
+# ---- the samples
+
+def u64(v):
+    return struct.pack('<Q', v)
+
+
+def node(n, gc=0, start=0):
+    return b'\0' + u64(n) + u64(gc) + u64(start)
+
+
+def kv(key, value, version, status=SET):
+    return b'\1' + struct.pack('<H', len(key)) + key + struct.pack('<H', len(value)) + value + u64(version) + bytes([status])
+
+
+def most(v):
+    return b'\2' + u64(v)
+
+
+TOP = 2 ** 64 - 1
+EXAMPLE = node(7) + kv(b'z', b'41', 1) + most(3)
+
+
+def long_delta(size):
+    """A good delta of exactly so many bytes: SetMaxVersions, and one record that takes up the rest."""
+    b = node(1)
+    rest = size - len(b)
+    fill = (rest - 14) % 9
+    b += kv(b'', b'x' * fill, 1)
+    while len(b) < size:
+        b += most(1)
+    assert len(b) == size
+    return b
+
+
+def samples():
+    yield 'example', EXAMPLE
+    for n in range(len(EXAMPLE)):
+        yield 'example cut at %d' % n, EXAMPLE[:n]
+    yield 'three statuses', node(1) + kv(b'a', b'1', 1, SET) + kv(b'b', b'', 2, DELETE) + kv(b'c', b'3', 3, TTL)
+    yield 'largest numbers', node(TOP, TOP, TOP) + kv(b'k', b'v', TOP) + most(TOP)
+    yield 'powers of ten', b''.join(node(10 ** i, 10 ** i - 1, 10 ** (19 - i)) for i in range(0, 16, 2))
+    yield 'nineteen and twenty digits', node(10 ** 19 - 1, 10 ** 19, 9) + most(10)
+    yield 'unprintable bytes', node(2) + kv(bytes([0, 32, 33, 126, 127, 255]), b' ~!\n\xc3\xa9', 5)
+    yield 'max starts at 0 with each node', node(1) + kv(b'a', b'', 9) + node(2) + kv(b'a', b'', 1)
+    yield 'max not lowered', node(1) + kv(b'a', b'', 4) + most(4) + kv(b'b', b'', 5)
+    yield 'node alone', node(3, 4, 5)
+    yield 'max 0 after a node', node(1) + most(0)
+    # the limits
+    yield 'key of 32', node(1) + kv(b'k' * 32, b'', 1)
+    yield 'key of 33', node(1) + kv(b'k' * 33, b'', 1)
+    yield 'value of 64', node(1) + kv(b'', b'v' * 64, 1)
+    yield 'value of 65', node(1) + kv(b'', b'v' * 65, 1)
+    yield 'largest record', node(1) + kv(b'k' * 32, b'v' * 64, 1)
+    yield 'eight nodes', b''.join(node(n) for n in range(8))
+    yield 'nine nodes', b''.join(node(n) for n in range(9))
+    yield '16383 bytes', long_delta(16383)
+    yield '16384 bytes', long_delta(16384)
+    yield '16385 bytes', long_delta(16385)
+    yield '16385 bytes of 255', b'\xff' * 16385
+    yield '16384 bytes, last cut', long_delta(16384)[:-9] + b'\0' * 9
+    # the refusals
+    yield '1 before 9', node(1) + b'\1' + struct.pack('<H', 33)
+    yield '1 value before 9', node(1) + b'\1' + struct.pack('<H', 0) + struct.pack('<H', 65)
+    yield '1 length of 65535', node(1) + b'\1\xff\xff'
+    yield '9 before 10', node(1) + kv(b'a', b'', 1, 3)[:-1]
+    yield '10 tag 3', node(1) + b'\3' + u64(1)
+    yield '10 tag 255', b'\xff'
+    yield '10 status 3', node(1) + kv(b'a', b'', 1, 3)
+    yield '10 status 255', node(1) + kv(b'a', b'', 1, 255)
+    yield '10 before 11', kv(b'a', b'', 1, 3)
+    yield '11 record before a node', kv(b'a', b'', 1)
+    yield '11 max before a node', most(1)
+    yield '11 version 0', node(1) + kv(b'a', b'', 0)
+    yield '11 version not above', node(1) + kv(b'a', b'', 5) + kv(b'b', b'', 5)
+    yield '11 max below', node(1) + kv(b'a', b'', 5) + most(4)
+    yield '11 version at the max', node(1) + most(5) + kv(b'a', b'', 5)
+    yield '12 node repeated', node(1) + node(2) + node(1)
+    yield '12 before 13', b''.join(node(n) for n in range(8)) + node(0)
+    yield '13 ninth node', b''.join(node(n) for n in range(8)) + node(8, 1, 1) + b'\3'
+
+
+def main():
+    here = os.path.dirname(os.path.abspath(__file__))
+    folder = os.path.join(here, 'data')
+    shutil.rmtree(folder, ignore_errors=True)
+    os.mkdir(folder)
+    with open(os.path.join(here, 'args'), 'w') as args, open(os.path.join(here, 'stdout'), 'w') as told:
+        for name, delta in samples():
+            name = name.replace(',', '').replace(' ', '-')
+            with open(os.path.join(folder, name), 'wb') as sample:
+                sample.write(delta)
+            args.write(name + '\n')
+            told.write(name + '\n' + listing(delta))
+
+
+if __name__ == '__main__':
+    main()

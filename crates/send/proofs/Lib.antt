@@ -1,0 +1,3 @@
+pub mod Located
+pub mod Steps
+pub mod Lines

@@ -1,0 +1,17 @@
+// Writes the listing of a delta to standard output. The buffer has room for every listing (listing/proofs/Lines.antt), and nothing is written
+// before the whole listing stands in it.
+use libc::STDOUT_FILENO;
+use rules::Written;
+
+pub fn show(delta: &[u8]) {
+    let mut output = [0u8; 81979];
+    let listed = listing::list_delta(delta, &mut output);
+    match listed {
+        Written::Bytes(n) => {
+            io::write_all(STDOUT_FILENO, &output[..n]);
+        }
+        Written::Refused(_) => {
+            check::expect(false);
+        }
+    }
+}

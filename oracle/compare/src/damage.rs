@@ -1,0 +1,166 @@
+//! Damaged copies of good bytes. Texts stay valid UTF-8: the original can be asked about nothing else.
+
+use script::table::{self, KEY, NODE_BYTES, NODE_HEAD_BYTES, Node, RECORD_BYTES, TABLE_BYTES, VALUE};
+
+use crate::random::Random;
+
+/// The bytes changed in one place: cut, a byte changed, put in or taken out, or something behind them.
+fn damage(random: &mut Random, bytes: &[u8]) -> Vec<u8> {
+    let mut bytes = bytes.to_vec();
+    if bytes.is_empty() {
+        bytes.push(random.below(4) as u8);
+        return bytes;
+    }
+    let place = random.place(bytes.len());
+    match random.below(7) {
+        0 => bytes.truncate(place),
+        1 => bytes[place] ^= 1 << random.below(8),
+        2 => bytes[place] = *random.pick(&[0, 1, 2, 3, 32, 33, 64, 65, 255]),
+        3 => bytes.insert(place, *random.pick(&[0, 1, 2, 3, 255])),
+        4 => {
+            bytes.remove(place);
+        }
+        5 => bytes.push(*random.pick(&[0, 1, 2, 3, 255])),
+        _ => bytes[place] = bytes[place].wrapping_add(1),
+    }
+    bytes
+}
+
+pub fn digest(random: &mut Random, bytes: &[u8]) -> Vec<u8> {
+    damage(random, bytes)
+}
+
+pub fn delta(random: &mut Random, bytes: &[u8]) -> Vec<u8> {
+    loop {
+        let damaged = damage(random, bytes);
+        if texts_are_utf8(&damaged) {
+            return damaged;
+        }
+    }
+}
+
+/// Whether each text that a reader could meet in the delta is UTF-8. Reads no further than a reader could.
+pub fn texts_are_utf8(mut bytes: &[u8]) -> bool {
+    while let Some((&tag, rest)) = bytes.split_first() {
+        let fixed = match tag {
+            0 => 24,
+            1 => 9,
+            2 => 8,
+            _ => return true,
+        };
+        bytes = rest;
+        for limit in if tag == 1 { [KEY, VALUE].iter() } else { [].iter() } {
+            let Some((len, rest)) = bytes.split_first_chunk() else { return true };
+            let len = usize::from(u16::from_le_bytes(*len));
+            let Some((text, rest)) = rest.split_at_checked(len) else { return true };
+            if len > *limit {
+                return true;
+            }
+            if std::str::from_utf8(text).is_err() {
+                return false;
+            }
+            bytes = rest;
+        }
+        let Some((_, rest)) = bytes.split_at_checked(fixed) else { return true };
+        bytes = rest;
+    }
+    true
+}
+
+/// Table bytes that break one of document 01's rules or of the layout.
+pub fn table(random: &mut Random, nodes: &[Node]) -> Vec<u8> {
+    loop {
+        if let Some(bytes) = break_table(random, nodes) {
+            return bytes;
+        }
+    }
+}
+
+/// None where the table has nothing that could be broken in the way that chance asked for.
+fn break_table(random: &mut Random, nodes: &[Node]) -> Option<Vec<u8>> {
+    let mut nodes = nodes.to_vec();
+    let at = if nodes.is_empty() { 0 } else { random.place(nodes.len()) };
+    let record_at = nodes.get(at).map_or(0, |node| random.place(node.records.len().max(1)));
+    let node_start = 1 + at * NODE_BYTES;
+    let record_start = node_start + NODE_HEAD_BYTES + record_at * RECORD_BYTES;
+    let set = |nodes: &[Node], place: usize, byte: u8| {
+        let mut bytes = table::encode(nodes);
+        bytes[place] = byte;
+        bytes
+    };
+    match random.below(16) {
+        0 => Some(set(&nodes, 0, random.within(9, 255) as u8)),
+        1 => nodes.get(at).map(|_| set(&nodes, node_start + NODE_HEAD_BYTES - 1, random.within(33, 255) as u8)),
+        2 => has_record(&nodes, at).then(|| set(&nodes, record_start, random.within(33, 255) as u8)),
+        3 => has_record(&nodes, at).then(|| set(&nodes, record_start + 1 + KEY, random.within(65, 255) as u8)),
+        4 => has_record(&nodes, at).then(|| set(&nodes, record_start + RECORD_BYTES - 9, random.within(3, 255) as u8)),
+        5 => {
+            nodes.get_mut(at)?.records.get_mut(record_at)?.version = 0;
+            Some(table::encode(&nodes))
+        }
+        6 => {
+            let max = nodes.get(at)?.max.checked_add(1)?;
+            nodes[at].records.get_mut(record_at)?.version = max;
+            Some(table::encode(&nodes))
+        }
+        7 => {
+            let other = nodes.get(at)?.records.iter().map(|record| record.version).next()?;
+            nodes[at].records.last_mut()?.version = other;
+            (nodes[at].records.len() > 1).then(|| table::encode(&nodes))
+        }
+        8 => {
+            let records = &mut nodes.get_mut(at)?.records;
+            (records.len() > 1).then(|| records.swap(0, 1))?;
+            Some(table::encode(&nodes))
+        }
+        9 => {
+            let records = &mut nodes.get_mut(at)?.records;
+            (records.len() > 1).then(|| records[1].key = records[0].key.clone())?;
+            Some(table::encode(&nodes))
+        }
+        10 => (nodes.len() > 1).then(|| {
+            nodes.swap(0, 1);
+            table::encode(&nodes)
+        }),
+        11 => (nodes.len() > 1).then(|| {
+            nodes[1].number = nodes[0].number;
+            table::encode(&nodes)
+        }),
+        12 => {
+            let mut bytes = table::encode(&nodes);
+            let used = 1 + nodes.len() * NODE_BYTES;
+            let place = used + random.place((TABLE_BYTES - used).max(1));
+            *bytes.get_mut(place)? = random.within(1, 255) as u8;
+            Some(bytes)
+        }
+        13 => {
+            let mut bytes = table::encode(&nodes);
+            let records = nodes.get(at)?.records.len();
+            let used = node_start + NODE_HEAD_BYTES + records * RECORD_BYTES;
+            let free = node_start + NODE_BYTES - used;
+            (free > 0).then(|| bytes[used + random.place(free)] = random.within(1, 255) as u8)?;
+            Some(bytes)
+        }
+        14 => {
+            let record = nodes.get(at)?.records.get(record_at)?;
+            let (key, value) = (record.key.len(), record.value.len());
+            let place = if random.once_in(2) && key < KEY {
+                record_start + 1 + key + random.place(KEY - key)
+            } else if value < VALUE {
+                record_start + 1 + KEY + 1 + value + random.place(VALUE - value)
+            } else {
+                return None;
+            };
+            Some(set(&nodes, place, random.within(1, 255) as u8))
+        }
+        _ => {
+            let mut bytes = table::encode(&nodes);
+            bytes.resize(*random.pick(&[0, 1, TABLE_BYTES - 1, TABLE_BYTES + 1]), 0);
+            Some(bytes)
+        }
+    }
+}
+
+fn has_record(nodes: &[Node], at: usize) -> bool {
+    nodes.get(at).is_some_and(|node| !node.records.is_empty())
+}

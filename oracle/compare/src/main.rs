@@ -1,0 +1,122 @@
+//! Makes scripts, has them answered by the judge and by another side, and compares line by line.
+//!
+//!     compare run JUDGE N SEED OTHER..      the sweeps (not with ORACLE_SWEEPS=0) and N random scripts
+//!     compare find JUDGE N SEED OTHER..     the same, but a difference is only told, not shrunk
+//!     compare script SEED INDEX             prints one random script
+//!     compare sweep NAME                    prints one sweep; without a name, lists them
+//!     compare shrink JUDGE FILE OTHER..     the smallest script found that still shows a difference
+
+mod count;
+mod damage;
+mod maker;
+mod pieces;
+mod random;
+mod scripts;
+mod shrink;
+mod sides;
+mod sweeps;
+
+use std::process::ExitCode;
+
+use count::Counts;
+use sides::Sides;
+
+/// Scripts answered by one start of each side.
+const BATCH: u64 = 100;
+
+fn usage() -> ExitCode {
+    eprintln!("compare run|find JUDGE N SEED OTHER.. | script SEED INDEX | sweep [NAME] | shrink JUDGE FILE OTHER..");
+    ExitCode::from(2)
+}
+
+fn main() -> ExitCode {
+    let words: Vec<String> = std::env::args().skip(1).collect();
+    let words: Vec<&str> = words.iter().map(String::as_str).collect();
+    match words[..] {
+        [how @ ("run" | "find"), judge, count, seed, ref other @ ..] if !other.is_empty() => {
+            let (Ok(count), Ok(seed)) = (count.parse(), seed.parse()) else { return usage() };
+            let sides = Sides::new(judge, other);
+            match run(&sides, count, seed) {
+                Ok(()) => ExitCode::SUCCESS,
+                Err(script) if how == "run" => report(&sides, &script),
+                Err(_) => ExitCode::FAILURE,
+            }
+        }
+        ["script", seed, index] => match (seed.parse(), index.parse()) {
+            (Ok(seed), Ok(index)) => print(&scripts::random(seed, index)),
+            _ => usage(),
+        },
+        ["sweep"] => print(&sweeps::names()),
+        ["sweep", name] => sweeps::named(name).map_or_else(usage, |script| print(&script)),
+        ["shrink", judge, file, ref other @ ..] if !other.is_empty() => {
+            let text = std::fs::read_to_string(file).expect("the script can be read");
+            report(&Sides::new(judge, other), &text.lines().map(String::from).collect::<Vec<_>>())
+        }
+        _ => usage(),
+    }
+}
+
+fn print(lines: &[String]) -> ExitCode {
+    for line in lines {
+        println!("{line}");
+    }
+    ExitCode::SUCCESS
+}
+
+/// The error is a script that shows a difference.
+fn run(sides: &Sides, count: u64, seed: u64) -> Result<(), Vec<String>> {
+    let mut counts = Counts::default();
+    let sweeps =
+        if std::env::var("ORACLE_SWEEPS").is_ok_and(|wanted| wanted == "0") { vec![] } else { sweeps::names() };
+    for name in sweeps {
+        let script = sweeps::named(&name).expect("a sweep of that name");
+        answer(sides, &[script], &mut counts, &format!("sweep {name}"))?;
+    }
+    let mut first = 0;
+    while first < count {
+        let last = count.min(first + BATCH);
+        let batch: Vec<Vec<String>> = (first..last).map(|index| scripts::random(seed, index)).collect();
+        answer(sides, &batch, &mut counts, &format!("seed {seed}, scripts {first} to {}", last - 1))?;
+        first = last;
+    }
+    println!("seed={seed} {counts} differences=0");
+    Ok(())
+}
+
+/// Lines that bring both tables back to empty, between two scripts that are answered by one start.
+const BETWEEN: [&str; 4] = ["hub 1", "new", "hub 0", "new"];
+
+/// Answers the scripts and counts. The error is the first script that shows a difference alone, else all of them.
+fn answer(sides: &Sides, batch: &[Vec<String>], counts: &mut Counts, what: &str) -> Result<(), Vec<String>> {
+    let between: Vec<String> = BETWEEN.iter().map(|line| line.to_string()).collect();
+    let whole: Vec<String> = batch.iter().flat_map(|script| between.iter().chain(script)).cloned().collect();
+    let (judge, other) = sides.answers(&whole);
+    if judge == other && judge.len() == whole.len() {
+        counts.scripts += batch.len();
+        counts.add(&whole, &judge);
+        return Ok(());
+    }
+    println!("difference in {what}");
+    Err(batch.iter().find(|script| sides.differ(script)).unwrap_or(&whole).clone())
+}
+
+/// Shrinks a script and shows it with both answers. Says so where there is no difference.
+fn report(sides: &Sides, script: &[String]) -> ExitCode {
+    if !sides.differ(script) {
+        println!("no difference");
+        return ExitCode::SUCCESS;
+    }
+    let small = shrink::smallest(script, |lines| sides.differ(lines));
+    let (judge, other) = sides.answers(&small);
+    println!("smallest script that differs, lines: {}", small.len());
+    for (place, line) in small.iter().enumerate() {
+        println!("  {line}");
+        let nothing = "(no answer)".to_string();
+        let (judge, other) = (judge.get(place).unwrap_or(&nothing), other.get(place).unwrap_or(&nothing));
+        if judge != other {
+            println!("    judge: {judge}");
+            println!("    other: {other}");
+        }
+    }
+    ExitCode::FAILURE
+}

@@ -1,0 +1,118 @@
+//! What scripts are made of: texts and numbers around each boundary, operations and digests as bytes.
+
+use crate::random::Random;
+
+const LAST: u64 = u64::MAX;
+
+/// Valid UTF-8 of exactly `len` bytes, often with characters of several bytes, also as the first one.
+pub fn text(random: &mut Random, len: usize) -> Vec<u8> {
+    const CHARACTERS: [&str; 9] = ["a", "b", "z", "\0", " ", "é", "ß", "日", "\u{10FFFF}"];
+    let mut text = String::new();
+    while text.len() < len {
+        let next = *random.pick(&CHARACTERS);
+        text.push_str(if text.len() + next.len() <= len { next } else { "a" });
+    }
+    text.into_bytes()
+}
+
+/// Keys that begin with one another, keys of several bytes a character, keys at the size.
+pub fn key(random: &mut Random) -> Vec<u8> {
+    const SHORT: [&str; 12] = ["", "a", "ab", "abc", "b", "\0", "a\0", "é", "éa", "日", "~", "\u{10FFFF}"];
+    match random.below(12) {
+        0 => text(random, 31),
+        1 => text(random, 32),
+        2 => vec![b'k'; 32],
+        3 => text(random, 2),
+        _ => random.pick(&SHORT).as_bytes().to_vec(),
+    }
+}
+
+pub fn value(random: &mut Random) -> Vec<u8> {
+    match random.below(10) {
+        0 => text(random, 63),
+        1 => text(random, 64),
+        2 => text(random, 5),
+        3 | 4 => Vec::new(),
+        _ => random.pick(&["1", "2", "é", "41"]).as_bytes().to_vec(),
+    }
+}
+
+/// A node's number: small ones, ones whose bytes order otherwise than they do, the last ones.
+pub fn node(random: &mut Random) -> u64 {
+    *random.pick(&[0, 1, 2, 3, 255, 256, 257, 65_536, 1 << 32, 1 << 63, LAST - 1, LAST, 7, 8, 9, 10])
+}
+
+/// A version: small, or near the end.
+pub fn version(random: &mut Random) -> u64 {
+    match random.below(12) {
+        0 => LAST - random.below(3),
+        1 => random.next(),
+        _ => random.below(12),
+    }
+}
+
+/// A moment or a grace: small, or near the end.
+pub fn moment(random: &mut Random) -> u64 {
+    match random.below(15) {
+        0 => LAST - random.below(3),
+        1 => random.next(),
+        _ => random.below(20),
+    }
+}
+
+pub fn mtu(random: &mut Random) -> u64 {
+    match random.below(8) {
+        0 => *random.pick(&[0, 99, 16_385, LAST]),
+        1 => *random.pick(&[100, 101, 109, 110, 124, 125, 134, 135, 136]),
+        2 => *random.pick(&[16_382, 16_383, 16_384]),
+        3 => random.within(100, 16_384),
+        _ => random.within(100, 400),
+    }
+}
+
+/// A delta operation in document 01's bytes. Nothing here is checked: scripts want wrong ones too.
+#[derive(Clone)]
+pub enum Op {
+    Node { number: u64, last_gc: u64, from: u64 },
+    KeyValue { key: Vec<u8>, value: Vec<u8>, version: u64, status: u8 },
+    SetMax { max: u64 },
+}
+
+impl Op {
+    pub fn write(&self, bytes: &mut Vec<u8>) {
+        match self {
+            Op::Node { number, last_gc, from } => {
+                bytes.push(0);
+                for field in [number, last_gc, from] {
+                    bytes.extend(field.to_le_bytes());
+                }
+            }
+            Op::KeyValue { key, value, version, status } => {
+                bytes.push(1);
+                for text in [key, value] {
+                    bytes.extend((text.len() as u16).to_le_bytes());
+                    bytes.extend(text);
+                }
+                bytes.extend(version.to_le_bytes());
+                bytes.push(*status);
+            }
+            Op::SetMax { max } => {
+                bytes.push(2);
+                bytes.extend(max.to_le_bytes());
+            }
+        }
+    }
+}
+
+pub fn delta(ops: &[Op]) -> Vec<u8> {
+    let mut bytes = Vec::new();
+    ops.iter().for_each(|op| op.write(&mut bytes));
+    bytes
+}
+
+/// A digest in document 01's bytes: node, heartbeat, last_gc, max.
+pub fn digest(entries: &[[u64; 4]]) -> Vec<u8> {
+    let mut bytes = (entries.len() as u16).to_le_bytes().to_vec();
+    bytes.extend(entries.iter().flatten().flat_map(|field| field.to_le_bytes()));
+    bytes
+}

@@ -1,0 +1,349 @@
+//! Short scripts, all of a kind.
+
+use script::hex;
+use script::table::{self, Node, RECORDS, Record, SET};
+
+use crate::damage::texts_are_utf8;
+use crate::pieces::{Op, delta, digest};
+
+const SWEEPS: [(&str, fn() -> Vec<String>); 13] = [
+    ("bench", bench),
+    ("writes", writes),
+    ("verdicts", verdicts),
+    ("taking", taking),
+    ("room", room),
+    ("from", from),
+    ("cuts", cuts),
+    ("brim", brim),
+    ("exchanges", exchanges),
+    ("damaged-delta", damaged_delta),
+    ("damaged-digest", damaged_digest),
+    ("two-faults", two_faults),
+    ("many-nodes", many_nodes),
+];
+
+pub fn names() -> Vec<String> {
+    SWEEPS.iter().map(|(name, _)| name.to_string()).collect()
+}
+
+pub fn named(name: &str) -> Option<Vec<String>> {
+    SWEEPS.iter().find(|(known, _)| *known == name).map(|(_, make)| make())
+}
+
+fn apply(ops: &[Op]) -> String {
+    format!("apply {} 5 8", hex(&delta(ops)))
+}
+
+fn node(last_gc: u64, from: u64) -> Op {
+    Op::Node { number: 1, last_gc, from }
+}
+
+fn record(key: &str, version: u64, status: u8) -> Op {
+    Op::KeyValue { key: key.into(), value: "v".into(), version, status }
+}
+
+/// Node 1 fresh, then brought to last_gc and max by one delta from 0.
+fn node_at(last_gc: u64, max: u64) -> [String; 3] {
+    ["new".into(), "add 1".into(), apply(&[node(last_gc, 0), Op::SetMax { max }])]
+}
+
+/// Document 01's bench cases.
+fn bench() -> Vec<String> {
+    let mut lines = Vec::new();
+    for (last_gc, from, max) in [(0, 6, 9), (0, 5, 5), (0, 5, 6), (5, 0, 6), (6, 0, 6), (6, 1, 9), (6, 0, 0)] {
+        lines.extend(node_at(0, 5));
+        lines.push(apply(&[node(last_gc, from), Op::SetMax { max }]));
+    }
+    let more = [
+        "new",
+        "add 1",
+        "set 1 x61 x31",
+        "delete 1 x61 100",
+        "gc 149 50",
+        "gc 150 50",
+        "new",
+        "add 1",
+        "offer 1 5",
+        "offer 1 5",
+        "offer 1 6",
+    ];
+    lines.extend(more.map(String::from));
+    lines.extend(node_at(4, 9));
+    for (last_gc, max) in [(0, 3), (0, 4), (4, 3)] {
+        lines.push(format!("compute {} 100 - 0 0 100", hex(&digest(&[[1, 0, last_gc, max]]))));
+    }
+    lines.extend(["new".to_string(), "add 1".to_string()]);
+    lines.push(format!("set 1 {} {}", hex(&[b'k'; 32]), hex(&[b'v'; 64])));
+    for mtu in [134, 135] {
+        lines.push(format!("compute x0000 {mtu} - 0 0 {mtu}"));
+    }
+    lines.extend(priorities());
+    lines
+}
+
+/// From-0 nodes with max 9 and 4, others with 3 and 5 stale.
+fn priorities() -> Vec<String> {
+    let mut lines = vec!["new".to_string()];
+    for (number, writes) in [(1, 9), (2, 4), (3, 3 + 1), (4, 5 + 1)] {
+        lines.push(format!("add {number}"));
+        for write in 0..writes {
+            lines.push(format!("set {number} {} x", hex(&[b'a' + write])));
+        }
+    }
+    let digest = hex(&digest(&[[3, 0, 0, 1], [4, 0, 0, 1]]));
+    lines.push(format!("compute {digest} 16384 - 0,0,0,0 0 16384"));
+    lines
+}
+
+/// All runs of four local calls on one key, with a look after each.
+fn writes() -> Vec<String> {
+    const CALLS: [&str; 8] = [
+        "set 1 x61 x31",
+        "set 1 x61 x",
+        "setttl 1 x61 x31 3",
+        "setttl 1 x61 x 4",
+        "delete 1 x61 2",
+        "deletettl 1 x61 6",
+        "gc 5 1",
+        "gc 6 2",
+    ];
+    let mut calls = CALLS.map(String::from).to_vec();
+    // A peer's tombstone with a value.
+    calls.push(apply(&[node(0, 0), record("a", 9, 1)]));
+    let mut lines = Vec::new();
+    for run in 0..calls.len().pow(4) {
+        lines.extend(["new".to_string(), "add 1".to_string()]);
+        let mut rest = run;
+        for _ in 0..4 {
+            lines.push(calls[rest % calls.len()].clone());
+            rest /= calls.len();
+        }
+        lines.push("get 1 x61".to_string());
+    }
+    lines
+}
+
+/// All small own pairs against all small deltas without records.
+fn verdicts() -> Vec<String> {
+    let mut lines = Vec::new();
+    for own in 0..16 {
+        for case in 0..64 {
+            lines.extend(node_at(own / 4, own % 4));
+            lines.push(apply(&[node(case / 16, case / 4 % 4), Op::SetMax { max: case % 4 }]));
+        }
+    }
+    lines
+}
+
+/// Records of each status around max and last_gc, after a reset and without.
+fn taking() -> Vec<String> {
+    let mut lines = Vec::new();
+    for own in 0..16 {
+        for case in 0..48 {
+            let (last_gc, from, status) = (case / 12, case / 3 % 4, (case % 3) as u8);
+            lines.extend(node_at(own / 4, own % 4));
+            let ops = [
+                node(last_gc, from),
+                record("a", 1, status),
+                record("b", 2, status),
+                record("a", 3, status),
+                record("c", 4, 0),
+            ];
+            lines.push(apply(&ops));
+        }
+    }
+    lines
+}
+
+/// All runs of three records on a node of 31 or 32 keys, with a second node behind it.
+fn room() -> Vec<String> {
+    // Key, status, whether its version is at or below the node's last_gc. k1 is held, n and m are new.
+    const RECORDS: [(&str, u8, bool); 6] =
+        [("n", 0, false), ("m", 1, false), ("n", 1, true), ("m", 0, true), ("k1", 2, false), ("n", 2, false)];
+    let mut lines = Vec::new();
+    for held in [30, 31, 32] {
+        let mut ops = vec![node(100, 0)];
+        ops.extend((1..=held).map(|version| record(&format!("k{version}"), version, 0)));
+        let fill = apply(&ops);
+        for run in 0..RECORDS.len().pow(3) {
+            lines.extend(["new".to_string(), "add 1".to_string(), "add 2".to_string(), fill.clone()]);
+            let (mut ops, mut rest, mut version) = (vec![node(0, 0)], run, 60);
+            for _ in 0..3 {
+                let (key, status, old) = RECORDS[rest % RECORDS.len()];
+                version = if old { version + 1 } else { version.max(100) + 1 };
+                ops.push(record(key, version, status));
+                rest /= RECORDS.len();
+            }
+            ops.extend([Op::Node { number: 2, last_gc: 0, from: 0 }, record("z", 1, 0)]);
+            lines.push(apply(&ops));
+        }
+    }
+    lines
+}
+
+/// All small own pairs against all small digest pairs.
+fn from() -> Vec<String> {
+    let mut lines = Vec::new();
+    for own in 0..16 {
+        lines.extend(node_at(own / 4, own % 4));
+        lines.push("set 1 x61 x31".to_string());
+        for pair in 0..36 {
+            let digest = hex(&digest(&[[1, 0, pair / 6, pair % 6]]));
+            lines.push(format!("compute {digest} 100 - 0 0 100"));
+        }
+    }
+    lines
+}
+
+/// Each MTU over a table of several nodes, with nodes that have nothing but a max.
+fn cuts() -> Vec<String> {
+    let mut lines = vec!["new".to_string()];
+    for number in 1..=6u64 {
+        lines.push(format!("add {number}"));
+        for write in 0..number - 1 {
+            lines.push(format!("set {number} {} {}", hex(&[b'a' + write as u8]), hex(&vec![b'v'; 7 * write as usize])));
+        }
+    }
+    for number in [1, 3, 5] {
+        lines.push(format!(
+            "apply {} 5 1",
+            hex(&delta(&[Op::Node { number, last_gc: 0, from: 0 }, Op::SetMax { max: 20 + number }]))
+        ));
+    }
+    lines.push("delete 4 x61 1".to_string());
+    let partly = hex(&digest(&[[3, 0, 0, 2], [5, 0, 0, 22], [4, 0, 0, 1], [6, 0, 0, 1]]));
+    for mtu in 100..=620 {
+        lines.push(format!("compute x0000 {mtu} - 0,0,0,0,0,0 0 {mtu}"));
+        lines.push(format!("compute {partly} {mtu} - 1,0,1,0,1,0 0 {mtu}"));
+    }
+    lines
+}
+
+/// Each MTU from 16,270 on, where five full nodes end, a sixth begins, and the original needs a second block. The sixth has
+/// records, or nothing but a max.
+fn brim() -> Vec<String> {
+    const VALUE: usize = 55;
+    let record = |place: usize, value: usize| Record {
+        key: format!("{place:032}").into_bytes(),
+        value: vec![b'v'; value],
+        version: 1 + place as u64,
+        status: SET,
+        start: 0,
+    };
+    let mut lines = Vec::new();
+    for (longer, sixth) in [(0, RECORDS), (7, RECORDS), (0, 0), (7, 0)] {
+        let nodes: Vec<Node> = (1..=6)
+            .map(|number| {
+                let count = if number == 6 { sixth } else { RECORDS };
+                let value = |place| if number == 1 && place < longer { table::VALUE } else { VALUE };
+                let records = (0..count).map(|place| record(place, value(place))).collect();
+                Node { number, heartbeat: 0, max: 32 + number, last_gc: 0, records }
+            })
+            .collect();
+        lines.push(format!("table {}", hex(&table::encode(&nodes))));
+        lines.extend((16_270..=16_384).map(|mtu| format!("compute x0000 {mtu} - 0,0,0,0,0,0 0 {mtu}")));
+    }
+    lines
+}
+
+/// All runs of four steps of a publisher and a follower with one node.
+fn exchanges() -> Vec<String> {
+    const STEPS: [&[&str]; 6] = [
+        &["set 1 x61 x31"],
+        &["setttl 1 x62 x32 3"],
+        &["delete 1 x61 4"],
+        &["gc 5 1"],
+        &["hub 1", "digest - 0 34", "hub 0", "compute @digest 100 - 0 0 100", "hub 1", "apply @delta 4 1", "hub 0"],
+        &["hub 1", "gc 5 1", "set 1 x63 x", "hub 0"],
+    ];
+    let mut lines = Vec::new();
+    for run in 0..STEPS.len().pow(4) {
+        lines.extend(["hub 1", "new", "add 1", "hub 0", "new", "add 1"].map(String::from));
+        let mut rest = run;
+        for _ in 0..4 {
+            lines.extend(STEPS[rest % STEPS.len()].iter().map(|line| line.to_string()));
+            rest /= STEPS.len();
+        }
+        // Two more exchanges: does the follower arrive?
+        lines.extend([STEPS[4], STEPS[4]].concat().iter().map(|line| line.to_string()));
+    }
+    lines
+}
+
+/// A good delta cut at each place, and with each byte changed to each of some values.
+fn damaged_delta() -> Vec<String> {
+    let good = delta(&[
+        node(0, 0),
+        record("aé", 1, 0),
+        record("", 3, 1),
+        Op::SetMax { max: 3 },
+        Op::Node { number: 2, last_gc: 1, from: 0 },
+        record("z", 2, 2),
+        Op::SetMax { max: 9 },
+    ]);
+    let mut lines = Vec::new();
+    for len in 0..=good.len() {
+        lines.push(format!("readdelta {}", hex(&good[..len])));
+    }
+    for place in 0..good.len() {
+        for byte in [0, 1, 2, 3, 4, 32, 33, 64, 65, 127, 128, 255] {
+            let mut damaged = good.clone();
+            damaged[place] = byte;
+            if texts_are_utf8(&damaged) {
+                lines.extend(["new".to_string(), "add 1".to_string()]);
+                lines.push(format!("apply {} 5 8", hex(&damaged)));
+            }
+        }
+    }
+    lines
+}
+
+fn damaged_digest() -> Vec<String> {
+    let good = digest(&[[2, 1, 2, 3], [1, 4, 5, 6], [2, 7, 8, 9]]);
+    let mut lines = Vec::new();
+    for len in 0..=good.len() {
+        lines.push(format!("readdigest {}", hex(&good[..len])));
+    }
+    for place in 0..good.len() {
+        for byte in [0, 1, 2, 3, 4, 8, 9, 255] {
+            let mut damaged = good.clone();
+            damaged[place] = byte;
+            lines.push(format!("readdigest {}", hex(&damaged)));
+        }
+    }
+    lines
+}
+
+/// A record with every choice of faults at once, cut at each place: which one is told?
+fn two_faults() -> Vec<String> {
+    let mut lines = Vec::new();
+    for choice in 0..32 {
+        let wrong = |bit: usize| choice >> bit & 1 == 1;
+        let mut ops = if wrong(0) { vec![] } else { vec![node(0, 0), record("a", 2, 0)] };
+        let before = delta(&ops).len();
+        ops.push(Op::KeyValue {
+            key: vec![b'k'; if wrong(1) { 33 } else { 2 }],
+            value: vec![b'v'; if wrong(2) { 65 } else { 2 }],
+            version: if wrong(3) { 2 } else { 3 },
+            status: if wrong(4) { 3 } else { 1 },
+        });
+        let bytes = delta(&ops);
+        lines.extend((before..=bytes.len()).map(|len| format!("readdelta {}", hex(&bytes[..len]))));
+    }
+    lines
+}
+
+/// Seven to ten Nodes, the last one new or a repetition of each of the others, whole and cut by one byte.
+fn many_nodes() -> Vec<String> {
+    let mut lines = Vec::new();
+    for count in 7..=10 {
+        for last in 1..=count {
+            let numbers = (1..count).chain([last]);
+            let ops: Vec<Op> = numbers.map(|number| Op::Node { number, last_gc: 0, from: 0 }).collect();
+            let bytes = delta(&ops);
+            lines.push(format!("readdelta {}", hex(&bytes)));
+            lines.push(format!("apply {} 0 8", hex(&bytes[..bytes.len() - 1])));
+        }
+    }
+    lines
+}

@@ -1,0 +1,553 @@
+//! One table of the original, behind the calls of a script.
+//!
+//! Every call is split in two. The layer gives document 01's own refusals (sizes, places, no such node) and their
+//! order. The original gives everything else. Where both could give a number the original does: 6 is its overflow
+//! panic, 9 to 12 are its own reading errors, told apart by their messages.
+
+use std::collections::HashSet;
+use std::panic::{AssertUnwindSafe, catch_unwind};
+use std::time::Duration;
+
+use script::table::{self, KEY, NODES, RECORDS, VALUE};
+use script::{Answer, Bytes, Call, DigestEntry, Side, Verdict};
+use tokio::sync::watch;
+use tokio::time::{Instant, set_clock};
+
+use crate::delta::{Delta, Reader, operation_bytes};
+use crate::digest::Digest;
+use crate::message::ProtocolVersion;
+use crate::serialize::{Deserializable, Serializable};
+use crate::state::{ClusterState, NodeState, Status};
+use crate::types::{ChitchatId, DeletionStatus, Heartbeat, VersionedValue};
+use crate::wire;
+
+const MTU_LEAST: u64 = 100;
+const MTU_MOST: u64 = 16_384;
+const DELTA_MOST: usize = 16_384;
+/// What an untouched byte of a lent datagram holds.
+const UNTOUCHED: u8 = 0xEE;
+
+pub struct Hub {
+    cluster: ClusterState,
+    /// The lent bytes where they are no good table. The original is never asked then.
+    bad: Option<Vec<u8>>,
+}
+
+/// A call ends early with a refusal, or with something that document 01 does not foresee.
+type Outcome<T> = Result<T, Answer>;
+
+fn text(bytes: &[u8]) -> Outcome<&str> {
+    std::str::from_utf8(bytes).map_err(|_| Answer::Outside)
+}
+
+/// Layer: number 1.
+fn within(len: usize, most: usize) -> Outcome<()> {
+    if len > most { Err(Answer::Refused(1)) } else { Ok(()) }
+}
+
+/// Layer: number 8. `need` bytes must be free from `place`.
+fn free(place: u64, len: usize, need: usize) -> Outcome<usize> {
+    match usize::try_from(place) {
+        Ok(place) if place <= len && len - place >= need => Ok(place),
+        _ => Err(Answer::Refused(8)),
+    }
+}
+
+/// The original's reading errors by document 01's numbers. The words are the original's.
+fn number_of(error: &anyhow::Error) -> Outcome<u8> {
+    const WORDS: [(&str, u8); 7] = [
+        ("buffer too short", 9),
+        ("Buffer too short", 9),
+        ("Unknown tag", 10),
+        ("Invalid deletion status code", 10),
+        ("without a node op before", 11),
+        ("striclty increasing", 11),
+        ("existing_nodes.contains", 12),
+    ];
+    let message = error.to_string();
+    if message.contains("utf-8") {
+        return Err(Answer::Outside);
+    }
+    let found = WORDS.iter().find(|(words, _)| message.contains(words));
+    found.map(|&(_, number)| number).ok_or_else(|| Answer::Broken(message))
+}
+
+/// What the original said when it panicked.
+fn panic_message(panic: Box<dyn std::any::Any + Send>) -> String {
+    match panic.downcast::<String>() {
+        Ok(message) => *message,
+        Err(panic) => panic.downcast::<&str>().map_or("a panic without words".into(), |words| words.to_string()),
+    }
+}
+
+/// Asks the original. A panic becomes `Broken`.
+fn ask<T>(question: impl FnOnce() -> T) -> Outcome<T> {
+    catch_unwind(AssertUnwindSafe(question)).map_err(|panic| Answer::Broken(panic_message(panic)))
+}
+
+fn given(bytes: &Bytes) -> &[u8] {
+    match bytes {
+        Bytes::Given(bytes) => bytes,
+        _ => unreachable!("the runner writes bytes out"),
+    }
+}
+
+fn ids(numbers: &[u64]) -> Vec<ChitchatId> {
+    numbers.iter().map(|&number| wire::chitchat_id(number)).collect()
+}
+
+/// A delta as the original read it, and how many operations it had.
+struct ReadDelta {
+    delta: Delta,
+    ops: usize,
+}
+
+/// The number of a faulty operation, by who gives it.
+enum Fault {
+    /// The original reads on here.
+    Layers(u8),
+    Originals(u8),
+}
+
+/// Layer: 13 for length, 1, SetMaxVersion below the running max (11), 13 for a ninth Node, and where the fault is.
+/// Original: 9, 10, the other 11, 12, and what an accepted delta says.
+fn read_delta(bytes: &[u8]) -> Outcome<ReadDelta> {
+    if bytes.len() > DELTA_MOST {
+        return Err(Answer::RefusedAt(13, 0));
+    }
+    let mut reader = Reader::default();
+    let (mut ops, mut at) = (0, 0);
+    let mut stream = Vec::new();
+    while at < bytes.len() {
+        let cut = wire::first_operation(&bytes[at..]);
+        if cut.overlong {
+            return Err(Answer::RefusedAt(1, at));
+        }
+        stream.extend(&cut.bytes);
+        if let Err(fault) = read_operation(&mut reader, &cut.bytes)? {
+            return Err(same_in_stream(fault, at, &stream));
+        }
+        ops += 1;
+        at += cut.used;
+    }
+    let stream = wire::plain_stream(&stream);
+    let delta = reader.finish(stream.len());
+    match Delta::deserialize(&mut &stream[..]) {
+        Ok(whole) if whole == delta => Ok(ReadDelta { delta, ops }),
+        whole => Err(Answer::Broken(format!("read by operation {delta:?}, as a stream {whole:?}"))),
+    }
+}
+
+/// The inner error is the fault.
+fn read_operation(reader: &mut Reader, bytes: &[u8]) -> Outcome<Result<(), Fault>> {
+    let originals = |error: anyhow::Error| number_of(&error).map(|number| Err(Fault::Originals(number)));
+    let taken = match Reader::read(bytes) {
+        Ok(taken) => taken,
+        Err(error) => return originals(error),
+    };
+    if let (Some(max), Some(running)) = (taken.max_version_set(), reader.running_max()) {
+        if max < running {
+            return Ok(Err(Fault::Layers(11)));
+        }
+    }
+    if let Err(error) = reader.take(taken) {
+        return originals(error);
+    }
+    Ok(if reader.nodes() > NODES { Err(Fault::Layers(13)) } else { Ok(()) })
+}
+
+/// The original's stream reader, given the operations up to the faulty one, must err exactly where the fault is its.
+fn same_in_stream(fault: Fault, at: usize, operations: &[u8]) -> Answer {
+    let whole = Delta::deserialize(&mut &wire::plain_stream(operations)[..]);
+    match fault {
+        Fault::Originals(number) if whole.is_err() => Answer::RefusedAt(number, at),
+        Fault::Layers(number) if whole.is_ok() => Answer::RefusedAt(number, at),
+        _ => Answer::Broken(format!("the operation at {at} is read otherwise in a stream: {whole:?}")),
+    }
+}
+
+/// Layer: 13 on the count. Original: 9, the entries, what is left.
+fn read_digest(bytes: &[u8]) -> Outcome<(Digest, usize)> {
+    if let [low, high, ..] = *bytes {
+        if usize::from(u16::from_le_bytes([low, high])) > NODES {
+            return Err(Answer::Refused(13));
+        }
+    }
+    let original = wire::digest_original(bytes);
+    let mut rest = &original[..];
+    match Digest::deserialize(ProtocolVersion::V0, &mut rest) {
+        Ok(digest) => Ok((digest, rest.len())),
+        Err(error) => Err(Answer::Refused(number_of(&error)?)),
+    }
+}
+
+/// The original's MTU under which the last operation of a delta with `nodes` Nodes fits exactly where document 01
+/// lets it fit under `mtu`. The original counts 9 bytes more a Node, 3 bytes a block and 1 at the end; above
+/// 16,384 bytes it needs a second block.
+fn original_mtu(mtu: usize, nodes: usize) -> usize {
+    let bytes = mtu + wire::NAME_EXTRA * nodes;
+    bytes + if bytes >= 16_384 { 7 } else { 4 }
+}
+
+/// The operations in document 01's bytes. The original must read its own stream of them as the same delta.
+fn operations(delta: &Delta) -> Vec<Vec<u8>> {
+    let read_again = Delta::deserialize(&mut &delta.serialize_to_vec()[..]);
+    assert_eq!(read_again.as_ref().ok(), Some(delta), "the original reads its own delta otherwise");
+    operation_bytes(delta).iter().map(|bytes| wire::operation_01(bytes)).collect()
+}
+
+fn node_count(operations: &[Vec<u8>]) -> usize {
+    operations.iter().filter(|bytes| bytes[0] == wire::TAG_NODE).count()
+}
+
+impl Hub {
+    /// Layer: 14, then 2. A node of the table.
+    fn node(&mut self, number: u64) -> Outcome<&mut NodeState> {
+        self.cluster.node_state_mut(&wire::chitchat_id(number)).ok_or(Answer::Refused(2))
+    }
+
+    /// A local write: the original's own change of a node. Its overflow panic is number 6, and the node stays.
+    fn write(&mut self, number: u64, change: impl FnOnce(&mut NodeState)) -> Outcome<Answer> {
+        let node = self.node(number)?;
+        let before = node.clone();
+        match ask(|| change(node)) {
+            Ok(()) => Ok(Answer::Done),
+            Err(Answer::Broken(message)) if message.contains("overflow") => {
+                self.cluster.put_back(before);
+                Ok(Answer::Refused(6))
+            }
+            Err(other) => Err(other),
+        }
+    }
+
+    /// Layer: 2, 1, 5. Number 5 asks only for a key that is not held, so "nothing to change" is never in its way.
+    fn may_set(&mut self, number: u64, key: &[u8], value: &[u8]) -> Outcome<()> {
+        let node = self.node(number)?;
+        within(key.len(), KEY)?;
+        within(value.len(), VALUE)?;
+        let (key, _) = (text(key)?, text(value)?);
+        let full = node.key_values_including_deleted().count() == RECORDS;
+        if full && node.get_versioned(key).is_none() { Err(Answer::Refused(5)) } else { Ok(()) }
+    }
+
+    /// Layer: 2, 1, 3.
+    fn may_delete<'a>(&mut self, number: u64, key: &'a [u8]) -> Outcome<&'a str> {
+        let node = self.node(number)?;
+        within(key.len(), KEY)?;
+        let key = text(key)?;
+        if node.get_versioned(key).is_none() { Err(Answer::Refused(3)) } else { Ok(key) }
+    }
+
+    fn add(&mut self, number: u64) -> Outcome<Answer> {
+        let id = wire::chitchat_id(number);
+        if self.cluster.node_state(&id).is_none() && self.cluster.nodes().count() == NODES {
+            return Err(Answer::Refused(4));
+        }
+        self.cluster.node_state_mut_or_init(&id);
+        Ok(Answer::Done)
+    }
+
+    fn remove(&mut self, number: u64) -> Outcome<Answer> {
+        self.node(number)?;
+        self.cluster.remove_node(&wire::chitchat_id(number));
+        Ok(Answer::Done)
+    }
+
+    fn get(&mut self, number: u64, key: &[u8]) -> Outcome<Answer> {
+        let node = self.node(number)?;
+        within(key.len(), KEY)?;
+        Ok(match node.get(text(key)?) {
+            Some(value) => Answer::Value(value.as_bytes().to_vec()),
+            None => Answer::None,
+        })
+    }
+
+    /// The hits are the original's; that they are told as ranks is the layer's.
+    fn list(&mut self, number: u64, prefix: &[u8], places: u64) -> Outcome<Answer> {
+        let node = self.node(number)?;
+        within(prefix.len(), KEY)?;
+        let prefix = text(prefix)?;
+        let rank = |key: &str| node.key_values_including_deleted().position(|(held, _)| held == key);
+        let ranks: Vec<usize> = node.iter_prefix(prefix).filter_map(|(key, _)| rank(key)).collect();
+        if ranks.len() as u64 > places { Err(Answer::Refused(8)) } else { Ok(Answer::Ranks(ranks)) }
+    }
+
+    fn write_digest(&mut self, excluded: &[u64], place: u64, len: usize) -> Outcome<Answer> {
+        let excluded = ids(excluded);
+        let digest = self.cluster.compute_digest(&excluded.iter().collect());
+        let mut original = Vec::new();
+        digest.serialize(ProtocolVersion::V0, &mut original);
+        let bytes = wire::digest_01(&original);
+        let start = free(place, len, bytes.len())?;
+        let end = start + bytes.len();
+        let mut datagram = vec![UNTOUCHED; len];
+        datagram[start..end].copy_from_slice(&bytes);
+        Ok(Answer::DigestWritten { datagram, start, end })
+    }
+
+    /// Layer: 7, 8, 15, the digest's 13, the tie numbers. Original: the operations, their order, where the MTU cuts.
+    fn compute(
+        &mut self,
+        digest: &[u8],
+        mtu: u64,
+        excluded: &[u64],
+        ties: &[u64],
+        place: u64,
+        len: usize,
+    ) -> Outcome<Answer> {
+        if !(MTU_LEAST..=MTU_MOST).contains(&mtu) {
+            return Err(Answer::Refused(7));
+        }
+        let mtu = mtu as usize;
+        free(place, len, mtu)?;
+        if ties.len() != self.cluster.nodes().count() {
+            return Err(Answer::Refused(15));
+        }
+        let (digest, _rest) = read_digest(digest)?;
+        let numbers: Vec<u64> = self.cluster.nodes().map(|id| id.generation_id).collect();
+        rand::set_ties(numbers.into_iter().zip(ties.iter().copied()));
+        let excluded = ids(excluded);
+        let cut = self.cut(&digest, mtu, &excluded.iter().collect())?;
+        Ok(Answer::DeltaWritten { ops: cut.len(), bytes: cut.concat() })
+    }
+
+    /// The operations that fit document 01's MTU, as the original cuts them.
+    ///
+    /// A delta under an MTU is the beginning of the one without. How many Nodes it has decides the original's MTU; at that
+    /// MTU a next Node that fits could still be missed, so where one comes next the original is asked at one Node more.
+    fn cut(&self, digest: &Digest, mtu: usize, excluded: &HashSet<&ChitchatId>) -> Outcome<Vec<Vec<u8>>> {
+        const NO_LIMIT: usize = 1 << 20;
+        let under = |mtu| ask(|| operations(&self.cluster.compute_partial_delta_respecting_mtu(digest, mtu, excluded)));
+        let whole = under(NO_LIMIT)?;
+        let mut bytes = 0;
+        let fits = |op: &&Vec<u8>| {
+            bytes += op.len();
+            bytes <= mtu
+        };
+        let foreseen = whole.iter().take_while(fits).count();
+        let nodes = node_count(&whole[..foreseen]);
+        let cut = under(original_mtu(mtu, nodes))?;
+        let next_is_node = whole.get(foreseen).is_some_and(|op| op[0] == wire::TAG_NODE);
+        let wider = if next_is_node { under(original_mtu(mtu, nodes + 1))? } else { cut.clone() };
+        if cut == whole[..foreseen] && cut == wider {
+            Ok(cut)
+        } else {
+            Err(Answer::Broken(format!("cut {}, wider {}, foreseen {foreseen}", cut.len(), wider.len())))
+        }
+    }
+
+    /// Layer: Unknown where the original passes over a node in silence, Room, 8. Original: status and change.
+    fn apply(&mut self, bytes: &[u8], now: u64, places: u64) -> Outcome<Answer> {
+        let mut delta = read_delta(bytes)?.delta;
+        if delta.node_deltas.len() as u64 > places {
+            return Err(Answer::Refused(8));
+        }
+        set_clock(now);
+        let mut verdicts = Vec::new();
+        for tried in read_delta(bytes)?.delta.node_deltas {
+            verdicts.push(match self.cluster.node_state(&tried.chitchat_id) {
+                None => Verdict::Unknown,
+                Some(node) => match ask(|| node.try_delta(tried, Instant::now()))? {
+                    (Status::Reject, _) => Verdict::Reject,
+                    (_, keys) if keys > RECORDS => Verdict::Room,
+                    (Status::Apply, _) => Verdict::Apply,
+                    (Status::ApplyAfterReset, _) => Verdict::ApplyAfterReset,
+                },
+            });
+        }
+        // The original applies the whole delta but for the nodes that have no room for it.
+        let mut verdict = verdicts.iter();
+        delta.node_deltas.retain(|_| verdict.next() != Some(&Verdict::Room));
+        let reset = ask(|| self.cluster.apply_delta(delta))?;
+        if reset != verdicts.contains(&Verdict::ApplyAfterReset) {
+            return Err(Answer::Broken(format!("the original says reset={reset} for {verdicts:?}")));
+        }
+        Ok(Answer::Applied(verdicts))
+    }
+
+    /// A call on a good table.
+    fn answer_good(&mut self, call: &Call) -> Outcome<Answer> {
+        match call {
+            Call::Add { node } => self.add(*node),
+            Call::Remove { node } => self.remove(*node),
+            Call::Set { node, key, value } => {
+                self.may_set(*node, key, value)?;
+                let (key, value) = (text(key)?, text(value)?);
+                self.write(*node, |state| state.set(key, value))
+            }
+            Call::SetTtl { node, key, value, now } => {
+                self.may_set(*node, key, value)?;
+                let (key, value) = (text(key)?, text(value)?);
+                set_clock(*now);
+                self.write(*node, |state| state.set_with_ttl(key, value))
+            }
+            Call::Delete { node, key, now } => {
+                let key = self.may_delete(*node, key)?;
+                set_clock(*now);
+                self.write(*node, |state| state.delete(key))
+            }
+            Call::DeleteTtl { node, key, now } => {
+                let key = self.may_delete(*node, key)?;
+                set_clock(*now);
+                self.write(*node, |state| state.delete_after_ttl(key))
+            }
+            Call::Offer { node, heartbeat } => {
+                let stored = self.node(*node)?.try_set_heartbeat(Heartbeat(*heartbeat));
+                Ok(if stored { Answer::Yes } else { Answer::No })
+            }
+            Call::Beat { node } => self.write(*node, |state| state.inc_heartbeat()),
+            Call::Get { node, key } => self.get(*node, key),
+            Call::List { node, prefix, places } => self.list(*node, prefix, *places),
+            Call::Gc { now, grace } => {
+                set_clock(*now);
+                ask(|| self.cluster.gc_keys_marked_for_deletion(Duration::from_millis(*grace)))?;
+                Ok(Answer::Done)
+            }
+            Call::Digest { excluded, place, len } => self.write_digest(excluded, *place, *len),
+            Call::Compute { digest, mtu, excluded, ties, place, len } => {
+                self.compute(given(digest), *mtu, excluded, ties, *place, *len)
+            }
+            Call::Apply { bytes, now, places } => self.apply(given(bytes), *now, *places),
+            _ => unreachable!("answered without a table"),
+        }
+    }
+
+    /// The table that these bytes are, if they are one that obeys the rules. Layer: number 14.
+    fn load(bytes: &[u8]) -> Option<Vec<table::Node>> {
+        let nodes = decode(bytes)?;
+        let ascending = nodes.windows(2).all(|pair| pair[0].number < pair[1].number);
+        (ascending && nodes.iter().all(obeys) && table::encode(&nodes) == bytes).then_some(nodes)
+    }
+}
+
+/// Reads the layout as far as it can be read. That unused bytes are zero is told by writing it again.
+fn decode(bytes: &[u8]) -> Option<Vec<table::Node>> {
+    fn number(part: &[u8]) -> u64 {
+        u64::from_le_bytes(part[..8].try_into().unwrap())
+    }
+    if bytes.len() != table::TABLE_BYTES {
+        return None;
+    }
+    let record = |part: &[u8]| {
+        let (key, rest) = part.split_at(1 + KEY);
+        let (value, rest) = rest.split_at(1 + VALUE);
+        Some(table::Record {
+            key: key[1..].get(..key[0].into())?.to_vec(),
+            value: value[1..].get(..value[0].into())?.to_vec(),
+            version: number(rest),
+            status: rest[8],
+            start: number(&rest[9..]),
+        })
+    };
+    let node = |part: &[u8]| {
+        let (head, records) = part.split_at(table::NODE_HEAD_BYTES);
+        let records =
+            records.chunks(table::RECORD_BYTES).take(head[32].into()).map(record).collect::<Option<Vec<_>>>()?;
+        let [number, heartbeat, max, last_gc] = [0, 8, 16, 24].map(|at| number(&head[at..]));
+        (records.len() == usize::from(head[32])).then_some(table::Node { number, heartbeat, max, last_gc, records })
+    };
+    let nodes = bytes[1..].chunks(table::NODE_BYTES).take(bytes[0].into()).map(node).collect::<Option<Vec<_>>>()?;
+    (nodes.len() == usize::from(bytes[0])).then_some(nodes)
+}
+
+/// Document 01's rules for one node of a table.
+fn obeys(node: &table::Node) -> bool {
+    let versions: HashSet<u64> = node.records.iter().map(|record| record.version).collect();
+    node.records.windows(2).all(|pair| pair[0].key < pair[1].key)
+        && versions.len() == node.records.len()
+        && versions.iter().all(|&version| version >= 1 && version <= node.max)
+        && node.records.iter().all(|record| record.status <= table::TTL)
+}
+
+impl Side for Hub {
+    fn new() -> Hub {
+        Hub { cluster: ClusterState::with_seed_addrs(watch::Receiver::holding(HashSet::new())), bad: None }
+    }
+
+    fn answer(&mut self, call: &Call) -> Answer {
+        // The two readers are lent no table.
+        let outcome = match call {
+            Call::ReadDigest { bytes } => read_digest(given(bytes)).map(|(digest, rest)| Answer::Digest {
+                entries: digest
+                    .node_digests
+                    .iter()
+                    .map(|(id, node_digest)| DigestEntry {
+                        node: id.generation_id,
+                        heartbeat: node_digest.heartbeat.0,
+                        last_gc: node_digest.last_gc_version,
+                        max: node_digest.max_version,
+                    })
+                    .collect(),
+                rest,
+            }),
+            Call::ReadDelta { bytes } => read_delta(given(bytes)).map(|read| Answer::DeltaRead {
+                ops: read.ops,
+                nodes: read.delta.node_deltas.len(),
+                bytes: given(bytes).len(),
+            }),
+            _ if self.bad.is_some() => Err(Answer::Refused(14)),
+            call => self.answer_good(call),
+        };
+        outcome.unwrap_or_else(|early| early)
+    }
+
+    /// Builds the table with the original's own setters.
+    fn take_table(&mut self, bytes: &[u8]) -> Answer {
+        *self = Hub::new();
+        let Some(nodes) = Hub::load(bytes) else {
+            self.bad = Some(bytes.to_vec());
+            return Answer::Done;
+        };
+        for node in nodes {
+            let state = self.cluster.node_state_mut_or_init(&wire::chitchat_id(node.number));
+            for record in node.records {
+                let (Ok(key), Ok(value)) = (String::from_utf8(record.key), String::from_utf8(record.value)) else {
+                    return Answer::Outside;
+                };
+                let start = Instant::at(record.start);
+                let status = match record.status {
+                    table::SET if record.start != 0 => return Answer::Outside,
+                    table::SET => DeletionStatus::Set,
+                    table::DELETE => DeletionStatus::Deleted(start),
+                    _ => DeletionStatus::DeleteAfterTtl(start),
+                };
+                state.set_versioned_value(key, VersionedValue { value, version: record.version, status });
+            }
+            state.with_numbers(Heartbeat(node.heartbeat), node.max, node.last_gc);
+        }
+        Answer::Done
+    }
+
+    fn table_bytes(&self) -> Vec<u8> {
+        if let Some(bytes) = &self.bad {
+            return bytes.clone();
+        }
+        let record = |(key, held): (&str, &VersionedValue)| {
+            let (status, start) = match held.status {
+                DeletionStatus::Set => (table::SET, 0),
+                DeletionStatus::Deleted(start) => (table::DELETE, start.milliseconds()),
+                DeletionStatus::DeleteAfterTtl(start) => (table::TTL, start.milliseconds()),
+            };
+            table::Record {
+                key: key.as_bytes().to_vec(),
+                value: held.value.as_bytes().to_vec(),
+                version: held.version,
+                status,
+                start,
+            }
+        };
+        let nodes: Vec<table::Node> = self
+            .cluster
+            .node_states()
+            .values()
+            .map(|state| table::Node {
+                number: state.chitchat_id().generation_id,
+                heartbeat: state.heartbeat().0,
+                max: state.max_version(),
+                last_gc: state.last_gc_version(),
+                records: state.key_values_including_deleted().map(record).collect(),
+            })
+            .collect();
+        table::encode(&nodes)
+    }
+}

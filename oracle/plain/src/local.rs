@@ -1,0 +1,134 @@
+//! The node rules: document 01, "Node rules" and the local part of "Order".
+
+use crate::table::{MOST_KEY, MOST_NODES, MOST_RECORDS, MOST_VALUE, Node, Record, Status, Table};
+
+/// A refusal's number.
+pub type Refused = u8;
+
+pub enum Scheduled {
+    Delete,
+    AfterTtl,
+}
+
+fn check_text(len: usize, most: usize) -> Result<(), Refused> {
+    if len > most { Err(1) } else { Ok(()) }
+}
+
+/// One more than a version or a heartbeat.
+fn risen(number: u64) -> Result<u64, Refused> {
+    number.checked_add(1).ok_or(6)
+}
+
+impl Table {
+    pub fn node(&self, number: u64) -> Result<&Node, Refused> {
+        self.nodes.get(&number).ok_or(2)
+    }
+
+    fn node_mut(&mut self, number: u64) -> Result<&mut Node, Refused> {
+        self.nodes.get_mut(&number).ok_or(2)
+    }
+
+    /// Adding a node held already changes nothing.
+    pub fn add(&mut self, number: u64) -> Result<(), Refused> {
+        if self.nodes.contains_key(&number) {
+            return Ok(());
+        }
+        if self.nodes.len() == MOST_NODES {
+            return Err(4);
+        }
+        self.nodes.insert(number, Node::default());
+        Ok(())
+    }
+
+    pub fn remove(&mut self, number: u64) -> Result<(), Refused> {
+        self.nodes.remove(&number).map(|_| ()).ok_or(2)
+    }
+
+    /// Set, or Set with TTL where `ttl` is now.
+    pub fn set(&mut self, number: u64, key: &[u8], value: &[u8], ttl: Option<u64>) -> Result<(), Refused> {
+        let node = self.node_mut(number)?;
+        check_text(key.len(), MOST_KEY)?;
+        check_text(value.len(), MOST_VALUE)?;
+        let (status, start) = match ttl {
+            None => (Status::Set, 0),
+            Some(now) => (Status::Ttl, now),
+        };
+        let held = node.records.get(key);
+        if held.is_some_and(|record| record.value == value && record.status == status) {
+            return Ok(());
+        }
+        if held.is_none() && node.records.len() == MOST_RECORDS {
+            return Err(5);
+        }
+        let version = risen(node.max)?;
+        node.max = version;
+        node.records.insert(key.to_vec(), Record { value: value.to_vec(), version, status, start });
+        Ok(())
+    }
+
+    pub fn delete(&mut self, number: u64, key: &[u8], now: u64, how: Scheduled) -> Result<(), Refused> {
+        let node = self.node_mut(number)?;
+        check_text(key.len(), MOST_KEY)?;
+        let record = node.records.get_mut(key).ok_or(3)?;
+        let version = risen(node.max)?;
+        node.max = version;
+        record.version = version;
+        record.start = now;
+        match how {
+            Scheduled::Delete => {
+                record.value.clear();
+                record.status = Status::Delete;
+            }
+            Scheduled::AfterTtl => record.status = Status::Ttl,
+        }
+        Ok(())
+    }
+
+    /// Yes or no.
+    pub fn offer(&mut self, number: u64, heartbeat: u64) -> Result<bool, Refused> {
+        let node = self.node_mut(number)?;
+        if node.heartbeat == 0 {
+            node.heartbeat = heartbeat;
+            return Ok(false);
+        }
+        let greater = heartbeat > node.heartbeat;
+        if greater {
+            node.heartbeat = heartbeat;
+        }
+        Ok(greater)
+    }
+
+    pub fn beat(&mut self, number: u64) -> Result<(), Refused> {
+        let node = self.node_mut(number)?;
+        node.heartbeat = risen(node.heartbeat)?;
+        Ok(())
+    }
+
+    pub fn get(&self, number: u64, key: &[u8]) -> Result<Option<&[u8]>, Refused> {
+        let node = self.node(number)?;
+        check_text(key.len(), MOST_KEY)?;
+        Ok(node.records.get(key).filter(|record| !record.hidden()).map(|record| &record.value[..]))
+    }
+
+    /// Ranks of the hits among all records of the node.
+    pub fn list(&self, number: u64, prefix: &[u8], places: u64) -> Result<Vec<usize>, Refused> {
+        let node = self.node(number)?;
+        check_text(prefix.len(), MOST_KEY)?;
+        let ranked = node.records.iter().enumerate();
+        let hits = ranked.filter(|(_, (key, record))| key.starts_with(prefix) && !record.hidden());
+        let ranks: Vec<usize> = hits.map(|(rank, _)| rank).collect();
+        if ranks.len() as u64 > places { Err(8) } else { Ok(ranks) }
+    }
+
+    /// Removal, over all nodes.
+    pub fn gc(&mut self, now: u64, grace: u64) {
+        for node in self.nodes.values_mut() {
+            let stays = |record: &Record| {
+                !record.status.scheduled() || u128::from(now) < u128::from(record.start) + u128::from(grace)
+            };
+            let removed = node.records.values().filter(|record| !stays(record)).map(|record| record.version).max();
+            node.last_gc = node.last_gc.max(removed.unwrap_or(0));
+            node.records.retain(|_, record| stays(record));
+        }
+    }
+}

@@ -1,0 +1,154 @@
+//! The calls of a script, with document 01's order of refusals.
+
+use script::{Answer, Bytes, Call, DigestEntry, Side};
+
+use crate::local::{Refused, Scheduled};
+use crate::table::Table;
+use crate::{apply, compute, delta, digest};
+
+/// The lent table: good, or bytes that break a rule.
+pub enum Lent {
+    Good(Table),
+    Bad(Vec<u8>),
+}
+
+fn given(bytes: &Bytes) -> &[u8] {
+    match bytes {
+        Bytes::Given(bytes) => bytes,
+        _ => unreachable!("the runner writes bytes out"),
+    }
+}
+
+/// Number 8 for a datagram of `len` bytes.
+fn room(place: u64, len: usize, need: usize) -> Result<usize, Answer> {
+    let len = len as u64;
+    if place > len || len - place < need as u64 { Err(Answer::Refused(8)) } else { Ok(place as usize) }
+}
+
+fn read_digest(bytes: &[u8]) -> Result<Answer, Answer> {
+    let (entries, rest) = digest::read(bytes).map_err(Answer::Refused)?;
+    let entries = entries.iter().map(|(&node, entry)| DigestEntry {
+        node,
+        heartbeat: entry.heartbeat,
+        last_gc: entry.last_gc,
+        max: entry.max,
+    });
+    Ok(Answer::Digest { entries: entries.collect(), rest: rest.len() })
+}
+
+fn read_delta(bytes: &[u8]) -> Result<delta::Delta, Answer> {
+    delta::read(bytes).map_err(|(number, at)| Answer::RefusedAt(number, at))
+}
+
+fn write_digest(table: &Table, excluded: &[u64], place: u64, len: usize) -> Result<Answer, Answer> {
+    let bytes = digest::write(table, excluded);
+    let start = room(place, len, bytes.len())?;
+    let end = start + bytes.len();
+    let mut datagram = vec![0xEE; len];
+    datagram[start..end].copy_from_slice(&bytes);
+    Ok(Answer::DigestWritten { datagram, start, end })
+}
+
+fn compute_delta(
+    table: &Table,
+    digest: &[u8],
+    mtu: u64,
+    excluded: &[u64],
+    ties: &[u64],
+    place: u64,
+    len: usize,
+) -> Result<Answer, Answer> {
+    if mtu < 100 || mtu > 16_384 {
+        return Err(Answer::Refused(7));
+    }
+    let mtu = mtu as usize;
+    room(place, len, mtu)?;
+    if ties.len() != table.nodes.len() {
+        return Err(Answer::Refused(15));
+    }
+    let (digest, _rest) = digest::read(digest).map_err(Answer::Refused)?;
+    let (ops, bytes) = compute::delta(table, &digest, mtu, excluded, ties);
+    Ok(Answer::DeltaWritten { ops, bytes })
+}
+
+fn apply_delta(table: &mut Table, bytes: &[u8], now: u64, places: u64) -> Result<Answer, Answer> {
+    let delta = read_delta(bytes)?;
+    if delta.nodes.len() as u64 > places {
+        return Err(Answer::Refused(8));
+    }
+    Ok(Answer::Applied(apply::apply(table, &delta.nodes, now)))
+}
+
+fn done(outcome: Result<(), Refused>) -> Result<Answer, Answer> {
+    outcome.map(|()| Answer::Done).map_err(Answer::Refused)
+}
+
+fn answer_good(table: &mut Table, call: &Call) -> Result<Answer, Answer> {
+    match call {
+        Call::Add { node } => done(table.add(*node)),
+        Call::Remove { node } => done(table.remove(*node)),
+        Call::Set { node, key, value } => done(table.set(*node, key, value, None)),
+        Call::SetTtl { node, key, value, now } => done(table.set(*node, key, value, Some(*now))),
+        Call::Delete { node, key, now } => done(table.delete(*node, key, *now, Scheduled::Delete)),
+        Call::DeleteTtl { node, key, now } => done(table.delete(*node, key, *now, Scheduled::AfterTtl)),
+        Call::Beat { node } => done(table.beat(*node)),
+        Call::Offer { node, heartbeat } => match table.offer(*node, *heartbeat) {
+            Ok(true) => Ok(Answer::Yes),
+            Ok(false) => Ok(Answer::No),
+            Err(number) => Err(Answer::Refused(number)),
+        },
+        Call::Get { node, key } => match table.get(*node, key) {
+            Ok(Some(value)) => Ok(Answer::Value(value.to_vec())),
+            Ok(None) => Ok(Answer::None),
+            Err(number) => Err(Answer::Refused(number)),
+        },
+        Call::List { node, prefix, places } => {
+            table.list(*node, prefix, *places).map(Answer::Ranks).map_err(Answer::Refused)
+        }
+        Call::Gc { now, grace } => {
+            table.gc(*now, *grace);
+            Ok(Answer::Done)
+        }
+        Call::Digest { excluded, place, len } => write_digest(table, excluded, *place, *len),
+        Call::Compute { digest, mtu, excluded, ties, place, len } => {
+            compute_delta(table, given(digest), *mtu, excluded, ties, *place, *len)
+        }
+        Call::Apply { bytes, now, places } => apply_delta(table, given(bytes), *now, *places),
+        _ => unreachable!("answered without a table"),
+    }
+}
+
+impl Side for Lent {
+    fn new() -> Lent {
+        Lent::Good(Table::default())
+    }
+
+    fn answer(&mut self, call: &Call) -> Answer {
+        let outcome = match (call, self) {
+            (Call::ReadDigest { bytes }, _) => read_digest(given(bytes)),
+            (Call::ReadDelta { bytes }, _) => read_delta(given(bytes)).map(|delta| Answer::DeltaRead {
+                ops: delta.operations,
+                nodes: delta.nodes.len(),
+                bytes: given(bytes).len(),
+            }),
+            (_, Lent::Bad(_)) => Err(Answer::Refused(14)),
+            (call, Lent::Good(table)) => answer_good(table, call),
+        };
+        outcome.unwrap_or_else(|refused| refused)
+    }
+
+    fn take_table(&mut self, bytes: &[u8]) -> Answer {
+        *self = match Table::from_bytes(bytes) {
+            Some(table) => Lent::Good(table),
+            None => Lent::Bad(bytes.to_vec()),
+        };
+        Answer::Done
+    }
+
+    fn table_bytes(&self) -> Vec<u8> {
+        match self {
+            Lent::Good(table) => table.to_bytes(),
+            Lent::Bad(bytes) => bytes.clone(),
+        }
+    }
+}

@@ -1,0 +1,160 @@
+//! A table, and number 14.
+
+use std::collections::BTreeMap;
+
+use script::table as layout;
+
+pub const MOST_NODES: usize = 8;
+pub const MOST_RECORDS: usize = 32;
+pub const MOST_KEY: usize = 32;
+pub const MOST_VALUE: usize = 64;
+
+#[derive(Clone, Copy, PartialEq, Eq)]
+pub enum Status {
+    Set,
+    Delete,
+    Ttl,
+}
+
+impl Status {
+    pub fn from_byte(byte: u8) -> Option<Status> {
+        [Status::Set, Status::Delete, Status::Ttl].get(usize::from(byte)).copied()
+    }
+
+    pub fn byte(self) -> u8 {
+        match self {
+            Status::Set => 0,
+            Status::Delete => 1,
+            Status::Ttl => 2,
+        }
+    }
+
+    pub fn scheduled(self) -> bool {
+        self == Status::Delete || self == Status::Ttl
+    }
+}
+
+#[derive(Clone)]
+pub struct Record {
+    pub value: Vec<u8>,
+    pub version: u64,
+    pub status: Status,
+    pub start: u64,
+}
+
+impl Record {
+    /// Only Delete hides a record from reading.
+    pub fn hidden(&self) -> bool {
+        self.status == Status::Delete
+    }
+}
+
+#[derive(Clone, Default)]
+pub struct Node {
+    pub heartbeat: u64,
+    pub max: u64,
+    pub last_gc: u64,
+    pub records: BTreeMap<Vec<u8>, Record>,
+}
+
+#[derive(Clone, Default)]
+pub struct Table {
+    pub nodes: BTreeMap<u64, Node>,
+}
+
+impl Table {
+    pub fn to_bytes(&self) -> Vec<u8> {
+        let record = |(key, record): (&Vec<u8>, &Record)| layout::Record {
+            key: key.clone(),
+            value: record.value.clone(),
+            version: record.version,
+            status: record.status.byte(),
+            start: record.start,
+        };
+        let node = |(&number, node): (&u64, &Node)| layout::Node {
+            number,
+            heartbeat: node.heartbeat,
+            max: node.max,
+            last_gc: node.last_gc,
+            records: node.records.iter().map(record).collect(),
+        };
+        layout::encode(&self.nodes.iter().map(node).collect::<Vec<_>>())
+    }
+
+    /// None: number 14.
+    pub fn from_bytes(bytes: &[u8]) -> Option<Table> {
+        let mut walk = Walk(bytes);
+        let count = walk.count(MOST_NODES)?;
+        let mut table = Table::default();
+        for _ in 0..count {
+            let (number, node) = walk.node()?;
+            if table.nodes.last_key_value().is_some_and(|(&last, _)| last >= number) {
+                return None;
+            }
+            table.nodes.insert(number, node);
+        }
+        walk.zeros((MOST_NODES - count) * layout::NODE_BYTES)?;
+        walk.0.is_empty().then_some(table)
+    }
+}
+
+/// Walks over the bytes of a table field by field; None where a rule breaks.
+struct Walk<'a>(&'a [u8]);
+
+impl<'a> Walk<'a> {
+    fn take(&mut self, count: usize) -> Option<&'a [u8]> {
+        let (taken, rest) = self.0.split_at_checked(count)?;
+        self.0 = rest;
+        Some(taken)
+    }
+
+    fn byte(&mut self) -> Option<u8> {
+        Some(self.take(1)?[0])
+    }
+
+    fn number(&mut self) -> Option<u64> {
+        Some(u64::from_le_bytes(self.take(8)?.try_into().ok()?))
+    }
+
+    fn count(&mut self, most: usize) -> Option<usize> {
+        Some(usize::from(self.byte()?)).filter(|&count| count <= most)
+    }
+
+    fn zeros(&mut self, count: usize) -> Option<()> {
+        self.take(count)?.iter().all(|&byte| byte == 0).then_some(())
+    }
+
+    fn text(&mut self, most: usize) -> Option<Vec<u8>> {
+        let len = self.count(most)?;
+        let text = self.take(len)?.to_vec();
+        self.zeros(most - len)?;
+        Some(text)
+    }
+
+    fn node(&mut self) -> Option<(u64, Node)> {
+        let number = self.number()?;
+        let mut node =
+            Node { heartbeat: self.number()?, max: self.number()?, last_gc: self.number()?, ..Node::default() };
+        let count = self.count(MOST_RECORDS)?;
+        for _ in 0..count {
+            let (key, record) = self.record()?;
+            let after_the_last = node.records.last_key_value().is_none_or(|(last, _)| *last < key);
+            let version_new = node.records.values().all(|other| other.version != record.version);
+            if !after_the_last || !version_new || record.version < 1 || record.version > node.max {
+                return None;
+            }
+            node.records.insert(key, record);
+        }
+        self.zeros((MOST_RECORDS - count) * layout::RECORD_BYTES)?;
+        Some((number, node))
+    }
+
+    fn record(&mut self) -> Option<(Vec<u8>, Record)> {
+        let key = self.text(MOST_KEY)?;
+        let value = self.text(MOST_VALUE)?;
+        let version = self.number()?;
+        let status = Status::from_byte(self.byte()?)?;
+        let start = self.number()?;
+        Some((key, Record { value, version, status, start }))
+    }
+}

@@ -1,0 +1,121 @@
+//! Answers to words.
+
+use std::fmt::{Display, Formatter, Result};
+
+use crate::hex;
+
+/// The answer for one node delta.
+#[derive(Clone, Copy, Debug, PartialEq, Eq)]
+pub enum Verdict {
+    Reject,
+    Apply,
+    ApplyAfterReset,
+    Room,
+    Unknown,
+}
+
+#[derive(Clone, Copy, Debug, PartialEq, Eq)]
+pub struct DigestEntry {
+    pub node: u64,
+    pub heartbeat: u64,
+    pub last_gc: u64,
+    pub max: u64,
+}
+
+#[derive(Clone, Debug, PartialEq, Eq)]
+pub enum Answer {
+    Done,
+    None,
+    Yes,
+    No,
+    /// A refusal by document 01's number.
+    Refused(u8),
+    /// A refusal of a delta stream, with the place of the faulty operation's tag.
+    RefusedAt(u8, usize),
+    Value(Vec<u8>),
+    /// Places of the hits among all records of the node in key order, hidden ones counted.
+    Ranks(Vec<usize>),
+    Digest {
+        entries: Vec<DigestEntry>,
+        rest: usize,
+    },
+    /// A digest was written: the whole datagram, and which part of it is the digest.
+    DigestWritten {
+        datagram: Vec<u8>,
+        start: usize,
+        end: usize,
+    },
+    DeltaWritten {
+        ops: usize,
+        bytes: Vec<u8>,
+    },
+    DeltaRead {
+        ops: usize,
+        nodes: usize,
+        bytes: usize,
+    },
+    Applied(Vec<Verdict>),
+    Table(Vec<u8>),
+    /// The original cannot be asked: the text is no UTF-8.
+    Outside,
+    /// The original panicked, erred or contradicted itself where document 01 foresees nothing. Never expected.
+    Broken(String),
+}
+
+fn list<T>(f: &mut Formatter, items: &[T], mut one: impl FnMut(&mut Formatter, &T) -> Result) -> Result {
+    if items.is_empty() {
+        return f.write_str("-");
+    }
+    for (place, item) in items.iter().enumerate() {
+        if place > 0 {
+            f.write_str(",")?;
+        }
+        one(f, item)?;
+    }
+    Ok(())
+}
+
+impl Display for Verdict {
+    fn fmt(&self, f: &mut Formatter) -> Result {
+        f.write_str(match self {
+            Verdict::Reject => "reject",
+            Verdict::Apply => "apply",
+            Verdict::ApplyAfterReset => "reset",
+            Verdict::Room => "room",
+            Verdict::Unknown => "unknown",
+        })
+    }
+}
+
+impl Display for Answer {
+    fn fmt(&self, f: &mut Formatter) -> Result {
+        match self {
+            Answer::Done => f.write_str("done"),
+            Answer::None => f.write_str("none"),
+            Answer::Yes => f.write_str("yes"),
+            Answer::No => f.write_str("no"),
+            Answer::Refused(number) => write!(f, "refused {number}"),
+            Answer::RefusedAt(number, at) => write!(f, "refused {number} at={at}"),
+            Answer::Value(value) => write!(f, "value {}", hex(value)),
+            Answer::Ranks(ranks) => {
+                f.write_str("ranks ")?;
+                list(f, ranks, |f, rank| write!(f, "{rank}"))
+            }
+            Answer::Digest { entries, rest } => {
+                f.write_str("digest ")?;
+                list(f, entries, |f, e| write!(f, "{}:{}:{}:{}", e.node, e.heartbeat, e.last_gc, e.max))?;
+                write!(f, " rest={rest}")
+            }
+            Answer::DigestWritten { datagram, .. } => write!(f, "bytes {}", hex(datagram)),
+            Answer::DeltaWritten { ops, bytes } => write!(f, "ops={ops} bytes={} {}", bytes.len(), hex(bytes)),
+            Answer::DeltaRead { ops, nodes, bytes } => write!(f, "ops={ops} nodes={nodes} bytes={bytes}"),
+            Answer::Applied(verdicts) => {
+                f.write_str("answers ")?;
+                list(f, verdicts, |f, verdict| write!(f, "{verdict}"))
+            }
+            Answer::Table(bytes) => write!(f, "table {}", hex(bytes)),
+            Answer::Outside => f.write_str("outside"),
+            Answer::Broken(what) => write!(f, "broken {}", what.replace([' ', '\n'], "_")),
+        }
+    }
+}

@@ -1,0 +1,156 @@
+//! Words to calls.
+
+/// A byte string of a script: written out, or what the last digest or delta writing wrote.
+#[derive(Clone, Debug, PartialEq, Eq)]
+pub enum Bytes {
+    Given(Vec<u8>),
+    LastDigest,
+    LastDelta,
+}
+
+#[derive(Clone, Debug, PartialEq, Eq)]
+pub enum Call {
+    New,
+    Hub(usize),
+    Add { node: u64 },
+    Remove { node: u64 },
+    Set { node: u64, key: Vec<u8>, value: Vec<u8> },
+    SetTtl { node: u64, key: Vec<u8>, value: Vec<u8>, now: u64 },
+    Delete { node: u64, key: Vec<u8>, now: u64 },
+    DeleteTtl { node: u64, key: Vec<u8>, now: u64 },
+    Offer { node: u64, heartbeat: u64 },
+    Beat { node: u64 },
+    Get { node: u64, key: Vec<u8> },
+    List { node: u64, prefix: Vec<u8>, places: u64 },
+    Gc { now: u64, grace: u64 },
+    Digest { excluded: Vec<u64>, place: u64, len: usize },
+    ReadDigest { bytes: Bytes },
+    ReadDelta { bytes: Bytes },
+    Compute { digest: Bytes, mtu: u64, excluded: Vec<u64>, ties: Vec<u64>, place: u64, len: usize },
+    Apply { bytes: Bytes, now: u64, places: u64 },
+    Table { bytes: Bytes },
+    Dump,
+}
+
+/// `x` and two lowercase digits a byte.
+pub fn hex(bytes: &[u8]) -> String {
+    const DIGITS: &[u8; 16] = b"0123456789abcdef";
+    let mut text = String::with_capacity(1 + 2 * bytes.len());
+    text.push('x');
+    for &byte in bytes {
+        text.push(DIGITS[usize::from(byte >> 4)].into());
+        text.push(DIGITS[usize::from(byte & 15)].into());
+    }
+    text
+}
+
+pub fn parse_hex(word: &str) -> Option<Vec<u8>> {
+    let digits = word.strip_prefix('x')?.as_bytes();
+    if digits.len() % 2 != 0 {
+        return None;
+    }
+    let digit = |byte: u8| match byte {
+        b'0'..=b'9' => Some(byte - b'0'),
+        b'a'..=b'f' => Some(byte - b'a' + 10),
+        _ => None,
+    };
+    digits.chunks(2).map(|pair| Some(digit(pair[0])? << 4 | digit(pair[1])?)).collect()
+}
+
+struct Words<'a>(std::str::Split<'a, char>);
+
+impl Words<'_> {
+    fn number(&mut self) -> Option<u64> {
+        self.0.next()?.parse().ok()
+    }
+
+    fn size(&mut self) -> Option<usize> {
+        self.number().filter(|&size| size <= 1 << 20).map(|size| size as usize)
+    }
+
+    fn numbers(&mut self) -> Option<Vec<u64>> {
+        match self.0.next()? {
+            "-" => Some(Vec::new()),
+            list => list.split(',').map(|number| number.parse().ok()).collect(),
+        }
+    }
+
+    fn text(&mut self) -> Option<Vec<u8>> {
+        parse_hex(self.0.next()?)
+    }
+
+    fn bytes(&mut self) -> Option<Bytes> {
+        match self.0.next()? {
+            "@digest" => Some(Bytes::LastDigest),
+            "@delta" => Some(Bytes::LastDelta),
+            word => parse_hex(word).map(Bytes::Given),
+        }
+    }
+}
+
+impl Call {
+    /// None: the line is not of the language.
+    pub fn parse(line: &str) -> Option<Call> {
+        let mut words = Words(line.split(' '));
+        let verb = words.0.next()?;
+        let w = &mut words;
+        let call = match verb {
+            "new" => Call::New,
+            "hub" => Call::Hub(w.size().filter(|&hub| hub < 2)?),
+            "add" => Call::Add { node: w.number()? },
+            "remove" => Call::Remove { node: w.number()? },
+            "set" => Call::Set { node: w.number()?, key: w.text()?, value: w.text()? },
+            "setttl" => Call::SetTtl { node: w.number()?, key: w.text()?, value: w.text()?, now: w.number()? },
+            "delete" => Call::Delete { node: w.number()?, key: w.text()?, now: w.number()? },
+            "deletettl" => Call::DeleteTtl { node: w.number()?, key: w.text()?, now: w.number()? },
+            "offer" => Call::Offer { node: w.number()?, heartbeat: w.number()? },
+            "beat" => Call::Beat { node: w.number()? },
+            "get" => Call::Get { node: w.number()?, key: w.text()? },
+            "list" => Call::List { node: w.number()?, prefix: w.text()?, places: w.number()? },
+            "gc" => Call::Gc { now: w.number()?, grace: w.number()? },
+            "digest" => Call::Digest { excluded: w.numbers()?, place: w.number()?, len: w.size()? },
+            "readdigest" => Call::ReadDigest { bytes: w.bytes()? },
+            "readdelta" => Call::ReadDelta { bytes: w.bytes()? },
+            "compute" => Call::Compute {
+                digest: w.bytes()?,
+                mtu: w.number()?,
+                excluded: w.numbers()?,
+                ties: w.numbers()?,
+                place: w.number()?,
+                len: w.size()?,
+            },
+            "apply" => Call::Apply { bytes: w.bytes()?, now: w.number()?, places: w.number()? },
+            "table" => Call::Table { bytes: w.bytes()? },
+            "dump" => Call::Dump,
+            _ => return None,
+        };
+        words.0.next().is_none().then_some(call)
+    }
+}
+
+#[cfg(test)]
+mod tests {
+    use super::*;
+
+    #[test]
+    fn words_become_calls() {
+        assert_eq!(
+            Call::parse("compute @digest 135 - 5,6 0 200"),
+            Some(Call::Compute {
+                digest: Bytes::LastDigest,
+                mtu: 135,
+                excluded: vec![],
+                ties: vec![5, 6],
+                place: 0,
+                len: 200
+            })
+        );
+        assert_eq!(
+            Call::parse("set 18446744073709551615 x x00ff"),
+            Some(Call::Set { node: u64::MAX, key: vec![], value: vec![0, 255] })
+        );
+        for wrong in ["", "set 1 x", "set 1 x x x", "add -1", "get 1 xA0", "get 1 x0", "add  1", "hub 2"] {
+            assert_eq!(Call::parse(wrong), None, "{wrong:?}");
+        }
+    }
+}

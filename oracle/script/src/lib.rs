@@ -1,0 +1,13 @@
+//! The script language: one call a line, one answer a line. README.md has it in words.
+//!
+//! Only form lives here: words to calls, answers to words, the table as bytes and its checksum. What a call
+//! answers is decided by the two sides, each on its own.
+
+mod answer;
+mod call;
+mod run;
+pub mod table;
+
+pub use answer::{Answer, DigestEntry, Verdict};
+pub use call::{Bytes, Call, hex, parse_hex};
+pub use run::{Side, answer_script};

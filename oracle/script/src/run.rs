@@ -1,0 +1,83 @@
+//! Runs a script against one side.
+
+use std::io::{BufRead, Write};
+
+use crate::table::checksum;
+use crate::{Answer, Bytes, Call};
+
+/// One lent table and who answers for it. Calls come with their bytes written out; `new`, `hub`, `table` and
+/// `dump` are answered by the runner through `take_table` and `table_bytes`.
+pub trait Side {
+    /// An empty table.
+    fn new() -> Self;
+    fn answer(&mut self, call: &Call) -> Answer;
+    /// From now on the lent table is these bytes, good or not.
+    fn take_table(&mut self, bytes: &[u8]) -> Answer;
+    fn table_bytes(&self) -> Vec<u8>;
+}
+
+struct Desk<S> {
+    hubs: [S; 2],
+    current: usize,
+    last_digest: Vec<u8>,
+    last_delta: Vec<u8>,
+}
+
+impl<S: Side> Desk<S> {
+    fn new() -> Self {
+        Desk { hubs: [S::new(), S::new()], current: 0, last_digest: Vec::new(), last_delta: Vec::new() }
+    }
+
+    fn write_out(&self, bytes: &mut Bytes) {
+        match bytes {
+            Bytes::Given(_) => {}
+            Bytes::LastDigest => *bytes = Bytes::Given(self.last_digest.clone()),
+            Bytes::LastDelta => *bytes = Bytes::Given(self.last_delta.clone()),
+        }
+    }
+
+    fn answer(&mut self, mut call: Call) -> Answer {
+        match &mut call {
+            Call::ReadDigest { bytes }
+            | Call::ReadDelta { bytes }
+            | Call::Apply { bytes, .. }
+            | Call::Table { bytes }
+            | Call::Compute { digest: bytes, .. } => self.write_out(bytes),
+            _ => {}
+        }
+        let answer = match &call {
+            Call::New => {
+                self.hubs[self.current] = S::new();
+                Answer::Done
+            }
+            Call::Hub(hub) => {
+                self.current = *hub;
+                Answer::Done
+            }
+            Call::Table { bytes: Bytes::Given(bytes) } => self.hubs[self.current].take_table(bytes),
+            Call::Dump => Answer::Table(self.hubs[self.current].table_bytes()),
+            call => self.hubs[self.current].answer(call),
+        };
+        match &answer {
+            Answer::DigestWritten { datagram, start, end } => self.last_digest = datagram[*start..*end].to_vec(),
+            Answer::DeltaWritten { bytes, .. } => self.last_delta = bytes.clone(),
+            _ => {}
+        }
+        answer
+    }
+}
+
+/// Answers each line of the script by one line: the answer and the checksum of the current table.
+pub fn answer_script<S: Side>(input: impl BufRead, output: &mut impl Write) -> std::io::Result<()> {
+    let mut desk = Desk::<S>::new();
+    for line in input.lines() {
+        let line = line?;
+        let Some(call) = Call::parse(&line) else {
+            return Err(std::io::Error::other(format!("not a call: {line}")));
+        };
+        let answer = desk.answer(call);
+        let table = desk.hubs[desk.current].table_bytes();
+        writeln!(output, "{answer} {}", checksum(&table))?;
+    }
+    Ok(())
+}
