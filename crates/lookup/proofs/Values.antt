@@ -1,9 +1,9 @@
 -- What a lookup finds on the bytes is what the rules find: a place that was found lies within the table, and the bytes there are the rules' value
 -- (`found-means`, `lent-means`). Before that, what the code's two searches say of the place. Assumes nothing.
-use Prim.Native.Nat.{ℕ, suc, _+_, _*_, _≤_, _<_}
+use Prim.Native.Nat.{ℕ, _+_, _≤_, _<_}
 use mathlib.Core.Path.{_≡_, refl, ap, sym, _∙_, subst}
 use mathlib.Core.Bool.{Bool, true, false}
-use mathlib.Core.List.{List, [], _∷_}
+use mathlib.Core.List.{List, []}
 use mathlib.Core.Option.{Option, none, some}
 use native.Mathlib.Omega.{arith}
 use native.Mathlib.Nat.{zero-add}
@@ -15,7 +15,7 @@ use Rattle.fields.specs.Parts.{part}
 use Rattle.fields.proofs.Parts.{length-part}
 use Rattle.rules.specs.Sizes.{maxKey}
 use Rattle.rules.specs.Node.{Rec, Node, hidden, shown, find}
-use Rattle.rules.specs.Table.{Entry, Table, nodeOf, keysRise}
+use Rattle.rules.specs.Table.{Entry, nodeOf, keysRise}
 use Rattle.rules.specs.Local as rule
 use Rattle.rules.specs.Local.{foundOf, lookupOn}
 use Rattle.rules.specs.Layout.{recWidth, decodeRec, decodeNode, decode, valid}

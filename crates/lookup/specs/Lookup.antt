@@ -10,7 +10,7 @@ use Rattle.fields.specs.Parts.{part}
 use Rattle.fields.specs.Widths.{offset}
 use Rattle.rules.specs.Sizes.{maxKey}
 use Rattle.rules.specs.Node.{Rec, Node, hidden}
-use Rattle.rules.specs.Table.{Entry, Table}
+use Rattle.rules.specs.Table.{Table}
 use Rattle.rules.specs.Local as rule
 use Rattle.rules.specs.Layout.{recWidths, recWidth, nodeWidths, nodeWidth, tableWidths}
 use Rattle.rules.specs.Lent.{fromTable}

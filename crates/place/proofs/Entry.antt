@@ -1,5 +1,5 @@
 -- What a reading entry point answers once the check of number 14 has said what the bytes are: the rule on the table, or the refusal. Assumes nothing.
-use mathlib.Core.Path.{_≡_, sym, _∙_}
+use mathlib.Core.Path.{_≡_}
 use mathlib.Core.Bool.{true, false}
 use mathlib.Core.List.{List}
 use Prim.Native.Nat.{ℕ}

@@ -1,13 +1,12 @@
 -- What the rules' own searches find, in terms of a place. A rule takes the first node or record that passes a test; the code goes by the order and
 -- stops early. Where the code answers At j, the rule finds element j; where it answers Free, the rule finds none, because the list rises. The law is
 -- stated once, of any search that goes from the front, and then of the nodes and records that stand in the bytes of a good table. Assumes nothing.
-use Prim.Native.Nat.{ℕ, zero, suc, _+_, _≤_, _<_, suc-le-suc, zero-le}
-use mathlib.Core.Path.{_≡_, refl, ap, sym, _∙_, subst}
+use Prim.Native.Nat.{ℕ, suc, _+_, _<_}
+use mathlib.Core.Path.{_≡_, refl, ap, _∙_, subst}
 use mathlib.Core.Bool.{Bool, true, false}
 use mathlib.Core.List.{List, [], _∷_}
-use mathlib.Core.Option.{Option, none, some}
+use mathlib.Core.Option.{none, some}
 use native.Mathlib.Omega.{arith}
-use native.Mathlib.Nat.{zero-add}
 use lib.ListN.{length, getD}
 use lib.Dec.{eqb, ltb}
 use borrow.Author.Tests.{ltb-true}
@@ -17,14 +16,13 @@ use Rattle.fields.specs.declared.Order.{Order}
 use Rattle.fields.specs.declared.Order.the-variants.{Less, Same, More}
 use Rattle.fields.proofs.Choice.{in-at}
 use Rattle.fields.proofs.Ordered.{less-trans, less-order, order-less}
-use Rattle.rules.specs.Node.{Rec, Node, find}
-use Rattle.rules.specs.Table.{Entry, Table, nodeOf, numbersOf, keysRise, obeys}
+use Rattle.rules.specs.Node.{Rec, find}
+use Rattle.rules.specs.Table.{Entry, Table, nodeOf, numbersOf, keysRise}
 use Rattle.rules.specs.Layout.{decodeNode, decodeRec, decode, valid}
 use Rattle.rules.proofs.Records.{Above, Sorted}
 use Rattle.rules.proofs.Obeys.{Ascending, number-in, keys-sorted, rising-asc}
 use Rattle.table.specs.Tests.{countOf, nodesOf, recsOf}
 use Rattle.table.specs.Fits.{LaidNode}
-use Rattle.table.proofs.Nodes.{ObeysEntry}
 use Rattle.table.proofs.Tables.{ObeysTable, table-obeys, node-obeys, valid-obeys, valid-laid, length-decode}
 use Rattle.table.proofs.Places.{recAt, recs-at, length-recs, nodeBytes, nodeAt, decode-at}
 use Rattle.table.proofs.Laid.{laid-at}

@@ -7,12 +7,12 @@ use mathlib.Core.List.{List, [], _∷_}
 use mathlib.Core.Option.{Option}
 use native.Mathlib.Omega.{arith}
 use native.Mathlib.Numerals.{add-one}
-use lib.ListN.{length, drop, set, length-set, drop-of-length-le}
+use lib.ListN.{length, drop, set, drop-of-length-le}
 use lib.Dec.{leb}
 use borrow.Author.Tests.{le-leb, lt-leb}
 use Rattle.fields.specs.Choice.{pick}
 use Rattle.fields.specs.Parts.{put}
-use Rattle.fields.proofs.Parts.{put-cons, put-nil}
+use Rattle.fields.proofs.Parts.{put-cons}
 use Rattle.rules.specs.Sizes.{maxKey}
 use Rattle.rules.specs.Node.{Node, hits, hitsFrom}
 use Rattle.rules.specs.Table.{Table}

@@ -4,8 +4,7 @@ use Prim.Native.Nat.{ℕ, _+_, _≤_, _<_}
 use mathlib.Core.Path.{_≡_, refl, ap, sym, _∙_, subst}
 use mathlib.Core.Bool.{Bool, true, false}
 use mathlib.Core.List.{List, []}
-use mathlib.Core.Option.{Option, none, some}
-use mathlib.Core.Logic.{_⊎_, inl, inr}
+use mathlib.Core.Option.{Option, some}
 use native.Mathlib.Omega.{arith}
 use native.Mathlib.Nat.{zero-add}
 use lib.ListN.{length, getD}
@@ -14,12 +13,12 @@ use borrow.Author.Tests.{ltb-true, ltb-false}
 use Rattle.fields.specs.Choice.{pick}
 use Rattle.fields.specs.Parts.{part}
 use Rattle.rules.specs.Node.{Rec, Node}
-use Rattle.rules.specs.Table.{Entry, Table, nodeOf}
+use Rattle.rules.specs.Table.{Entry}
 use Rattle.rules.specs.Layout.{recWidth, decodeRec, decodeNode, decode, valid}
 use Rattle.rules.specs.Lent.{fromTable}
 use Rattle.rules.specs.declared.Refusal.the-variants.{NoNode, NoPlace, BadTable}
 use Rattle.table.specs.Tests.{keyLength, valueLength, countOf, nodesOf, recsOf}
-use Rattle.table.proofs.Places.{recBytes, recAt, nodeBytes, nodeAt, decode-at}
+use Rattle.table.proofs.Places.{recBytes, recAt, nodeBytes, decode-at}
 use Rattle.table.proofs.Laid.{laid-key, laid-value}
 use Rattle.place.specs.Find.{toNode, findNode}
 use Rattle.place.specs.declared.Place.{Place}
@@ -27,11 +26,11 @@ use Rattle.place.specs.declared.Place.the-variants as place
 use Rattle.place.proofs.Searched.{search-at, search-free, node-hit, nodes-ordered, node-in, node-found, node-missing, node-laid}
 use Rattle.lookup.specs.Lookup.{startOf, lenOf, Within}
 use Rattle.lookup.specs.declared.Found.{Found}
-use Rattle.lookup.specs.declared.Found.the-variants.{At, Nothing, Refused}
+use Rattle.lookup.specs.declared.Found.the-variants.{At, Refused}
 use Rattle.lookup.proofs.Values.{text-within, text-there}
 use Rattle.look.specs.Look.{elementAt}
 use Rattle.look.proofs.Elements.{rec-there, no-rec-there}
-use Rattle.recordtext.specs.Texts.{textOf, textPlace, placeOn, textFrom, textFound, bytesOn, textBytesOn, textBytes, lentTextFound, lentTextBytes}
+use Rattle.recordtext.specs.Texts.{textOf, placeOn, textFrom, textFound, bytesOn, textBytesOn, textBytes, lentTextFound, lentTextBytes}
 use Rattle.recordtext.specs.declared.Text.{Text}
 use Rattle.recordtext.specs.declared.Text.the-variants.{Key, Value}
 

@@ -8,7 +8,7 @@ use lib.Dec.{eqb}
 use Rattle.fields.specs.Choice.{pick}
 use Rattle.fields.specs.Widths.{offset}
 use Rattle.rules.specs.Node.{Rec, Node}
-use Rattle.rules.specs.Table.{Entry, Table, nodeOf}
+use Rattle.rules.specs.Table.{Table, nodeOf}
 use Rattle.rules.specs.Layout.{recWidths, recWidth, nodeWidths, nodeWidth, tableWidths}
 use Rattle.rules.specs.Lent.{fromTable}
 use Rattle.rules.specs.declared.Refusal.the-variants.{NoNode, NoPlace, BadTable}

@@ -1,5 +1,5 @@
 -- `look::node_count_good` meets its contract. Assumes nothing.
-use mathlib.Core.Path.{_≡_, ap, sym, _∙_}
+use mathlib.Core.Path.{ap, sym, _∙_}
 use native.Mathlib.Omega.{arith}
 use Rattle.table.proofs.Tables.{valid-long, length-decode}
 use Rattle.look.specs.declared.Count.the-variants as count

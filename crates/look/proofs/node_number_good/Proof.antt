@@ -1,6 +1,6 @@
 -- `look::node_number_good` meets its contract. Assumes nothing.
-use Prim.Native.Nat.{ℕ, _*_, _+_, _<_}
-use mathlib.Core.Path.{_≡_, ap, sym, _∙_}
+use Prim.Native.Nat.{ℕ, _<_}
+use mathlib.Core.Path.{ap, sym, _∙_}
 use mathlib.Core.List.{List}
 use native.Mathlib.Omega.{arith}
 use Rattle.table.specs.Tests.{nodesOf}
@@ -9,7 +9,6 @@ use Rattle.table.proofs.Places.{number-at}
 use Rattle.look.specs.Look.{numberOn}
 use Rattle.look.specs.declared.NodeNumber.the-variants as number
 use Rattle.look.proofs.Elements.{node-there, no-node-there}
-use borrow.Author.Needs.{needs}
 use Rattle.look.proofs.node_number_good.Statement.{statement}
 use Rattle.look.proofs.node_number_good.Tie as tie
 use Rattle.look.proofs.node_number_good.Reads as reads

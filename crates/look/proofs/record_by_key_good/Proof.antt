@@ -2,7 +2,6 @@
 use Prim.Native.Nat.{ℕ, _≤_, _<_}
 use mathlib.Core.Path.{_≡_, ap, sym, subst, _∙_}
 use mathlib.Core.List.{List}
-use mathlib.Core.Option.{Option}
 use native.Mathlib.Omega.{arith}
 use lib.ListN.{length}
 use lib.Dec.{leb}
@@ -10,8 +9,8 @@ use borrow.Author.Tests.{le-leb, lt-leb}
 use Rattle.fields.specs.Choice.{pick}
 use Rattle.rules.specs.Sizes.{maxKey}
 use Rattle.rules.specs.declared.Refusal.the-variants.{TooLong}
-use Rattle.rules.specs.Node.{Node, find}
-use Rattle.rules.specs.Layout.{decodeNode, decode}
+use Rattle.rules.specs.Node.{find}
+use Rattle.rules.specs.Layout.{decode}
 use Rattle.table.specs.Tests.{nodesOf, recsOf}
 use Rattle.table.specs.Fits.{LaidNode}
 use Rattle.table.proofs.Tables.{valid-long, valid-few}

@@ -1,6 +1,5 @@
 -- `lookup::in_node` meets its contract: what the search for the key says of the place. Assumes nothing.
-use Prim.Native.Nat.{ℕ}
-use mathlib.Core.Path.{_≡_, sym, _∙_}
+use mathlib.Core.Path.{sym, _∙_}
 use Rattle.place.proofs.Searched.{rec-in}
 use Rattle.lookup.proofs.Values.{rec-place, rec-nowhere}
 use borrow.Author.Needs.{needs}

@@ -1,24 +1,21 @@
 -- `lookup::in_record` meets its contract: a hidden record shows nothing, any other its value's place. Assumes nothing.
-use Prim.Native.Nat.{ℕ, _≤_, _<_}
+use Prim.Native.Nat.{ℕ, _≤_}
 use mathlib.Core.Path.{_≡_, ap, sym, subst, _∙_}
-use mathlib.Core.Bool.{Bool, false}
 use mathlib.Core.List.{List}
 use native.Mathlib.Omega.{arith}
 use lib.ListN.{length}
 use Rattle.fields.specs.Choice.{pick}
-use Rattle.fields.specs.Parts.{part}
 use Rattle.rules.specs.Sizes.{maxKey, maxValue}
-use Rattle.rules.specs.Node.{Rec, hidden}
-use Rattle.rules.specs.Layout.{recWidth, decodeRec}
+use Rattle.rules.specs.Node.{hidden}
+use Rattle.rules.specs.Layout.{decodeRec}
 use Rattle.rules.specs.declared.Record.{Record}
 use Rattle.rules.specs.declared.Status.{Status}
 use Rattle.rules.specs.declared.Status.the-variants.{Set, Delete, Ttl}
-use Rattle.table.specs.Tests.{keyLength, valueLength, countOf}
+use Rattle.table.specs.Tests.{keyLength, valueLength}
 use Rattle.table.proofs.Places.{recBytes, recAt}
 use Rattle.table.proofs.Laid.{rec-long, laid-key, laid-value}
 use Rattle.place.specs.Find.{recordOf}
 use Rattle.lookup.specs.Lookup.{valuePlace, foundRec}
-use Rattle.lookup.specs.declared.Found.{Found}
 use Rattle.lookup.specs.declared.Found.the-variants.{At, Nothing}
 use borrow.Author.Needs.{needs}
 use Rattle.lookup.proofs.in_record.Statement.{statement}

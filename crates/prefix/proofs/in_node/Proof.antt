@@ -1,6 +1,4 @@
 -- `prefix::in_node` meets its contract: counted, then written where there is room. Assumes nothing.
-use mathlib.Core.List.{List}
-use Prim.Native.Nat.{ℕ}
 use Rattle.rules.specs.Node.{hitsFrom}
 use Rattle.table.specs.Tests.{recsOf}
 use Rattle.prefix.proofs.Hits.{no-room, all-listed}

@@ -1,5 +1,5 @@
 -- `prefix::list_prefix` meets its contract: the check, then the rule. Assumes nothing.
-use mathlib.Core.Path.{_≡_, sym, _∙_}
+use mathlib.Core.Path.{sym, _∙_}
 use Rattle.prefix.proofs.Hits.{good-listed, bad-listed}
 use borrow.Author.Needs.{needs}
 use Rattle.prefix.proofs.list_prefix.Statement.{statement}

@@ -2,18 +2,15 @@
 use Prim.Native.Nat.{ℕ, _≤_, _<_}
 use mathlib.Core.Path.{_≡_, ap, sym, subst, _∙_}
 use mathlib.Core.List.{List}
-use mathlib.Core.Option.{Option}
 use native.Mathlib.Omega.{arith}
 use lib.ListN.{length}
 use Rattle.rules.specs.Sizes.{maxKey, maxValue}
-use Rattle.rules.specs.Node.{Rec}
 use Rattle.rules.specs.Layout.{decodeRec}
 use Rattle.rules.specs.declared.Record.{Record}
 use Rattle.table.specs.Tests.{keyLength, valueLength, countOf, recsOf}
 use Rattle.table.proofs.Places.{recBytes, recAt}
 use Rattle.table.proofs.Laid.{rec-long, laid-key, laid-value}
 use Rattle.place.specs.Find.{recordOf}
-use Rattle.lookup.specs.declared.Found.{Found}
 use Rattle.lookup.specs.declared.Found.the-variants.{At}
 use Rattle.look.specs.Look.{elementAt}
 use Rattle.look.proofs.Elements.{rec-there, no-rec-there}
