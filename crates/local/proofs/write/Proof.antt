@@ -1,0 +1,43 @@
+-- `local::write` meets its contract: 14, or the call on a good table. Assumes nothing.
+use mathlib.Core.Path.{_≡_, sym, _∙_}
+use Rattle.rules.specs.Local.{call}
+use Rattle.rules.specs.declared.Answer.the-variants.{Refused}
+use Rattle.rules.specs.declared.Refusal.the-variants.{BadTable}
+use Rattle.valid.proofs.Entry.{bad-table, good-table}
+use Rattle.write.specs.Writes.{callOf}
+use borrow.Author.Needs.{needs}
+use Rattle.local.proofs.write.Statement.{statement}
+use Rattle.local.proofs.write.Tie as tie
+use Rattle.local.proofs.write.Reads as reads
+use Rattle.local.proofs.write.Lts as lts
+use Rattle.local.proofs.write_good.Reads as write-good-reads
+use Rattle.valid.proofs.check_table.Reads as check-table-reads
+
+check-table-requires : tie.Need-check-table-requires
+check-table-requires c κs = search needs
+
+write-good-requires : tie.Need-write-good-requires
+write-good-requires c κs = sym ((c .before .before) .check-table .ensures) ∙ (c .before) .if1 .taken
+
+same-length : tie.Need-same-length
+same-length c = search needs
+
+returns : tie.Need-returns
+returns c =
+    let a = (c .before .before .before .before .before .before .before .before .before .before) .args in
+    let w = (c .before .before) .write-good in
+    good-table (Refused BadTable) (call (callOf (a .kind) (a .value .now) (a .time)) (a .number) (a .key .now)) (a .s .now)
+    (sym ((c .before .before .before .before .before) .check-table .ensures) ∙ (c .before .before .before .before) .if1 .taken) (w .result) (w .last .0) (w .ensures)
+
+same-length-2 : tie.Need-same-length-2
+same-length-2 c = search needs
+
+returns-2 : tie.Need-returns-2
+returns-2 c =
+    let a = (c .before .before .before .before .before .before) .args in
+    bad-table (Refused BadTable) (call (callOf (a .kind) (a .value .now) (a .time)) (a .number) (a .key .now)) (a .s .now) (sym (c .before .check-table .ensures) ∙ c .if1 .left)
+
+pub write-spec : {M : Type 1} → statement M
+write-spec =
+    tie.close
+    (tie.spec check-table-requires write-good-requires same-length returns same-length-2 returns-2)

@@ -1,0 +1,25 @@
+-- `nodes::new_table` meets its contract. Assumes nothing.
+use native.Mathlib.Omega.{arith}
+use mathlib.Core.Path.{_≡_}
+use Rattle.nodes.proofs.Coming.{made, not-made}
+use borrow.Author.Needs.{needs}
+use Rattle.nodes.proofs.new_table.Statement.{statement}
+use Rattle.nodes.proofs.new_table.Tie as tie
+use Rattle.nodes.proofs.new_table.Reads as reads
+use Rattle.nodes.proofs.new_table.Lts as lts
+use Rattle.fields.proofs.clear.Reads as clear-reads
+
+returns : tie.Need-returns
+returns c = not-made ((c .before .before) .args .s .now) (c .if1 .taken)
+
+clear-requires : tie.Need-clear-requires
+clear-requires c κs = search needs
+
+same-length : tie.Need-same-length
+same-length c = search needs
+
+returns-2 : tie.Need-returns-2
+returns-2 c = made ((c .before .before .before .before .before .before) .args .s .now) ((c .before .before .before .before) .if1 .left) ((c .before .before) .clear .last .0) ((c .before .before) .clear .ensures)
+
+pub new-table-spec : {M : Type 1} → statement M
+new-table-spec = tie.close (tie.spec returns clear-requires same-length returns-2)

@@ -1,0 +1,75 @@
+// Making a lent table, and nodes that come and go by their numbers. The entry points take any bytes: `add_node` refuses with 14 and 4, `remove_node` with
+// 14 and 2, and a node held already is left as it is. `new_table` asks only how long the slice is. `add_good` and `remove_good` do the same on a
+// table known to be good. A refused call changes no byte.
+use place::Place;
+use rules::Answer;
+use rules::Refusal;
+use table::layout;
+ghost use mathlib.Core.Path.{_≡_};
+ghost use mathlib.Core.Bool.{true};
+ghost use Rattle.rules.specs.Local.{add, removeNode};
+ghost use Rattle.rules.specs.Lent.{lentAdd, lentRemoveNode};
+ghost use Rattle.rules.specs.Layout.{encode, decode, valid};
+ghost use Rattle.nodes.specs.New.{lentMade};
+
+// The slice becomes an empty table, whatever stood there; one of another length is refused with 14.
+pub fn new_table(s: &mut [u8]) -> Answer
+    ensures { λ r. ⌜ (r ≡ lentMade (now (s .entry)) .answer) × (now (s .exit) ≡ lentMade (now (s .entry)) .bytes) ⌝ }
+{
+    if s.len() != layout::TABLE {
+        return Answer::Refused(Refusal::BadTable);
+    }
+    fields::clear(s, 0, layout::TABLE);
+    Answer::Done
+}
+
+// A fresh node with this number in a good table; one held already stays. 4 where there is no room.
+pub fn add_good(s: &mut [u8], number: u64) -> Answer
+    requires { ⌜ valid (now s) ≡ true ⌝ }
+    ensures { λ r. ⌜ (r ≡ add number (decode (now (s .entry))) .answer) × (now (s .exit) ≡ encode (add number (decode (now (s .entry))) .table)) ⌝ }
+{
+    match place::find_node(s, number) {
+        Place::At(_) => Answer::Done,
+        Place::Free(i) => {
+            if layout::MOST_NODES <= fields::byte_at(s, 0) {
+                return Answer::Refused(Refusal::NinthNode);
+            }
+            change::insert_node(s, i, number);
+            Answer::Done
+        }
+    }
+}
+
+// The node with this number goes from a good table: 2.
+pub fn remove_good(s: &mut [u8], number: u64) -> Answer
+    requires { ⌜ valid (now s) ≡ true ⌝ }
+    ensures { λ r. ⌜ (r ≡ removeNode number (decode (now (s .entry))) .answer) × (now (s .exit) ≡ encode (removeNode number (decode (now (s .entry))) .table)) ⌝ }
+{
+    match place::find_node(s, number) {
+        Place::At(i) => {
+            change::remove_node(s, i);
+            Answer::Done
+        }
+        Place::Free(_) => Answer::Refused(Refusal::NoNode),
+    }
+}
+
+// Adds a fresh node: 14, 4.
+pub fn add_node(s: &mut [u8], number: u64) -> Answer
+    ensures { λ r. ⌜ (r ≡ lentAdd number (now (s .entry)) .answer) × (now (s .exit) ≡ lentAdd number (now (s .entry)) .bytes) ⌝ }
+{
+    if valid::check_table(s) {
+        return add_good(s, number);
+    }
+    Answer::Refused(Refusal::BadTable)
+}
+
+// Removes a node: 14, 2.
+pub fn remove_node(s: &mut [u8], number: u64) -> Answer
+    ensures { λ r. ⌜ (r ≡ lentRemoveNode number (now (s .entry)) .answer) × (now (s .exit) ≡ lentRemoveNode number (now (s .entry)) .bytes) ⌝ }
+{
+    if valid::check_table(s) {
+        return remove_good(s, number);
+    }
+    Answer::Refused(Refusal::BadTable)
+}
