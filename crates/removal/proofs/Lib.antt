@@ -1,3 +1,1 @@
-pub mod Due
-pub mod Sweeping
-pub mod Nodes
+pub mod Removing

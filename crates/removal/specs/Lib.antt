@@ -1,1 +1,1 @@
-pub mod Removing
+pub mod Removals

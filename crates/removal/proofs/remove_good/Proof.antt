@@ -1,63 +1,112 @@
--- `removal::remove_good` meets its contract: what is left to go through gives the whole's table. Assumes nothing.
-use Prim.Native.Nat.{ℕ, _-_, _<_}
-use mathlib.Core.Path.{_≡_, refl, sym, _∙_}
+-- `removal::remove_good` meets its contract: what is in front of node `i` is done, and the rest gives the whole. Assumes nothing.
+use Prim.Native.Nat.{ℕ, _+_, _*_, _-_, _≤_, _<_}
+use mathlib.Core.Path.{_≡_, refl, sym, subst, _∙_}
+use mathlib.Core.List.{List}
 use native.Mathlib.Omega.{arith}
-use lib.ListN.{length}
-use Rattle.rules.specs.Node.{due}
-use Rattle.rules.specs.Local.{gc}
+use Rattle.fields.proofs.Lent.{seen, lent-by}
+use mathlib.Core.Bool.{Bool}
+use Rattle.rules.specs.Node.{Rec, due}
+use Rattle.rules.specs.Table.{removeAll}
+use Rattle.rules.specs.Layout.{decodeNode, encodeNode, decode}
 use Rattle.table.specs.Tests.{nodesOf}
+use Rattle.table.specs.Fits.{LaidNode, LaidTable}
 use Rattle.table.proofs.Tables.{valid-laid, valid-long}
-use Rattle.removal.proofs.Nodes.{Cleared, clear-start, clear-next, clear-end}
+use Rattle.table.proofs.Laid.{laid-at}
+use Rattle.removal.specs.Removals.{removed}
+use Rattle.removal.proofs.Removing.{nodesFrom, next-laid, next-count, next-node, table-end}
 use borrow.Author.Needs.{needs}
 use Rattle.removal.proofs.remove_good.Statement.{statement}
 use Rattle.removal.proofs.remove_good.Tie as tie
 use Rattle.removal.proofs.remove_good.Reads as reads
 use Rattle.removal.proofs.remove_good.Lts as lts
 use Rattle.fields.proofs.byte_at.Reads as byte-at-reads
-use Rattle.removal.proofs.remove_at.Reads as remove-at-reads
+use Rattle.removal.proofs.remove_due.Reads as remove-due-reads
 
 abbrev Inv-loop : tie.InvT-loop
-Inv-loop s₀ time grace n i₀ s i = Cleared (due time grace) n i s₀ s
+Inv-loop table₀ time grace n i₀ table i =
+    LaidTable table
+    × (nodesOf table ≡ n)
+    × (i ≤ n)
+    × (nodesFrom (due time grace) i (decode table) ≡ removeAll (λ k. due time grace) (decode table₀))
 
 abbrev μ-loop : tie.MeasureT-loop
-μ-loop s₀ time grace n i₀ s i = n - i
+μ-loop table₀ time grace n i₀ table i = n - i
+
+within : (c : tie.In-loop Inv-loop μ-loop) → c .before .loop .i < nodesOf (c .before .loop .table)
+within c = omega (arith, c .before .loop .inv .1)
 
 byte-at-requires : tie.Need-byte-at-requires Inv-loop μ-loop
-byte-at-requires c κs = let st = (c .before .before) in omega (arith, valid-long (st .args .s .now) (st .pre))
+byte-at-requires c κs =
+    let st = c .before .before in
+    omega (arith, valid-long (st .args .table .now) (st .pre))
 
 loop-holds : tie.Need-loop-holds Inv-loop μ-loop
 loop-holds c =
-    let st = (c .before .before .before) in
-    clear-start (due (st .args .time) (st .args .grace)) (c .byte-at .result) (st .args .s .now) (st .args .s .now) (valid-laid (st .args .s .now) (st .pre)) (c .byte-at .ensures .0)
+    let st = c .before .before .before in
+    (valid-laid (st .args .table .now) (st .pre), sym (c .byte-at .ensures .0), omega arith, refl)
 
-remove-at-requires : tie.Need-remove-at-requires Inv-loop μ-loop
-remove-at-requires c κs =
-    let q = (c .before .before) .loop in
-    let t = (c .before) .loop-test .taken in
-    (q .inv .laid, omega (arith, q .inv .count))
+mul-a : tie.Need-mul-a Inv-loop μ-loop
+mul-a c = search needs
+
+add-a : tie.Need-add-a Inv-loop μ-loop
+add-a c = search needs
+
+add-e : tie.Need-add-e Inv-loop μ-loop
+add-e c = search needs
+
+sub-remove-due : tie.Need-sub-remove-due Inv-loop μ-loop
+sub-remove-due c = search needs
+
+part-remove-due-start : tie.Need-part-remove-due-start Inv-loop μ-loop
+part-remove-due-start c = search needs
+
+part-remove-due-end : tie.Need-part-remove-due-end Inv-loop μ-loop
+part-remove-due-end c = search needs
+
+remove-due-requires : tie.Need-remove-due-requires Inv-loop μ-loop
+remove-due-requires c κs =
+    let q = c .before .before in
+    let l : List ℕ = q .loop .table in
+    subst LaidNode (sym (seen (1 + q .loop .i * 3713) 3713 l)) (laid-at l (q .loop .inv .0) (q .loop .i) (within (c .before)))
 
 add-i : tie.Need-add-i Inv-loop μ-loop
 add-i c = search needs
 
 loop-less : tie.Need-loop-less Inv-loop μ-loop
-loop-less c = let t = (c .before .before .before .before) .loop-test .taken in omega arith
+loop-less c = search needs
 
 loop-again : tie.Need-loop-again Inv-loop μ-loop
 loop-again c =
-    let st = (c .before .before .before .before .before .before .before .before .before) in
-    let q = (c .before .before .before .before .before) .loop in
-    let w = (c .before .before) .remove-at in
-    clear-next (due (st .args .time) (st .args .grace)) ((c .before .before .before .before .before .before) .byte-at .result) (st .args .s .now) (q .s) (q .i) (q .inv) ((c .before .before .before .before) .loop-test .taken) (w .last .0) (w .ensures)
+    let r = c .before .before in
+    let j = r .before .before in
+    let q = j .before in
+    let a = q .before .before .before .before .args in
+    let l : List ℕ = q .loop .table in
+    let o = q .loop .inv .0 in
+    let i : ℕ = q .loop .i in
+    let p : Rec → Bool = due (a .time) (a .grace) in
+    let h = within j in
+    let e =
+    lent-by (λ (x : List ℕ). encodeNode (removed p (decodeNode x))) (1 + i * 3713) 3713 l (r .remove-due .last .0) (omega (arith, h, o .long, o .few))
+    (r .remove-due .ensures) (r .remove-due .kept .0) in (
+      next-laid l o p i h _ e,
+      next-count l o p i h _ e ∙ q .loop .inv .1,
+      omega arith,
+      next-node l o p i h _ e ∙ q .loop .inv .3,
+    )
 
 same-length : tie.Need-same-length Inv-loop μ-loop
-same-length c = let st = (c .before .before .before .before .before) in (c .before) .loop .inv .laid .long ∙ sym (valid-long (st .args .s .now) (st .pre))
+same-length c =
+    let q = c .before in
+    let st = q .before .before .before .before in
+    q .loop .inv .0 .long ∙ sym (valid-long (st .args .table .now) (st .pre))
 
 returns : tie.Need-returns Inv-loop μ-loop
-unfolding gc
 returns c =
-    let st = (c .before .before .before .before .before) in
-    let q = (c .before) .loop in
-    (refl, clear-end (due (st .args .time) (st .args .grace)) ((c .before .before) .byte-at .result) (st .args .s .now) (q .s) (q .i) (q .inv) (omega arith))
+    let q = c .before in
+    let a = q .before .before .before .before .args in
+    table-end (q .loop .table) (q .loop .inv .0) (due (a .time) (a .grace)) (q .loop .i) (removeAll (λ k. due (a .time) (a .grace)) (decode (a .table .now)))
+    (omega (arith, q .loop .inv .1)) (q .loop .inv .3)
 
 pub remove-good-spec : {M : Type 1} → statement M
 remove-good-spec =
@@ -67,7 +116,13 @@ remove-good-spec =
     μ-loop
     byte-at-requires
     loop-holds
-    remove-at-requires
+    mul-a
+    add-a
+    add-e
+    sub-remove-due
+    part-remove-due-start
+    part-remove-due-end
+    remove-due-requires
     add-i
     loop-less
     loop-again

@@ -1,0 +1,86 @@
+-- `removal::take_out` meets its contract: the record goes, then last_gc is written. Assumes nothing.
+use Prim.Native.Nat.{ℕ, _+_, _<_, max}
+use mathlib.Core.Path.{_≡_, ap₂, sym, _∙_}
+use mathlib.Core.List.{List}
+use native.Mathlib.Omega.{arith}
+use Rattle.fields.specs.Numbers.{natOf}
+use Rattle.fields.specs.Parts.{part}
+use Rattle.rules.specs.Layout.{decodeNode}
+use Rattle.table.specs.Tests.{countOf}
+use Rattle.table.specs.Fits.{LaidNode}
+use Rattle.table.proofs.Places.{recPlace, recAt, version-at}
+use Rattle.removal.proofs.Removing.{less-laid, taken-steps}
+use borrow.Author.Needs.{needs}
+use Rattle.removal.proofs.take_out.Statement.{statement}
+use Rattle.removal.proofs.take_out.Tie as tie
+use Rattle.removal.proofs.take_out.Reads as reads
+use Rattle.removal.proofs.take_out.Lts as lts
+use Rattle.change.proofs.remove_record.Reads as remove-record-reads
+use Rattle.change.proofs.set_last_gc.Reads as set-last-gc-reads
+use Rattle.fields.proofs.read_u64.Reads as read-u64-reads
+use Rattle.removal.proofs.larger.Reads as larger-reads
+
+-- what is to be written, by what was read
+raised : (b : List ℕ) → LaidNode b → (j : ℕ) → j < countOf b → (held version g : ℕ) → held ≡ natOf (part 24 8 b) → version ≡ natOf (part (recPlace j + 98) 8 b)
+    → g ≡ max held version → g ≡ max (decodeNode b .node .last-gc) (recAt j b .kv .version)
+unfolding decodeNode
+raised b o j h held version g e f q = q ∙ ap₂ max e (f ∙ sym (version-at j b (o .long) (omega (arith, o .few))))
+
+read-u64-requires : tie.Need-read-u64-requires
+read-u64-requires c κs = search needs
+
+mul-read-u64 : tie.Need-mul-read-u64
+mul-read-u64 c = search needs
+
+add-read-u64 : tie.Need-add-read-u64
+add-read-u64 c = search needs
+
+add-read-u64-2 : tie.Need-add-read-u64-2
+add-read-u64-2 c = search needs
+
+read-u64-requires-2 : tie.Need-read-u64-requires-2
+read-u64-requires-2 c κs = search needs
+
+larger-requires : tie.Need-larger-requires
+larger-requires c κs = search needs
+
+remove-record-requires : tie.Need-remove-record-requires
+remove-record-requires c κs = search needs
+
+set-last-gc-requires : tie.Need-set-last-gc-requires
+set-last-gc-requires c κs =
+    let w = c .before .before .before in
+    let st = w .before .before .before .before .before .before .before .before in
+    less-laid (st .args .b .now) (st .pre .0) (st .args .j) (st .pre .1) _ (w .remove-record .ensures)
+
+same-length : tie.Need-same-length
+same-length c = search needs
+
+returns : tie.Need-returns
+returns c =
+    let g = c .before .before in
+    let w = g .before .before .before .before in
+    let m = w .before .before in
+    let v = m .before in
+    let u = v .before .before in
+    let st = u .before .before .before in
+    let b : List ℕ = st .args .b .now in
+    let j : ℕ = st .args .j in
+    taken-steps b (st .pre .0) j (st .pre .1) _ (w .remove-record .ensures) (m .larger .result) (recAt j b .kv .version) _
+    (raised b (st .pre .0) j (st .pre .1) (u .read-u64 .result) (v .read-u642 .result) (m .larger .result) (u .read-u64 .ensures) (v .read-u642 .ensures) (m .larger .ensures))
+    (g .set-last-gc .ensures)
+
+pub take-out-spec : {M : Type 1} → statement M
+take-out-spec =
+    tie.close
+    (tie.spec
+    read-u64-requires
+    mul-read-u64
+    add-read-u64
+    add-read-u64-2
+    read-u64-requires-2
+    larger-requires
+    remove-record-requires
+    set-last-gc-requires
+    same-length
+    returns)
