@@ -1,0 +1,18 @@
+-- The operations that stand one behind the other from a place on, up to the end or to the first that is refused, whatever may follow what.
+-- Of a delta that is accepted these are its operations (proofs/Plain.antt). So who knows the verdict can go through the bytes again without it.
+use Prim.Native.Nat.{ℕ, zero, suc, _-_}
+use mathlib.Core.List.{List, [], _∷_}
+use lib.ListN.{length, drop}
+use Rattle.rules.specs.Delta as rule
+
+abbrev pub onPlain : (List ℕ → List rule.Op) → rule.OpRead → List rule.Op
+onPlain next (rule.Got o rest) = o ∷ next rest
+onPlain next (rule.Bad r) = []
+
+-- the first number only bounds the operations, as in the rules
+unfoldable pub plainOps : ℕ → List ℕ → List rule.Op
+plainOps zero l = []
+plainOps (suc n) l = onPlain (λ rest. plainOps n rest) (rule.readOp l)
+
+unfoldable pub opsFrom : List ℕ → ℕ → List rule.Op
+opsFrom l at = plainOps (length l - at) (drop at l)

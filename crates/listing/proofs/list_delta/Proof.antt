@@ -1,0 +1,68 @@
+-- `listing::list_delta` meets its contract: the listing by what reading has answered. Assumes nothing.
+use Prim.Native.Nat.{ℕ, zero, suc, _+_, _-_, _*_, _≤_, _<_}
+use mathlib.Core.Path.{_≡_, refl, ap, sym, _∙_, subst}
+use mathlib.Core.List.{List, [], _∷_, _++_}
+use lib.ListN.{length}
+use Rattle.rules.specs.declared.Written.{Written}
+use Rattle.listing.specs.Front.{frontAnswer, frontOut, refusedText}
+use Rattle.listing.proofs.Lines.{listing-good, listing-refused}
+use borrow.Author.Needs.{needs}
+use Rattle.listing.proofs.list_delta.Statement.{statement}
+use Rattle.listing.proofs.list_delta.Tie as tie
+
+as-listing : (text other out left : List ℕ) (r : Written) → text ≡ other → (r ≡ frontAnswer other (length out)) × (left ≡ frontOut other out)
+    → (r ≡ frontAnswer text (length out)) × (left ≡ frontOut text out)
+as-listing text other out left r e h = rw e h
+
+read-delta-requires : tie.Need-read-delta-requires
+read-delta-requires c κs = search needs
+
+enum-known-read : tie.Need-enum-known-read
+enum-known-read c = search needs
+
+list-good-requires : tie.Need-list-good-requires
+list-good-requires c κs = listing-good _ _ _ (sym (c .before .before .before .before .read-delta .ensures) ∙ c .before .before .read .given .1) .1
+
+enum-known-read-2 : tie.Need-enum-known-read-2
+enum-known-read-2 c = search needs
+
+number-requires : tie.Need-number-requires
+number-requires c κs = search needs
+
+list-refused-requires : tie.Need-list-refused-requires
+list-refused-requires c κs = search needs
+
+same-length : tie.Need-same-length
+same-length c = search needs
+
+returns : tie.Need-returns
+returns c =
+    
+    let call = c .before .before .list-good in
+    as-listing _ _ _ _ _ (listing-good _ _ _ (sym (c .before .before .before .before .before .before .before .read-delta .ensures) ∙ c .before .before .before .before .before .read .given .1) .0) (call .ensures)
+
+same-length-2 : tie.Need-same-length-2
+same-length-2 c = search needs
+
+returns-2 : tie.Need-returns-2
+returns-2 c =
+    
+    let call = c .before .before .list-refused in
+    let code = c .before .before .before .number .ensures in
+    as-listing _ _ _ _ _
+    (listing-refused _ _ _ (sym (c .before .before .before .before .before .before .before .before .read-delta .ensures) ∙ c .before .before .before .before .before .before .read2 .given .1) ∙ ap (λ (n : ℕ). refusedText n (c .before .before .before .before .before .before .read2 .given .0 .1 .0)) (sym code)) (call .ensures)
+
+pub list-delta-spec : {M : Type 1} → statement M
+list-delta-spec =
+    tie.close
+    (tie.spec
+    read-delta-requires
+    enum-known-read
+    list-good-requires
+    enum-known-read-2
+    number-requires
+    list-refused-requires
+    same-length
+    returns
+    same-length-2
+    returns-2)

@@ -1,0 +1,142 @@
+-- `listing::put_line` meets its contract: by the kind of operation. Assumes nothing.
+use Prim.Native.Nat.{ℕ, zero, suc, _+_, _-_, _*_, _≤_, _<_}
+use mathlib.Core.Path.{_≡_, refl, ap, sym, _∙_, subst}
+use mathlib.Core.List.{List, [], _∷_, _++_, append-assoc}
+use native.Mathlib.Omega.{arith}
+use lib.ListN.{length}
+use Rattle.fields.specs.Parts.{part}
+use Rattle.fields.proofs.Lent.{seen}
+use Rattle.rules.specs.Delta as rule
+use Rattle.rules.specs.declared.Status.{Status}
+use Rattle.delta.specs.declared.Op.{Op}
+use Rattle.delta.specs.declared.Op.the-variants.{Node, KeyValue, SetMaxVersion}
+use Rattle.delta.specs.Places.{opOf, Inside}
+use Rattle.rules.specs.Listing.{ascii, decimal, statusText, opLine}
+use Rattle.text.specs.Wrote.{Wrote, Room}
+use Rattle.listing.specs.Front.{textsText, recordLine}
+use borrow.Author.Needs.{needs}
+use Rattle.listing.proofs.put_line.Statement.{statement}
+use Rattle.listing.proofs.put_line.Tie as tie
+
+inside : (len : ℕ) (o : Op) (k n v m ver : ℕ) (st : Status) → o ≡ KeyValue k n v m ver st → Inside len o → Inside len (KeyValue k n v m ver st)
+inside len o k n v m ver st e h = rw e at h
+
+-- a record's line, of its key and value as they are lent
+module _ (l : List ℕ) where
+  line : (k n v m ver : ℕ) (st : Status) (o : Op) (key value : List ℕ) → o ≡ KeyValue k n v m ver st → key ≡ part k n l → value ≡ part v m l
+      → recordLine ver st key value ≡ opLine (opOf l o)
+  unfolding opLine
+  line k n v m ver st o key value e p q =
+      rw (e, p, q)
+      (ap (λ (r : List ℕ). ascii "op=kv version=" ++ r) (append-assoc (decimal ver) (ascii " status=" ++ statusText st) (textsText (part k n l) (part v m l))))
+
+  record-room : (out : List ℕ) (at k n v m ver : ℕ) (st : Status) (o : Op) (key value : List ℕ) → o ≡ KeyValue k n v m ver st → key ≡ part k n l → value ≡ part v m l
+      → Room at (opLine (opOf l o)) out → Room at (recordLine ver st key value) out
+  record-room out at k n v m ver st o key value e p q h =
+      subst (λ (t : List ℕ). Room at t out) (sym (line k n v m ver st o key value e p q)) h
+
+  record-wrote : (out left : List ℕ) (at r k n v m ver : ℕ) (st : Status) (o : Op) (key value : List ℕ) → o ≡ KeyValue k n v m ver st → key ≡ part k n l → value ≡ part v m l
+      → Wrote at (recordLine ver st key value) out left r → Wrote at (opLine (opOf l o)) out left r
+  record-wrote out left at r k n v m ver st o key value e p q w =
+      subst (λ (t : List ℕ). Wrote at t out left r) (line k n v m ver st o key value e p q) w
+
+enum-known-op : tie.Need-enum-known-op
+enum-known-op c = search needs
+
+put-node-requires : tie.Need-put-node-requires
+put-node-requires c κs = subst (λ (o : Op). Room (c .before .before .before .before .before .before .args .at) (opLine (opOf (c .before .before .before .before .before .before .args .s .now) o)) (c .before .before .before .before .before .before .args .out .now)) (c .before .before .op .given .1) (c .before .before .before .before .before .before .pre .1)
+
+enum-known-op-2 : tie.Need-enum-known-op-2
+enum-known-op-2 c = search needs
+
+add-key : tie.Need-add-key
+add-key c = omega (arith, inside _ _ _ _ _ _ _ _ (c .before .op2 .given .1) (c .before .before .before .before .before .pre .0) .0, c .before .before .before .before .before .good .0)
+
+sub-key : tie.Need-sub-key
+sub-key c = search needs
+
+part-key-start : tie.Need-part-key-start
+part-key-start c = search needs
+
+part-key-end : tie.Need-part-key-end
+part-key-end c = inside _ _ _ _ _ _ _ _ (c .before .op2 .given .1) (c .before .before .before .before .before .pre .0) .0
+
+add-value : tie.Need-add-value
+add-value c = omega (arith, inside _ _ _ _ _ _ _ _ (c .before .before .op2 .given .1) (c .before .before .before .before .before .before .pre .0) .1, c .before .before .before .before .before .before .good .0)
+
+sub-value : tie.Need-sub-value
+sub-value c = search needs
+
+part-value-start : tie.Need-part-value-start
+part-value-start c = search needs
+
+part-value-end : tie.Need-part-value-end
+part-value-end c = inside _ _ _ _ _ _ _ _ (c .before .before .op2 .given .1) (c .before .before .before .before .before .before .pre .0) .1
+
+put-key-value-requires : tie.Need-put-key-value-requires
+put-key-value-requires c κs =
+    
+    let start = c .before .before .before .before .before .before .before .before in
+    record-room (start .args .s .now) (start .args .out .now) (start .args .at) _ _ _ _ _ _ _ _ _ (c .before .before .before .before .op2 .given .1) (seen _ _ _) (seen _ _ _) (start .pre .1)
+
+enum-known-op-3 : tie.Need-enum-known-op-3
+enum-known-op-3 c = search needs
+
+put-set-max-version-requires : tie.Need-put-set-max-version-requires
+put-set-max-version-requires c κs = subst (λ (o : Op). Room (c .before .before .before .before .before .before .args .at) (opLine (opOf (c .before .before .before .before .before .before .args .s .now) o)) (c .before .before .before .before .before .before .args .out .now)) (c .before .before .op3 .given .1) (c .before .before .before .before .before .before .pre .1)
+
+same-length : tie.Need-same-length
+same-length c = search needs
+
+returns : tie.Need-returns
+returns c =
+    
+    let start = c .before .before .before .before .before .before .before .before .before in
+    let call = c .before .before .put-node in
+    subst (λ (o : Op). Wrote (start .args .at) (opLine (opOf (start .args .s .now) o)) (start .args .out .now) (call .last .0) (call .result))
+    (sym (c .before .before .before .before .before .op .given .1)) (call .ensures)
+
+same-length-2 : tie.Need-same-length-2
+same-length-2 c = search needs
+
+returns-2 : tie.Need-returns-2
+returns-2 c =
+    
+    let start = c .before .before .before .before .before .before .before .before .before .before .before in
+    record-wrote (start .args .s .now) _ _ (start .args .at) _ _ _ _ _ _ _ _ _ _ (c .before .before .before .before .before .before .before .op2 .given .1) (seen _ _ _) (seen _ _ _) (c .before .before .put-key-value .ensures)
+
+same-length-3 : tie.Need-same-length-3
+same-length-3 c = search needs
+
+returns-3 : tie.Need-returns-3
+returns-3 c =
+    
+    let start = c .before .before .before .before .before .before .before .before .before in
+    let call = c .before .before .put-set-max-version in
+    subst (λ (o : Op). Wrote (start .args .at) (opLine (opOf (start .args .s .now) o)) (start .args .out .now) (call .last .0) (call .result))
+    (sym (c .before .before .before .before .before .op3 .given .1)) (call .ensures)
+
+pub put-line-spec : {M : Type 1} → statement M
+put-line-spec =
+    tie.close
+    (tie.spec
+    enum-known-op
+    put-node-requires
+    enum-known-op-2
+    add-key
+    sub-key
+    part-key-start
+    part-key-end
+    add-value
+    sub-value
+    part-value-start
+    part-value-end
+    put-key-value-requires
+    enum-known-op-3
+    put-set-max-version-requires
+    same-length
+    returns
+    same-length-2
+    returns-2
+    same-length-3
+    returns-3)

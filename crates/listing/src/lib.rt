@@ -1,0 +1,215 @@
+// The listing of a delta, written into a lent buffer: a line for each operation and one for the end, or the one line of a refused delta. The
+// verdict and the length of the whole are known before the first byte is written.
+ghost use mathlib.Core.Path.{_≡_};
+ghost use Prim.Native.Nat.{_+_, _*_, _≤_};
+ghost use lib.ListN.{length};
+ghost use Rattle.rules.specs.Delta.{NodeOp, KeyValueOp, SetMaxVersionOp};
+ghost use Rattle.rules.specs.Listing.{statusText, opLine, listing};
+ghost use Rattle.delta.specs.Places.{opOf, Inside, widthOf};
+ghost use Rattle.text.specs.Wrote.{Wrote, Room};
+ghost use Rattle.listing.specs.Front.{frontAnswer, frontOut, lastLine, versionText, textsText, recordLine, linesFrom, goodText, refusedText, lineLength};
+use delta::Op;
+use delta::OpRead;
+use rules::DeltaRead;
+use rules::Refusal;
+use rules::Status;
+use rules::Written;
+
+// ---- how long the lines are
+
+fn status_len(status: Status) -> usize
+    ensures { λ r. ⌜ r ≡ length (statusText status) ⌝ }
+{
+    match status {
+        Status::Set => 3,
+        Status::Delete => 6,
+        Status::Ttl => 3,
+    }
+}
+
+// The length of an operation's line, which takes 110 bytes at most.
+fn line_len(op: Op) -> usize
+    requires { ⌜ widthOf op ≤ 110 ⌝ }
+    ensures { λ r. ⌜ r ≡ lineLength op ⌝ }
+{
+    match op {
+        Op::Node { number, gc, from } => {
+            22 + text::decimal_len(number) + text::decimal_len(gc) + text::decimal_len(from)
+        }
+        Op::KeyValue {
+            keyat: _,
+            keylen,
+            valueat: _,
+            valuelen,
+            version,
+            status,
+        } => 35 + text::decimal_len(version) + status_len(status) + keylen + valuelen,
+        Op::SetMaxVersion { max } => 16 + text::decimal_len(max),
+    }
+}
+
+// How long the lines of all operations are together.
+fn lines_len(s: &[u8]) -> usize
+    requires { ⌜ length (now s) ≤ 16384 ⌝ }
+    ensures { λ r. ⌜ (r ≡ length (linesFrom (now (s .entry)) 0)) × (r ≤ 81920) ⌝ }
+{
+    let mut n: usize = 0;
+    let mut at: usize = 0;
+    while at < s.len() {
+        let read = delta::read_op(s, at);
+        match read {
+            OpRead::Bad(_) => {
+                return n;
+            }
+            OpRead::Got { op, next } => {
+                n += line_len(op);
+                at = next;
+            }
+        }
+    }
+    n
+}
+
+// ---- the lines
+
+fn put_node(out: &mut [u8], at: usize, number: u64, gc: u64, from: u64) -> usize
+    requires { ⌜ Room at (opLine (NodeOp number gc from)) (now out) ⌝ }
+    ensures { λ r. ⌜ Wrote at (opLine (NodeOp number gc from)) (now (out .entry)) (now (out .exit)) r ⌝ }
+{
+    let a = text::put_numbered(out, at, b"op=node id=", number);
+    let b = text::put_numbered(out, a, b" gc=", gc);
+    let c = text::put_numbered(out, b, b" from=", from);
+    text::put_text(out, c, b"\n")
+}
+
+// Version and status of a record, the front of its line.
+fn put_version(out: &mut [u8], at: usize, version: u64, status: Status) -> usize
+    requires { ⌜ Room at (versionText version status) (now out) ⌝ }
+    ensures { λ r. ⌜ Wrote at (versionText version status) (now (out .entry)) (now (out .exit)) r ⌝ }
+{
+    let a = text::put_numbered(out, at, b"op=kv version=", version);
+    let b = text::put_text(out, a, b" status=");
+    text::put_status(out, b, status)
+}
+
+// Key and value of a record, the rest of its line.
+fn put_texts(out: &mut [u8], at: usize, key: &[u8], value: &[u8]) -> usize
+    requires { ⌜ Room at (textsText (now key) (now value)) (now out) ⌝ }
+    ensures { λ r. ⌜ Wrote at (textsText (now (key .entry)) (now (value .entry))) (now (out .entry)) (now (out .exit)) r ⌝ }
+{
+    let a = text::put_named(out, at, b" key=", key);
+    let b = text::put_named(out, a, b" value=", value);
+    text::put_text(out, b, b"\n")
+}
+
+fn put_key_value(out: &mut [u8], at: usize, version: u64, status: Status, key: &[u8], value: &[u8]) -> usize
+    requires { ⌜ Room at (recordLine version status (now key) (now value)) (now out) ⌝ }
+    ensures { λ r. ⌜ Wrote at (recordLine version status (now (key .entry)) (now (value .entry))) (now (out .entry)) (now (out .exit)) r ⌝ }
+{
+    let a = put_version(out, at, version, status);
+    put_texts(out, a, key, value)
+}
+
+fn put_set_max_version(out: &mut [u8], at: usize, max: u64) -> usize
+    requires { ⌜ Room at (opLine (SetMaxVersionOp max)) (now out) ⌝ }
+    ensures { λ r. ⌜ Wrote at (opLine (SetMaxVersionOp max)) (now (out .entry)) (now (out .exit)) r ⌝ }
+{
+    let a = text::put_numbered(out, at, b"op=max version=", max);
+    text::put_text(out, a, b"\n")
+}
+
+// The line of an operation of `s`.
+fn put_line(s: &[u8], op: Op, out: &mut [u8], at: usize) -> usize
+    requires { ⌜ (Inside (length (now s)) op) × (Room at (opLine (opOf (now s) op)) (now out)) ⌝ }
+    ensures { λ r. ⌜ Wrote at (opLine (opOf (now (s .entry)) op)) (now (out .entry)) (now (out .exit)) r ⌝ }
+{
+    match op {
+        Op::Node { number, gc, from } => put_node(out, at, number, gc, from),
+        Op::KeyValue {
+            keyat,
+            keylen,
+            valueat,
+            valuelen,
+            version,
+            status,
+        } => {
+            let key = &s[keyat..keyat + keylen];
+            let value = &s[valueat..valueat + valuelen];
+            put_key_value(out, at, version, status, key, value)
+        }
+        Op::SetMaxVersion { max } => put_set_max_version(out, at, max),
+    }
+}
+
+// The lines of all operations of `s`, at the front.
+fn put_lines(s: &[u8], out: &mut [u8]) -> usize
+    requires { ⌜ Room 0 (linesFrom (now s) 0) (now out) ⌝ }
+    ensures { λ r. ⌜ Wrote 0 (linesFrom (now (s .entry)) 0) (now (out .entry)) (now (out .exit)) r ⌝ }
+{
+    let mut n: usize = 0;
+    let mut at: usize = 0;
+    while at < s.len() {
+        let read = delta::read_op(s, at);
+        match read {
+            OpRead::Bad(_) => {
+                return n;
+            }
+            OpRead::Got { op, next } => {
+                n = put_line(s, op, out, n);
+                at = next;
+            }
+        }
+    }
+    n
+}
+
+// The last line: two numbers with their names.
+fn put_last(out: &mut [u8], at: usize, first: &[u8], a: u64, second: &[u8], b: u64) -> usize
+    requires { ⌜ Room at (lastLine (now first) a (now second) b) (now out) ⌝ }
+    ensures { λ r. ⌜ Wrote at (lastLine (now (first .entry)) a (now (second .entry)) b) (now (out .entry)) (now (out .exit)) r ⌝ }
+{
+    let m = text::put_numbered(out, at, first, a);
+    let n = text::put_numbered(out, m, second, b);
+    text::put_text(out, n, b"\n")
+}
+
+// ---- the listing
+
+// Of a delta that was accepted with so many operations.
+fn list_good(s: &[u8], out: &mut [u8], ops: usize) -> Written
+    requires { ⌜ length (now s) ≤ 16384 ⌝ }
+    ensures { λ r. ⌜ (r ≡ frontAnswer (goodText (now (s .entry)) ops) (length (now (out .entry)))) × (now (out .exit) ≡ frontOut (goodText (now (s .entry)) ops) (now (out .entry))) ⌝ }
+{
+    let count = ops as u64;
+    let bytes = s.len() as u64;
+    let n = lines_len(s) + 19 + text::decimal_len(count) + text::decimal_len(bytes);
+    if out.len() < n {
+        return Written::Refused(Refusal::NoPlace);
+    }
+    let at = put_lines(s, out);
+    put_last(out, at, b"end=ok ops=", count, b" bytes=", bytes);
+    Written::Bytes(n)
+}
+
+// Of a delta that was refused with this number at this place.
+fn list_refused(out: &mut [u8], code: u64, at: u64) -> Written
+    ensures { λ r. ⌜ (r ≡ frontAnswer (refusedText code at) (length (now (out .entry)))) × (now (out .exit) ≡ frontOut (refusedText code at) (now (out .entry))) ⌝ }
+{
+    let n = 22 + text::decimal_len(code) + text::decimal_len(at);
+    if out.len() < n {
+        return Written::Refused(Refusal::NoPlace);
+    }
+    put_last(out, 0, b"end=refused code=", code, b" at=", at);
+    Written::Bytes(n)
+}
+
+// The listing of any bytes, at the front of the buffer, and its length. 8, and nothing changed, where the buffer is too short.
+pub fn list_delta(s: &[u8], out: &mut [u8]) -> Written
+    ensures { λ r. ⌜ (r ≡ frontAnswer (listing (now (s .entry))) (length (now (out .entry)))) × (now (out .exit) ≡ frontOut (listing (now (s .entry))) (now (out .entry))) ⌝ }
+{
+    let read = delta::read_delta(s);
+    match read {
+        DeltaRead::Good { ops, nodes: _ } => list_good(s, out, ops),
+        DeltaRead::Refused { why, at } => list_refused(out, why.number(), at as u64),
+    }
+}
