@@ -133,8 +133,7 @@ module _ (e : Entry) (o : FitsEntry e) where
       let recs : unblock recWidth decodeRec (natOf (part 32 1 (encodeNode e))) (drop 33 (encodeNode e)) ≡ e .node .recs =
       ap (λ (k : ℕ). unblock recWidth decodeRec k (drop 33 (encodeNode e))) count-is
       ∙ ap (unblock recWidth decodeRec (length (e .node .recs))) room-is
-      ∙ blocks-read encodeRec decodeRec recWidth length-rec FitsRec decode-encode-rec maxRecords (e .node .recs) (o .few)
-      (λ i d h. o .each (getD (e .node .recs) i d) (in-at (e .node .recs) i d h)) in
+      ∙ blocks-read encodeRec decodeRec recWidth length-rec maxRecords (e .node .recs) (o .few) (λ r m. decode-encode-rec r (o .each r m)) in
       λ i. record { number = number i; node = record { heartbeat = beats (beat i); max = max-is i; last-gc = gc i; recs = recs i } }
 
   -- its bytes are laid out

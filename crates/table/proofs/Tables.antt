@@ -96,7 +96,7 @@ module _ (t : Table) (o : FitsTable t) where
   read-back =
       ap (λ (k : ℕ). unblock nodeWidth decodeNode k (drop 1 (encode t))) (nodes-count t (o .few))
       ∙ ap (unblock nodeWidth decodeNode (length t)) (nodes-room t)
-      ∙ blocks-read encodeNode decodeNode nodeWidth length-node FitsEntry decode-encode-node maxNodes t (o .few) (λ i d h. o .each (getD t i d) (in-at t i d h))
+      ∙ blocks-read encodeNode decodeNode nodeWidth length-node maxNodes t (o .few) (λ e m. decode-encode-node e (o .each e m))
 
   -- its bytes are laid out
   pub laid-table : LaidTable (encode t)
