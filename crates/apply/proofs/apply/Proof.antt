@@ -1,0 +1,95 @@
+-- `apply::apply` meets its contract: by the table, the delta's verdict and the places for the answers. Assumes nothing.
+use mathlib.Core.Path.{_≡_, sym, _∙_}
+use mathlib.Core.Bool.{true}
+use Rattle.rules.specs.Layout.{valid}
+use Rattle.apply.proofs.Applied.{bad-table, at-fault, no-places, accepted, enough, gives}
+use borrow.Author.Needs.{needs}
+use Rattle.apply.proofs.apply.Statement.{statement}
+use Rattle.apply.proofs.apply.Tie as tie
+
+abbrev entry : tie.After-check-table → tie.Start
+entry c = c .before .before .before .before .before
+
+-- where a delta is read the table is good
+good : (c : tie.After-read-delta) → valid (entry (c .before .before) .args .table .now) ≡ true
+good c = sym (c .before .before .check-table .ensures) ∙ c .before .if1 .taken
+
+check-table-requires : tie.Need-check-table-requires
+check-table-requires c κs = search needs
+
+read-delta-requires : tie.Need-read-delta-requires
+read-delta-requires c κs = search needs
+
+enum-known-read : tie.Need-enum-known-read
+enum-known-read c = search needs
+
+enum-known-read-2 : tie.Need-enum-known-read-2
+enum-known-read-2 c = search needs
+
+same-length : tie.Need-same-length
+same-length c = search needs
+
+returns : tie.Need-returns
+returns c =
+    let told = c .before .before in
+    let rd = told .before .before in
+    let a = entry (rd .before .before) .args in
+    no-places (a .delta .now) (a .clock) (a .answers .now) (a .table .now) (good rd) _ _ (sym (rd .read-delta .ensures) ∙ told .read2 .given .1) (c .if2 .taken)
+
+apply-good-requires : tie.Need-apply-good-requires
+apply-good-requires c κs =
+    let told = c .before .before .before .before in
+    let rd = told .before .before in
+    let a = entry (rd .before .before) .args in
+    let e = sym (rd .read-delta .ensures) ∙ told .read2 .given .1 in
+    (good rd, accepted (a .delta .now) (a .clock) (a .answers .now) (a .table .now) (good rd) _ _ e .0, enough (a .delta .now) (a .clock) (a .answers .now) (a .table .now) (good rd) _ _ e (c .before .before .if2 .left))
+
+same-length-2 : tie.Need-same-length-2
+same-length-2 c = search needs
+
+returns-2 : tie.Need-returns-2
+returns-2 c =
+    let rd = c .before .before .before in
+    let a = entry (rd .before .before) .args in
+    at-fault (a .delta .now) (a .clock) (a .answers .now) (a .table .now) (good rd) _ _ (sym (rd .read-delta .ensures) ∙ c .before .read .given .1)
+
+same-length-3 : tie.Need-same-length-3
+same-length-3 c = search needs
+
+same-length-4 : tie.Need-same-length-4
+same-length-4 c = search needs
+
+returns-3 : tie.Need-returns-3
+returns-3 c =
+    let call = c .before .before .before .before in
+    let told = call .before .before .before .before .before in
+    let rd = told .before .before in
+    let a = entry (rd .before .before) .args in
+    gives (a .delta .now) (a .clock) (a .answers .now) (a .table .now) (good rd) _ _ (sym (rd .read-delta .ensures) ∙ told .read2 .given .1) (call .before .before .before .if2 .left) _ _ (call .apply-good .ensures .0) (call .apply-good .ensures .1)
+
+same-length-5 : tie.Need-same-length-5
+same-length-5 c = search needs
+
+returns-4 : tie.Need-returns-4
+returns-4 c =
+    let a = entry (c .before) .args in
+    bad-table (a .delta .now) (a .clock) (a .answers .now) (a .table .now) (sym (c .before .check-table .ensures) ∙ c .if1 .left)
+
+pub apply-spec : {M : Type 1} → statement M
+apply-spec =
+    tie.close
+    (tie.spec
+    check-table-requires
+    read-delta-requires
+    enum-known-read
+    enum-known-read-2
+    same-length
+    returns
+    apply-good-requires
+    same-length-2
+    returns-2
+    same-length-3
+    same-length-4
+    returns-3
+    same-length-5
+    returns-4)

@@ -1,0 +1,58 @@
+-- What the code leaves at each level: a node's bytes after an outcome that has room or not, a node's answer and bytes, a table's answer and bytes after
+-- one node delta. And a delta that is accepted.
+use Prim.Native.Nat.{ℕ}
+use mathlib.Core.Path.{_≡_}
+use mathlib.Core.Bool.{Bool, true, false}
+use mathlib.Core.List.{List}
+use mathlib.Core.Option.{Option, none, some}
+use lib.Dec.{leb}
+use Rattle.fields.specs.Choice.{pick}
+use Rattle.rules.specs.Node.{Node}
+use Rattle.rules.specs.Table.{Entry, Table, nodeOf, setNode}
+use Rattle.rules.specs.Delta.{Op, Good, Part, readDelta}
+use Rattle.rules.specs.Apply.{Taken, takeAll, applyNode}
+use Rattle.rules.specs.Layout.{encodeNode, decodeNode, encode}
+use Rattle.rules.specs.declared.NodeAnswer.{NodeAnswer}
+use Rattle.rules.specs.declared.NodeAnswer.the-variants.{Unknown}
+use Rattle.table.specs.Changes.{withNode, withMax, withGc, withRecs, freshEntry}
+use Rattle.take.specs.Taking.{hasRoom, recsFrom}
+
+-- ---- a node
+
+-- the node with the records from a place of the delta taken, and max the delta's
+abbrev pub grown : ℕ → ℕ → ℕ → List ℕ → ℕ → ℕ → Entry → Entry
+grown held gc clock s at max e = withMax max (withRecs (takeAll held gc clock (recsFrom s at) (e .node .recs)) e)
+
+-- a reset: a fresh node under the same number with the delta's last_gc
+abbrev pub emptied : ℕ → Entry → Entry
+emptied gc e = withGc gc (freshEntry (e .number))
+
+-- whether the node e has room, and the bytes: its own, or b as they were
+pub record Stored (e : Entry) (b : List ℕ) (r : Bool) (b′ : List ℕ) : Type 0 where
+  pub room : r ≡ hasRoom (e .node .recs)
+  pub bytes : b′ ≡ pick r (encodeNode e) b
+
+-- what a node with the bytes b answers, and its bytes afterwards
+pub record Answered (x : Taken) (b : List ℕ) (r : NodeAnswer) (b′ : List ℕ) : Type 0 where
+  pub answer : r ≡ x .answer
+  pub bytes : b′ ≡ encodeNode (withNode (x .node) (decodeNode b))
+
+-- ---- a table
+
+-- a node missing in the table answers Unknown and is never made
+abbrev pub partAnswer : ℕ → Part → Option Node → NodeAnswer
+partAnswer clock x none = Unknown
+partAnswer clock x (some n) = applyNode clock (x .delta) n .answer
+
+abbrev pub partTable : ℕ → Part → Option Node → Table → Table
+partTable clock x none t = t
+partTable clock x (some n) t = setNode (x .number) (applyNode clock (x .delta) n .node) t
+
+-- what a table answers to one node delta, and its bytes afterwards
+pub record Turned (clock : ℕ) (x : Part) (t : Table) (r : NodeAnswer) (l : List ℕ) : Type 0 where
+  pub answer : r ≡ partAnswer clock x (nodeOf (x .number) t)
+  pub bytes : l ≡ encode (partTable clock x (nodeOf (x .number) t) t)
+
+-- a delta without a fault
+abbrev pub Accepted : List ℕ → Type 0
+Accepted s = (ops : List Op) × (readDelta s ≡ Good ops)

@@ -1,0 +1,268 @@
+// A node delta in the bytes of an accepted delta, and the taking of its records into the bytes of one node. Each record is taken or skipped as
+// document 01 says; a record that would be a 33rd key ends the taking with no room.
+use delta::Op;
+use delta::OpRead;
+use place::Place;
+use rules::Header;
+use rules::Status;
+use table::layout;
+ghost use mathlib.Core.Path.{_≡_};
+ghost use Prim.Native.Nat.{_+_, _≤_};
+ghost use lib.ListN.{length};
+ghost use Rattle.rules.specs.Sizes.{maxKey, maxValue};
+ghost use Rattle.rules.specs.Node.{scheduled, store};
+ghost use Rattle.rules.specs.Apply.{startAt, takeAll};
+ghost use Rattle.delta.specs.Places.{Inside, opOf};
+ghost use Rattle.table.specs.Tests.{recsOf};
+ghost use Rattle.table.specs.Fits.{LaidNode};
+ghost use Rattle.table.specs.Changes.{recOf};
+ghost use Rattle.take.specs.Taking.{takesAs, carried, Tried, takeOne, Stepped, recsFrom, Begins, Ahead, Headed};
+
+// What an operation of a node delta comes to.
+pub enum Step {
+    // The record is in the node, or skipped.
+    Taken,
+    // The record would be a 33rd key.
+    Full,
+    // The next Node: the records are over.
+    Over,
+}
+
+// What stands behind a Node operation: the running max at the next Node or the end, and its place.
+pub struct Behind {
+    pub max: u64,
+    pub end: usize,
+}
+
+// A node delta: its numbers, where its records begin, and where the next one begins.
+pub enum NodeDelta {
+    Of {
+        number: u64,
+        gc: u64,
+        from: u64,
+        max: u64,
+        records: usize,
+        end: usize,
+    },
+    Nothing,
+}
+
+// ---- one record
+
+// A taken scheduled record starts at the receiver's clock.
+fn start_of(status: Status, clock: u64) -> u64
+    ensures { λ r. ⌜ r ≡ startAt (scheduled status) clock ⌝ }
+{
+    match status {
+        Status::Set => 0,
+        Status::Delete => clock,
+        Status::Ttl => clock,
+    }
+}
+
+// Whether a record is taken, where `held` is the max held before the first of them.
+fn takes(held: u64, gc: u64, version: u64, status: Status) -> bool
+    ensures { λ r. ⌜ r ≡ takesAs held gc version status ⌝ }
+{
+    if version <= held {
+        return false;
+    }
+    match status {
+        Status::Set => true,
+        Status::Delete => gc < version,
+        Status::Ttl => gc < version,
+    }
+}
+
+// Stores a record in a node, and says whether there was room for it.
+fn store_record(
+    b: &mut [u8],
+    key: &[u8],
+    value: &[u8],
+    version: u64,
+    status: Status,
+    start: u64,
+) -> bool
+    requires { ⌜ LaidNode (now b) × (length (now key) ≤ maxKey) × (length (now value) ≤ maxValue) ⌝ }
+    ensures { λ r. ⌜ Tried (store (recOf (now (key .entry)) (now (value .entry)) version status start) (recsOf (now (b .entry)))) (now (b .entry)) r (now (b .exit)) ⌝ }
+{
+    let found = place::find_key(b, key);
+    match found {
+        Place::At(j) => {
+            change::put_record(b, j, key, value, version, status, start);
+            true
+        }
+        Place::Free(j) => {
+            if fields::byte_at(b, layout::COUNT) == Header::RECORDS {
+                return false;
+            }
+            change::insert_record(b, j, key, value, version, status, start);
+            true
+        }
+    }
+}
+
+// Takes or skips the record whose key and value stand at these places of `s`.
+fn take_record(
+    b: &mut [u8],
+    s: &[u8],
+    keyat: usize,
+    keylen: usize,
+    valueat: usize,
+    valuelen: usize,
+    version: u64,
+    status: Status,
+    held: u64,
+    gc: u64,
+    clock: u64,
+) -> bool
+    requires { ⌜ LaidNode (now b) × (keyat + keylen ≤ length (now s)) × (valueat + valuelen ≤ length (now s)) × (keylen ≤ maxKey) × (valuelen ≤ maxValue) ⌝ }
+    ensures { λ r. ⌜ Tried (takeOne held gc clock (carried (now (s .entry)) keyat keylen valueat valuelen version status) (recsOf (now (b .entry)))) (now (b .entry)) r (now (b .exit)) ⌝ }
+{
+    if takes(held, gc, version, status) {
+        let keyend = keyat + keylen;
+        let valueend = valueat + valuelen;
+        let start = start_of(status, clock);
+        return store_record(
+            b,
+            &s[keyat..keyend],
+            &s[valueat..valueend],
+            version,
+            status,
+            start,
+        );
+    }
+    true
+}
+
+// Goes over one operation.
+fn take_op(b: &mut [u8], s: &[u8], op: Op, held: u64, gc: u64, clock: u64) -> Step
+    requires { ⌜ LaidNode (now b) × Inside (length (now s)) op ⌝ }
+    ensures { λ r. ⌜ Stepped held gc clock (opOf (now (s .entry)) op) (now (b .entry)) r (now (b .exit)) ⌝ }
+{
+    match op {
+        Op::Node {
+            number: _,
+            gc: _,
+            from: _,
+        } => Step::Over,
+        Op::KeyValue {
+            keyat,
+            keylen,
+            valueat,
+            valuelen,
+            version,
+            status,
+        } => {
+            if take_record(
+                b,
+                s,
+                keyat,
+                keylen,
+                valueat,
+                valuelen,
+                version,
+                status,
+                held,
+                gc,
+                clock,
+            ) {
+                return Step::Taken;
+            }
+            Step::Full
+        }
+        Op::SetMaxVersion { max: _ } => Step::Taken,
+    }
+}
+
+// Takes the records from `at` up to the next Node, and says whether there was room for all of them.
+pub fn take_records(b: &mut [u8], s: &[u8], at: usize, held: u64, gc: u64, clock: u64) -> bool
+    requires { ⌜ LaidNode (now b) × (at ≤ length (now s)) ⌝ }
+    ensures { λ r. ⌜ Tried (takeAll held gc clock (recsFrom (now (s .entry)) at) (recsOf (now (b .entry)))) (now (b .entry)) r (now (b .exit)) ⌝ }
+{
+    let mut i = at;
+    while i < s.len() {
+        let read = delta::read_op(s, i);
+        let OpRead::Got { op, next } = read else {
+            return true;
+        };
+        let step = take_op(b, s, op, held, gc, clock);
+        match step {
+            Step::Over => return true,
+            Step::Full => return false,
+            Step::Taken => i = next,
+        }
+    }
+    true
+}
+
+// ---- the node deltas of a delta
+
+// Looks from behind a Node operation to the next Node or the end.
+pub fn look_ahead(s: &[u8], at: usize) -> Behind
+    requires { ⌜ at ≤ length (now s) ⌝ }
+    ensures { λ r. ⌜ Ahead (now (s .entry)) at r ⌝ }
+{
+    let mut max: u64 = 0;
+    let mut i = at;
+    while i < s.len() {
+        let read = delta::read_op(s, i);
+        let OpRead::Got { op, next } = read else {
+            return Behind { max, end: s.len() };
+        };
+        match op {
+            Op::Node {
+                number: _,
+                gc: _,
+                from: _,
+            } => return Behind { max, end: i },
+            Op::KeyValue {
+                keyat: _,
+                keylen: _,
+                valueat: _,
+                valuelen: _,
+                version,
+                status: _,
+            } => max = version,
+            Op::SetMaxVersion { max: given } => max = given,
+        }
+        i = next;
+    }
+    Behind { max, end: i }
+}
+
+// The node delta whose Node operation stands at `at`.
+pub fn node_delta(s: &[u8], at: usize) -> NodeDelta
+    requires { ⌜ (at ≤ length (now s)) × Begins (now s) at ⌝ }
+    ensures { λ r. ⌜ Headed (now (s .entry)) at r ⌝ }
+{
+    if at == s.len() {
+        return NodeDelta::Nothing;
+    }
+    let read = delta::read_op(s, at);
+    let OpRead::Got { op, next } = read else {
+        return NodeDelta::Nothing;
+    };
+    match op {
+        Op::Node { number, gc, from } => {
+            let behind = look_ahead(s, next);
+            NodeDelta::Of {
+                number,
+                gc,
+                from,
+                max: behind.max,
+                records: next,
+                end: behind.end,
+            }
+        }
+        Op::KeyValue {
+            keyat: _,
+            keylen: _,
+            valueat: _,
+            valuelen: _,
+            version: _,
+            status: _,
+        } => NodeDelta::Nothing,
+        Op::SetMaxVersion { max: _ } => NodeDelta::Nothing,
+    }
+}
