@@ -43,7 +43,7 @@ pub record Took (o : Op) (m : List ℕ) (n : ℕ) (after : List ℕ) : Type 0 wh
 
 pub took : (o : Op) (m : List ℕ) (answer : Wrote) (after : List ℕ) (n : ℕ) → WritesOp o m answer after → answer ≡ Bytes n → Took o m n after
 unfolding writeOp
-took o m answer after n w e = go (leb (sizeOf o) (length m)) refl (sym e ∙ w .answered) (w .written)
+took o m answer after n w e = go (leb (sizeOf o) (length m)) refl (sym e ∙ w .0) (w .1)
   where
     go : (t : Bool) → leb (sizeOf o) (length m) ≡ t → Bytes n ≡ pick t (fills (Bytes (sizeOf o)) (put 0 (opBytes o) m)) (fills NoFit m) .answer
         → after ≡ pick t (fills (Bytes (sizeOf o)) (put 0 (opBytes o) m)) (fills NoFit m) .list → Took o m n after
@@ -57,7 +57,7 @@ pub record Left (o : Op) (m after : List ℕ) : Type 0 where
 
 pub left : (o : Op) (m : List ℕ) (answer : Wrote) (after : List ℕ) → WritesOp o m answer after → answer ≡ NoFit → Left o m after
 unfolding writeOp
-left o m answer after w e = go (leb (sizeOf o) (length m)) refl (sym e ∙ w .answered) (w .written)
+left o m answer after w e = go (leb (sizeOf o) (length m)) refl (sym e ∙ w .0) (w .1)
   where
     go : (t : Bool) → leb (sizeOf o) (length m) ≡ t → NoFit ≡ pick t (fills (Bytes (sizeOf o)) (put 0 (opBytes o) m)) (fills NoFit m) .answer
         → after ≡ pick t (fills (Bytes (sizeOf o)) (put 0 (opBytes o) m)) (fills NoFit m) .list → Left o m after
