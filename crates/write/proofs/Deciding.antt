@@ -13,11 +13,11 @@ use Rattle.fields.specs.Order.{sameBytes}
 use Rattle.fields.proofs.Choice.{pick-true, pick-false, and-intro, and-yes, and-no}
 use Rattle.rules.specs.Sizes.{maxRecords, maxKey, maxValue, top}
 use Rattle.rules.specs.Delta.{statusByte}
-use Rattle.rules.specs.Node.{Rec, Node, Change, Call, Decision, Refuse, Leave, Give, sameStatus, brought, find, unlessSame, ifThere, wish, fullFor, allowed, decide}
+use Rattle.rules.specs.Node.{Rec, Node, Change, Call, Deleting, DeletingAfterTtl, Decision, Refuse, Leave, Give, sameStatus, brought, find, unlessSame, ifThere, wish, fullFor, allowed, decide}
 use Rattle.rules.specs.declared.Status.{Status}
 use Rattle.rules.specs.declared.Status.the-variants.{Set, Delete, Ttl}
 use Rattle.rules.specs.declared.Refusal.the-variants.{TooLong, NoKey, NodeFull, Exhausted}
-use Rattle.write.specs.Writes.{alike, rising, adding, changing, within, setting}
+use Rattle.write.specs.Writes.{deleted, expired, alike, rising, adding, changing, within, setting}
 
 -- ---- the same value and status
 
@@ -108,3 +108,11 @@ module _ (k : List ℕ) (n : Node) (c : Call) (f : Rec → Change) (w : (o : Opt
 
   pub delete-none : length k ≤ maxKey → find k (n .recs) ≡ none → decide c k n ≡ Refuse NoKey
   delete-none g e = there g none e
+
+pub deleted-wished : (t : ℕ) (o : Option Rec) → wish (Deleting t) o ≡ ifThere o (deleted t)
+unfolding wish
+deleted-wished t o = refl
+
+pub expired-wished : (t : ℕ) (o : Option Rec) → wish (DeletingAfterTtl t) o ≡ ifThere o (expired t)
+unfolding wish
+expired-wished t o = refl

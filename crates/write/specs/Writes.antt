@@ -3,7 +3,7 @@
 use Prim.Native.Nat.{ℕ}
 use mathlib.Core.Path.{_≡_}
 use mathlib.Core.Bool.{Bool, _&&_}
-use mathlib.Core.List.{List}
+use mathlib.Core.List.{List, []}
 use lib.ListN.{length}
 use lib.Dec.{leb, ltb}
 use Rattle.fields.specs.Choice.{pick}
@@ -13,10 +13,10 @@ use Rattle.rules.specs.Node.{Rec, Node, Change, Call, Setting, SettingTtl, Dele
 use Rattle.rules.specs.Local.{answerOf}
 use Rattle.rules.specs.Layout.{encodeNode, decodeNode}
 use Rattle.rules.specs.declared.Status.{Status}
+use Rattle.rules.specs.declared.Status.the-variants.{Delete, Ttl}
 use Rattle.rules.specs.declared.Answer.{Answer}
 use Rattle.rules.specs.declared.Refusal.the-variants.{TooLong, NodeFull, Exhausted}
 use Rattle.table.specs.Changes.{withNode}
-use Rattle.table.specs.Tests.{recsOf}
 use Rattle.write.specs.declared.Kind.{Kind}
 use Rattle.write.specs.declared.Kind.the-variants as kind
 
@@ -33,6 +33,13 @@ nodeIn b = decodeNode b .node
 
 abbrev pub changeOf : List ℕ → Status → ℕ → Change
 changeOf v s start = record { value = v; status = s; start = start }
+
+-- what a delete makes of the key's record, and what a delete after TTL makes of it
+abbrev pub deleted : ℕ → Rec → Change
+deleted t r = changeOf [] Delete t
+
+abbrev pub expired : ℕ → Rec → Change
+expired t r = changeOf (r .kv .value) Ttl t
 
 -- the record has this value and status already
 abbrev pub alike : Rec → List ℕ → Status → Bool

@@ -21,8 +21,7 @@ ghost use Rattle.table.specs.Fits.{LaidNode};
 ghost use Rattle.table.proofs.Places.{recAt};
 ghost use Rattle.place.specs.Find.{findKey};
 ghost use Rattle.place.specs.declared.Place.the-variants.{At, Free};
-ghost use Rattle.write.specs.Writes.{Acted, nodeIn, changeOf, alike, rising, adding, changing, setting, callOf};
-ghost use Rattle.rules.specs.declared.Status.the-variants.{Ttl};
+ghost use Rattle.write.specs.Writes.{Acted, nodeIn, changeOf, alike, rising, adding, expired, changing, setting, callOf};
 
 // The largest version, 2^64-1: a max that has it cannot rise.
 const LARGEST: u64 = 18446744073709551615;
@@ -142,7 +141,7 @@ fn copy_value(b: &[u8], j: usize, out: &mut [u8]) -> usize
 // A delete after TTL of record `j`, which has the key: 6, or it is scheduled and keeps its value.
 fn expire_at(b: &mut [u8], j: usize, key: &[u8], time: u64) -> Answer
     requires { ⌜ LaidNode (now b) × (findKey (now key) (recsOf (now b)) ≡ At j) × (length (now key) ≤ maxKey) ⌝ }
-    ensures { λ r. ⌜ Acted (now (key .entry)) (rising (changeOf (recAt j (now (b .entry)) .kv .value) Ttl time) (nodeIn (now (b .entry)))) (now (b .entry)) r (now (b .exit)) ⌝ }
+    ensures { λ r. ⌜ Acted (now (key .entry)) (rising (expired time (recAt j (now (b .entry)))) (nodeIn (now (b .entry)))) (now (b .entry)) r (now (b .exit)) ⌝ }
 {
     let mut held = [0u8; 64];
     let n = copy_value(b, j, &mut held);

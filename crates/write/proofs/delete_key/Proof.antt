@@ -1,23 +1,19 @@
 -- `write::delete_key` meets its contract. Assumes nothing.
 use Prim.Native.Nat.{ℕ, _≤_}
-use mathlib.Core.Path.{_≡_, refl, ap, sym, _∙_, subst}
-use mathlib.Core.List.{List, []}
-use mathlib.Core.Option.{Option, none, some}
+use mathlib.Core.Path.{_≡_, sym, _∙_, subst}
+use mathlib.Core.List.{List}
 use native.Mathlib.Omega.{arith}
 use lib.ListN.{length}
 use Rattle.rules.specs.Sizes.{maxKey, maxValue}
-use Rattle.rules.specs.Node.{Rec, Change, Decision, Deleting, wish, ifThere, decide}
-use Rattle.rules.specs.declared.Status.the-variants.{Delete}
+use Rattle.rules.specs.Node.{Decision, Deleting}
 use Rattle.rules.specs.declared.Refusal.the-variants.{TooLong, NoKey}
 use Rattle.table.specs.Tests.{recsOf}
-use Rattle.table.proofs.Places.{recAt}
 use Rattle.place.specs.Find.{findKey}
-use Rattle.place.specs.declared.Place.{Place}
-use Rattle.place.specs.declared.Place.the-variants.{At, Free}
+use Rattle.place.specs.declared.Place.the-variants.{At}
 use Rattle.place.proofs.Searched.{rec-found, rec-missing}
-use Rattle.write.specs.Writes.{Acted, nodeIn, changeOf, rising}
+use Rattle.write.specs.Writes.{Acted, nodeIn, deleted}
 use Rattle.write.proofs.Acting.{refused}
-use Rattle.write.proofs.Deciding.{delete-long, delete-at, delete-none}
+use Rattle.write.proofs.Deciding.{delete-long, delete-at, delete-none, deleted-wished}
 use borrow.Author.Needs.{needs}
 use Rattle.write.proofs.delete_key.Statement.{statement}
 use Rattle.write.proofs.delete_key.Tie as tie
@@ -25,14 +21,6 @@ use Rattle.write.proofs.delete_key.Reads as reads
 use Rattle.write.proofs.delete_key.Lts as lts
 use Rattle.place.proofs.find_key.Reads as find-key-reads
 use Rattle.write.proofs.rewrite.Reads as rewrite-reads
-
--- what the record becomes
-abbrev becomes : ℕ → Rec → Change
-becomes t r = changeOf [] Delete t
-
-wished : (t : ℕ) (o : Option Rec) → wish (Deleting t) o ≡ ifThere o (becomes t)
-unfolding wish
-wished t o = refl
 
 key-fits : (c : tie.Else1) → length ((c .before .before .before) .args .key .now) ≤ maxKey
 key-fits c = omega arith
@@ -46,7 +34,7 @@ returns c =
     let st = (c .before .before .before) in
     let a = st .args in
     refused (a .key .now) (a .b .now) (st .pre .0) _ TooLong
-    (delete-long (a .key .now) (nodeIn (a .b .now)) (Deleting (a .time)) (becomes (a .time)) (wished (a .time)) (omega arith) (omega arith))
+    (delete-long (a .key .now) (nodeIn (a .b .now)) (Deleting (a .time)) (deleted (a .time)) (deleted-wished (a .time)) (omega arith) (omega arith))
 
 find-key-requires : tie.Need-find-key-requires
 find-key-requires c κs = search needs
@@ -74,7 +62,7 @@ returns-2 c =
     let r = (c .before .before) .rewrite in
     subst (λ (d : Decision). Acted (a .key .now) d (a .b .now) (r .result) (r .last .0))
     (sym
-    (delete-at (a .key .now) (nodeIn (a .b .now)) (Deleting (a .time)) (becomes (a .time)) (wished (a .time)) (omega arith) (key-fits ((c .before .before .before .before .before .before .before .before .before .before)))
+    (delete-at (a .key .now) (nodeIn (a .b .now)) (Deleting (a .time)) (deleted (a .time)) (deleted-wished (a .time)) (omega arith) (key-fits ((c .before .before .before .before .before .before .before .before .before .before)))
     (rec-found (a .b .now) (a .key .now) _ (stands ((c .before .before .before .before .before .before))))))
     (r .ensures)
 
@@ -86,7 +74,7 @@ returns-3 c =
     let st = (c .before .before .before .before .before .before .before) in
     let a = st .args in
     refused (a .key .now) (a .b .now) (st .pre .0) _ NoKey
-    (delete-none (a .key .now) (nodeIn (a .b .now)) (Deleting (a .time)) (becomes (a .time)) (wished (a .time)) (omega arith) (key-fits ((c .before .before .before .before)))
+    (delete-none (a .key .now) (nodeIn (a .b .now)) (Deleting (a .time)) (deleted (a .time)) (deleted-wished (a .time)) (omega arith) (key-fits ((c .before .before .before .before)))
     (rec-missing (a .b .now) (a .key .now) _ (st .pre .1) (sym ((c .before .before) .find-key .ensures) ∙ c .enum-told .given .1)))
 
 pub delete-key-spec : {M : Type 1} → statement M
