@@ -1,0 +1,28 @@
+-- `exports::kev_compute` meets its contract: the call, and its answer as a number. Assumes nothing.
+use mathlib.Core.Path.{ap, _∙_}
+use Rattle.exports.specs.Numbers.{bytesComputed}
+use borrow.Author.Needs.{needs}
+use Rattle.exports.proofs.kev_compute.Statement.{statement}
+use Rattle.exports.proofs.kev_compute.Tie as tie
+use Rattle.exports.proofs.kev_compute.Reads as reads
+use Rattle.exports.proofs.kev_compute.Lts as lts
+use Rattle.compute.proofs.compute.Reads as compute-reads
+use Rattle.exports.proofs.bytes_computed.Reads as bytes-computed-reads
+
+compute-requires : tie.Need-compute-requires
+compute-requires c κs = search needs
+
+bytes-computed-requires : tie.Need-bytes-computed-requires
+bytes-computed-requires c κs = search needs
+
+same-length : tie.Need-same-length
+same-length c = search needs
+
+returns : tie.Need-returns
+returns c =
+    let e = c .before .before .before .compute .ensures in
+    (c .bytes-computed .ensures ∙ ap bytesComputed (e .0), e .1)
+
+pub kev-compute-spec : {M : Type 1} → statement M
+kev-compute-spec =
+    tie.close (tie.spec compute-requires bytes-computed-requires same-length returns)

@@ -1,0 +1,28 @@
+-- `exports::kev_compute_good` meets its contract: the call, and its answer as a number. Assumes nothing.
+use mathlib.Core.Path.{ap, _∙_}
+use Rattle.exports.specs.Numbers.{bytesComputed}
+use borrow.Author.Needs.{needs}
+use Rattle.exports.proofs.kev_compute_good.Statement.{statement}
+use Rattle.exports.proofs.kev_compute_good.Tie as tie
+use Rattle.exports.proofs.kev_compute_good.Reads as reads
+use Rattle.exports.proofs.kev_compute_good.Lts as lts
+use Rattle.compute.proofs.compute_good.Reads as compute-good-reads
+use Rattle.exports.proofs.bytes_computed.Reads as bytes-computed-reads
+
+compute-good-requires : tie.Need-compute-good-requires
+compute-good-requires c κs = search needs
+
+bytes-computed-requires : tie.Need-bytes-computed-requires
+bytes-computed-requires c κs = search needs
+
+same-length : tie.Need-same-length
+same-length c = search needs
+
+returns : tie.Need-returns
+returns c =
+    let e = c .before .before .before .compute-good .ensures in
+    (c .bytes-computed .ensures ∙ ap bytesComputed (e .0), e .1)
+
+pub kev-compute-good-spec : {M : Type 1} → statement M
+kev-compute-good-spec =
+    tie.close (tie.spec compute-good-requires bytes-computed-requires same-length returns)

@@ -1,0 +1,22 @@
+-- `exports::kev_find` meets its contract: the call, and its answer as a number. Assumes nothing.
+use mathlib.Core.Path.{ap, _∙_}
+use Rattle.lookup.specs.Lookup.{startOf}
+use borrow.Author.Needs.{needs}
+use Rattle.exports.proofs.kev_find.Statement.{statement}
+use Rattle.exports.proofs.kev_find.Tie as tie
+use Rattle.exports.proofs.kev_find.Reads as reads
+use Rattle.exports.proofs.kev_find.Lts as lts
+use Rattle.exports.proofs.start_of.Reads as start-of-reads
+use Rattle.lookup.proofs.find.Reads as find-reads
+
+find-requires : tie.Need-find-requires
+find-requires c κs = search needs
+
+start-of-requires : tie.Need-start-of-requires
+start-of-requires c κs = search needs
+
+returns : tie.Need-returns
+returns c = c .start-of .ensures ∙ ap startOf (c .before .find .ensures)
+
+pub kev-find-spec : {M : Type 1} → statement M
+kev-find-spec = tie.close (tie.spec find-requires start-of-requires returns)

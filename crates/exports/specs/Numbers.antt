@@ -1,0 +1,37 @@
+-- What a foreign caller is told of an answer: one number.
+use Prim.Native.Nat.{ℕ}
+use Rattle.rules.specs.declared.Written.{Written}
+use Rattle.rules.specs.declared.Written.the-variants as written
+use Rattle.rules.specs.declared.Computed.{Computed}
+use Rattle.rules.specs.declared.Computed.the-variants as computed
+use Rattle.rules.specs.declared.DeltaRead.{DeltaRead}
+use Rattle.rules.specs.declared.DeltaRead.the-variants as read
+use Rattle.rules.specs.declared.Applied.{Applied}
+use Rattle.rules.specs.declared.Applied.the-variants as applied
+use Rattle.digest.specs.declared.DigestRead.{DigestRead}
+use Rattle.digest.specs.declared.DigestRead.the-variants as digest
+
+-- how many bytes a digest took, 0 where it was refused
+abbrev pub bytesWritten : Written → ℕ
+bytesWritten (written.Bytes n) = n
+bytesWritten (written.Refused r) = 0
+
+-- how many bytes a delta took, 0 where it was refused
+abbrev pub bytesComputed : Computed → ℕ
+bytesComputed (computed.Delta ops bytes) = bytes
+bytesComputed (computed.Refused r) = 0
+
+-- how many operations a delta holds, 0 where it was refused
+abbrev pub opsRead : DeltaRead → ℕ
+opsRead (read.Good ops nodes) = ops
+opsRead (read.Refused r at) = 0
+
+-- how many answers applying gave, 0 where it was refused
+abbrev pub nodesApplied : Applied → ℕ
+nodesApplied (applied.Nodes n) = n
+nodesApplied (applied.Refused r at) = 0
+
+-- how many nodes a digest tells of, 0 where it was refused
+abbrev pub nodesTold : DigestRead → ℕ
+nodesTold (digest.Nodes count rest) = count
+nodesTold (digest.Refused r) = 0

@@ -1,0 +1,268 @@
+// The calls that the measurement and a foreign caller link, as C functions: a slice is a pointer and a length. Each is one call of a crate below and
+// tells its answer as one number. A `_good` function asks for a table that `kev_check` accepts, and nobody checks a foreign caller.
+use digest::DigestRead;
+use lookup::Found;
+use rules::Answer;
+use rules::Applied;
+use rules::Computed;
+use rules::DeltaRead;
+use rules::Written;
+use write::Kind;
+ghost use mathlib.Core.Path.{_≡_};
+ghost use mathlib.Core.Bool.{true};
+ghost use Prim.Native.Nat.{_≤_};
+ghost use lib.ListN.{length};
+ghost use Rattle.fields.specs.Parts.{put};
+ghost use Rattle.rules.specs.Answers.{answerTold};
+ghost use Rattle.rules.specs.Node.{Setting, Deleting, due};
+ghost use Rattle.rules.specs.Local.{call};
+ghost use Rattle.rules.specs.Table.{removeAll};
+ghost use Rattle.rules.specs.Compute as computing;
+ghost use Rattle.rules.specs.Delta.{deltaRead};
+ghost use Rattle.rules.specs.Apply.{applyNode, applyEach, codes};
+ghost use Rattle.rules.specs.Layout.{encode, decode, valid};
+ghost use Rattle.rules.specs.Lent.{lentCall, lentGc, lentDigest, lentCompute, lentApply};
+ghost use Rattle.lookup.specs.Lookup.{foundIn, lentFind, startOf};
+ghost use Rattle.digest.specs.Held.{digestIn};
+ghost use Rattle.take.specs.Taking.{partsFrom};
+ghost use Rattle.apply.specs.Applying.{Accepted};
+ghost use Rattle.exports.specs.Numbers.{bytesWritten, bytesComputed, opsRead, nodesApplied, nodesTold};
+
+// ---- one number for an answer
+
+// 0 where the call was accepted, else the number of the refusal.
+fn number_of(a: Answer) -> u64
+    ensures { λ r. ⌜ r ≡ answerTold a .number ⌝ }
+{
+    match a {
+        Answer::Done => 0,
+        Answer::Refused(why) => why.number(),
+    }
+}
+
+// Where a value begins in the table: 0 where there is none.
+fn start_of(found: Found) -> usize
+    ensures { λ r. ⌜ r ≡ startOf found ⌝ }
+{
+    match found {
+        Found::At { start, len: _ } => start,
+        Found::Nothing => 0,
+        Found::Refused(_) => 0,
+    }
+}
+
+// How many bytes a digest took.
+fn bytes_written(w: Written) -> usize
+    ensures { λ r. ⌜ r ≡ bytesWritten w ⌝ }
+{
+    match w {
+        Written::Bytes(n) => n,
+        Written::Refused(_) => 0,
+    }
+}
+
+// How many bytes a delta took.
+fn bytes_computed(c: Computed) -> usize
+    ensures { λ r. ⌜ r ≡ bytesComputed c ⌝ }
+{
+    match c {
+        Computed::Delta { ops: _, bytes } => bytes,
+        Computed::Refused(_) => 0,
+    }
+}
+
+// How many operations a delta holds.
+fn ops_read(d: DeltaRead) -> usize
+    ensures { λ r. ⌜ r ≡ opsRead d ⌝ }
+{
+    match d {
+        DeltaRead::Good { ops, nodes: _ } => ops,
+        DeltaRead::Refused { why: _, at: _ } => 0,
+    }
+}
+
+// How many answers applying gave.
+fn nodes_applied(a: Applied) -> usize
+    ensures { λ r. ⌜ r ≡ nodesApplied a ⌝ }
+{
+    match a {
+        Applied::Nodes(n) => n,
+        Applied::Refused { why: _, at: _ } => 0,
+    }
+}
+
+// How many nodes a digest tells of.
+fn nodes_told(d: DigestRead) -> usize
+    ensures { λ r. ⌜ r ≡ nodesTold d ⌝ }
+{
+    match d {
+        DigestRead::Nodes { count, rest: _ } => count,
+        DigestRead::Refused(_) => 0,
+    }
+}
+
+// ---- the check
+
+#[no_mangle]
+pub extern "C" fn kev_check(table: &[u8]) -> bool
+    ensures { λ r. ⌜ r ≡ valid (now (table .entry)) ⌝ }
+{
+    valid::check_table(table)
+}
+
+// ---- lookup
+
+#[no_mangle]
+pub extern "C" fn kev_find(table: &[u8], number: u64, key: &[u8]) -> usize
+    ensures { λ r. ⌜ r ≡ startOf (lentFind number (now (key .entry)) (now (table .entry))) ⌝ }
+{
+    start_of(lookup::find(table, number, key))
+}
+
+#[no_mangle]
+pub extern "C" fn kev_find_good(table: &[u8], number: u64, key: &[u8]) -> usize
+    requires { ⌜ valid (now table) ≡ true ⌝ }
+    ensures { λ r. ⌜ r ≡ startOf (foundIn number (now (key .entry)) (decode (now (table .entry)))) ⌝ }
+{
+    start_of(lookup::find_good(table, number, key))
+}
+
+// ---- local writes
+
+#[no_mangle]
+pub extern "C" fn kev_set(table: &mut [u8], number: u64, key: &[u8], value: &[u8]) -> u64
+    ensures { λ r. ⌜ (r ≡ answerTold (lentCall (Setting (now (value .entry))) number (now (key .entry)) (now (table .entry)) .answer) .number)
+        × (now (table .exit) ≡ lentCall (Setting (now (value .entry))) number (now (key .entry)) (now (table .entry)) .bytes) ⌝ }
+{
+    number_of(local::set(table, number, key, value))
+}
+
+#[no_mangle]
+pub extern "C" fn kev_set_good(table: &mut [u8], number: u64, key: &[u8], value: &[u8]) -> u64
+    requires { ⌜ valid (now table) ≡ true ⌝ }
+    ensures { λ r. ⌜ (r ≡ answerTold (call (Setting (now (value .entry))) number (now (key .entry)) (decode (now (table .entry))) .answer) .number)
+        × (now (table .exit) ≡ encode (call (Setting (now (value .entry))) number (now (key .entry)) (decode (now (table .entry))) .table)) ⌝ }
+{
+    number_of(local::write_good(table, number, Kind::Setting, key, value, 0))
+}
+
+#[no_mangle]
+pub extern "C" fn kev_delete(table: &mut [u8], number: u64, key: &[u8], time: u64) -> u64
+    ensures { λ r. ⌜ (r ≡ answerTold (lentCall (Deleting time) number (now (key .entry)) (now (table .entry)) .answer) .number)
+        × (now (table .exit) ≡ lentCall (Deleting time) number (now (key .entry)) (now (table .entry)) .bytes) ⌝ }
+{
+    number_of(local::delete(table, number, key, time))
+}
+
+#[no_mangle]
+pub extern "C" fn kev_delete_good(table: &mut [u8], number: u64, key: &[u8], time: u64) -> u64
+    requires { ⌜ valid (now table) ≡ true ⌝ }
+    ensures { λ r. ⌜ (r ≡ answerTold (call (Deleting time) number (now (key .entry)) (decode (now (table .entry))) .answer) .number)
+        × (now (table .exit) ≡ encode (call (Deleting time) number (now (key .entry)) (decode (now (table .entry))) .table)) ⌝ }
+{
+    number_of(local::write_good(table, number, Kind::Deleting, key, b"", time))
+}
+
+// ---- removal
+
+#[no_mangle]
+pub extern "C" fn kev_remove(table: &mut [u8], time: u64, grace: u64) -> u64
+    ensures { λ r. ⌜ (r ≡ answerTold (lentGc time grace (now (table .entry)) .answer) .number) × (now (table .exit) ≡ lentGc time grace (now (table .entry)) .bytes) ⌝ }
+{
+    number_of(removal::remove_scheduled(table, time, grace))
+}
+
+#[no_mangle]
+pub extern "C" fn kev_remove_good(table: &mut [u8], time: u64, grace: u64)
+    requires { ⌜ valid (now table) ≡ true ⌝ }
+    ensures { λ _. ⌜ now (table .exit) ≡ encode (removeAll (λ i. due time grace) (decode (now (table .entry)))) ⌝ }
+{
+    removal::remove_good(table, time, grace);
+}
+
+// ---- digests
+
+#[no_mangle]
+pub extern "C" fn kev_write_digest(
+    table: &[u8],
+    excluded: &[u64],
+    datagram: &mut [u8],
+    place: usize,
+) -> usize
+    ensures { λ r. ⌜ (r ≡ bytesWritten (lentDigest (now (excluded .entry)) place (now (datagram .entry)) (now (table .entry)) .answer))
+        × (now (datagram .exit) ≡ lentDigest (now (excluded .entry)) place (now (datagram .entry)) (now (table .entry)) .list) ⌝ }
+{
+    bytes_written(digestwrite::write_digest(table, excluded, datagram, place))
+}
+
+#[no_mangle]
+pub extern "C" fn kev_read_digest(bytes: &[u8]) -> usize
+    ensures { λ r. ⌜ r ≡ nodesTold (digestIn (now (bytes .entry)) .read) ⌝ }
+{
+    let d = digest::read_digest(bytes);
+    let read = d.read;
+    nodes_told(read)
+}
+
+// ---- deltas
+
+#[no_mangle]
+pub extern "C" fn kev_read_delta(delta: &[u8]) -> usize
+    ensures { λ r. ⌜ r ≡ opsRead (deltaRead (now (delta .entry))) ⌝ }
+{
+    ops_read(delta::read_delta(delta))
+}
+
+#[no_mangle]
+pub extern "C" fn kev_compute(
+    table: &[u8],
+    digest: &[u8],
+    mtu: usize,
+    excluded: &[u64],
+    ties: &[u64],
+    datagram: &mut [u8],
+    place: usize,
+) -> usize
+    ensures { λ r. ⌜ (r ≡ bytesComputed (lentCompute (now (excluded .entry)) (now (ties .entry)) mtu place (now (digest .entry)) (now (datagram .entry)) (now (table .entry)) .answer))
+        × (now (datagram .exit)
+        ≡ lentCompute (now (excluded .entry)) (now (ties .entry)) mtu place (now (digest .entry)) (now (datagram .entry)) (now (table .entry)) .list) ⌝ }
+{
+    bytes_computed(compute::compute(table, digest, mtu, excluded, ties, datagram, place))
+}
+
+#[no_mangle]
+pub extern "C" fn kev_compute_good(
+    table: &[u8],
+    digest: &[u8],
+    mtu: usize,
+    excluded: &[u64],
+    ties: &[u64],
+    datagram: &mut [u8],
+    place: usize,
+) -> usize
+    requires { ⌜ valid (now table) ≡ true ⌝ }
+    ensures { λ r. ⌜ (r ≡ bytesComputed (computing.compute (now (excluded .entry)) (now (ties .entry)) mtu place (now (digest .entry)) (decode (now (table .entry))) (now (datagram .entry)) .answer))
+        × (now (datagram .exit)
+        ≡ computing.compute (now (excluded .entry)) (now (ties .entry)) mtu place (now (digest .entry)) (decode (now (table .entry))) (now (datagram .entry)) .list) ⌝ }
+{
+    bytes_computed(compute::compute_good(table, digest, mtu, excluded, ties, datagram, place))
+}
+
+#[no_mangle]
+pub extern "C" fn kev_apply(table: &mut [u8], delta: &[u8], clock: u64, answers: &mut [u8]) -> usize
+    ensures { λ r. ⌜ (r ≡ nodesApplied (lentApply (now (delta .entry)) clock (now (answers .entry)) (now (table .entry)) .answer))
+        × (now (table .exit) ≡ lentApply (now (delta .entry)) clock (now (answers .entry)) (now (table .entry)) .bytes)
+        × (now (answers .exit) ≡ lentApply (now (delta .entry)) clock (now (answers .entry)) (now (table .entry)) .list) ⌝ }
+{
+    nodes_applied(apply::apply(table, delta, clock, answers))
+}
+
+// The delta must be one that `kev_read_delta` accepts, with a place for each answer.
+#[no_mangle]
+pub extern "C" fn kev_apply_good(table: &mut [u8], delta: &[u8], clock: u64, answers: &mut [u8])
+    requires { ⌜ (valid (now table) ≡ true) × Accepted (now delta) × (length (partsFrom (now delta) 0) ≤ length (now answers)) ⌝ }
+    ensures { λ _. ⌜ (now (table .exit) ≡ encode (applyEach (applyNode clock) (partsFrom (now (delta .entry)) 0) (decode (now (table .entry))) .table))
+        × (now (answers .exit) ≡ put 0 (codes (applyEach (applyNode clock) (partsFrom (now (delta .entry)) 0) (decode (now (table .entry))) .answers)) (now (answers .entry))) ⌝ }
+{
+    apply::apply_good(table, delta, clock, answers);
+}
