@@ -28,7 +28,7 @@ const DELTA_MOST: usize = 16_384;
 const UNTOUCHED: u8 = 0xEE;
 
 pub struct Hub {
-    cluster: ClusterState,
+    pub(crate) cluster: ClusterState,
     /// The lent bytes where they are no good table. The original is never asked then.
     bad: Option<Vec<u8>>,
 }

@@ -3,7 +3,7 @@
 //! - `mount`: the original files as modules, each with a probe beside it that reaches its private items.
 //! - `wire`: document 01's bytes to the original's bytes and back.
 //! - `hub`: one table. It holds the layer of refusals that document 01 adds around the original.
-//! - `raw`: the original without that layer.
+//! - `raw`: the original without that layer, for the findings; `timed`: the same for the measurement.
 
 // The original's own looks are not ours to mend.
 #![allow(dead_code, mismatched_lifetime_syntaxes, unused_imports, clippy::all)]
@@ -41,6 +41,7 @@ mod types {
 
 pub mod hub;
 pub mod raw;
+pub mod timed;
 mod wire;
 
 // What the original files import from their crate's root.

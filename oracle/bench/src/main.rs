@@ -1,0 +1,532 @@
+//! The port and the original Rust side by side, in one process and on the same inputs. Prints the table of
+//! docs/SPEED.md.
+//!
+//! A row has two sides. Each runs a batch of calls between two looks at the clock, so that the clock's cost does not
+//! count, and the two take turns, so that load on the machine hits both; the row shows the medians. Before a row is timed both sides do
+//! the same once, and what they did must be equal; where they change their table it must be equal afterwards too.
+//!
+//! A call that changes its table is repeated so that each call finds the same work. A set that changes goes over all
+//! keys with values of two turns. For a new key, a delete and applying, the tables are made anew before each batch, outside
+//! the time.
+
+mod inputs;
+mod port;
+mod stack;
+
+use std::hint::black_box;
+use std::time::Instant;
+
+use judge::timed::{self, Timed};
+
+use crate::inputs::{NODES, RECORDS};
+
+const ROUNDS: usize = 400;
+
+const NOW: u64 = 1_000;
+const GRACE: u64 = 50;
+const TIES: [u64; NODES as usize] = [0; NODES as usize];
+
+/// What the port may take at most.
+enum Aim {
+    /// So many times the other side's time.
+    Times(f64),
+    /// No aim: shown beside the others.
+    None,
+}
+
+struct Row {
+    name: &'static str,
+    aim: Aim,
+    /// What the port stands beside, where that is not the same call of the Rust.
+    beside: &'static str,
+    rust: f64,
+    port: f64,
+}
+
+fn median(times: &mut [f64]) -> f64 {
+    times.sort_by(f64::total_cmp);
+    times[times.len() / 2]
+}
+
+/// Nanoseconds a call, of so many calls.
+fn time(calls: usize, batch: impl FnOnce()) -> f64 {
+    let start = Instant::now();
+    batch();
+    start.elapsed().as_nanos() as f64 / calls as f64
+}
+
+/// Nanoseconds a call, of the same call so many times.
+fn repeat(calls: usize, mut call: impl FnMut()) -> f64 {
+    time(calls, || (0..calls).for_each(|_| call()))
+}
+
+/// Nanoseconds a call, of one for each key.
+fn over(keys: &[Asked], call: impl FnMut(&Asked)) -> f64 {
+    time(keys.len(), || keys.iter().for_each(call))
+}
+
+#[derive(Default)]
+struct Rows(Vec<Row>);
+
+impl Rows {
+    fn measure(
+        &mut self,
+        name: &'static str,
+        beside: &'static str,
+        aim: Aim,
+        mut rust: impl FnMut() -> f64,
+        mut port: impl FnMut() -> f64,
+    ) {
+        let (mut rusts, mut ports) = (Vec::new(), Vec::new());
+        for round in 0..ROUNDS {
+            if round % 2 == 0 {
+                rusts.push(rust());
+                ports.push(port());
+            } else {
+                ports.push(port());
+                rusts.push(rust());
+            }
+        }
+        self.0.push(Row { name, aim, beside, rust: median(&mut rusts), port: median(&mut ports) });
+    }
+
+    fn print(&self) {
+        println!("| call | Rust ns | port ns | ratio | aim | |");
+        println!("|---|---|---|---|---|---|");
+        for Row { name, aim, beside, rust, port } in &self.0 {
+            let ratio = port / rust;
+            let (aim, verdict) = match aim {
+                Aim::Times(most) => (format!("{most}"), if ratio <= *most { "met" } else { "MISSED" }),
+                Aim::None => (String::new(), ""),
+            };
+            let digits = if ratio < 1.0 { 3 } else { 2 };
+            println!("| {name}{beside} | {rust:.0} | {port:.0} | {ratio:.digits$} | {aim} | {verdict} |");
+        }
+    }
+}
+
+/// A key with its node on both sides, and values of two turns.
+struct Asked {
+    name: timed::Name,
+    number: u64,
+    key: String,
+    values: [String; 2],
+}
+
+fn asked(records: &[usize]) -> Vec<Asked> {
+    let ask = |(node, record)| Asked {
+        name: timed::name(node),
+        number: node,
+        key: inputs::key(node, record),
+        values: [0, 1].map(|turn| inputs::value(node, record, turn)),
+    };
+    inputs::each(records).into_iter().map(ask).collect()
+}
+
+/// Gets of all keys.
+fn gets(original: &Timed, keys: &[Asked]) -> f64 {
+    over(keys, |asked| {
+        black_box(original.get(&asked.name, black_box(&asked.key)));
+    })
+}
+
+fn check(rows: &mut Rows) {
+    const CALLS: usize = 8;
+    let keys = asked(&inputs::all());
+    let original = Timed::of(&inputs::full());
+    let tables = [
+        ("the check, full table", inputs::full(), Aim::Times(40.0)),
+        ("the check, half full", inputs::table(&inputs::half(), inputs::in_order), Aim::None),
+        ("the check, empty table", inputs::empty(), Aim::Times(20.0)),
+    ];
+    for (name, table, aim) in tables {
+        assert!(port::check(&table));
+        rows.measure(
+            name,
+            " (beside the Rust's get)",
+            aim,
+            || gets(&original, &keys),
+            || {
+                repeat(CALLS, || {
+                    black_box(port::check(black_box(&table)));
+                })
+            },
+        );
+    }
+}
+
+fn lookup(rows: &mut Rows) {
+    let keys = asked(&inputs::all());
+    let table = inputs::full();
+    let original = Timed::of(&table);
+    for asked in &keys {
+        let value = original.get(&asked.name, &asked.key).expect("a key that is held").as_bytes();
+        for good in [false, true] {
+            let start = port::find(&table, asked.number, &asked.key, good);
+            assert_eq!(&table[start..start + value.len()], value);
+        }
+    }
+    for (name, good, aim) in [("lookup", false, Aim::None), ("lookup, good table", true, Aim::Times(1.0))] {
+        rows.measure(
+            name,
+            "",
+            aim,
+            || gets(&original, &keys),
+            || {
+                over(&keys, |asked| {
+                    black_box(port::find(black_box(&table), asked.number, black_box(&asked.key), good));
+                })
+            },
+        );
+    }
+}
+
+/// Sets of all keys, with values of the turn.
+fn sets(rows: &mut Rows, name: &'static str, good: bool, aim: Aim, turns: usize) {
+    let keys = asked(&inputs::all());
+    let mut table = inputs::full();
+    let mut original = Timed::of(&table);
+    let (mut turn, mut other) = (0, 0);
+    rows.measure(
+        name,
+        "",
+        aim,
+        || {
+            turn = (turn + 1) % turns;
+            over(&keys, |asked| {
+                original.set(&asked.name, black_box(&asked.key), black_box(&asked.values[turn]));
+            })
+        },
+        || {
+            other = (other + 1) % turns;
+            over(&keys, |asked| {
+                let value = black_box(&asked.values[other]);
+                black_box(port::set(&mut table, asked.number, black_box(&asked.key), value, good));
+            })
+        },
+    );
+    assert_eq!(original.table(), table, "{name}: the tables differ");
+    assert_eq!(table != inputs::full(), turns > 1, "{name}: whether anything changed");
+}
+
+/// Sets of keys that a half full table lacks, up to a full one.
+fn new_keys(rows: &mut Rows, name: &'static str, good: bool, aim: Aim) {
+    let keys = asked(&inputs::others());
+    let before = inputs::table(&inputs::half(), inputs::in_order);
+    let (mut original, mut table) = (Timed::of(&before), before.clone());
+    rows.measure(
+        name,
+        "",
+        aim,
+        || {
+            original = Timed::of(&before);
+            over(&keys, |asked| {
+                original.set(&asked.name, black_box(&asked.key), black_box(&asked.values[0]));
+            })
+        },
+        || {
+            table.copy_from_slice(&before);
+            over(&keys, |asked| {
+                let value = black_box(&asked.values[0]);
+                black_box(port::set(&mut table, asked.number, black_box(&asked.key), value, good));
+            })
+        },
+    );
+    assert_eq!(original.table(), table, "{name}: the tables differ");
+    assert_eq!(usize::from(table[1 + 32]), RECORDS, "{name}: all keys are held");
+}
+
+/// Deletes of all keys.
+fn deletes(rows: &mut Rows, name: &'static str, good: bool) {
+    let keys = asked(&inputs::all());
+    let before = inputs::full();
+    let (mut original, mut table) = (Timed::of(&before), before.clone());
+    timed::clock(NOW);
+    rows.measure(
+        name,
+        "",
+        Aim::None,
+        || {
+            original = Timed::of(&before);
+            over(&keys, |asked| {
+                original.delete(&asked.name, black_box(&asked.key));
+            })
+        },
+        || {
+            table.copy_from_slice(&before);
+            over(&keys, |asked| {
+                black_box(port::delete(&mut table, asked.number, black_box(&asked.key), NOW, good));
+            })
+        },
+    );
+    assert_eq!(original.table(), table, "{name}: the tables differ");
+}
+
+/// A removal that finds nothing to remove.
+fn removal(rows: &mut Rows, name: &'static str, good: bool) {
+    const CALLS: usize = 16;
+    let mut table = inputs::full();
+    let mut original = Timed::of(&table);
+    timed::clock(NOW);
+    rows.measure(
+        name,
+        "",
+        Aim::None,
+        || {
+            repeat(CALLS, || {
+                original.remove(black_box(GRACE));
+            })
+        },
+        || {
+            repeat(CALLS, || {
+                port::remove(&mut table, NOW, black_box(GRACE), good);
+            })
+        },
+    );
+    assert_eq!(original.table(), table, "{name}: the tables differ");
+    assert_eq!(table, inputs::full(), "{name}: something was removed");
+}
+
+fn digests(rows: &mut Rows) {
+    const CALLS: usize = 16;
+    let table = inputs::full();
+    let original = Timed::of(&table);
+    let mut datagram = vec![0; 1_024];
+    let size = port::write_digest(&table, &mut datagram);
+    let digest = datagram[..size].to_vec();
+    let mut written = Vec::new();
+    original.write_digest(&mut written);
+    assert_eq!(timed::digest_01(&written), digest);
+    rows.measure(
+        "digest made and written",
+        "",
+        Aim::None,
+        || {
+            repeat(CALLS, || {
+                written.clear();
+                original.write_digest(black_box(&mut written));
+            })
+        },
+        || {
+            repeat(CALLS, || {
+                black_box(port::write_digest(black_box(&table), black_box(&mut datagram)));
+            })
+        },
+    );
+    let bytes = timed::digest_bytes(&digest);
+    assert_eq!(timed::read_digest(&bytes), port::read_digest(&digest));
+    rows.measure(
+        "digest read",
+        "",
+        Aim::Times(0.2),
+        || {
+            repeat(CALLS, || {
+                black_box(timed::read_digest(black_box(&bytes)));
+            })
+        },
+        || {
+            repeat(CALLS, || {
+                black_box(port::read_digest(black_box(&digest)));
+            })
+        },
+    );
+}
+
+const NO_DIGEST: [u8; 2] = [0, 0];
+
+/// The delta of a table for an empty digest, by the port. The original must make the same.
+fn delta_of(table: &[u8]) -> (Vec<u8>, usize) {
+    let mut datagram = vec![0; 16_384];
+    let size = port::compute(table, &NO_DIGEST, &TIES, &mut datagram, false);
+    datagram.truncate(size);
+    let nodes = timed::read_delta(&timed::delta_bytes(&datagram));
+    let mut stream = Vec::new();
+    Timed::of(table).compute(&timed::digest_held(&NO_DIGEST), timed::mtu(nodes), &mut stream);
+    assert_eq!(timed::delta_01(&stream), datagram);
+    (datagram, nodes)
+}
+
+fn delta_read(rows: &mut Rows) {
+    const CALLS: usize = 4;
+    let (delta, _) = delta_of(&inputs::full());
+    let stream = timed::delta_bytes(&delta);
+    assert_eq!(timed::operations(&stream), port::read_delta(&delta));
+    rows.measure(
+        "delta of 16,384 bytes read",
+        "",
+        Aim::Times(0.1),
+        || {
+            repeat(CALLS, || {
+                black_box(timed::read_delta(black_box(&stream)));
+            })
+        },
+        || {
+            repeat(CALLS, || {
+                black_box(port::read_delta(black_box(&delta)));
+            })
+        },
+    );
+}
+
+/// Computes and writes under an MTU of 16,384 bytes.
+fn computing(rows: &mut Rows, name: &'static str, table: &[u8], good: bool, aim: Aim) {
+    const CALLS: usize = 4;
+    let (delta, nodes) = delta_of(table);
+    assert!(delta.len() > 16_384 - 111, "{name}: the delta is full");
+    let original = Timed::of(table);
+    let digest = timed::digest_held(&NO_DIGEST);
+    let mtu = timed::mtu(nodes);
+    let mut stream = Vec::new();
+    let mut datagram = vec![0; 16_384];
+    rows.measure(
+        name,
+        "",
+        aim,
+        || {
+            repeat(CALLS, || {
+                stream.clear();
+                original.compute(black_box(&digest), mtu, black_box(&mut stream));
+            })
+        },
+        || {
+            repeat(CALLS, || {
+                let datagram = black_box(&mut datagram);
+                black_box(port::compute(black_box(table), &NO_DIGEST, &TIES, datagram, good));
+            })
+        },
+    );
+    assert_eq!(&datagram[..delta.len()], delta);
+}
+
+/// Computes for a peer that has all. The port reads the digest's bytes, the original has read them before.
+fn nothing_stale(rows: &mut Rows) {
+    const CALLS: usize = 16;
+    let table = inputs::full();
+    let mut datagram = vec![0; 16_384];
+    let size = port::write_digest(&table, &mut datagram);
+    let bytes = datagram[..size].to_vec();
+    let original = Timed::of(&table);
+    let digest = timed::digest_held(&bytes);
+    let mut stream = Vec::new();
+    original.compute(&digest, timed::mtu(0), &mut stream);
+    assert_eq!(timed::read_delta(&stream), 0);
+    let mut compute = |good: bool| {
+        repeat(CALLS, || {
+            black_box(port::compute(black_box(&table), black_box(&bytes), &TIES, black_box(&mut datagram), good));
+        })
+    };
+    let rust = || {
+        repeat(CALLS, || {
+            stream.clear();
+            original.compute(black_box(&digest), timed::mtu(0), black_box(&mut stream));
+        })
+    };
+    let check = || {
+        repeat(CALLS, || {
+            black_box(port::check(black_box(&table)));
+        })
+    };
+    rows.measure("compute, nothing stale", " (beside the port's check)", Aim::Times(1.1), check, || compute(false));
+    rows.measure("compute, nothing stale, good table", "", Aim::None, rust, || compute(true));
+    assert_eq!(port::compute(&table, &bytes, &TIES, &mut datagram, false), 0);
+}
+
+/// Reads a delta of 16,384 bytes and applies it to a table, which is made anew for each batch.
+fn applying(rows: &mut Rows, name: &'static str, before: &[u8], delta: &[u8], answer: u8, good: bool, aim: Aim) {
+    const CALLS: usize = 4;
+    let stream = timed::delta_bytes(delta);
+    let nodes = timed::read_delta(&stream);
+    timed::clock(NOW);
+    let mut originals: Vec<Timed> = Vec::new();
+    let mut tables: Vec<Vec<u8>> = vec![before.to_vec(); CALLS];
+    let mut answers = [9; NODES as usize];
+    rows.measure(
+        name,
+        "",
+        aim,
+        || {
+            originals = (0..CALLS).map(|_| Timed::of(before)).collect();
+            time(CALLS, || {
+                for original in &mut originals {
+                    black_box(original.apply(black_box(&stream)));
+                }
+            })
+        },
+        || {
+            for table in &mut tables {
+                table.copy_from_slice(before);
+            }
+            time(CALLS, || {
+                for table in &mut tables {
+                    black_box(port::apply(table, black_box(delta), NOW, black_box(&mut answers), good));
+                }
+            })
+        },
+    );
+    for (original, table) in originals.iter().zip(&tables) {
+        assert_eq!(&original.table(), table, "{name}: the tables differ");
+    }
+    assert!(answers[..nodes].iter().all(|&code| code == answer), "{name}: {answers:?}");
+}
+
+const REJECT: u8 = 0;
+const APPLY: u8 = 1;
+
+fn main() {
+    let full = inputs::full();
+    let scattered = inputs::table(&inputs::all(), inputs::scattered);
+    let fresh = inputs::table(&[], inputs::in_order);
+    let mut rows = Rows::default();
+    check(&mut rows);
+    lookup(&mut rows);
+    sets(&mut rows, "set, changed", false, Aim::None, 2);
+    sets(&mut rows, "set, changed, good table", true, Aim::Times(1.0), 2);
+    sets(&mut rows, "set, same", false, Aim::None, 1);
+    sets(&mut rows, "set, same, good table", true, Aim::Times(1.0), 1);
+    new_keys(&mut rows, "set, new key", false, Aim::None);
+    new_keys(&mut rows, "set, new key, good table", true, Aim::Times(1.0));
+    deletes(&mut rows, "delete", false);
+    deletes(&mut rows, "delete, good table", true);
+    removal(&mut rows, "removal, nothing to remove", false);
+    removal(&mut rows, "removal, nothing to remove, good table", true);
+    digests(&mut rows);
+    delta_read(&mut rows);
+    computing(&mut rows, "compute 16,384 bytes", &full, false, Aim::Times(0.2));
+    computing(&mut rows, "compute 16,384 bytes, good table", &full, true, Aim::None);
+    computing(&mut rows, "compute 16,384 bytes, versions scattered", &scattered, false, Aim::None);
+    nothing_stale(&mut rows);
+    let (delta, _) = delta_of(&full);
+    applying(&mut rows, "apply 16,384 bytes to a fresh table", &fresh, &delta, APPLY, false, Aim::Times(0.2));
+    applying(
+        &mut rows,
+        "apply 16,384 bytes to a fresh table, good table and delta",
+        &fresh,
+        &delta,
+        APPLY,
+        true,
+        Aim::None,
+    );
+    applying(&mut rows, "apply 16,384 bytes, all rejected", &full, &delta, REJECT, false, Aim::Times(0.2));
+    let (mixed, _) = delta_of(&scattered);
+    applying(
+        &mut rows,
+        "apply 16,384 bytes to a fresh table, versions scattered",
+        &fresh,
+        &mixed,
+        APPLY,
+        false,
+        Aim::None,
+    );
+    rows.print();
+
+    let mut datagram = vec![0; 16_384];
+    let computing = stack::deepest(|| {
+        port::compute(&full, &NO_DIGEST, &TIES, &mut datagram, false);
+    });
+    let mut table = fresh.clone();
+    let applying = stack::deepest(|| {
+        port::apply(&mut table, &delta, NOW, &mut [0; NODES as usize], false);
+    });
+    println!();
+    println!("Deepest stack: compute {computing} bytes, apply {applying} bytes (aim: 8,192).");
+}

@@ -1,0 +1,134 @@
+//! The original for the measurement: its calls by themselves, without the layer. What a caller of the original holds
+//! anyway (a node's name, a digest that was read) is made beforehand.
+
+use std::collections::HashSet;
+use std::time::Duration;
+
+use script::Side;
+use tokio::time::set_clock;
+
+use crate::delta::{Delta, operation_bytes};
+use crate::digest::Digest;
+use crate::hub::Hub;
+use crate::message::ProtocolVersion;
+use crate::serialize::{Deserializable, Serializable};
+use crate::types::ChitchatId;
+use crate::wire;
+
+/// What the original calls a node.
+pub struct Name(ChitchatId);
+
+pub fn name(number: u64) -> Name {
+    Name(wire::chitchat_id(number))
+}
+
+/// A digest that was read.
+pub struct Held(Digest);
+
+/// Document 01's digest as the original's bytes, and read.
+pub fn digest_bytes(bytes: &[u8]) -> Vec<u8> {
+    wire::digest_original(bytes)
+}
+
+pub fn digest_held(bytes: &[u8]) -> Held {
+    Held(Digest::deserialize(ProtocolVersion::V0, &mut &digest_bytes(bytes)[..]).expect("a good digest"))
+}
+
+/// Document 01's delta as the original's stream.
+pub fn delta_bytes(mut bytes: &[u8]) -> Vec<u8> {
+    let mut operations = Vec::new();
+    while !bytes.is_empty() {
+        let cut = wire::first_operation(bytes);
+        operations.extend(&cut.bytes);
+        bytes = &bytes[cut.used..];
+    }
+    wire::plain_stream(&operations)
+}
+
+/// Reads a digest of the original's bytes. How many nodes it tells of.
+pub fn read_digest(bytes: &[u8]) -> usize {
+    Digest::deserialize(ProtocolVersion::V0, &mut &bytes[..]).expect("a good digest").node_digests.len()
+}
+
+/// Reads a delta of the original's stream. How many node deltas it holds.
+pub fn read_delta(stream: &[u8]) -> usize {
+    Delta::deserialize(&mut &stream[..]).expect("a good delta").node_deltas.len()
+}
+
+/// How many operations a delta of the original's stream holds.
+pub fn operations(stream: &[u8]) -> usize {
+    operation_bytes(&Delta::deserialize(&mut &stream[..]).expect("a good delta")).len()
+}
+
+/// The original's MTU at which it cuts a delta with so many Nodes where document 01 does at 16,384.
+pub fn mtu(nodes: usize) -> usize {
+    16_384 + wire::NAME_EXTRA * nodes + 7
+}
+
+pub struct Timed(Hub);
+
+impl Timed {
+    /// The original with what stands in the bytes of a lent table.
+    pub fn of(table: &[u8]) -> Timed {
+        let mut hub = Hub::new();
+        hub.take_table(table);
+        let numbers: Vec<u64> = hub.cluster.nodes().map(|id| id.generation_id).collect();
+        rand::set_ties(numbers.into_iter().map(|number| (number, 0)));
+        Timed(hub)
+    }
+
+    /// The bytes of a lent table with what the original holds.
+    pub fn table(&self) -> Vec<u8> {
+        self.0.table_bytes()
+    }
+
+    pub fn get(&self, node: &Name, key: &str) -> Option<&str> {
+        self.0.cluster.node_state(&node.0)?.get(key)
+    }
+
+    pub fn set(&mut self, node: &Name, key: &str, value: &str) {
+        if let Some(state) = self.0.cluster.node_state_mut(&node.0) {
+            state.set(key, value);
+        }
+    }
+
+    pub fn delete(&mut self, node: &Name, key: &str) {
+        if let Some(state) = self.0.cluster.node_state_mut(&node.0) {
+            state.delete(key);
+        }
+    }
+
+    pub fn remove(&mut self, grace: u64) {
+        self.0.cluster.gc_keys_marked_for_deletion(Duration::from_millis(grace));
+    }
+
+    /// Makes the digest and writes it.
+    pub fn write_digest(&self, bytes: &mut Vec<u8>) {
+        self.0.cluster.compute_digest(&HashSet::new()).serialize(ProtocolVersion::V0, bytes);
+    }
+
+    /// Computes a delta and writes it.
+    pub fn compute(&self, digest: &Held, mtu: usize, stream: &mut Vec<u8>) {
+        self.0.cluster.compute_partial_delta_respecting_mtu(&digest.0, mtu, &HashSet::new()).serialize(stream);
+    }
+
+    /// Reads a delta and applies it.
+    pub fn apply(&mut self, stream: &[u8]) -> bool {
+        self.0.cluster.apply_delta(Delta::deserialize(&mut &stream[..]).expect("a good delta"))
+    }
+}
+
+/// What the original's clock says from now on.
+pub fn clock(milliseconds: u64) {
+    set_clock(milliseconds);
+}
+
+/// Document 01's bytes of a delta or a digest that the original wrote.
+pub fn delta_01(stream: &[u8]) -> Vec<u8> {
+    let delta = Delta::deserialize(&mut &stream[..]).expect("a good delta");
+    operation_bytes(&delta).iter().flat_map(|bytes| wire::operation_01(bytes)).collect()
+}
+
+pub fn digest_01(bytes: &[u8]) -> Vec<u8> {
+    wire::digest_01(bytes)
+}
