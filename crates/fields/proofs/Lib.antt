@@ -2,6 +2,7 @@ pub mod Choice
 pub mod Parts
 pub mod Numbers
 pub mod Ordered
+pub mod Ranks
 pub mod Blocks
 pub mod Widths
 pub mod Lent

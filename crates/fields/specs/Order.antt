@@ -1,8 +1,9 @@
 -- Byte strings compare bytewise; a string that begins with another.
-use Prim.Native.Nat.{ℕ}
+use Prim.Native.Nat.{ℕ, _+_, _*_, _^_}
 use mathlib.Core.Bool.{Bool, true, false, _&&_}
 use mathlib.Core.List.{List, [], _∷_}
 use lib.Dec.{eqb, ltb}
+use lib.ListN.{length}
 use Rattle.fields.specs.Choice.{pick}
 use Rattle.fields.specs.declared.Order.{Order}
 use Rattle.fields.specs.declared.Order.the-variants.{Less, Same, More}
@@ -28,3 +29,8 @@ unfoldable pub startsWith : List ℕ → List ℕ → Bool
 startsWith [] k = true
 startsWith (a ∷ j) [] = false
 startsWith (a ∷ j) (b ∷ k) = pick (eqb a b) (startsWith j k) false
+
+-- the number that the bytes are, the first of them uppermost: among strings of one length it orders as `lessBytes` does
+unfoldable pub rankOf : List ℕ → ℕ
+rankOf [] = 0
+rankOf (b ∷ bs) = b * 256 ^ length bs + rankOf bs

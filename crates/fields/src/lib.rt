@@ -5,7 +5,7 @@ ghost use Prim.Native.Nat.{_+_, _*_, _/_, _%_, _^_, _≤_, _<_};
 ghost use lib.ListN.{length};
 ghost use Rattle.fields.specs.Blocks.{zeros, allZero};
 ghost use Rattle.fields.specs.Numbers.{natOf, bytesOf};
-ghost use Rattle.fields.specs.Order.{orderOf, sameBytes, startsWith};
+ghost use Rattle.fields.specs.Order.{orderOf, rankOf, sameBytes, startsWith};
 ghost use Rattle.fields.specs.Parts.{part, put};
 
 // How two byte strings stand to each other.
@@ -68,6 +68,30 @@ pub fn read_u64(s: &[u8], at: usize) -> u64
     ensures { λ r. ⌜ r ≡ natOf (part at 8 (now (s .entry))) ⌝ }
 {
     join_four(s, at, join_four(s, at + 4, 0))
+}
+
+// `high` with the two bytes from `at` below it, the first of them above the second.
+fn rank_two(s: &[u8], at: usize, high: u64) -> u64
+    requires { ⌜ (high < 256 ^ 6) × (at + 2 ≤ length (now s)) ⌝ }
+    ensures { λ r. ⌜ (r ≡ high * 256 ^ 2 + rankOf (part at 2 (now (s .entry)))) × (r < (high + 1) * 256 ^ 2) ⌝ }
+{
+    join(join(high, s[at]), s[at + 1])
+}
+
+// `high` with the four bytes from `at` below it, the first of them uppermost.
+fn rank_four(s: &[u8], at: usize, high: u64) -> u64
+    requires { ⌜ (high < 256 ^ 4) × (at + 4 ≤ length (now s)) ⌝ }
+    ensures { λ r. ⌜ (r ≡ high * 256 ^ 4 + rankOf (part at 4 (now (s .entry)))) × (r < (high + 1) * 256 ^ 4) ⌝ }
+{
+    rank_two(s, at + 2, rank_two(s, at, high))
+}
+
+// The number of the eight bytes from `at`, the first of them uppermost: it orders them as bytes are ordered.
+fn rank(s: &[u8], at: usize) -> u64
+    requires { ⌜ at + 8 ≤ length (now s) ⌝ }
+    ensures { λ r. ⌜ r ≡ rankOf (part at 8 (now (s .entry))) ⌝ }
+{
+    rank_four(s, at + 4, rank_four(s, at, 0))
 }
 
 // The lowest byte of `v`. Every number that is written is taken apart here and in `above`.
@@ -207,7 +231,7 @@ pub fn same(a: &[u8], b: &[u8]) -> bool
 }
 
 // How the first stands to the second, byte by byte.
-pub fn compare(a: &[u8], b: &[u8]) -> Order
+fn compare_bytes(a: &[u8], b: &[u8]) -> Order
     ensures { λ r. ⌜ r ≡ orderOf (now (a .entry)) (now (b .entry)) ⌝ }
 {
     let mut i = 0;
@@ -229,6 +253,28 @@ pub fn compare(a: &[u8], b: &[u8]) -> Order
         return Order::Less;
     }
     Order::Same
+}
+
+// How the first stands to the second: eight bytes at a time while both have so many, then byte by byte.
+pub fn compare(a: &[u8], b: &[u8]) -> Order
+    ensures { λ r. ⌜ r ≡ orderOf (now (a .entry)) (now (b .entry)) ⌝ }
+{
+    let mut i = 0;
+    while 8 <= a.len() - i {
+        if b.len() - i < 8 {
+            break;
+        }
+        let p = rank(a, i);
+        let q = rank(b, i);
+        if p < q {
+            return Order::Less;
+        }
+        if q < p {
+            return Order::More;
+        }
+        i += 8;
+    }
+    compare_bytes(&a[i..], &b[i..])
 }
 
 // Whether the second begins with the first.

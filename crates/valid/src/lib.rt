@@ -5,7 +5,7 @@ use rules::Record;
 use table::layout;
 ghost use mathlib.Core.Path.{_≡_};
 ghost use mathlib.Core.Bool.{true};
-ghost use Prim.Native.Nat.{_+_, _*_, _-_, _≤_, _<_};
+ghost use Prim.Native.Nat.{_+_, _*_, _-_, _%_, _≤_, _<_};
 ghost use lib.ListN.{length, getD, take, drop};
 ghost use Rattle.fields.specs.Blocks.{allBlocks};
 ghost use Rattle.fields.specs.Order.{lessBytes};
@@ -123,17 +123,29 @@ fn again(vs: &[u64], i: usize, n: usize) -> bool
     found
 }
 
-// Whether the first `n` numbers are all different.
+// The place of a version among `seen` places: its low bits.
+fn place_of(version: u64) -> usize
+    ensures { λ r. ⌜ (r ≡ version % 1024) × (r < 1024) ⌝ }
+{
+    (version % 1024) as usize
+}
+
+// Whether the first `n` numbers are all different, from the last on. Only a number whose low bits were seen is looked for among those behind it.
 fn all_differ(vs: &[u64], n: usize) -> bool
     requires { ⌜ n ≤ length (now vs) ⌝ }
     ensures { λ r. ⌜ r ≡ differ (take n (now (vs .entry))) ⌝ }
 {
-    let mut i = 0;
-    while i < n {
-        if again(vs, i, n) {
-            return false;
+    let mut seen = [0u8; 1024];
+    let mut i = n;
+    while 0 < i {
+        i -= 1;
+        let k = place_of(vs[i]);
+        if seen[k] == 1 {
+            if again(vs, i, n) {
+                return false;
+            }
         }
-        i += 1;
+        seen[k] = 1;
     }
     true
 }

@@ -1,15 +1,13 @@
 -- `fields::compare` meets its contract: what is left stands as the wholes do. Assumes nothing.
-use Prim.Native.Nat.{ℕ, suc, _+_, _-_, _≤_, _<_}
-use mathlib.Core.Path.{_≡_, refl, sym, ap, ap₂, _∙_}
-use mathlib.Core.List.{List, _∷_}
+use Prim.Native.Nat.{ℕ, _+_, _-_, _≤_}
+use mathlib.Core.Path.{_≡_, refl, sym, ap₂, _∙_}
 use native.Mathlib.Omega.{arith}
-use native.Mathlib.Numerals.{add-one}
-use lib.ListN.{length, getD, drop, drop-of-length-le}
-use lib.Seq.{drop-cons}
+use lib.ListN.{length, drop}
+use Rattle.fields.specs.Numbers.{Bytes}
 use Rattle.fields.specs.Order.{orderOf}
-use Rattle.fields.proofs.Ordered.{order-none, order-shorter, order-longer, order-first-same, order-first-less, order-first-more}
-use Rattle.fields.specs.declared.Order.{Order}
-use Rattle.fields.specs.declared.Order.the-variants.{Less, Same, More}
+use Rattle.fields.proofs.Lent.{seen-rest}
+use Rattle.fields.proofs.Numbers.{at-bytes}
+use Rattle.fields.proofs.Ranks.{ranked-less, ranked-more, ranked-same}
 use borrow.Author.Needs.{needs}
 use Rattle.fields.proofs.compare.Statement.{statement}
 use Rattle.fields.proofs.compare.Tie as tie
@@ -20,61 +18,42 @@ Inv-loop a b i₀ i = (i ≤ length a) × (i ≤ length b) × (orderOf (drop i a
 abbrev μ-loop : tie.MeasureT-loop
 μ-loop a b i₀ i = length a - i
 
--- what is left of the two from i on stands as o says
-module _ (j k : List ℕ) (i : ℕ) (o : Order) where
-  longer : i < length j → length k ≤ i → orderOf (drop i j) (drop i k) ≡ o → More ≡ o
-  longer h g e =
-      sym (order-longer (getD j i 0) (drop (suc i) j)) ∙ sym (ap₂ orderOf (drop-cons j i 0 h) (drop-of-length-le k g)) ∙ e
+first-bytes : (c : tie.At-loop Inv-loop μ-loop) → Bytes (c .before .before .before .args .a .now)
+first-bytes c = at-bytes _ (λ i. c .before .before .shared-slice-known .given i .fits)
 
-  shorter : length j ≤ i → i < length k → orderOf (drop i j) (drop i k) ≡ o → Less ≡ o
-  shorter h g e =
-      sym (order-shorter (getD k i 0) (drop (suc i) k)) ∙ sym (ap₂ orderOf (drop-of-length-le j h) (drop-cons k i 0 g)) ∙ e
-
-  ended : length j ≤ i → length k ≤ i → orderOf (drop i j) (drop i k) ≡ o → Same ≡ o
-  ended h g e = sym order-none ∙ sym (ap₂ orderOf (drop-of-length-le j h) (drop-of-length-le k g)) ∙ e
-
-  module _ (h : i < length j) (g : i < length k) (e : orderOf (drop i j) (drop i k) ≡ o) where
-    split : orderOf (getD j i 0 ∷ drop (suc i) j) (getD k i 0 ∷ drop (suc i) k) ≡ o
-    split = sym (ap₂ orderOf (drop-cons j i 0 h) (drop-cons k i 0 g)) ∙ e
-
-    less : getD j i 0 < getD k i 0 → Less ≡ o
-    less p = sym (order-first-less _ _ (drop (suc i) j) (drop (suc i) k) p) ∙ split
-
-    more : getD k i 0 < getD j i 0 → More ≡ o
-    more p = sym (order-first-more _ _ (drop (suc i) j) (drop (suc i) k) p) ∙ split
-
-    next : getD k i 0 ≤ getD j i 0 → getD j i 0 ≤ getD k i 0 → orderOf (drop (i + 1) j) (drop (i + 1) k) ≡ o
-    next p q =
-        ap (λ (n : ℕ). orderOf (drop n j) (drop n k)) (add-one i)
-        ∙ sym (order-first-same (getD j i 0) (getD k i 0) (drop (suc i) j) (drop (suc i) k) (omega arith))
-        ∙ split
+second-bytes : (c : tie.At-loop Inv-loop μ-loop) → Bytes (c .before .before .before .args .b .now)
+second-bytes c = at-bytes _ (λ i. c .before .shared-slice-known2 .given i .fits)
 
 loop-holds : tie.Need-loop-holds Inv-loop μ-loop
 loop-holds c = (omega arith, omega arith, refl)
 
+sub-loop : tie.Need-sub-loop Inv-loop μ-loop
+sub-loop c = search needs
+
+sub-if1 : tie.Need-sub-if1 Inv-loop μ-loop
+sub-if1 c = search needs
+
+rank-requires : tie.Need-rank-requires Inv-loop μ-loop
+rank-requires c κs = search needs
+
+rank-requires-2 : tie.Need-rank-requires-2 Inv-loop μ-loop
+rank-requires-2 c κs = search needs
+
 returns : tie.Need-returns Inv-loop μ-loop
 returns c =
-    let at-loop = c .before .before in
-    let a = at-loop .before .args in
-    longer (a .a .now) (a .b .now) (at-loop .loop .i) _ (c .before .loop-test .taken) (c .if1 .taken) (at-loop .loop .inv .2)
-
-shared-slice-read-x : tie.Need-shared-slice-read-x Inv-loop μ-loop
-shared-slice-read-x c = search needs
-
-shared-slice-read-y : tie.Need-shared-slice-read-y Inv-loop μ-loop
-shared-slice-read-y c = search needs
+    let at-loop = c .before .before .before .before .before in
+    sym
+    (sym (at-loop .loop .inv .2)
+    ∙ ranked-less (at-loop .loop .i) 8 _ _ (first-bytes at-loop) (second-bytes at-loop) (omega arith) (omega arith)
+    (omega (arith, c .before .before .rank .ensures, c .before .rank2 .ensures, c .if2 .taken)))
 
 returns-2 : tie.Need-returns-2 Inv-loop μ-loop
 returns-2 c =
-    let at-loop = c .before .before .before .before .before in
-    let a = at-loop .before .args in
-    less (a .a .now) (a .b .now) (at-loop .loop .i) _ (omega arith) (omega arith) (at-loop .loop .inv .2) (c .if2 .taken)
-
-returns-3 : tie.Need-returns-3 Inv-loop μ-loop
-returns-3 c =
     let at-loop = c .before .before .before .before .before .before in
-    let a = at-loop .before .args in
-    more (a .a .now) (a .b .now) (at-loop .loop .i) _ (omega arith) (omega arith) (at-loop .loop .inv .2) (c .if3 .taken)
+    sym
+    (sym (at-loop .loop .inv .2)
+    ∙ ranked-more (at-loop .loop .i) 8 _ _ (first-bytes at-loop) (second-bytes at-loop) (omega arith) (omega arith)
+    (omega (arith, c .before .before .before .rank .ensures, c .before .before .rank2 .ensures, c .if3 .taken)))
 
 add-i : tie.Need-add-i Inv-loop μ-loop
 add-i c = search needs
@@ -84,24 +63,43 @@ loop-less c = search needs
 
 loop-again : tie.Need-loop-again Inv-loop μ-loop
 loop-again c =
-    let at-loop = c .before .before .before .before .before .before in
-    let a = at-loop .before .args in (
+    let at-loop = c .before .before .before .before .before .before in (
       omega arith,
       omega arith,
-      next (a .a .now) (a .b .now) (at-loop .loop .i) _ (omega arith) (omega arith) (at-loop .loop .inv .2) (c .before .if2 .left) (c .if3 .left),
+      sym
+          (ranked-same (at-loop .loop .i) 8 _ _ (first-bytes at-loop) (second-bytes at-loop) (omega arith) (omega arith)
+          (omega (arith, c .before .before .before .rank .ensures, c .before .before .rank2 .ensures, c .before .if2 .left, c .if3 .left)))
+          ∙ at-loop .loop .inv .2,
     )
 
-returns-4 : tie.Need-returns-4 Inv-loop μ-loop
-returns-4 c =
-    let at-loop = c .before .before in
-    let a = at-loop .before .args in
-    shorter (a .a .now) (a .b .now) (at-loop .loop .i) _ (c .before .loop-test .left) (c .if4 .taken) (at-loop .loop .inv .2)
+sub-compare-bytes : tie.Need-sub-compare-bytes Inv-loop μ-loop
+sub-compare-bytes c = search needs
 
-returns-5 : tie.Need-returns-5 Inv-loop μ-loop
-returns-5 c =
-    let at-loop = c .before .before in
-    let a = at-loop .before .args in
-    ended (a .a .now) (a .b .now) (at-loop .loop .i) _ (c .before .loop-test .left) (c .if4 .left) (at-loop .loop .inv .2)
+part-compare-bytes-start : tie.Need-part-compare-bytes-start Inv-loop μ-loop
+part-compare-bytes-start c = search needs
+
+part-compare-bytes-end : tie.Need-part-compare-bytes-end Inv-loop μ-loop
+part-compare-bytes-end c = search needs
+
+sub-compare-bytes-2 : tie.Need-sub-compare-bytes-2 Inv-loop μ-loop
+sub-compare-bytes-2 c = search needs
+
+part-compare-bytes-start-2 : tie.Need-part-compare-bytes-start-2 Inv-loop μ-loop
+part-compare-bytes-start-2 c = search needs
+
+part-compare-bytes-end-2 : tie.Need-part-compare-bytes-end-2 Inv-loop μ-loop
+part-compare-bytes-end-2 c = search needs
+
+compare-bytes-requires : tie.Need-compare-bytes-requires Inv-loop μ-loop
+compare-bytes-requires c κs = search needs
+
+returns-3 : tie.Need-returns-3 Inv-loop μ-loop
+returns-3 c =
+    let at-loop = c .before .before .before .before in
+    let a = at-loop .before .before .before .args in
+    c .compare-bytes .ensures
+    ∙ ap₂ orderOf (seen-rest (at-loop .loop .i) (a .a .now)) (seen-rest (at-loop .loop .i) (a .b .now))
+    ∙ at-loop .loop .inv .2
 
 pub compare-spec : {M : Type 1} → statement M
 compare-spec =
@@ -110,13 +108,20 @@ compare-spec =
     Inv-loop
     μ-loop
     loop-holds
+    sub-loop
+    sub-if1
+    rank-requires
+    rank-requires-2
     returns
-    shared-slice-read-x
-    shared-slice-read-y
     returns-2
-    returns-3
     add-i
     loop-less
     loop-again
-    returns-4
-    returns-5)
+    sub-compare-bytes
+    part-compare-bytes-start
+    part-compare-bytes-end
+    sub-compare-bytes-2
+    part-compare-bytes-start-2
+    part-compare-bytes-end-2
+    compare-bytes-requires
+    returns-3)
