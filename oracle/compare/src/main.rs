@@ -2,6 +2,7 @@
 //!
 //!     compare run JUDGE N SEED OTHER..      the sweeps (not with ORACLE_SWEEPS=0) and N random scripts
 //!     compare find JUDGE N SEED OTHER..     the same, but a difference is only told, not shrunk
+//!     compare count JUDGE N SEED OTHER..    how many of the sweeps and of N random scripts show a difference
 //!     compare script SEED INDEX             prints one random script
 //!     compare sweep NAME                    prints one sweep; without a name, lists them
 //!     compare shrink JUDGE FILE OTHER..     the smallest script found that still shows a difference
@@ -25,7 +26,7 @@ use sides::Sides;
 const BATCH: u64 = 100;
 
 fn usage() -> ExitCode {
-    eprintln!("compare run|find JUDGE N SEED OTHER.. | script SEED INDEX | sweep [NAME] | shrink JUDGE FILE OTHER..");
+    eprintln!("compare run|find|count JUDGE N SEED OTHER.. | script SEED INDEX | sweep [NAME] | shrink JUDGE FILE OTHER..");
     ExitCode::from(2)
 }
 
@@ -42,6 +43,10 @@ fn main() -> ExitCode {
                 Err(_) => ExitCode::FAILURE,
             }
         }
+        ["count", judge, count, seed, ref other @ ..] if !other.is_empty() => match (count.parse(), seed.parse()) {
+            (Ok(count), Ok(seed)) => tell(&Sides::new(judge, other), count, seed),
+            _ => usage(),
+        },
         ["script", seed, index] => match (seed.parse(), index.parse()) {
             (Ok(seed), Ok(index)) => print(&scripts::random(seed, index)),
             _ => usage(),
@@ -81,6 +86,41 @@ fn run(sides: &Sides, count: u64, seed: u64) -> Result<(), Vec<String>> {
     }
     println!("seed={seed} {counts} differences=0");
     Ok(())
+}
+
+/// Counts the sweeps and the scripts that show a difference. No script is shrunk, and none ends the counting.
+fn tell(sides: &Sides, count: u64, seed: u64) -> ExitCode {
+    let names = sweeps::names();
+    let sweeps: Vec<Vec<String>> = names.iter().filter_map(|name| sweeps::named(name)).collect();
+    let shown = sweeps.iter().filter(|script| sides.differ(script)).count();
+    let mut differing = 0;
+    let mut first = 0;
+    while first < count {
+        let last = count.min(first + BATCH);
+        let batch: Vec<Vec<String>> = (first..last).map(|index| scripts::random(seed, index)).collect();
+        differing += differing_of(sides, &batch);
+        first = last;
+    }
+    println!("sweeps={shown} of {}, scripts={differing} of {count}, differing={}", sweeps.len(), shown + differing);
+    ExitCode::SUCCESS
+}
+
+/// How many of the scripts show a difference. Each begins with both tables empty; only `@digest` and `@delta` reach from one
+/// into the next.
+fn differing_of(sides: &Sides, batch: &[Vec<String>]) -> usize {
+    let between: Vec<String> = BETWEEN.iter().map(|line| line.to_string()).collect();
+    let whole: Vec<String> = batch.iter().flat_map(|script| between.iter().chain(script)).cloned().collect();
+    let (judge, other) = sides.answers(&whole);
+    let mut at = 0;
+    let mut differing = 0;
+    for script in batch {
+        let end = at + between.len() + script.len();
+        if judge.get(at..end) != other.get(at..end) || judge.len() < end {
+            differing += 1;
+        }
+        at = end;
+    }
+    differing
 }
 
 /// Lines that bring both tables back to empty, between two scripts that are answered by one start.
