@@ -1,0 +1,63 @@
+-- `replay::main` is safe and ends. Assumes nothing.
+use borrow.Author.Needs.{needs}
+use Rattle.replay.proofs.main.Statement.{statement}
+use Rattle.replay.proofs.main.Tie as tie
+
+abbrev Inv-loop : tie.InvT-loop
+Inv-loop first₀ second₀ digest₀ delta₀ datagram₀ given₀ chunk₀ room₀ out₀ desk₀ source₀ left₀ first second digest delta datagram given chunk room out desk source left =
+    Unit {0}
+
+abbrev μ-loop : tie.MeasureT-loop
+μ-loop first₀ second₀ digest₀ delta₀ datagram₀ given₀ chunk₀ room₀ out₀ desk₀ source₀ left₀ first second digest delta datagram given chunk room out desk source left =
+    left
+
+new-requires : tie.Need-new-requires Inv-loop μ-loop
+new-requires c κs = search needs
+
+new-requires-2 : tie.Need-new-requires-2 Inv-loop μ-loop
+new-requires-2 c κs = search needs
+
+loop-holds : tie.Need-loop-holds Inv-loop μ-loop
+loop-holds c = search needs
+
+next-requires : tie.Need-next-requires Inv-loop μ-loop
+next-requires c κs = search needs
+
+taken-requires : tie.Need-taken-requires Inv-loop μ-loop
+taken-requires c κs = search needs
+
+on-line-requires : tie.Need-on-line-requires Inv-loop μ-loop
+on-line-requires c κs = search needs
+
+sub-left : tie.Need-sub-left Inv-loop μ-loop
+sub-left c = search needs
+
+loop-less : tie.Need-loop-less Inv-loop μ-loop
+loop-less c = search needs
+
+loop-again : tie.Need-loop-again Inv-loop μ-loop
+loop-again c = search needs
+
+write-out-requires : tie.Need-write-out-requires Inv-loop μ-loop
+write-out-requires c κs = search needs
+
+returns : tie.Need-returns Inv-loop μ-loop
+returns c = search needs
+
+pub main-spec : {M : Type 1} → statement M
+main-spec =
+    tie.close
+    (tie.spec
+    Inv-loop
+    μ-loop
+    new-requires
+    new-requires-2
+    loop-holds
+    next-requires
+    taken-requires
+    on-line-requires
+    sub-left
+    loop-less
+    loop-again
+    write-out-requires
+    returns)

@@ -1,0 +1,104 @@
+-- `replay::peer_calls::compute_in` is safe and ends. Assumes nothing.
+use mathlib.Core.Path.{sym}
+use native.Mathlib.Omega.{arith}
+use lib.Seq.{length-take-le}
+use borrow.Author.Needs.{needs}
+use Rattle.replay.proofs.peer_calls.compute_in.Statement.{statement}
+use Rattle.replay.proofs.peer_calls.compute_in.Tie as tie
+
+word-requires : tie.Need-word-requires
+word-requires c κs = search needs
+
+number-requires : tie.Need-number-requires
+number-requires c κs = search needs
+
+enum-known-mtu : tie.Need-enum-known-mtu
+enum-known-mtu c = search needs
+
+enum-told : tie.Need-enum-told
+enum-told c = search needs
+
+returns : tie.Need-returns
+returns c = search needs
+
+word-requires-2 : tie.Need-word-requires-2
+word-requires-2 c κs = search needs
+
+number-requires-2 : tie.Need-number-requires-2
+number-requires-2 c κs = search needs
+
+enum-known-place : tie.Need-enum-known-place
+enum-known-place c = search needs
+
+enum-told-2 : tie.Need-enum-told-2
+enum-told-2 c = search needs
+
+returns-2 : tie.Need-returns-2
+returns-2 c = search needs
+
+word-requires-3 : tie.Need-word-requires-3
+word-requires-3 c κs = search needs
+
+number-requires-3 : tie.Need-number-requires-3
+number-requires-3 c κs = search needs
+
+enum-known-len : tie.Need-enum-known-len
+enum-known-len c = search needs
+
+enum-told-3 : tie.Need-enum-told-3
+enum-told-3 c = search needs
+
+returns-3 : tie.Need-returns-3
+returns-3 c = search needs
+
+returns-4 : tie.Need-returns-4
+returns-4 c = search needs
+
+slice-relend-prefix-compute-into : tie.Need-slice-relend-prefix-compute-into
+slice-relend-prefix-compute-into c = search needs
+
+slice-aggregate-compute-into : tie.Need-slice-aggregate-compute-into
+slice-aggregate-compute-into c = sym (length-take-le _ _ (omega arith))
+
+compute-into-requires : tie.Need-compute-into-requires
+compute-into-requires c κs = search needs
+
+same-length : tie.Need-same-length
+same-length c = search needs
+
+same-length-2 : tie.Need-same-length-2
+same-length-2 c = search needs
+
+same-length-3 : tie.Need-same-length-3
+same-length-3 c = search needs
+
+returns-5 : tie.Need-returns-5
+returns-5 c = search needs
+
+pub compute-in-spec : {M : Type 1} → statement M
+compute-in-spec =
+    tie.close
+    (tie.spec
+    word-requires
+    number-requires
+    enum-known-mtu
+    enum-told
+    returns
+    word-requires-2
+    number-requires-2
+    enum-known-place
+    enum-told-2
+    returns-2
+    word-requires-3
+    number-requires-3
+    enum-known-len
+    enum-told-3
+    returns-3
+    returns-4
+    slice-relend-prefix-compute-into
+    slice-aggregate-compute-into
+    compute-into-requires
+    same-length
+    same-length-2
+    same-length-3
+    returns-5)

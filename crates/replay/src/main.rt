@@ -1,0 +1,275 @@
+// Answers the scripts of oracle/README.md, one line a call, by the port's own calls: the port's side of the comparison with the original. A line that is
+// none of the language is answered by `malformed`, without a checksum.
+mod desk;
+mod lines;
+mod local_calls;
+mod peer_calls;
+mod tell;
+mod verbs;
+
+use desk::Desk;
+use libc::STDOUT_FILENO;
+use lines::Source;
+use verbs::Peer;
+use verbs::Verb;
+use words::print;
+use words::read;
+use words::read::Count;
+use words::read::Words;
+
+// Room for output: what is there is written once it is half full, and no answer is longer than the other half.
+const OUT: usize = 131072;
+
+const HALF: usize = 65536;
+
+// The longest digest and the longest delta.
+const DIGEST: usize = 258;
+
+const DELTA: usize = 16384;
+
+// The longest datagram; one that is longer makes a line malformed.
+const DATAGRAM: usize = 32768;
+
+// The calls of an exchange that take bytes.
+fn bytes_call(
+    desk: Desk,
+    verb: Peer,
+    t: &mut [u8],
+    delta: &mut [u8],
+    datagram: &mut [u8],
+    bytes: &[u8],
+    line: &[u8],
+    ws: Words,
+    out: &mut [u8],
+) -> Desk {
+    let at = desk.out;
+    match verb {
+        Peer::ReadDigest => desk.with_out(peer_calls::read_digest(bytes, out, at)),
+        Peer::ReadDelta => desk.with_out(peer_calls::read_delta(bytes, out, at)),
+        Peer::Apply => desk.with_out(peer_calls::apply(t, bytes, line, ws, out, at)),
+        _ => {
+            let kept = peer_calls::compute(
+                t,
+                bytes,
+                line,
+                ws,
+                datagram,
+                delta,
+                desk.delta,
+                out,
+                at,
+            );
+            let mut d = desk.with_out(kept.at);
+            d.delta = kept.len;
+            d
+        }
+    }
+}
+
+fn digest_call(
+    desk: Desk,
+    t: &[u8],
+    digest: &mut [u8],
+    datagram: &mut [u8],
+    line: &[u8],
+    ws: Words,
+    out: &mut [u8],
+) -> Desk {
+    let kept = peer_calls::digest(t, line, ws, datagram, digest, desk.digest, out, desk.out);
+    let mut d = desk.with_out(kept.at);
+    d.digest = kept.len;
+    d
+}
+
+fn peer_call(
+    desk: Desk,
+    verb: Peer,
+    t: &mut [u8],
+    digest: &mut [u8],
+    delta: &mut [u8],
+    datagram: &mut [u8],
+    given: &mut [u8],
+    line: &[u8],
+    ws: Words,
+    out: &mut [u8],
+) -> Desk {
+    match verb {
+        Peer::Digest => digest_call(desk, t, digest, datagram, line, ws, out),
+        _ => {
+            let Count::Is(n) = peer_calls::bytes_of(
+                read::word(line, ws, 1),
+                read::front(digest, desk.digest),
+                read::front(delta, desk.delta),
+                given,
+            ) else {
+                return desk;
+            };
+            bytes_call(
+                desk,
+                verb,
+                t,
+                delta,
+                datagram,
+                read::front(given, n),
+                line,
+                ws,
+                out,
+            )
+        }
+    }
+}
+
+// One call: what it answers is written, and nothing where the line asks for none.
+fn call(
+    desk: Desk,
+    table: &mut [u8],
+    digest: &mut [u8],
+    delta: &mut [u8],
+    datagram: &mut [u8],
+    given: &mut [u8],
+    line: &[u8],
+    ws: Words,
+    out: &mut [u8],
+) -> Desk {
+    let n = desk.lent();
+    if table.len() < n {
+        return desk;
+    }
+    match verbs::asked(line, ws) {
+        Verb::OfShelf(v) => desk::shelf_call(
+            desk,
+            v,
+            table,
+            read::front(digest, desk.digest),
+            read::front(delta, desk.delta),
+            given,
+            line,
+            ws,
+            out,
+        ),
+        Verb::OfPlain(v) => {
+            desk.with_out(local_calls::plain_call(&mut table[..n], v, line, ws, out, desk.out))
+        }
+        Verb::OfKeyed(v) => {
+            desk.with_out(local_calls::key_call(&mut table[..n], v, line, ws, out, desk.out))
+        }
+        Verb::OfPeer(v) => {
+            peer_call(
+                desk,
+                v,
+                &mut table[..n],
+                digest,
+                delta,
+                datagram,
+                given,
+                line,
+                ws,
+                out,
+            )
+        }
+        Verb::Nothing => desk,
+    }
+}
+
+// Closes the answer by the table's checksum. Where nothing was answered, the line was malformed.
+fn closed(before: Desk, after: Desk, table: &[u8], out: &mut [u8]) -> Desk {
+    if before.out == after.out {
+        return after.with_out(print::text(out, after.out, b"malformed\n"));
+    }
+    after.with_out(tell::checksum(out, after.out, read::front(table, after.lent())))
+}
+
+// One line on the current table.
+fn step(
+    desk: Desk,
+    table: &mut [u8; desk::TABLE],
+    digest: &mut [u8; DIGEST],
+    delta: &mut [u8; DELTA],
+    datagram: &mut [u8; DATAGRAM],
+    given: &mut [u8; desk::TABLE],
+    line: &[u8],
+    ws: Words,
+    out: &mut [u8; OUT],
+) -> Desk {
+    let after = call(desk, table, digest, delta, datagram, given, line, ws, out);
+    closed(desk, after, table, out)
+}
+
+// Writes the output so far.
+fn write_out(desk: Desk, out: &[u8; OUT]) -> Desk {
+    io::write_all(STDOUT_FILENO, read::front(out, desk.out));
+    desk.with_out(0)
+}
+
+// Writes the output once it is half full.
+fn flushed(desk: Desk, out: &[u8; OUT]) -> Desk {
+    if desk.out < HALF {
+        return desk;
+    }
+    write_out(desk, out)
+}
+
+// The line's first bytes; none where it is too long.
+fn taken(line: &[u8; lines::LINE], n: usize) -> &[u8] {
+    if n < lines::LINE {
+        return read::front(line, n);
+    }
+    read::front(line, 0)
+}
+
+// One line, on the table of the hub that is current after it.
+fn on_line(
+    before: Desk,
+    first: &mut [u8; desk::TABLE],
+    second: &mut [u8; desk::TABLE],
+    digest: &mut [u8; DIGEST],
+    delta: &mut [u8; DELTA],
+    datagram: &mut [u8; DATAGRAM],
+    given: &mut [u8; desk::TABLE],
+    line: &[u8],
+    out: &mut [u8; OUT],
+) -> Desk {
+    let ws = read::split(line);
+    let desk = desk::turned(before, line, ws);
+    if desk.hub == 0 {
+        let after = step(desk, first, digest, delta, datagram, given, line, ws, out);
+        return flushed(after, out);
+    }
+    let after = step(desk, second, digest, delta, datagram, given, line, ws, out);
+    flushed(after, out)
+}
+
+fn main() {
+    let mut first = [0u8; desk::TABLE];
+    let mut second = [0u8; desk::TABLE];
+    let mut digest = [0u8; DIGEST];
+    let mut delta = [0u8; DELTA];
+    let mut datagram = [0u8; DATAGRAM];
+    let mut given = [0u8; desk::TABLE];
+    let mut chunk = [0u8; lines::CHUNK];
+    let mut room = [0u8; lines::LINE];
+    let mut out = [0u8; OUT];
+    let mut desk = Desk::new();
+    let mut source = Source::new();
+    let mut left: u64 = 1099511627776;
+    while 0 < left {
+        source = lines::next(&mut chunk, source, &mut room);
+        if source.len == 0 && !source.closed {
+            break;
+        }
+        let line = taken(&room, source.len);
+        desk = on_line(
+            desk,
+            &mut first,
+            &mut second,
+            &mut digest,
+            &mut delta,
+            &mut datagram,
+            &mut given,
+            line,
+            &mut out,
+        );
+        left -= 1;
+    }
+    write_out(desk, &out);
+}

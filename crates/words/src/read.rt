@@ -1,0 +1,279 @@
+// Taking a line apart.
+ghost use Prim.Native.Nat.{_≤_, _<_};
+ghost use lib.ListN.{length};
+
+// The most words of a line.
+const WORDS: usize = 8;
+
+// The largest number.
+const MOST: u64 = 18446744073709551615;
+
+// Where the words of a line stand: word k from starts[k] to ends[k]. A line of more than 8 words has a count of 9.
+pub struct Words {
+    pub count: usize,
+    pub starts: [usize; 8],
+    pub ends: [usize; 8],
+}
+
+// A decimal number below 2^64.
+pub enum Numeral {
+    Is(u64),
+    Not,
+}
+
+// How many bytes or numbers a word gave to the lent list.
+pub enum Count {
+    Is(usize),
+    Not,
+}
+
+// The place of the first `b` from `at` on, or the end.
+fn end_of(s: &[u8], at: usize, b: u8) -> usize
+    requires { ⌜ at ≤ length (now s) ⌝ }
+    ensures { λ r. ⌜ (at ≤ r) × (r ≤ length (now (s .entry))) ⌝ }
+{
+    let mut i = at;
+    while i < s.len() {
+        if s[i] == b {
+            return i;
+        }
+        i += 1;
+    }
+    i
+}
+
+// What stands between single spaces. Two spaces have an empty word between them, and so has an empty line.
+pub fn split(line: &[u8]) -> Words {
+    let mut starts = [0usize; 8];
+    let mut ends = [0usize; 8];
+    let mut count: usize = 0;
+    let mut at: usize = 0;
+    while count < WORDS {
+        let e = end_of(line, at, b' ');
+        starts[count] = at;
+        ends[count] = e;
+        count += 1;
+        if e == line.len() {
+            return Words {
+                count,
+                starts,
+                ends,
+            };
+        }
+        at = e + 1;
+    }
+    Words {
+        count: 9,
+        starts,
+        ends,
+    }
+}
+
+// The first `n` bytes; all of them where there are fewer.
+pub fn front(s: &[u8], n: usize) -> &[u8] {
+    if s.len() < n {
+        return s;
+    }
+    &s[..n]
+}
+
+// The bytes behind the first `n`; none where there are fewer.
+pub fn behind(s: &[u8], n: usize) -> &[u8] {
+    if s.len() < n {
+        return &s[..0];
+    }
+    &s[n..]
+}
+
+// The first `n` numbers; all of them where there are fewer.
+pub fn front_numbers(s: &[u64], n: usize) -> &[u64] {
+    if s.len() < n {
+        return s;
+    }
+    &s[..n]
+}
+
+// Word k of the line; an empty one where there is none.
+pub fn word(line: &[u8], ws: Words, k: usize) -> &[u8] {
+    if WORDS <= k {
+        return &line[..0];
+    }
+    let starts = ws.starts;
+    let ends = ws.ends;
+    let a = starts[k];
+    let e = ends[k];
+    if line.len() < e {
+        return &line[..0];
+    }
+    if e < a {
+        return &line[..0];
+    }
+    &line[a..e]
+}
+
+// The last word of the line.
+pub fn last(line: &[u8], ws: Words) -> &[u8] {
+    let n = ws.count;
+    if n == 0 {
+        return &line[..0];
+    }
+    word(line, ws, n - 1)
+}
+
+// Whether the two are the same bytes.
+pub fn same(a: &[u8], b: &[u8]) -> bool {
+    if a.len() != b.len() {
+        return false;
+    }
+    let mut i = 0;
+    while i < a.len() {
+        if a[i] != b[i] {
+            return false;
+        }
+        i += 1;
+    }
+    true
+}
+
+// A byte as a number.
+fn wide(b: u8) -> u64
+    ensures { λ r. ⌜ r < 256 ⌝ }
+{
+    b as u64
+}
+
+// The number with one decimal digit more.
+fn with_digit(v: u64, b: u8) -> Numeral {
+    let d = wide(b);
+    if d < 48 {
+        return Numeral::Not;
+    }
+    if 57 < d {
+        return Numeral::Not;
+    }
+    let low = d - 48;
+    if v < MOST / 10 {
+        return Numeral::Is(v * 10 + low);
+    }
+    if MOST / 10 < v {
+        return Numeral::Not;
+    }
+    if MOST % 10 < low {
+        return Numeral::Not;
+    }
+    Numeral::Is(v * 10 + low)
+}
+
+// The number that the word writes in decimal digits.
+pub fn number(w: &[u8]) -> Numeral {
+    if w.len() == 0 {
+        return Numeral::Not;
+    }
+    let mut v: u64 = 0;
+    let mut i = 0;
+    while i < w.len() {
+        match with_digit(v, w[i]) {
+            Numeral::Is(more) => {
+                v = more;
+            }
+            Numeral::Not => return Numeral::Not,
+        }
+        i += 1;
+    }
+    Numeral::Is(v)
+}
+
+// The value of a hexadecimal digit, lower case; 16 where it is none.
+fn digit(b: u8) -> u64
+    ensures { λ r. ⌜ r ≤ 16 ⌝ }
+{
+    let d = wide(b);
+    if d < 48 {
+        return 16;
+    }
+    if d < 58 {
+        return d - 48;
+    }
+    if d < 97 {
+        return 16;
+    }
+    if d < 103 {
+        return d - 87;
+    }
+    16
+}
+
+// The byte of two digits; `out` is left where one of them is none.
+fn store(out: &mut [u8], i: usize, high: u64, low: u64) -> bool
+    requires { ⌜ i < length (now out) ⌝ }
+{
+    if 15 < high {
+        return false;
+    }
+    if 15 < low {
+        return false;
+    }
+    out[i] = (high * 16 + low) as u8;
+    true
+}
+
+// The bytes that the word writes as `x` and two digits each, to the front of the lent ones. Where there is no room for them, it counts as none.
+pub fn bytes(w: &[u8], out: &mut [u8]) -> Count {
+    if w.len() == 0 {
+        return Count::Not;
+    }
+    let n = (w.len() - 1) / 2;
+    if w[0] != b'x' {
+        return Count::Not;
+    }
+    if n * 2 != w.len() - 1 {
+        return Count::Not;
+    }
+    if out.len() < n {
+        return Count::Not;
+    }
+    let mut i: usize = 0;
+    while i < n {
+        if store(out, i, digit(w[1 + 2 * i]), digit(w[2 + 2 * i])) {
+            i += 1;
+        } else {
+            return Count::Not;
+        }
+    }
+    Count::Is(n)
+}
+
+// The numbers that the word lists with commas, to the front of the lent ones; `-` is the empty list.
+pub fn numbers(w: &[u8], out: &mut [u64]) -> Count {
+    if same(w, b"-") {
+        return Count::Is(0);
+    }
+    let mut at: usize = 0;
+    let mut n: usize = 0;
+    while n < out.len() {
+        let e = end_of(w, at, b',');
+        let Numeral::Is(v) = number(&w[at..e]) else {
+            return Count::Not;
+        };
+        out[n] = v;
+        n += 1;
+        if e == w.len() {
+            return Count::Is(n);
+        }
+        at = e + 1;
+    }
+    Count::Not
+}
+
+// All of `src`, to the front of the lent bytes. Where there is no room for them, it counts as none.
+pub fn copy(src: &[u8], out: &mut [u8]) -> Count {
+    if out.len() < src.len() {
+        return Count::Not;
+    }
+    let mut i = 0;
+    while i < src.len() {
+        out[i] = src[i];
+        i += 1;
+    }
+    Count::Is(i)
+}
