@@ -1,0 +1,167 @@
+-- Demand 3 of the calls on lent bytes: the theorem. It is that of the rules (Demand3 of `rules`), read in the bytes: these are at every moment the
+-- encodings of the tables of which that theorem speaks. Nothing is assumed but that the fresh tables obey document 01's rules: at most eight
+-- nodes, ascending numbers below 2^64.
+use Prim.Native.Nat.{_≤_, ℕ}
+use mathlib.Core.Bool.{Bool, _&&_, true}
+use mathlib.Core.List.{List, [], _++_, _∷_}
+use mathlib.Core.Option.{some}
+use mathlib.Core.Path.{_∙_, _≡_, ap, refl, subst, subst₂, sym}
+use lib.ListN.{length}
+use Rattle.rules.specs.Node.{KeyValue, Node}
+use Rattle.rules.specs.Table.{Table, nodeOf, numbersOf, obeys}
+use Rattle.rules.specs.Local.{Filled, fills}
+use Rattle.rules.specs.Digest.{writeDigest}
+use Rattle.rules.specs.Compute.{compute}
+use Rattle.rules.specs.Layout.{decode, encode}
+use Rattle.rules.specs.Lent.{LentApply}
+use Rattle.rules.specs.World.{Applying, Beating, Computing, DeltaSent, DigestSent, Digesting, Event, Exchange, Idle, Offering, Removing, World, Writing, after, freshTable, happen, possible, start}
+use Rattle.rules.specs.Demand3.{AllRise, Holds, Quiet, SameMax, Sound, Wide, allGranted, exchanges, granted, holdings, isApplied, isComputed, noRoom, wroteDelta, wroteDigest}
+use Rattle.rules.specs.declared.Status.the-variants.{Set}
+use Rattle.rules.specs.declared.Computed.{Computed}
+use Rattle.rules.specs.declared.Computed.the-variants as computed
+use Rattle.rules.specs.declared.Written.{Written}
+use Rattle.rules.specs.declared.Written.the-variants as written
+use Rattle.rules.specs.declared.Refusal.the-variants.{BadTable}
+use Rattle.rules.proofs.Closing.{closing}
+use Rattle.rules.proofs.Demand3.{never-falls, sound}
+use Rattle.rules.proofs.Moments.{InOrder, moment, moments, next-event}
+use Rattle.rules.proofs.Obeys.{facts-table}
+use Rattle.table.proofs.Tables.{decode-encode, valid-encode}
+use Rattle.exchange.specs.LentWorld.{LentWorld, lentAfter, lentHappen, lentStart}
+use Rattle.exchange.specs.LentDemand3.{LentDemand3, LentSound, allLentGranted, lentGranted, lentIsApplied, lentIsComputed}
+use Rattle.exchange.proofs.LentWorld.{after-lent, apply-encoded, from-encoded, happen-lent, lent, lent-run}
+
+-- ---- the answers are the same
+
+module _ (w : World) (p : obeys (w .publisher) ≡ true) (f : obeys (w .follower) ≡ true) where
+  granted-lent : (e : Event) → lentGranted e (lent w) ≡ granted e w
+  granted-lent (Writing i k c) = refl
+  granted-lent (Beating s i) = refl
+  granted-lent (Offering s i h) = refl
+  granted-lent (Removing s now grace) = refl
+  granted-lent (Digesting excluded place d) =
+      ap (λ (o : Filled Written). wroteDigest (o .answer))
+      (from-encoded (w .follower) f (fills (written.Refused BadTable) d) (λ t. writeDigest excluded place t d))
+  granted-lent (Computing excluded ties mtu place d) = go (w .exchange)
+    where
+      go : (x : Exchange) → lentIsComputed excluded ties mtu place d (encode (w .publisher)) x ≡ isComputed excluded ties mtu place d (w .publisher) x
+      go Idle = refl
+      go (DigestSent b) =
+          ap (λ (o : Filled Computed). wroteDelta (o .answer))
+          (from-encoded (w .publisher) p (fills (computed.Refused BadTable) d) (λ t. compute excluded ties mtu place b t d))
+      go (DeltaSent b) = refl
+  granted-lent (Applying now answers) = ap (λ (b : Bool). possible (Applying now answers) && b) (go (w .exchange))
+    where
+      go : (x : Exchange) → lentIsApplied now answers (encode (w .follower)) x ≡ isApplied now answers (w .follower) x
+      go Idle = refl
+      go (DigestSent b) = refl
+      go (DeltaSent b) = ap (λ (o : LentApply). noRoom (o .answer) (o .list)) (apply-encoded (w .follower) f b now answers)
+
+all-granted-lent : (is : List ℕ) (es : List Event) (w : World) → InOrder is w → allLentGranted es (lent w) ≡ allGranted es w
+unfolding allLentGranted allGranted
+all-granted-lent is [] w o = refl
+all-granted-lent is (e ∷ es) w o =
+    let p = facts-table (w .publisher) (o .publisher-ok) in
+    let f = facts-table (w .follower) (o .follower-ok) in
+    ap (λ (b : Bool). b && allLentGranted es (lentHappen e (lent w))) (granted-lent w p f e)
+    ∙ ap (λ (x : LentWorld). granted e w && allLentGranted es x) (happen-lent w p f e)
+    ∙ ap (λ (b : Bool). granted e w && b) (all-granted-lent is es (happen e w) (next-event is w o e .order))
+
+-- ---- the claims read in the bytes
+
+sound-lent : (is : List ℕ) (w : World) → Sound is w → LentSound is (lent w)
+sound-lent is w s =
+    record {
+      publisher-valid = valid-encode (w .publisher) (s .publisher-obeys);
+      follower-valid = valid-encode (w .follower) (s .follower-obeys);
+      publisher-nodes = ap numbersOf p ∙ s .publisher-nodes;
+      follower-nodes = ap numbersOf f ∙ s .follower-nodes;
+      claims = λ i a b x y. s .claims i a b (ap (nodeOf i) (sym p) ∙ x) (ap (nodeOf i) (sym f) ∙ y);
+    }
+  where
+    p : decode (encode (w .publisher)) ≡ w .publisher
+    p = decode-encode (w .publisher) (s .publisher-obeys)
+
+    f : decode (encode (w .follower)) ≡ w .follower
+    f = decode-encode (w .follower) (s .follower-obeys)
+
+pub lent-append : (es fs : List Event) (w : LentWorld) → lentAfter (es ++ fs) w ≡ lentAfter fs (lentAfter es w)
+unfolding lentAfter
+lent-append [] fs w = refl
+lent-append (e ∷ es) fs w = lent-append es fs (lentHappen e w)
+
+-- the tables that are read in the bytes of a world in order
+module _ (is : List ℕ) (w : World) (o : InOrder is w) where
+  publisher-is : w .publisher ≡ decode (lent w .publisher)
+  publisher-is = sym (decode-encode (w .publisher) (facts-table (w .publisher) (o .publisher-ok)))
+
+  follower-is : w .follower ≡ decode (lent w .follower)
+  follower-is = sym (decode-encode (w .follower) (facts-table (w .follower) (o .follower-ok)))
+
+module _ (is : List ℕ) (ok : obeys (freshTable is) ≡ true) where
+  -- the world of tables after a run
+  abbrev ran : List Event → World
+  ran es = after es (start is)
+
+  order : (es : List Event) → InOrder is (ran es)
+  order es = moment is ok es .order
+
+  order-on : (es fs : List Event) → InOrder is (after fs (ran es))
+  order-on es fs = moments is fs (ran es) (moment is ok es) .order
+
+  lent-on : (es fs : List Event) → lentAfter fs (lentAfter es (lentStart is)) ≡ lent (after fs (ran es))
+  lent-on es fs = ap (lentAfter fs) (lent-run is ok es) ∙ after-lent is fs (ran es) (moment is ok es .order)
+
+  lent-sound : (es : List Event) → LentSound is (lentAfter es (lentStart is))
+  lent-sound es = subst (LentSound is) (sym (lent-run is ok es)) (sound-lent is (ran es) (sound is ok es))
+
+  lent-never-falls : (es fs : List Event)
+      → AllRise (decode (lentAfter es (lentStart is) .publisher)) (decode (lentAfter fs (lentAfter es (lentStart is)) .publisher))
+      × AllRise (decode (lentAfter es (lentStart is) .follower)) (decode (lentAfter fs (lentAfter es (lentStart is)) .follower))
+  lent-never-falls es fs =
+      let r = never-falls is ok es fs in
+      let w = ran es in
+      let x = after fs w in
+      let a = ap (λ (y : LentWorld). decode (y .publisher)) (sym (lent-run is ok es)) in
+      let b = ap (λ (y : LentWorld). decode (y .publisher)) (sym (lent-on es fs)) in
+      let c = ap (λ (y : LentWorld). decode (y .follower)) (sym (lent-run is ok es)) in
+      let d = ap (λ (y : LentWorld). decode (y .follower)) (sym (lent-on es fs)) in (
+        subst₂ AllRise (publisher-is is w (order es) ∙ a) (publisher-is is x (order-on es fs) ∙ b) (r .0),
+        subst₂ AllRise (follower-is is w (order es) ∙ c) (follower-is is x (order-on es fs) ∙ d) (r .1),
+      )
+
+  lent-closing : (es : List Event) (qs : List Quiet)
+      → Wide qs
+      → allLentGranted (exchanges qs) (lentAfter es (lentStart is)) ≡ true
+      → holdings (decode (lentAfter es (lentStart is) .publisher)) ≤ length qs
+      → SameMax (decode (lentAfter (exchanges qs) (lentAfter es (lentStart is)) .publisher)) (decode (lentAfter (exchanges qs) (lentAfter es (lentStart is)) .follower))
+  lent-closing es qs wide g h =
+      let w = ran es in
+      let x = after (exchanges qs) w in
+      let l = lent-run is ok es in
+      let granted-is = sym (all-granted-lent is (exchanges qs) w (order es)) ∙ ap (allLentGranted (exchanges qs)) (sym l) ∙ g in
+      let held = subst (λ (t : Table). holdings t ≤ length qs) (ap (λ (y : LentWorld). decode (y .publisher)) l ∙ sym (publisher-is is w (order es))) h in
+      let z = sym (lent-on es (exchanges qs)) in
+      subst₂ SameMax
+      (publisher-is is x (order-on es (exchanges qs)) ∙ ap (λ (y : LentWorld). decode (y .publisher)) z)
+      (follower-is is x (order-on es (exchanges qs)) ∙ ap (λ (y : LentWorld). decode (y .follower)) z)
+      (closing is ok es qs wide granted-is held)
+
+  -- The demand, of the bytes that the entry points leave.
+  pub lent-demand3 : LentDemand3 is
+  lent-demand3 = record { at-every-moment = lent-sound; between-moments = lent-never-falls; closing-count = lent-closing }
+
+  -- So that in the end every Set record of the publisher has arrived, and the follower has no other.
+  pub lent-all-arrives : (es : List Event) (qs : List Quiet)
+      → Wide qs
+      → allLentGranted (exchanges qs) (lentAfter es (lentStart is)) ≡ true
+      → holdings (decode (lentAfter es (lentStart is) .publisher)) ≤ length qs
+      → (i : ℕ) (p f : Node)
+      → nodeOf i (decode (lentAfter (exchanges qs) (lentAfter es (lentStart is)) .publisher)) ≡ some p
+      → nodeOf i (decode (lentAfter (exchanges qs) (lentAfter es (lentStart is)) .follower)) ≡ some f
+      → (s : KeyValue)
+      → s .status ≡ Set
+      → (Holds p s → Holds f s) × (Holds f s → Holds p s)
+  lent-all-arrives es qs wide g h i p f a b =
+      let end = subst (LentSound is) (lent-append es (exchanges qs) (lentStart is)) (lent-sound (es ++ exchanges qs)) in
+      end .claims i p f a b .same-set (lent-closing es qs wide g h i p f a b)

@@ -1,0 +1,68 @@
+-- Demand 3 of the calls on lent bytes. Every call is what an entry point promises of its lent memory, so this speaks of the code: the bytes of
+-- the two tables at every moment of every run, and how many undisturbed exchanges end it. A table is read in its bytes by `decode`. The
+-- theorem is in proofs/LentDemand3.
+use Prim.Native.Nat.{ℕ, _≤_}
+use mathlib.Core.Path.{_≡_}
+use mathlib.Core.Bool.{Bool, true, false, _&&_}
+use mathlib.Core.List.{List, [], _∷_}
+use mathlib.Core.Option.{some}
+use lib.ListN.{length}
+use Rattle.rules.specs.Node.{Node}
+use Rattle.rules.specs.Table.{nodeOf, numbersOf}
+use Rattle.rules.specs.Layout.{decode, valid}
+use Rattle.rules.specs.Lent.{lentDigest, lentCompute, lentApply}
+use Rattle.rules.specs.World.{Exchange, Idle, DigestSent, DeltaSent, Event, Writing, Beating, Offering, Removing, Digesting, Computing, Applying, possible}
+use Rattle.rules.specs.Demand3.{Claims, AllRise, Quiet, exchanges, Wide, wroteDigest, wroteDelta, noRoom, holdings, SameMax}
+use Rattle.exchange.specs.LentWorld.{LentWorld, lentStart, lentHappen, lentAfter}
+
+-- ---- the claims at a moment
+
+-- Both byte strings are valid tables (no call is answered 14) with the nodes that they began with, and each node is as claimed.
+pub record LentSound (is : List ℕ) (w : LentWorld) : Type 0 where
+  pub publisher-valid : valid (w .publisher) ≡ true
+  pub follower-valid : valid (w .follower) ≡ true
+  pub publisher-nodes : numbersOf (decode (w .publisher)) ≡ is
+  pub follower-nodes : numbersOf (decode (w .follower)) ≡ is
+  pub claims : (i : ℕ) (p f : Node) → nodeOf i (decode (w .publisher)) ≡ some p → nodeOf i (decode (w .follower)) ≡ some f → Claims (w .given i) p f
+
+-- ---- nothing refused, read off the answers of the calls on lent bytes
+
+abbrev pub lentIsComputed : List ℕ → List ℕ → ℕ → ℕ → List ℕ → List ℕ → Exchange → Bool
+lentIsComputed excluded ties mtu place d l Idle = false
+lentIsComputed excluded ties mtu place d l (DigestSent b) = wroteDelta (lentCompute excluded ties mtu place b d l .answer)
+lentIsComputed excluded ties mtu place d l (DeltaSent b) = false
+
+abbrev pub lentIsApplied : ℕ → List ℕ → List ℕ → Exchange → Bool
+lentIsApplied now answers l Idle = false
+lentIsApplied now answers l (DigestSent b) = false
+lentIsApplied now answers l (DeltaSent b) = noRoom (lentApply b now answers l .answer) (lentApply b now answers l .list)
+
+-- whether a call of an exchange is made and not refused
+abbrev pub lentGranted : Event → LentWorld → Bool
+lentGranted (Writing i k c) w = true
+lentGranted (Beating s i) w = true
+lentGranted (Offering s i h) w = true
+lentGranted (Removing s now grace) w = true
+lentGranted (Digesting excluded place d) w = wroteDigest (lentDigest excluded place d (w .follower) .answer)
+lentGranted (Computing excluded ties mtu place d) w = lentIsComputed excluded ties mtu place d (w .publisher) (w .exchange)
+lentGranted (Applying now answers) w = possible (Applying now answers) && lentIsApplied now answers (w .follower) (w .exchange)
+
+unfoldable pub allLentGranted : List Event → LentWorld → Bool
+allLentGranted [] w = true
+allLentGranted (e ∷ es) w = lentGranted e w && allLentGranted es (lentHappen e w)
+
+-- ---- the whole demand
+
+-- Of the bytes of a publisher's table and a follower's that begin fresh with the nodes `is`. At every moment of every run of calls the claims hold;
+-- between any two moments no node's pair falls in either table; and after any run, as many quiet exchanges as the publisher holds records and
+-- nodes make every max equal.
+pub record LentDemand3 (is : List ℕ) : Type 0 where
+  pub at-every-moment : (es : List Event) → LentSound is (lentAfter es (lentStart is))
+  pub between-moments : (es fs : List Event)
+      → AllRise (decode (lentAfter es (lentStart is) .publisher)) (decode (lentAfter fs (lentAfter es (lentStart is)) .publisher))
+      × AllRise (decode (lentAfter es (lentStart is) .follower)) (decode (lentAfter fs (lentAfter es (lentStart is)) .follower))
+  pub closing-count : (es : List Event) (qs : List Quiet)
+      → Wide qs
+      → allLentGranted (exchanges qs) (lentAfter es (lentStart is)) ≡ true
+      → holdings (decode (lentAfter es (lentStart is) .publisher)) ≤ length qs
+      → SameMax (decode (lentAfter (exchanges qs) (lentAfter es (lentStart is)) .publisher)) (decode (lentAfter (exchanges qs) (lentAfter es (lentStart is)) .follower))

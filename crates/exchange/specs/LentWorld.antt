@@ -1,0 +1,78 @@
+-- Demand 3's world in lent bytes: the bytes of a publisher's table and of a follower's, and whatever a hub's calls do to them. What happens is
+-- given by the definitions that the entry points promise (Lent of `rules`) and by nothing else. The events are those of the world of tables
+-- (World of `rules`), and so is what is on its way: there too it is bytes.
+use Prim.Native.Nat.{ℕ}
+use mathlib.Core.List.{List, [], _∷_}
+use lib.Dec.{eqb}
+use Rattle.fields.specs.Choice.{pick}
+use Rattle.rules.specs.Node.{KeyValue}
+use Rattle.rules.specs.Table.{nodeOf}
+use Rattle.rules.specs.Layout.{encode, decode}
+use Rattle.rules.specs.Lent.{lentCall, lentGc, lentOffer, lentBeat, lentDigest, lentCompute, lentApply}
+use Rattle.rules.specs.World.{Exchange, Idle, DigestSent, DeltaSent, Side, Publishers, Followers, Event, Writing, Beating, Offering, Removing, Digesting, Computing, Applying, possible, givenIn, afterDigest, afterDelta, freshTable}
+
+-- ---- the world
+
+-- The bytes of the two tables; what the publisher gave so far, node by node, the newest first; the exchange. No call looks at what was given.
+pub record LentWorld : Type 0 where
+  pub publisher : List ℕ
+  pub follower : List ℕ
+  pub given : ℕ → List KeyValue
+  pub exchange : Exchange
+
+-- both tables fresh with the same nodes, and nothing given yet
+unfoldable pub lentStart : List ℕ → LentWorld
+lentStart is = record { publisher = encode (freshTable is); follower = encode (freshTable is); given = λ i. []; exchange = Idle }
+
+-- ---- what is on its way after a call
+
+abbrev pub lentDigested : List ℕ → ℕ → List ℕ → List ℕ → Exchange → Exchange
+lentDigested excluded place d l x = afterDigest place (lentDigest excluded place d l .list) (lentDigest excluded place d l .answer) x
+
+-- only for a digest that is on its way
+abbrev pub lentComputed : List ℕ → List ℕ → ℕ → ℕ → List ℕ → List ℕ → Exchange → Exchange
+lentComputed excluded ties mtu place d l Idle = Idle
+lentComputed excluded ties mtu place d l (DigestSent b) =
+    afterDelta place (lentCompute excluded ties mtu place b d l .list) (lentCompute excluded ties mtu place b d l .answer) (DigestSent b)
+lentComputed excluded ties mtu place d l (DeltaSent b) = DeltaSent b
+
+-- only a delta that is on its way
+abbrev pub lentApplied : ℕ → List ℕ → Exchange → List ℕ → List ℕ
+lentApplied now answers Idle l = l
+lentApplied now answers (DigestSent b) l = l
+lentApplied now answers (DeltaSent b) l = lentApply b now answers l .bytes
+
+-- ---- a run
+
+-- a call that changes the bytes of one side's table
+abbrev pub onLent : Side → (List ℕ → List ℕ) → LentWorld → LentWorld
+onLent Publishers f w = record { publisher = f (w .publisher); follower = w .follower; given = w .given; exchange = w .exchange }
+onLent Followers f w = record { publisher = w .publisher; follower = f (w .follower); given = w .given; exchange = w .exchange }
+
+abbrev pub onWay : Exchange → LentWorld → LentWorld
+onWay x w = record { publisher = w .publisher; follower = w .follower; given = w .given; exchange = x }
+
+-- what a write gives is told by the bytes that it finds
+abbrev pub lentCalls : Event → LentWorld → LentWorld
+lentCalls (Writing i k c) w =
+    record {
+      publisher = lentCall c i k (w .publisher) .bytes;
+      follower = w .follower;
+      given = λ j. pick (eqb j i) (givenIn k c (nodeOf i (decode (w .publisher))) (w .given j)) (w .given j);
+      exchange = w .exchange;
+    }
+lentCalls (Beating s i) w = onLent s (λ l. lentBeat i l .bytes) w
+lentCalls (Offering s i h) w = onLent s (λ l. lentOffer i h l .bytes) w
+lentCalls (Removing s now grace) w = onLent s (λ l. lentGc now grace l .bytes) w
+lentCalls (Digesting excluded place d) w = onWay (lentDigested excluded place d (w .follower) (w .exchange)) w
+lentCalls (Computing excluded ties mtu place d) w = onWay (lentComputed excluded ties mtu place d (w .publisher) (w .exchange)) w
+lentCalls (Applying now answers) w = onLent Followers (lentApplied now answers (w .exchange)) w
+
+-- the world after an event; one that is not possible changes nothing
+unfoldable pub lentHappen : Event → LentWorld → LentWorld
+lentHappen e w = pick (possible e) (lentCalls e w) w
+
+-- the world after a run
+unfoldable pub lentAfter : List Event → LentWorld → LentWorld
+lentAfter [] w = w
+lentAfter (e ∷ es) w = lentAfter es (lentHappen e w)

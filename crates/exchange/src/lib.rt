@@ -1,0 +1,1 @@
+// One whole exchange between two lent tables.
