@@ -1,18 +1,17 @@
 -- The world of lent bytes goes as the world of tables goes: whatever happens, its tables are the encodings of that world's tables. So every law of the
 -- rules is a law of the bytes. Assumes nothing.
 use Prim.Native.Nat.{ℕ}
-use mathlib.Core.Path.{_≡_, _∙_, ap, refl, sym}
+use mathlib.Core.Path.{_≡_, _∙_, ap, refl}
 use mathlib.Core.Bool.{Bool, false, true}
 use mathlib.Core.List.{List, [], _∷_}
 use lib.Dec.{eqb}
 use Rattle.fields.specs.Choice.{pick}
-use Rattle.rules.specs.Node.{KeyValue}
 use Rattle.rules.specs.Table.{Table, nodeOf, obeys}
 use Rattle.rules.specs.Local.{Filled, Outcome, call, fills, gc, localBeat, offer}
 use Rattle.rules.specs.Digest.{writeDigest}
 use Rattle.rules.specs.Compute.{compute}
 use Rattle.rules.specs.Apply.{apply}
-use Rattle.rules.specs.Layout.{decode, encode, valid}
+use Rattle.rules.specs.Layout.{decode, encode}
 use Rattle.rules.specs.Lent.{LentOutcome, LentApply, fromTable, lentApply, onTable, stored, storedApply}
 use Rattle.rules.specs.World.{Applying, Beating, Computing, DeltaSent, DigestSent, Digesting, Event, Exchange, Followers, Idle, Offering, Publishers, Removing, Side, World, Writing, after, afterDelta, afterDigest, calls, computedFor, appliedTo, freshTable, givenIn, happen, onSide, possible, start}
 use Rattle.rules.specs.declared.Answer.{Answer}
@@ -26,7 +25,7 @@ use Rattle.rules.specs.declared.Refusal.the-variants.{BadTable}
 use Rattle.rules.proofs.Moments.{InOrder, moment-start, next-event}
 use Rattle.rules.proofs.Obeys.{facts-table}
 use Rattle.table.proofs.Tables.{decode-encode, valid-encode}
-use Rattle.exchange.specs.LentWorld.{LentWorld, lentAfter, lentApplied, lentCalls, lentComputed, lentDigested, lentHappen, lentStart, onLent, onWay}
+use Rattle.exchange.specs.LentWorld.{LentWorld, lentAfter, lentApplied, lentCalls, lentComputed, lentHappen, lentStart, onLent, onWay}
 
 -- ---- a call on the bytes of a table that obeys
 

@@ -1,2 +1,5 @@
 pub mod LentWorld
 pub mod LentDemand3
+pub mod Exchanging
+pub mod Runs
+pub mod Closing

@@ -1,2 +1,4 @@
 pub mod LentWorld
 pub mod LentDemand3
+pub mod Exchanging
+pub mod Runs

@@ -1,0 +1,129 @@
+-- A call of `exchange::exchange` is a run of the world of lent bytes, refused or not. Nothing is assumed but that its clock is a number of eight bytes.
+use Prim.Native.Nat.{ℕ, _<_}
+use mathlib.Core.Path.{_≡_, _∙_, ap, refl}
+use mathlib.Core.Bool.{Bool, _&&_, false, true}
+use mathlib.Core.List.{List}
+use lib.Dec.{ltb}
+use borrow.Author.Tests.{lt-ltb}
+use Rattle.fields.specs.Choice.{pick}
+use Rattle.fields.specs.Parts.{part}
+use Rattle.rules.specs.Sizes.{numbers}
+use Rattle.rules.specs.Local.{Filled}
+use Rattle.rules.specs.Lent.{lentApply, lentCompute, lentDigest}
+use Rattle.rules.specs.World.{Applying, Computing, DeltaSent, DigestSent, Digesting, Event, afterDelta, afterDigest}
+use Rattle.rules.specs.Demand3.{noRoom, wroteDelta, wroteDigest}
+use Rattle.rules.specs.declared.Written.{Written}
+use Rattle.rules.specs.declared.Written.the-variants as written
+use Rattle.rules.specs.declared.Computed.{Computed}
+use Rattle.rules.specs.declared.Computed.the-variants as computed
+use Rattle.rules.specs.declared.Applied.{Applied}
+use Rattle.rules.specs.declared.Applied.the-variants as applied
+use Rattle.exchange.specs.LentWorld.{LentWorld, lentAfter, lentCalls, lentHappen, onWay}
+use Rattle.exchange.specs.Exchanging.{Lending, afterComputing, afterDigesting, lentAnswer, lentExchange, takenAs}
+use Rattle.exchange.specs.LentDemand3.{allLentGranted, lentGranted}
+use Rattle.exchange.specs.Runs.{IsRun, eventsOf, exchangedTo, grantedAs, isGranted, runOf}
+
+and-true : (b : Bool) → (b && true) ≡ b
+and-true true = refl
+and-true false = refl
+
+module _ (g : Lending) (w : LentWorld) (clock : g .clock < numbers) where
+  abbrev told : Filled Written
+  told = lentDigest (g .unasked) 0 (g .digest) (w .follower)
+
+  abbrev made : List ℕ → Filled Computed
+  made b = lentCompute (g .unsent) (g .ties) (g .mtu) 0 b (g .delta) (w .publisher)
+
+  abbrev asking : Event
+  asking = Digesting (g .unasked) 0 (g .digest)
+
+  abbrev answering : Event
+  answering = Computing (g .unsent) (g .ties) (g .mtu) 0 (g .delta)
+
+  abbrev taking-in : Event
+  taking-in = Applying (g .clock) (g .answers)
+
+  -- ---- the three events
+
+  first : (n : ℕ) → told .answer ≡ written.Bytes n → lentHappen asking w ≡ onWay (DigestSent (part 0 n (told .list))) w
+  unfolding lentHappen
+  first n e = ap (λ (a : Written). onWay (afterDigest 0 (told .list) a (w .exchange)) w) e
+
+  second : (b : List ℕ) (a : Computed) → made b .answer ≡ a → lentHappen answering (onWay (DigestSent b) w) ≡ onWay (afterDelta 0 (made b .list) a (DigestSent b)) w
+  unfolding lentHappen
+  second b a e = ap (λ (x : Computed). onWay (afterDelta 0 (made b .list) x (DigestSent b)) w) e
+
+  third : (b : List ℕ) → lentHappen taking-in (onWay (DeltaSent b) w) ≡ exchangedTo (lentApply b (g .clock) (g .answers) (w .follower) .bytes) (DeltaSent b) w
+  unfolding lentHappen
+  third b = ap (λ (c : Bool). pick c (lentCalls taking-in (onWay (DeltaSent b) w)) (onWay (DeltaSent b) w)) (lt-ltb (g .clock) numbers clock)
+
+  -- a digest that nobody answered
+  third-none : (b : List ℕ) → lentHappen taking-in (onWay (DigestSent b) w) ≡ exchangedTo (w .follower) (DigestSent b) w
+  unfolding lentHappen
+  third-none b = ap (λ (c : Bool). pick c (lentCalls taking-in (onWay (DigestSent b) w)) (onWay (DigestSent b) w)) (lt-ltb (g .clock) numbers clock)
+
+  -- the three together
+  three : (b : List ℕ) (u v : LentWorld) → lentHappen asking w ≡ onWay (DigestSent b) w → lentHappen answering (onWay (DigestSent b) w) ≡ u → lentHappen taking-in u ≡ v → lentAfter (eventsOf g) w ≡ v
+  unfolding lentAfter
+  three b u v p q r = ap (λ (x : LentWorld). lentHappen taking-in (lentHappen answering x)) p ∙ ap (lentHappen taking-in) q ∙ r
+
+  -- ---- the run
+
+  -- applying's answer does not change which run it is
+  run-taken : (ops bytes : ℕ) (a : Applied) → runOf g (takenAs ops bytes a) ≡ eventsOf g
+  run-taken ops bytes (applied.Nodes n) = refl
+  run-taken ops bytes (applied.Refused r at) = refl
+
+  -- Whatever the call answers, it is this run.
+  pub exchange-run : IsRun g w (lentExchange g (w .publisher) (w .follower))
+  unfolding lentExchange lentAnswer lentAfter
+  exchange-run = asked (told .answer) refl
+    where
+      answered : (n : ℕ) → told .answer ≡ written.Bytes n → let b = part 0 n (told .list) in (a : Computed) → made b .answer ≡ a → IsRun g w (afterComputing (g .clock) (g .answers) (w .follower) (made b .list) a)
+      answered n e (computed.Delta ops bytes) q =
+          let b = part 0 n (told .list) in
+          let d = part 0 bytes (made b .list) in
+          (DeltaSent d, ap (λ (es : List Event). lentAfter es w) (run-taken ops bytes (lentApply d (g .clock) (g .answers) (w .follower) .answer)) ∙ three b _ _ (first n e) (second b _ q) (third d))
+      answered n e (computed.Refused r) q = let b = part 0 n (told .list) in (DigestSent b, three b _ _ (first n e) (second b _ q) (third-none b))
+
+      asked : (a : Written) → told .answer ≡ a → IsRun g w (afterDigesting g (w .publisher) (w .follower) (told .list) a)
+      asked (written.Bytes n) e = answered n e (made (part 0 n (told .list)) .answer) refl
+      asked (written.Refused r) e = (w .exchange, refl)
+
+  -- ---- nothing refused
+
+  -- The call grants what its three events grant.
+  pub exchange-granted : allLentGranted (eventsOf g) w ≡ isGranted (lentExchange g (w .publisher) (w .follower))
+  unfolding lentExchange lentAnswer allLentGranted
+  exchange-granted = asked (told .answer) refl
+    where
+      -- of an exchange that goes on with a digest of these bytes
+      rest : LentWorld → Bool
+      rest u = lentGranted answering u && (lentGranted taking-in (lentHappen answering u) && true)
+
+      after-made : LentWorld → Bool
+      after-made u = lentGranted taking-in u && true
+
+      clock-is : ltb (g .clock) numbers ≡ true
+      clock-is = lt-ltb (g .clock) numbers clock
+
+      taken : (ops bytes : ℕ) (a : Applied) (l : List ℕ) → (noRoom a l && true) ≡ grantedAs (takenAs ops bytes a) l
+      taken ops bytes (applied.Nodes n) l = and-true _
+      taken ops bytes (applied.Refused r at) l = refl
+
+      answered : (b : List ℕ) (a : Computed) → made b .answer ≡ a → rest (onWay (DigestSent b) w) ≡ isGranted (afterComputing (g .clock) (g .answers) (w .follower) (made b .list) a)
+      answered b (computed.Delta ops bytes) q =
+          let d = part 0 bytes (made b .list) in
+          let o = lentApply d (g .clock) (g .answers) (w .follower) in
+          ap (λ (a : Computed). wroteDelta a && after-made (lentHappen answering (onWay (DigestSent b) w))) q
+          ∙ ap after-made (second b _ q)
+          ∙ ap (λ (c : Bool). (c && noRoom (o .answer) (o .list)) && true) clock-is
+          ∙ taken ops bytes (o .answer) (o .list)
+      answered b (computed.Refused r) q = ap (λ (a : Computed). wroteDelta a && after-made (lentHappen answering (onWay (DigestSent b) w))) q
+
+      asked : (a : Written) → told .answer ≡ a → (wroteDigest (told .answer) && rest (lentHappen asking w)) ≡ isGranted (afterDigesting g (w .publisher) (w .follower) (told .list) a)
+      asked (written.Bytes n) e =
+          ap (λ (a : Written). wroteDigest a && rest (lentHappen asking w)) e
+          ∙ ap rest (first n e)
+          ∙ answered (part 0 n (told .list)) (made (part 0 n (told .list)) .answer) refl
+      asked (written.Refused r) e = ap (λ (a : Written). wroteDigest a && rest (lentHappen asking w)) e

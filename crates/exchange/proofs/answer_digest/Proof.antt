@@ -1,0 +1,115 @@
+-- `exchange::answer_digest` meets its contract: by what computing answers, and then applying. Assumes nothing.
+use Prim.Native.Nat.{_≤_}
+use mathlib.Core.Path.{_≡_, _∙_, sym}
+use lib.ListN.{length}
+use lib.Seq.{length-take-le}
+use Rattle.rules.specs.declared.Applied.{Applied}
+use Rattle.exchange.specs.Exchanging.{Answers, lentAnswer, takenAs}
+use Rattle.exchange.proofs.Exchanging.{delta-taken, made-within, no-delta}
+use borrow.Author.Needs.{needs}
+use Rattle.exchange.proofs.answer_digest.Statement.{statement}
+use Rattle.exchange.proofs.answer_digest.Tie as tie
+
+abbrev entry : tie.After-compute → tie.Start
+entry c = c .before .before .before .before .before .before .before .before .before
+
+compute-requires : tie.Need-compute-requires
+compute-requires c κs = search needs
+
+enum-known-computed : tie.Need-enum-known-computed
+enum-known-computed c = search needs
+
+-- the delta stands in its datagram
+within : (c : tie.After-computed) → c .computed .given .0 .1 .0 ≤ length (c .before .before .before .before .compute .last .1 .1 .1 .1 .1 .0)
+within c =
+    let call = c .before .before .before .before in
+    let a = entry call .args in
+    made-within (a .unsent .now) (a .ties .now) (a .mtu) (a .clock) (a .told .now) (a .delta .now) (a .answers .now) (a .publisher .now) (a .follower .now) _ _ _ (sym (call .compute .ensures .0) ∙ c .computed .given .1) (call .compute .ensures .1)
+
+slice-reshare-prefix-apply : tie.Need-slice-reshare-prefix-apply
+slice-reshare-prefix-apply c = within (c .before .before)
+
+slice-aggregate-apply : tie.Need-slice-aggregate-apply
+slice-aggregate-apply c = sym (length-take-le _ _ (within (c .before .before .before)))
+
+-- what applying leaves is the exchange's outcome
+abbrev made : tie.After-apply → tie.After-computed
+made c = c .before .before .before .before .before
+
+abbrev asked : tie.After-apply → tie.After-compute
+asked c = made c .before .before .before .before
+
+taken : (c : tie.After-apply) (r : Applied) → c .apply .result ≡ r → let a = entry (asked c) .args in
+    Answers (lentAnswer (a .unsent .now) (a .ties .now) (a .mtu) (a .clock) (a .told .now) (a .delta .now) (a .answers .now) (a .publisher .now) (a .follower .now)) (takenAs (made c .computed .given .0 .0) (made c .computed .given .0 .1 .0) r) (c .apply .last .0) (asked c .compute .last .1 .1 .1 .1 .1 .0) (c .apply .last .1 .1 .1 .0)
+taken c r e =
+    let a = entry (asked c) .args in
+    let call = asked c .compute .ensures in
+    delta-taken (a .unsent .now) (a .ties .now) (a .mtu) (a .clock) (a .told .now) (a .delta .now) (a .answers .now) (a .publisher .now) (a .follower .now) _ _ _ (sym (call .0) ∙ made c .computed .given .1) (call .1) r _ _ (sym e ∙ c .apply .ensures .0) (c .apply .ensures .1) (c .apply .ensures .2)
+
+apply-requires : tie.Need-apply-requires
+apply-requires c κs = search needs
+
+enum-known-applied : tie.Need-enum-known-applied
+enum-known-applied c = search needs
+
+enum-known-applied-2 : tie.Need-enum-known-applied-2
+enum-known-applied-2 c = search needs
+
+enum-known-computed-2 : tie.Need-enum-known-computed-2
+enum-known-computed-2 c = search needs
+
+same-length : tie.Need-same-length
+same-length c = search needs
+
+same-length-2 : tie.Need-same-length-2
+same-length-2 c = search needs
+
+same-length-3 : tie.Need-same-length-3
+same-length-3 c = search needs
+
+returns : tie.Need-returns
+returns c = taken (c .before .before .before .before .before .before .before) _ (c .before .applied .given .1)
+
+same-length-4 : tie.Need-same-length-4
+same-length-4 c = search needs
+
+same-length-5 : tie.Need-same-length-5
+same-length-5 c = search needs
+
+same-length-6 : tie.Need-same-length-6
+same-length-6 c = search needs
+
+returns-2 : tie.Need-returns-2
+returns-2 c = taken (c .before .before .before .before .before .before .before) _ (c .before .applied2 .given .1)
+
+same-length-7 : tie.Need-same-length-7
+same-length-7 c = search needs
+
+returns-3 : tie.Need-returns-3
+returns-3 c =
+    let call = c .before .before .before .before .before in
+    let a = entry call .args in
+    no-delta (a .unsent .now) (a .ties .now) (a .mtu) (a .clock) (a .told .now) (a .delta .now) (a .answers .now) (a .publisher .now) (a .follower .now) _ _ (sym (call .compute .ensures .0) ∙ c .before .computed2 .given .1) (call .compute .ensures .1)
+
+pub answer-digest-spec : {M : Type 1} → statement M
+answer-digest-spec =
+    tie.close
+    (tie.spec
+    compute-requires
+    enum-known-computed
+    slice-reshare-prefix-apply
+    slice-aggregate-apply
+    apply-requires
+    enum-known-applied
+    enum-known-applied-2
+    enum-known-computed-2
+    same-length
+    same-length-2
+    same-length-3
+    returns
+    same-length-4
+    same-length-5
+    same-length-6
+    returns-2
+    same-length-7
+    returns-3)
