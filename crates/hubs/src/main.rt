@@ -1,0 +1,250 @@
+// Two hubs with the same two meters. On each of two days the first hub takes readings, and the second follows it by exchanges of at most 135 bytes, until every
+// max is equal. It takes no more exchanges than the first hub holds records and nodes, as demand 3 says. On the second day readings are deleted and
+// removed before the second hub hears of it: they do not come back.
+use exchange::Exchanged;
+use libc::STDOUT_FILENO;
+use look::Count;
+use look::NodeHeader;
+use look::RecordRead;
+use recordtext::Text;
+use rules::Answer;
+use rules::Header;
+use rules::Refusal;
+use rules::Status;
+use table::layout;
+
+// The numbers of the two meters.
+const POWER: u64 = 7;
+
+const WATER: u64 = 12;
+
+// A Node and the largest record fit.
+const MTU: usize = 135;
+
+fn say(text: &[u8]) {
+    io::write_all(STDOUT_FILENO, text);
+}
+
+fn say_number(name: &[u8], n: u64) {
+    say(name);
+    io::print_decimal(STDOUT_FILENO, n);
+}
+
+// ---- the first hub's readings
+
+// No call here is refused; one that were would be told.
+fn done(a: Answer) {
+    match a {
+        Answer::Done => {}
+        Answer::Refused(r) => say_number(b"refused ", r.number()),
+    }
+}
+
+fn open(hub: &mut [u8]) {
+    done(nodes::new_table(hub));
+    done(nodes::add_node(hub, POWER));
+    done(nodes::add_node(hub, WATER));
+}
+
+fn first_day_power(hub: &mut [u8]) {
+    done(local::set(hub, POWER, b"total", b"004127.3 kWh"));
+    done(local::set(
+        hub,
+        POWER,
+        b"load",
+        b"0.4 0.3 0.3 0.2 0.9 1.7 2.2 1.1 0.8 0.7 0.6 1.3",
+    ));
+    done(local::set(hub, POWER, b"tariff", b"night"));
+    done(pulse::local_beat(hub, POWER));
+}
+
+fn first_day_water(hub: &mut [u8]) {
+    done(local::set(hub, WATER, b"total", b"000088.031 m3"));
+    done(local::set_with_ttl(hub, WATER, b"valve", b"open", 1000));
+    done(local::set(hub, WATER, b"flow", b"0 0 0 3 11 4 2 0 0 6 9 1"));
+}
+
+// The tariff goes, and so does the valve, whose time has come.
+fn second_day(hub: &mut [u8]) {
+    done(local::set(hub, POWER, b"total", b"004139.0 kWh"));
+    done(local::delete(hub, POWER, b"tariff", 50000));
+    done(local::delete_after_ttl(hub, WATER, b"flow", 80000));
+    done(removal::remove_scheduled(hub, 90000, 30000));
+}
+
+// ---- what a hub holds
+
+fn count(c: Count) -> u64 {
+    match c {
+        Count::Are(n) => n as u64,
+        Count::Refused(_) => 0,
+    }
+}
+
+// Records, tombstones and TTL records counted, and nodes together.
+fn holdings(hub: &[u8]) -> u64 {
+    let records = std::num::wrapping_add_u64(
+        count(look::record_count(hub, POWER)),
+        count(look::record_count(hub, WATER)),
+    );
+    std::num::wrapping_add_u64(records, count(look::node_count(hub)))
+}
+
+fn max_of(hub: &[u8], number: u64) -> u64 {
+    match look::node_header(hub, number) {
+        NodeHeader::Is(h) => h.max,
+        NodeHeader::Refused(_) => 0,
+    }
+}
+
+// Whether every max is equal.
+fn agree(a: &[u8], b: &[u8]) -> bool {
+    if max_of(a, POWER) != max_of(b, POWER) {
+        return false;
+    }
+    max_of(a, WATER) == max_of(b, WATER)
+}
+
+// ---- what is printed
+
+// A Set record, as node, key, value and version.
+fn say_record(hub: &[u8], number: u64, j: usize) {
+    if let RecordRead::Is(r) = look::record_at(hub, number, j) {
+        let status = r.status;
+        if let Status::Set = status {
+            say_number(b"  ", number);
+            say(b" ");
+            say(recordtext::text_at(hub, number, j, Text::Key));
+            say(b" = ");
+            say(recordtext::text_at(hub, number, j, Text::Value));
+            say_number(b" at version ", r.version);
+            say(b"\n");
+        }
+    }
+}
+
+fn say_node(hub: &[u8], number: u64) {
+    let mut j = 0;
+    while j < Header::RECORDS {
+        say_record(hub, number, j);
+        j += 1;
+    }
+}
+
+fn say_hub(name: &[u8], hub: &[u8]) {
+    say(name);
+    say(b" holds\n");
+    say_node(hub, POWER);
+    say_node(hub, WATER);
+}
+
+// What a node answered to its part of the delta.
+fn say_answer(code: u8) {
+    if code == 0 {
+        say(b" reject");
+    } else if code == 1 {
+        say(b" apply");
+    } else if code == 2 {
+        say(b" reset");
+    } else if code == 3 {
+        say(b" room");
+    } else {
+        say(b" unknown");
+    }
+}
+
+fn say_answers(answers: &[u8], n: usize) {
+    let mut i = 0;
+    while i < answers.len() {
+        if i < n {
+            say_answer(answers[i]);
+        }
+        i += 1;
+    }
+    say(b"\n");
+}
+
+fn say_refused(step: &[u8], r: Refusal) {
+    say(step);
+    say_number(b" refused with ", r.number());
+    say(b"\n");
+}
+
+fn say_exchange(i: u64, e: Exchanged, answers: &[u8]) {
+    say_number(b"exchange ", i);
+    match e {
+        Exchanged::Done { ops, bytes, nodes } => {
+            say_number(b": ops=", ops as u64);
+            say_number(b" bytes=", bytes as u64);
+            say(b" answers:");
+            say_answers(answers, nodes);
+        }
+        Exchanged::NoDigest(r) => say_refused(b": the digest is", r),
+        Exchanged::NoDelta(r) => say_refused(b": the delta is", r),
+        Exchanged::NotApplied { why, at: _ } => say_refused(b": applying is", why),
+    }
+}
+
+// ---- the exchanges
+
+// One exchange: nothing is left out, and the nodes go by their numbers.
+fn step(i: u64, publisher: &[u8], follower: &mut [u8], clock: u64) {
+    let mut digest = [0u8; 258];
+    let mut delta = [0u8; MTU];
+    let mut answers = [0u8; 8];
+    let none = [0u64; 0];
+    let ties = [0u64; 2];
+    let e = exchange::exchange(
+        publisher,
+        follower,
+        MTU,
+        &none,
+        &none,
+        &ties,
+        clock,
+        &mut digest,
+        &mut delta,
+        &mut answers,
+    );
+    say_exchange(i, e, &answers);
+}
+
+// Exchanges until every max is equal; how many there were.
+fn catch_up(publisher: &[u8], follower: &mut [u8], clock: u64, most: u64) -> u64 {
+    let mut i: u64 = 0;
+    while i < most {
+        if agree(publisher, follower) {
+            return i;
+        }
+        i += 1;
+        step(i, publisher, follower, clock);
+    }
+    i
+}
+
+fn meet(publisher: &[u8], follower: &mut [u8], clock: u64) {
+    let most = holdings(publisher);
+    let n = catch_up(publisher, follower, clock, most);
+    if agree(publisher, follower) {
+        say_number(b"every max is equal after ", n);
+    } else {
+        say_number(b"not yet equal after ", n);
+    }
+    say_number(b" exchanges; records and nodes: ", most);
+    say(b"\n");
+}
+
+fn main() {
+    let mut first = [0u8; layout::TABLE];
+    let mut second = [0u8; layout::TABLE];
+    open(&mut first);
+    open(&mut second);
+    first_day_power(&mut first);
+    first_day_water(&mut first);
+    meet(&first, &mut second, 2000);
+    say_hub(b"the second hub", &second);
+    second_day(&mut first);
+    meet(&first, &mut second, 91000);
+    say_hub(b"the first hub", &first);
+    say_hub(b"the second hub", &second);
+}
