@@ -166,7 +166,7 @@ fn record_keyed(b: &[u8], key: &[u8]) -> RecordRead
     requires { ⌜ LaidNode (now b) × (keysRise (recsOf (now b)) ≡ true) ⌝ }
     ensures { λ r. ⌜ r ≡ readKey (find (now (key .entry)) (recsOf (now (b .entry)))) ⌝ }
 {
-    match place::find_key(b, key) {
+    match place::search_key(b, key) {
         Place::At(j) => RecordRead::Is(place::read_record(table::record_of(b, j))),
         Place::Free(_) => RecordRead::Nothing,
     }

@@ -56,7 +56,7 @@ fn in_node(b: &[u8], i: usize, key: &[u8]) -> Found
     requires { ⌜ LaidNode (now b) × (keysRise (recsOf (now b)) ≡ true) × (i < maxNodes) ⌝ }
     ensures { λ r. ⌜ r ≡ findRec (now (key .entry)) i 0 (recsOf (now (b .entry))) ⌝ }
 {
-    match place::find_key(b, key) {
+    match place::search_key(b, key) {
         Place::At(j) => in_record(b, i, j),
         Place::Free(_) => Found::Nothing,
     }

@@ -15,11 +15,11 @@ use Rattle.place.specs.declared.Place.the-variants.{At, Free}
 
 -- ---- one step of a search that stands at i
 
-further-further : (n m : ℕ) (p : Place) → further n (further m p) ≡ further (n + m) p
+pub further-further : (n m : ℕ) (p : Place) → further n (further m p) ≡ further (n + m) p
 further-further n m (At i) = ap At (sym (add-assoc n m i))
 further-further n m (Free i) = ap Free (sym (add-assoc n m i))
 
-further-none : (p : Place) → further 0 p ≡ p
+pub further-none : (p : Place) → further 0 p ≡ p
 further-none (At i) = ap At (zero-add i)
 further-none (Free i) = ap Free (zero-add i)
 

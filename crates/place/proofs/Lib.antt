@@ -2,3 +2,4 @@ pub mod Found
 pub mod Searched
 pub mod Entry
 pub mod Placed
+pub mod Halves

@@ -5,11 +5,13 @@ use rules::Record;
 use rules::Status;
 use table::layout;
 ghost use mathlib.Core.Path.{_≡_};
+ghost use mathlib.Core.Bool.{true};
 ghost use Prim.Native.Nat.{_+_, _*_, _≤_, _<_};
 ghost use lib.ListN.{length};
 ghost use Rattle.fields.specs.Numbers.{natOf};
 ghost use Rattle.fields.specs.Parts.{part};
 ghost use Rattle.rules.specs.Sizes.{maxNodes, maxRecords, maxKey, maxValue};
+ghost use Rattle.rules.specs.Table.{keysRise};
 ghost use Rattle.rules.specs.Layout.{recWidth, nodeWidth, tableWidth, decodeRec, decodeNode, decode, statusOfByte};
 ghost use Rattle.table.specs.Tests.{keyLength, valueLength, countOf, nodesOf, recsOf};
 ghost use Rattle.table.specs.Fits.{LaidNode};
@@ -97,4 +99,22 @@ pub fn find_key(b: &[u8], key: &[u8]) -> Place
         }
     }
     Place::Free(j)
+}
+
+// The same where the keys of the node rise: by halves.
+pub fn search_key(b: &[u8], key: &[u8]) -> Place
+    requires { ⌜ LaidNode (now b) × (keysRise (recsOf (now b)) ≡ true) ⌝ }
+    ensures { λ r. ⌜ r ≡ findKey (now (key .entry)) (recsOf (now (b .entry))) ⌝ }
+{
+    let mut low = 0;
+    let mut high = fields::byte_at(b, layout::COUNT);
+    while low < high {
+        let j = (low + high) / 2;
+        match fields::compare(key, table::key_of(table::record_of(b, j))) {
+            fields::Order::Same => return Place::At(j),
+            fields::Order::Less => high = j,
+            fields::Order::More => low = j + 1,
+        }
+    }
+    Place::Free(low)
 }

@@ -108,7 +108,7 @@ fn set_key(b: &mut [u8], key: &[u8], value: &[u8], status: Status, start: u64) -
     if Record::VALUE < value.len() {
         return Answer::Refused(Refusal::TooLong);
     }
-    match place::find_key(b, key) {
+    match place::search_key(b, key) {
         Place::At(j) => set_at(b, j, key, value, status, start),
         Place::Free(j) => add(b, j, key, value, status, start),
     }
@@ -122,7 +122,7 @@ fn delete_key(b: &mut [u8], key: &[u8], time: u64) -> Answer
     if Record::KEY < key.len() {
         return Answer::Refused(Refusal::TooLong);
     }
-    match place::find_key(b, key) {
+    match place::search_key(b, key) {
         Place::At(j) => rewrite(b, j, key, b"", Status::Delete, time),
         Place::Free(_) => Answer::Refused(Refusal::NoKey),
     }
@@ -156,7 +156,7 @@ fn expire_key(b: &mut [u8], key: &[u8], time: u64) -> Answer
     if Record::KEY < key.len() {
         return Answer::Refused(Refusal::TooLong);
     }
-    match place::find_key(b, key) {
+    match place::search_key(b, key) {
         Place::At(j) => expire_at(b, j, key, time),
         Place::Free(_) => Answer::Refused(Refusal::NoKey),
     }

@@ -18,13 +18,13 @@ use Rattle.look.proofs.record_keyed.Statement.{statement}
 use Rattle.look.proofs.record_keyed.Tie as tie
 use Rattle.look.proofs.record_keyed.Reads as reads
 use Rattle.look.proofs.record_keyed.Lts as lts
-use Rattle.place.proofs.find_key.Reads as find-key-reads
+use Rattle.place.proofs.search_key.Reads as search-key-reads
 use Rattle.place.proofs.read_record.Reads as read-record-reads
 use Rattle.table.proofs.record_of.Reads as record-of-reads
 
 -- the record's place is one of the node's
 found : (c : tie.After-known-told) → let j = c .before in let s = j .before .before .before .before .before in findKey (s .args .key .now) (recsOf (s .args .b .now)) ≡ place.At (j .j .given .0 .0)
-found c = let j = c .before in sym (j .before .before .find-key .ensures) ∙ j .j .given .1
+found c = let j = c .before in sym (j .before .before .search-key .ensures) ∙ j .j .given .1
 
 held : (c : tie.After-known-told) → let j = c .before in j .j .given .0 .0 < countOf (j .before .before .before .before .before .args .b .now)
 held c =
@@ -32,8 +32,8 @@ held c =
     let a = j .before .before .before .before .before .args in
     rec-in (a .b .now) (a .key .now) (j .j .given .0 .0) (found c)
 
-find-key-requires : tie.Need-find-key-requires
-find-key-requires c κs = search needs
+search-key-requires : tie.Need-search-key-requires
+search-key-requires c κs = search needs
 
 enum-known-j : tie.Need-enum-known-j
 enum-known-j c = search needs
@@ -69,13 +69,13 @@ returns-2 : tie.Need-returns-2
 returns-2 c =
     let f = c .before .before in
     let s = f .before .before .before in
-    sym (ap readKey (rec-missing (s .args .b .now) (s .args .key .now) (c .enum-told .given .0 .0) (s .pre .1) (sym (f .find-key .ensures) ∙ c .enum-told .given .1)))
+    sym (ap readKey (rec-missing (s .args .b .now) (s .args .key .now) (c .enum-told .given .0 .0) (s .pre .1) (sym (f .search-key .ensures) ∙ c .enum-told .given .1)))
 
 pub record-keyed-spec : {M : Type 1} → statement M
 record-keyed-spec =
     tie.close
     (tie.spec
-    find-key-requires
+    search-key-requires
     enum-known-j
     record-of-requires
     read-record-requires

@@ -19,7 +19,7 @@ use Rattle.write.proofs.expire_key.Statement.{statement}
 use Rattle.write.proofs.expire_key.Tie as tie
 use Rattle.write.proofs.expire_key.Reads as reads
 use Rattle.write.proofs.expire_key.Lts as lts
-use Rattle.place.proofs.find_key.Reads as find-key-reads
+use Rattle.place.proofs.search_key.Reads as search-key-reads
 use Rattle.write.proofs.expire_at.Reads as expire-at-reads
 
 key-fits : (c : tie.Else1) → length ((c .before .before .before) .args .key .now) ≤ maxKey
@@ -27,7 +27,7 @@ key-fits c = omega arith
 
 -- where the key stands
 stands : (c : tie.After-j) → findKey ((c .before .before .before .before .before .before .before) .args .key .now) (recsOf ((c .before .before .before .before .before .before .before) .args .b .now)) ≡ At (c .j .given .0 .0)
-stands c = sym ((c .before .before) .find-key .ensures) ∙ c .j .given .1
+stands c = sym ((c .before .before) .search-key .ensures) ∙ c .j .given .1
 
 returns : tie.Need-returns
 returns c =
@@ -36,8 +36,8 @@ returns c =
     refused (a .key .now) (a .b .now) (st .pre .0) _ TooLong
     (delete-long (a .key .now) (nodeIn (a .b .now)) (DeletingAfterTtl (a .time)) (expired (a .time)) (expired-wished (a .time)) (omega arith) (omega arith))
 
-find-key-requires : tie.Need-find-key-requires
-find-key-requires c κs = search needs
+search-key-requires : tie.Need-search-key-requires
+search-key-requires c κs = search needs
 
 enum-known-j : tie.Need-enum-known-j
 enum-known-j c = search needs
@@ -72,14 +72,14 @@ returns-3 c =
     let a = st .args in
     refused (a .key .now) (a .b .now) (st .pre .0) _ NoKey
     (delete-none (a .key .now) (nodeIn (a .b .now)) (DeletingAfterTtl (a .time)) (expired (a .time)) (expired-wished (a .time)) (omega arith) (key-fits ((c .before .before .before .before)))
-    (rec-missing (a .b .now) (a .key .now) _ (st .pre .1) (sym ((c .before .before) .find-key .ensures) ∙ c .enum-told .given .1)))
+    (rec-missing (a .b .now) (a .key .now) _ (st .pre .1) (sym ((c .before .before) .search-key .ensures) ∙ c .enum-told .given .1)))
 
 pub expire-key-spec : {M : Type 1} → statement M
 expire-key-spec =
     tie.close
     (tie.spec
     returns
-    find-key-requires
+    search-key-requires
     enum-known-j
     expire-at-requires
     enum-told

@@ -19,7 +19,7 @@ use Rattle.write.proofs.set_key.Statement.{statement}
 use Rattle.write.proofs.set_key.Tie as tie
 use Rattle.write.proofs.set_key.Reads as reads
 use Rattle.write.proofs.set_key.Lts as lts
-use Rattle.place.proofs.find_key.Reads as find-key-reads
+use Rattle.place.proofs.search_key.Reads as search-key-reads
 use Rattle.write.proofs.add.Reads as add-reads
 use Rattle.write.proofs.set_at.Reads as set-at-reads
 
@@ -39,10 +39,10 @@ value-fits c = omega arith
 
 -- where the key stands, or belongs
 stands : (c : tie.After-j) → findKey ((c .before .before .before .before .before .before .before .before .before) .args .key .now) (recsOf ((c .before .before .before .before .before .before .before .before .before) .args .b .now)) ≡ At (c .j .given .0 .0)
-stands c = sym ((c .before .before) .find-key .ensures) ∙ c .j .given .1
+stands c = sym ((c .before .before) .search-key .ensures) ∙ c .j .given .1
 
 belongs : (c : tie.After-j2) → findKey ((c .before .before .before .before .before .before .before .before .before) .args .key .now) (recsOf ((c .before .before .before .before .before .before .before .before .before) .args .b .now)) ≡ Free (c .j2 .given .0 .0)
-belongs c = sym ((c .before .before) .find-key .ensures) ∙ c .j2 .given .1
+belongs c = sym ((c .before .before) .search-key .ensures) ∙ c .j2 .given .1
 
 returns : tie.Need-returns
 returns c =
@@ -58,8 +58,8 @@ returns-2 c =
     let ch : Change = changeOf (a .value .now) (a .status) (a .start) in
     refused (a .key .now) (a .b .now) (st .pre .0) _ TooLong (long-value (a .key .now) ch (a .b .now) (key-fits (c .before)) (omega arith))
 
-find-key-requires : tie.Need-find-key-requires
-find-key-requires c κs = search needs
+search-key-requires : tie.Need-search-key-requires
+search-key-requires c κs = search needs
 
 enum-known-j : tie.Need-enum-known-j
 enum-known-j c = search needs
@@ -110,7 +110,7 @@ set-key-spec =
     (tie.spec
     returns
     returns-2
-    find-key-requires
+    search-key-requires
     enum-known-j
     set-at-requires
     enum-known-j-2
