@@ -2,6 +2,7 @@
 //!
 //!     compare run JUDGE N SEED OTHER..      the sweeps (not with ORACLE_SWEEPS=0) and N random scripts
 //!     compare find JUDGE N SEED OTHER..     the same, but a difference is only told, not shrunk
+//!     compare peers JUDGE N SEED OTHER..    N random scripts of computing and applying alone, every MTU in its turn
 //!     compare count JUDGE N SEED OTHER..    how many of the sweeps and of N random scripts show a difference
 //!     compare script SEED INDEX             prints one random script
 //!     compare sweep NAME                    prints one sweep; without a name, lists them
@@ -25,8 +26,11 @@ use sides::Sides;
 /// Scripts answered by one start of each side.
 const BATCH: u64 = 100;
 
+/// Makes a script from its seed and its index.
+type Make = fn(u64, u64) -> Vec<String>;
+
 fn usage() -> ExitCode {
-    eprintln!("compare run|find|count JUDGE N SEED OTHER.. | script SEED INDEX | sweep [NAME] | shrink JUDGE FILE OTHER..");
+    eprintln!("compare run|find|peers|count JUDGE N SEED OTHER.. | script SEED INDEX | sweep [NAME] | shrink JUDGE FILE OTHER..");
     ExitCode::from(2)
 }
 
@@ -34,13 +38,15 @@ fn main() -> ExitCode {
     let words: Vec<String> = std::env::args().skip(1).collect();
     let words: Vec<&str> = words.iter().map(String::as_str).collect();
     match words[..] {
-        [how @ ("run" | "find"), judge, count, seed, ref other @ ..] if !other.is_empty() => {
+        [how @ ("run" | "find" | "peers"), judge, count, seed, ref other @ ..] if !other.is_empty() => {
             let (Ok(count), Ok(seed)) = (count.parse(), seed.parse()) else { return usage() };
             let sides = Sides::new(judge, other);
-            match run(&sides, count, seed) {
+            let (sweeps, make): (_, Make) =
+                if how == "peers" { (vec![], scripts::peers) } else { (wanted_sweeps(), scripts::random) };
+            match run(&sides, sweeps, make, count, seed) {
                 Ok(()) => ExitCode::SUCCESS,
-                Err(script) if how == "run" => report(&sides, &script),
-                Err(_) => ExitCode::FAILURE,
+                Err(_) if how == "find" => ExitCode::FAILURE,
+                Err(script) => report(&sides, &script),
             }
         }
         ["count", judge, count, seed, ref other @ ..] if !other.is_empty() => match (count.parse(), seed.parse()) {
@@ -68,11 +74,14 @@ fn print(lines: &[String]) -> ExitCode {
     ExitCode::SUCCESS
 }
 
+/// None of them with ORACLE_SWEEPS=0.
+fn wanted_sweeps() -> Vec<String> {
+    if std::env::var("ORACLE_SWEEPS").is_ok_and(|wanted| wanted == "0") { vec![] } else { sweeps::names() }
+}
+
 /// The error is a script that shows a difference.
-fn run(sides: &Sides, count: u64, seed: u64) -> Result<(), Vec<String>> {
+fn run(sides: &Sides, sweeps: Vec<String>, make: Make, count: u64, seed: u64) -> Result<(), Vec<String>> {
     let mut counts = Counts::default();
-    let sweeps =
-        if std::env::var("ORACLE_SWEEPS").is_ok_and(|wanted| wanted == "0") { vec![] } else { sweeps::names() };
     for name in sweeps {
         let script = sweeps::named(&name).expect("a sweep of that name");
         answer(sides, &[script], &mut counts, &format!("sweep {name}"))?;
@@ -80,7 +89,7 @@ fn run(sides: &Sides, count: u64, seed: u64) -> Result<(), Vec<String>> {
     let mut first = 0;
     while first < count {
         let last = count.min(first + BATCH);
-        let batch: Vec<Vec<String>> = (first..last).map(|index| scripts::random(seed, index)).collect();
+        let batch: Vec<Vec<String>> = (first..last).map(|index| make(seed, index)).collect();
         answer(sides, &batch, &mut counts, &format!("seed {seed}, scripts {first} to {}", last - 1))?;
         first = last;
     }
@@ -90,8 +99,7 @@ fn run(sides: &Sides, count: u64, seed: u64) -> Result<(), Vec<String>> {
 
 /// Counts the sweeps and the scripts that show a difference. No script is shrunk, and none ends the counting.
 fn tell(sides: &Sides, count: u64, seed: u64) -> ExitCode {
-    let names = sweeps::names();
-    let sweeps: Vec<Vec<String>> = names.iter().filter_map(|name| sweeps::named(name)).collect();
+    let sweeps: Vec<Vec<String>> = wanted_sweeps().iter().filter_map(|name| sweeps::named(name)).collect();
     let shown = sweeps.iter().filter(|script| sides.differ(script)).count();
     let mut differing = 0;
     let mut first = 0;

@@ -22,6 +22,59 @@ pub fn random(seed: u64, index: u64) -> Vec<String> {
     }
 }
 
+/// How many MTUs a script of `peers` goes over.
+const CUTS: u64 = 64;
+
+/// Computing and applying alone: a table given whole, and a follower that is behind with some of it, is made fresh in a node now and then,
+/// and takes deltas by hand between the others. The MTUs are one after the other and go on in the next script, so that 255
+/// scripts have every MTU from 100 to 16,384, each on other tables.
+pub fn peers(seed: u64, index: u64) -> Vec<String> {
+    let mut random = Random::new(seed, index);
+    let (nodes, records, long) = (random.within(1, 8), *random.pick(&[1, 3, 8, 20, 32]), random.once_in(2));
+    let mut m = Maker::new(random, nodes, 6);
+    let good = m.good_nodes(nodes, records, long);
+    m.give(&good);
+    m.hub(1);
+    for node in &good {
+        if !m.random.once_in(12) {
+            m.add(node.number);
+        }
+    }
+    for step in 0..CUTS {
+        if m.random.once_in(3) {
+            let node = m.random.pick(&good).number;
+            m.remove(node);
+            m.add(node);
+        }
+        if m.random.once_in(4) {
+            let bytes = hand_delta(&mut m);
+            m.apply(&hex(&bytes));
+        }
+        if !m.random.once_in(6) {
+            m.whole_digest();
+        }
+        m.hub(0);
+        if m.random.once_in(4) {
+            m.local();
+        }
+        let mtu = 100 + (CUTS * index + step) % (16_384 - 100 + 1);
+        if m.random.once_in(6) {
+            let digest = hex(&m.hand_digest());
+            m.compute(&digest, mtu);
+        }
+        m.plain_compute("@digest", mtu);
+        m.hub(1);
+        m.apply("@delta");
+    }
+    m.finish()
+}
+
+/// A delta by hand, often damaged.
+fn hand_delta(m: &mut Maker) -> Vec<u8> {
+    let bytes = pieces::delta(&m.hand_ops());
+    if m.random.once_in(3) { damage::delta(&mut m.random, &bytes) } else { bytes }
+}
+
 /// Local calls on few nodes and keys.
 fn local(mut random: Random) -> Vec<String> {
     let (nodes, keys) = (random.within(1, 3), random.within(1, 6));
@@ -213,10 +266,7 @@ fn hand_deltas(mut random: Random) -> Vec<String> {
         m.add(node);
     }
     for _ in 0..m.random.within(3, 20) {
-        let mut bytes = pieces::delta(&m.hand_ops());
-        if m.random.once_in(3) {
-            bytes = damage::delta(&mut m.random, &bytes);
-        }
+        let mut bytes = hand_delta(&mut m);
         if m.random.once_in(40) {
             let mut padded = bytes.clone();
             pad(&mut m, &mut padded);
