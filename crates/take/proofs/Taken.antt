@@ -17,10 +17,11 @@ use Rattle.fields.proofs.Blocks.{length-insert}
 use Rattle.rules.specs.Sizes.{maxRecords, maxKey, maxValue}
 use Rattle.rules.specs.Node.{KeyValue, Rec, scheduled, store}
 use Rattle.rules.specs.Apply.{takes, startAt, stamp, takeAll}
-use Rattle.rules.specs.Table.{Entry}
+use Rattle.rules.specs.Table.{Entry, keysRise}
 use Rattle.rules.specs.Layout.{encodeNode, decodeNode}
 use Rattle.rules.specs.Delta as rule
-use Rattle.rules.proofs.Records.{keyOf}
+use Rattle.rules.proofs.Records.{keyOf, sorted-store}
+use Rattle.rules.proofs.Obeys.{keys-sorted, sorted-keys}
 use Rattle.rules.specs.declared.Status.{Status}
 use Rattle.rules.specs.declared.Status.the-variants.{Set, Delete, Ttl}
 use Rattle.delta.specs.declared.Op.{Op}
@@ -41,7 +42,7 @@ use Rattle.place.proofs.Placed.{store-at, store-free, free-in}
 use Rattle.place.proofs.Searched.{rec-in}
 use Rattle.take.specs.declared.Step.{Step}
 use Rattle.take.specs.declared.Step.the-variants.{Taken, Full, Over}
-use Rattle.take.specs.Taking.{takesAs, carried, hasRoom, Tried, takeOne, afterOp, stepOf, Stepped, recsFrom}
+use Rattle.take.specs.Taking.{takesAs, carried, hasRoom, Rising, Tried, takeOne, afterOp, stepOf, Stepped, recsFrom}
 
 -- ---- which are taken
 
@@ -99,36 +100,40 @@ store-grows r (a ∷ l) = go (sameBytes (r .kv .key) (a .kv .key)) (lessBytes (r
     go false false h = omega arith
 
 -- a node with other records that fit
-module _ (b : List ℕ) (o : LaidNode b) (l : List Rec) where
-  pub with-room : ((x : Rec) → x ∈ l → FitsRec x) → length l ≤ maxRecords → (b′ : List ℕ) → b′ ≡ encodeNode (withRecs l (decodeNode b)) → Tried l b true b′
-  with-room each few b′ e =
-      let f = o .fits in
+module _ (b : List ℕ) (o : Rising b) (l : List Rec) where
+  pub with-room : ((x : Rec) → x ∈ l → FitsRec x) → keysRise l ≡ true → length l ≤ maxRecords → (b′ : List ℕ) → b′ ≡ encodeNode (withRecs l (decodeNode b)) → Tried l b true b′
+  with-room each keys few b′ e =
+      let f = o .laid .fits in
       let g : FitsEntry (withRecs l (decodeNode b)) =
       record { number-high = f .number-high; beat-high = f .beat-high; max-high = f .max-high; gc-high = f .gc-high; few = few; each = each } in
+      let d : decodeNode b′ ≡ withRecs l (decodeNode b) = ap decodeNode e ∙ decode-encode-node (withRecs l (decodeNode b)) g in
       record {
         room = sym (le-leb (length l) maxRecords few);
-        laid = subst LaidNode (sym e) (laid-node (withRecs l (decodeNode b)) g);
-        node = λ t. ap decodeNode e ∙ decode-encode-node (withRecs l (decodeNode b)) g;
+        rising = record { laid = subst LaidNode (sym e) (laid-node (withRecs l (decodeNode b)) g); keys = ap (λ (x : Entry). keysRise (x .node .recs)) d ∙ keys };
+        node = λ t. d;
       }
 
   pub without-room : maxRecords < length l → Tried l b false b
   without-room h =
-      record { room = sym (lt-leb (length l) maxRecords h); laid = o; node = λ t. let z : _≡_ {A = ℕ} 0 1 = cc in absurd (omega arith) }
+      record { room = sym (lt-leb (length l) maxRecords h); rising = o; node = λ t. let z : _≡_ {A = ℕ} 0 1 = cc in absurd (omega arith) }
 
-module _ (b : List ℕ) (o : LaidNode b) where
+module _ (b : List ℕ) (o : Rising b) where
   -- nothing changes
   pub as-it-is : Tried (recsOf b) b true b
-  as-it-is = with-room b o (recsOf b) (o .fits .each) (o .fits .few) b (sym (o .is))
+  as-it-is = with-room b o (recsOf b) (o .laid .fits .each) (o .keys) (o .laid .fits .few) b (sym (o .laid .is))
 
   module _ (r : Rec) (f : FitsRec r) (j : ℕ) where
     each : (x : Rec) → x ∈ store r (recsOf b) → FitsRec x
-    each = store-each FitsRec r (recsOf b) f (o .fits .each)
+    each = store-each FitsRec r (recsOf b) f (o .laid .fits .each)
+
+    keys : keysRise (store r (recsOf b)) ≡ true
+    keys = sorted-keys (store r (recsOf b)) (sorted-store r (recsOf b) (keys-sorted (recsOf b) (o .keys)))
 
     pub stored-at : findKey (keyOf r) (recsOf b) ≡ At j → (b′ : List ℕ) → b′ ≡ encodeNode (withRecs (set (recsOf b) j r) (decodeNode b)) → Tried (store r (recsOf b)) b true b′
     stored-at e b′ q =
         let s : store r (recsOf b) ≡ set (recsOf b) j r = store-at r (recsOf b) j e in
         let n : length (store r (recsOf b)) ≡ length (recsOf b) = ap length s ∙ length-set (recsOf b) j r in
-        with-room b o (store r (recsOf b)) each (omega (arith, n, o .fits .few)) b′ (q ∙ ap (λ (l : List Rec). encodeNode (withRecs l (decodeNode b))) (sym s))
+        with-room b o (store r (recsOf b)) each keys (omega (arith, n, o .laid .fits .few)) b′ (q ∙ ap (λ (l : List Rec). encodeNode (withRecs l (decodeNode b))) (sym s))
 
     module _ (e : findKey (keyOf r) (recsOf b) ≡ Free j) where
       s : store r (recsOf b) ≡ insertAt j r (recsOf b)
@@ -139,7 +144,7 @@ module _ (b : List ℕ) (o : LaidNode b) where
 
       pub stored-new : countOf b < maxRecords → (b′ : List ℕ) → b′ ≡ encodeNode (withRecs (insertAt j r (recsOf b)) (decodeNode b)) → Tried (store r (recsOf b)) b true b′
       stored-new h b′ q =
-          with-room b o (store r (recsOf b)) each (omega (arith, longer)) b′ (q ∙ ap (λ (l : List Rec). encodeNode (withRecs l (decodeNode b))) (sym s))
+          with-room b o (store r (recsOf b)) each keys (omega (arith, longer)) b′ (q ∙ ap (λ (l : List Rec). encodeNode (withRecs l (decodeNode b))) (sym s))
 
       pub no-room : countOf b ≡ maxRecords → Tried (store r (recsOf b)) b false b
       no-room h = without-room b o (store r (recsOf b)) (omega (arith, longer))
@@ -166,7 +171,7 @@ took s b b′ r k n v m version st held gc clock start e q t =
     let p : recOf (take (k + n - k) (drop k s)) (take (v + m - v) (drop v s)) version st start ≡ stamp clock (carried s k n v m version st) = rw (seen k n s, seen v m s, q) in
     subst (λ (l : List Rec). Tried l b r b′) (ap (λ (x : Rec). store x (recsOf b)) p ∙ taken held gc clock (carried s k n v m version st) (recsOf b) e) t
 
-pub passed : (s b : List ℕ) (k n v m version : ℕ) (st : Status) (held gc clock : ℕ) → LaidNode b → takesAs held gc version st ≡ false
+pub passed : (s b : List ℕ) (k n v m version : ℕ) (st : Status) (held gc clock : ℕ) → Rising b → takesAs held gc version st ≡ false
     → Tried (takeOne held gc clock (carried s k n v m version st) (recsOf b)) b true b
 passed s b k n v m version st held gc clock o e =
     subst (λ (l : List Rec). Tried l b true b) (skipped held gc clock (carried s k n v m version st) (recsOf b) e) (as-it-is b o)
@@ -179,17 +184,17 @@ inside len o k n v m ver st e h = rw e at h
 module _ (held gc clock : ℕ) (s b : List ℕ) (o : Op) where
   module _ (k n v m ver : ℕ) (st : Status) (e : o ≡ Record k n v m ver st) (r : Bool) (b′ : List ℕ) (t : Tried (takeOne held gc clock (carried s k n v m ver st) (recsOf b)) b r b′) where
     pub step-taken : r ≡ true → Stepped held gc clock (opOf s o) b Taken b′
-    step-taken q = rw e (record { step = sym (ap (λ (x : Bool). pick x Taken Full) (sym (t .room) ∙ q)); laid = t .laid; node = λ _. t .node q })
+    step-taken q = rw e (record { step = sym (ap (λ (x : Bool). pick x Taken Full) (sym (t .room) ∙ q)); rising = t .rising; node = λ _. t .node q })
 
     pub step-full : r ≡ false → Stepped held gc clock (opOf s o) b Full b′
-    step-full q = rw e (record { step = sym (ap (λ (x : Bool). pick x Taken Full) (sym (t .room) ∙ q)); laid = t .laid; node = λ f. absurd (f refl) })
+    step-full q = rw e (record { step = sym (ap (λ (x : Bool). pick x Taken Full) (sym (t .room) ∙ q)); rising = t .rising; node = λ f. absurd (f refl) })
 
-  module _ (i : LaidNode b) where
+  module _ (i : Rising b) where
     pub step-node : (n g f : ℕ) → o ≡ Node n g f → Stepped held gc clock (opOf s o) b Over b
-    step-node n g f e = rw e (record { step = refl; laid = i; node = λ _. refl })
+    step-node n g f e = rw e (record { step = refl; rising = i; node = λ _. refl })
 
     pub step-max : (m : ℕ) → o ≡ SetMaxVersion m → Stepped held gc clock (opOf s o) b Taken b
-    step-max m e = rw e (record { step = refl; laid = i; node = λ _. refl })
+    step-max m e = rw e (record { step = refl; rising = i; node = λ _. refl })
 
 -- ---- taking them all
 
@@ -239,7 +244,7 @@ module _ (held gc clock : ℕ) where
 -- what holds at its head: the bytes b are those of the node b₀ with other records, and what is left to take gives the whole's outcome
 abbrev pub So-far : ℕ → ℕ → ℕ → List ℕ → ℕ → List ℕ → List ℕ → ℕ → Type 0
 So-far held gc clock s at b₀ b i =
-    LaidNode b
+    Rising b
     × (i ≤ length s)
     × (decodeNode b ≡ withRecs (recsOf b) (decodeNode b₀))
     × (takeAll held gc clock (recsFrom s i) (recsOf b) ≡ takeAll held gc clock (recsFrom s at) (recsOf b₀))
@@ -248,10 +253,10 @@ module _ (held gc clock : ℕ) (s : List ℕ) (at : ℕ) (b₀ : List ℕ) where
   whole : List Rec
   whole = takeAll held gc clock (recsFrom s at) (recsOf b₀)
 
-  finish : (b′ : List ℕ) (l : List Rec) → LaidNode b′ → decodeNode b′ ≡ withRecs l (decodeNode b₀) → l ≡ whole → Tried whole b₀ true b′
+  finish : (b′ : List ℕ) (l : List Rec) → Rising b′ → decodeNode b′ ≡ withRecs l (decodeNode b₀) → l ≡ whole → Tried whole b₀ true b′
   finish b′ l o d q =
       let n : length (recsOf b′) ≡ length whole = ap (λ (e : Entry). length (e .node .recs)) d ∙ ap length q in
-      record { room = sym (le-leb (length whole) maxRecords (omega (arith, n, o .fits .few))); laid = o; node = λ _. d ∙ ap (λ (r : List Rec). withRecs r (decodeNode b₀)) q }
+      record { room = sym (le-leb (length whole) maxRecords (omega (arith, n, o .laid .fits .few))); rising = o; node = λ _. d ∙ ap (λ (r : List Rec). withRecs r (decodeNode b₀)) q }
 
   module _ (b : List ℕ) (i : ℕ) (inv : So-far held gc clock s at b₀ b i) where
     pub nothing-left : opsFrom s i ≡ [] → Tried (takeAll held gc clock (recsFrom s at) (recsOf b₀)) b₀ true b
@@ -272,7 +277,7 @@ module _ (held gc clock : ℕ) (s : List ℕ) (at : ℕ) (b₀ : List ℕ) where
       pub stops : r ≡ Over → Tried (takeAll held gc clock (recsFrom s at) (recsOf b₀)) b₀ true b′
       unfolding whole
       stops q =
-          finish b′ (afterOp held gc clock (opOf s o) (recsOf b)) (t .laid) (with-new (λ f. let z : _≡_ {A = ℕ} 0 1 = cc in absurd (omega arith)))
+          finish b′ (afterOp held gc clock (opOf s o) (recsOf b)) (t .rising) (with-new (λ f. let z : _≡_ {A = ℕ} 0 1 = cc in absurd (omega arith)))
           (sym (ends held gc clock (opsFrom s next) (recsOf b) (opOf s o) (sym (t .step) ∙ q)) ∙ left)
 
       pub has-none : r ≡ Full → Tried (takeAll held gc clock (recsFrom s at) (recsOf b₀)) b₀ false b′
@@ -280,7 +285,7 @@ module _ (held gc clock : ℕ) (s : List ℕ) (at : ℕ) (b₀ : List ℕ) where
       has-none q =
           record {
             room = sym (ap hasRoom (sym left) ∙ fills held gc clock (opsFrom s next) (recsOf b) (opOf s o) (sym (t .step) ∙ q));
-            laid = t .laid;
+            rising = t .rising;
             node = λ f. let z : _≡_ {A = ℕ} 0 1 = cc in absurd (omega arith);
           }
 
@@ -290,7 +295,7 @@ module _ (held gc clock : ℕ) (s : List ℕ) (at : ℕ) (b₀ : List ℕ) where
           let w : Within (length s) i (Got o next) = subst (Within (length s) i) e (op-within s i) in
           let d = with-new (λ f. let z : _≡_ {A = ℕ} 0 1 = cc in absurd (omega arith)) in
           let l : recsOf b′ ≡ afterOp held gc clock (opOf s o) (recsOf b) = ap (λ (x : Entry). x .node .recs) d in (
-            t .laid,
+            t .rising,
             w .1,
             d ∙ ap (λ (x : List Rec). withRecs x (decodeNode b₀)) (sym l),
             ap (takeAll held gc clock (rule.recsOf (opsFrom s next))) l

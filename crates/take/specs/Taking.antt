@@ -11,6 +11,7 @@ use Rattle.fields.specs.Parts.{part}
 use Rattle.rules.specs.Sizes.{maxRecords}
 use Rattle.rules.specs.Node.{KeyValue, Rec, scheduled, store}
 use Rattle.rules.specs.Apply.{takes, stamp}
+use Rattle.rules.specs.Table.{keysRise}
 use Rattle.rules.specs.Layout.{decodeNode}
 use Rattle.rules.specs.Delta as rule
 use Rattle.rules.specs.declared.Status.{Status}
@@ -34,6 +35,11 @@ takesAs held gc version status = ltb held version && not (scheduled status && le
 abbrev pub carried : List ℕ → ℕ → ℕ → ℕ → ℕ → ℕ → Status → KeyValue
 carried s k n v m version status = record { key = part k n s; value = part v m s; version = version; status = status }
 
+-- a node's bytes are laid out, and its keys rise
+pub record Rising (b : List ℕ) : Type 0 where
+  pub laid : LaidNode b
+  pub keys : keysRise (recsOf b) ≡ true
+
 -- no more than 32 keys
 abbrev pub hasRoom : List Rec → Bool
 hasRoom l = leb (length l) maxRecords
@@ -41,7 +47,7 @@ hasRoom l = leb (length l) maxRecords
 -- a node's bytes were b, and its records are to become l: whether there is room, and the bytes then. Without room they are of no further use.
 pub record Tried (l : List Rec) (b : List ℕ) (r : Bool) (b′ : List ℕ) : Type 0 where
   pub room : r ≡ hasRoom l
-  pub laid : LaidNode b′
+  pub rising : Rising b′
   pub node : r ≡ true → decodeNode b′ ≡ withRecs l (decodeNode b)
 
 unfoldable pub takeOne : ℕ → ℕ → ℕ → KeyValue → List Rec → List Rec
@@ -61,7 +67,7 @@ stepOf held gc clock (rule.SetMaxVersionOp m) l = Taken
 
 pub record Stepped (held gc clock : ℕ) (o : rule.Op) (b : List ℕ) (r : Step) (b′ : List ℕ) : Type 0 where
   pub step : r ≡ stepOf held gc clock o (recsOf b)
-  pub laid : LaidNode b′
+  pub rising : Rising b′
   pub node : (r ≡ Full → ⊥) → decodeNode b′ ≡ withRecs (afterOp held gc clock o (recsOf b)) (decodeNode b)
 
 -- ---- in the bytes of a delta

@@ -7,16 +7,16 @@ use rules::Header;
 use rules::Status;
 use table::layout;
 ghost use mathlib.Core.Path.{_≡_};
-ghost use Prim.Native.Nat.{_+_, _≤_};
+ghost use Prim.Native.Nat.{_+_, _≤_, _<_};
 ghost use lib.ListN.{length};
 ghost use Rattle.rules.specs.Sizes.{maxKey, maxValue};
 ghost use Rattle.rules.specs.Node.{scheduled, store};
 ghost use Rattle.rules.specs.Apply.{startAt, takeAll};
 ghost use Rattle.delta.specs.Places.{Inside, opOf};
+ghost use Rattle.place.specs.Find.{findKey};
 ghost use Rattle.table.specs.Tests.{recsOf};
-ghost use Rattle.table.specs.Fits.{LaidNode};
 ghost use Rattle.table.specs.Changes.{recOf};
-ghost use Rattle.take.specs.Taking.{takesAs, carried, Tried, takeOne, Stepped, recsFrom, Begins, Ahead, Headed};
+ghost use Rattle.take.specs.Taking.{takesAs, carried, Rising, Tried, takeOne, Stepped, recsFrom, Begins, Ahead, Headed};
 
 // What an operation of a node delta comes to.
 pub enum Step {
@@ -74,6 +74,37 @@ fn takes(held: u64, gc: u64, version: u64, status: Status) -> bool
     }
 }
 
+// The record to look at next, of those from `low` to `high` of a node with `n`: first the last one, because keys often come in order; then the one in
+// the middle.
+fn probe(low: usize, high: usize, n: usize) -> usize
+    requires { ⌜ (low < high) × (high ≤ n) × (n < 256) ⌝ }
+    ensures { λ r. ⌜ (low ≤ r) × (r < high) ⌝ }
+{
+    if high == n {
+        return high - 1;
+    }
+    low + (high - low) / 2
+}
+
+// The place of the record with this key in a node whose keys rise.
+fn find_key(b: &[u8], key: &[u8]) -> Place
+    requires { ⌜ Rising (now b) ⌝ }
+    ensures { λ r. ⌜ r ≡ findKey (now (key .entry)) (recsOf (now (b .entry))) ⌝ }
+{
+    let n = fields::byte_at(b, layout::COUNT);
+    let mut low = 0;
+    let mut high = n;
+    while low < high {
+        let j = probe(low, high, n);
+        match fields::compare(key, table::key_of(table::record_of(b, j))) {
+            fields::Order::Same => return Place::At(j),
+            fields::Order::Less => high = j,
+            fields::Order::More => low = j + 1,
+        }
+    }
+    Place::Free(low)
+}
+
 // Stores a record in a node, and says whether there was room for it.
 fn store_record(
     b: &mut [u8],
@@ -83,10 +114,10 @@ fn store_record(
     status: Status,
     start: u64,
 ) -> bool
-    requires { ⌜ LaidNode (now b) × (length (now key) ≤ maxKey) × (length (now value) ≤ maxValue) ⌝ }
+    requires { ⌜ Rising (now b) × (length (now key) ≤ maxKey) × (length (now value) ≤ maxValue) ⌝ }
     ensures { λ r. ⌜ Tried (store (recOf (now (key .entry)) (now (value .entry)) version status start) (recsOf (now (b .entry)))) (now (b .entry)) r (now (b .exit)) ⌝ }
 {
-    let found = place::find_key(b, key);
+    let found = find_key(b, key);
     match found {
         Place::At(j) => {
             change::put_record(b, j, key, value, version, status, start);
@@ -116,7 +147,7 @@ fn take_record(
     gc: u64,
     clock: u64,
 ) -> bool
-    requires { ⌜ LaidNode (now b) × (keyat + keylen ≤ length (now s)) × (valueat + valuelen ≤ length (now s)) × (keylen ≤ maxKey) × (valuelen ≤ maxValue) ⌝ }
+    requires { ⌜ Rising (now b) × (keyat + keylen ≤ length (now s)) × (valueat + valuelen ≤ length (now s)) × (keylen ≤ maxKey) × (valuelen ≤ maxValue) ⌝ }
     ensures { λ r. ⌜ Tried (takeOne held gc clock (carried (now (s .entry)) keyat keylen valueat valuelen version status) (recsOf (now (b .entry)))) (now (b .entry)) r (now (b .exit)) ⌝ }
 {
     if takes(held, gc, version, status) {
@@ -137,7 +168,7 @@ fn take_record(
 
 // Goes over one operation.
 fn take_op(b: &mut [u8], s: &[u8], op: Op, held: u64, gc: u64, clock: u64) -> Step
-    requires { ⌜ LaidNode (now b) × Inside (length (now s)) op ⌝ }
+    requires { ⌜ Rising (now b) × Inside (length (now s)) op ⌝ }
     ensures { λ r. ⌜ Stepped held gc clock (opOf (now (s .entry)) op) (now (b .entry)) r (now (b .exit)) ⌝ }
 {
     match op {
@@ -177,7 +208,7 @@ fn take_op(b: &mut [u8], s: &[u8], op: Op, held: u64, gc: u64, clock: u64) -> St
 
 // Takes the records from `at` up to the next Node, and says whether there was room for all of them.
 pub fn take_records(b: &mut [u8], s: &[u8], at: usize, held: u64, gc: u64, clock: u64) -> bool
-    requires { ⌜ LaidNode (now b) × (at ≤ length (now s)) ⌝ }
+    requires { ⌜ Rising (now b) × (at ≤ length (now s)) ⌝ }
     ensures { λ r. ⌜ Tried (takeAll held gc clock (recsFrom (now (s .entry)) at) (recsOf (now (b .entry)))) (now (b .entry)) r (now (b .exit)) ⌝ }
 {
     let mut i = at;

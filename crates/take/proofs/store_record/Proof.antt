@@ -31,7 +31,7 @@ enum-known-found : tie.Need-enum-known-found
 enum-known-found c = search needs
 
 put-record-requires : tie.Need-put-record-requires
-put-record-requires c κs = (entry (c .before .before .before .before) .pre .0, rec-in _ _ _ (sym (c .before .before .before .before .find-key .ensures) ∙ c .before .before .found .given .1), entry (c .before .before .before .before) .pre .1, entry (c .before .before .before .before) .pre .2)
+put-record-requires c κs = (entry (c .before .before .before .before) .pre .0 .laid, rec-in _ _ _ (sym (c .before .before .before .before .find-key .ensures) ∙ c .before .before .found .given .1), entry (c .before .before .before .before) .pre .1, entry (c .before .before .before .before) .pre .2)
 
 enum-known-found-2 : tie.Need-enum-known-found-2
 enum-known-found-2 c = search needs
@@ -52,9 +52,9 @@ insert-record-requires c κs =
     let told = c .before .before .before .before .before in
     let st = entry (told .before .before) in
     let counted = c .before .before in (
-      st .pre .0,
+      st .pre .0 .laid,
       place-fits _ (st .pre .0) (rec (told .before .before)) (fits (told .before .before)) _ (sym (told .before .before .find-key .ensures) ∙ told .found2 .given .1),
-      below-full _ _ (counted .byte-at .ensures .0) (st .pre .0 .few) (c .before .if1 .left),
+      below-full _ _ (counted .byte-at .ensures .0) (st .pre .0 .laid .few) (c .before .if1 .left),
       st .pre .1,
       st .pre .2,
     )
@@ -78,7 +78,7 @@ returns-3 c =
     let told = counted .before .before .before in
     let st = entry (told .before .before) in
     stored-new _ (st .pre .0) (rec (told .before .before)) (fits (told .before .before)) _ (sym (told .before .before .find-key .ensures) ∙ told .found2 .given .1)
-    (below-full _ _ (counted .byte-at .ensures .0) (st .pre .0 .few) (call .before .before .if1 .left)) _ (call .insert-record .ensures)
+    (below-full _ _ (counted .byte-at .ensures .0) (st .pre .0 .laid .few) (call .before .before .if1 .left)) _ (call .insert-record .ensures)
 
 pub store-record-spec : {M : Type 1} → statement M
 store-record-spec =
