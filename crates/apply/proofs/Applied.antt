@@ -7,7 +7,8 @@ use mathlib.Core.List.{List, [], _∷_, _++_, append-nil}
 use mathlib.Core.Option.{Option, none, some}
 use native.Mathlib.Omega.{arith}
 use native.Mathlib.Numerals.{add-one}
-use lib.ListN.{length, take, drop, replicate, set, length-set, drop-of-length-le}
+use lib.ListN.{length, take, drop, getD, set, length-set, drop-of-length-le}
+use lib.Seq.{drop-cons}
 use lib.Dec.{leb}
 use borrow.Author.Tests.{le-leb, lt-leb, leb-true}
 use Rattle.fields.specs.Choice.{pick, _∈_, here, later}
@@ -15,15 +16,16 @@ use Rattle.fields.specs.Numbers.{natOf, bytesOf, Bytes}
 use Rattle.fields.specs.Blocks.{zeros}
 use Rattle.fields.specs.Parts.{part, put}
 use Rattle.fields.proofs.Lent.{seen, lent}
-use Rattle.fields.proofs.Choice.{in-none}
+use Rattle.fields.proofs.Choice.{in-none, in-at}
+use Rattle.fields.proofs.Blocks.{length-zeros}
 use Rattle.fields.proofs.Parts.{put-nil, put-cons}
 use borrow.Rule.Slice.PartMut.{putMid}
 use Rattle.rules.specs.Sizes.{maxNodes, maxRecords, numbers}
 use Rattle.rules.specs.Answers.{codeOf}
 use Rattle.rules.specs.Node.{Rec, Node, beats}
-use Rattle.rules.specs.Table.{Entry, Table, nodeOf, setNode, obeys}
+use Rattle.rules.specs.Table.{Entry, Table, nodeOf, setNode, keysRise, obeys}
 use Rattle.rules.specs.Delta as rule
-use Rattle.rules.specs.Apply.{Taken, Stream, takenAs, answered, statusOf, deltaStatus, outcome, takeAll, applyNode, onNode, answering, applyEach, codes, apply, applyOps, applyParts}
+use Rattle.rules.specs.Apply.{Taken, Stream, takenAs, withRoom, answered, statusOf, deltaStatus, outcome, takeAll, applyNode, onNode, answering, applyEach, codes, apply, applyOps, applyParts}
 use Rattle.rules.specs.Layout.{nodeWidth, encodeNode, decodeNode, encode, decode, valid}
 use Rattle.rules.specs.Lent.{lentApply}
 use Rattle.rules.specs.declared.DeltaStatus.{DeltaStatus}
@@ -37,25 +39,26 @@ use Rattle.rules.specs.declared.Applied.{Applied}
 use Rattle.rules.specs.declared.Applied.the-variants.{Nodes, Refused}
 use Rattle.rules.proofs.Obeys.{OkTable, table-facts, facts-table}
 use Rattle.rules.proofs.Received.{OkDelta, parts-ok}
-use Rattle.rules.proofs.Deltas.{Chain, delta-is}
+use Rattle.rules.proofs.Deltas.{delta-is}
 use Rattle.rules.proofs.Calls.{ok-each}
 use Rattle.delta.specs.Plain.{opsFrom}
 use Rattle.delta.proofs.Plain.{good-plain}
 use Rattle.table.specs.Fits.{FitsEntry, LaidNode}
 use Rattle.table.specs.Changes.{withNode, withMax, withGc, withRecs, freshEntry}
-use Rattle.table.specs.Tests.{recsOf}
+use Rattle.table.specs.Tests.{countOf, recsOf}
 use Rattle.table.proofs.Nodes.{length-node, laid-node, decode-encode-node}
 use Rattle.table.proofs.Changed.{fresh-bytes}
-use Rattle.table.proofs.Places.{nodePlace, nodeBytes, nodeAt}
+use Rattle.table.proofs.Places.{nodePlace, nodeBytes, nodeAt, length-recs}
 use Rattle.place.specs.Find.{findNode, headerOf}
 use Rattle.place.specs.declared.Place.the-variants.{At, Free}
-use Rattle.place.proofs.Searched.{node-in, node-found, node-missing, node-laid}
+use Rattle.place.proofs.Searched.{node-in, node-found, node-missing, node-laid, node-rises}
 use Rattle.place.proofs.Placed.{node-changed}
 use Rattle.rules.specs.declared.Header.{Header}
 use Rattle.table.proofs.Tables.{length-table, decode-encode, valid-encode, encode-decode, valid-obeys, valid-long, valid-few}
-use Rattle.take.specs.declared.NodeDelta.the-variants.{Of, Nothing}
-use Rattle.take.specs.Taking.{hasRoom, Tried, recsFrom, partsFrom, Leads, Begins, partOf, Headed}
-use Rattle.apply.specs.Applying.{grown, emptied, Stored, Answered, partAnswer, partTable, Turned, Accepted}
+use Rattle.take.specs.declared.Heads.{Heads}
+use Rattle.take.specs.Taking.{hasRoom, Rising, Tried, recsFrom, partsFrom, deltaOf, noPart, Gathered}
+use Rattle.take.proofs.Taken.{takes-few}
+use Rattle.apply.specs.Applying.{emptied, begun, grown, Grown, Stored, rejects, resets, answerAs, Answered, partAnswer, partTable, Turned, Accepted, Told}
 
 -- ---- a node
 
@@ -64,142 +67,179 @@ pub put-all : (vs l : List ℕ) → length l ≤ length vs → put 0 vs l ≡ vs
 unfolding put
 put-all vs l h = ap (λ (r : List ℕ). vs ++ r) (drop-of-length-le l {i = 0 + length vs} (omega arith)) ∙ append-nil vs
 
--- the taken records, and max, are the copy's bytes that are stored
-module _ (held gc clock : ℕ) (s : List ℕ) (at max : ℕ) (copy : List ℕ) (r : Bool) (c₁ : List ℕ)
-    (t : Tried (takeAll held gc clock (recsFrom s at) (recsOf copy)) copy r c₁) (b : List ℕ) where
-  pub kept-out : r ≡ false → Stored (grown held gc clock s at max (decodeNode copy)) b false b
-  kept-out q = record { room = sym q ∙ t .room; bytes = refl }
-
-  pub taken-in : r ≡ true → (c₂ b′ : List ℕ) → c₂ ≡ encodeNode (withMax max (decodeNode c₁)) → b′ ≡ c₂ → Stored (grown held gc clock s at max (decodeNode copy)) b true b′
-  taken-in q c₂ b′ e f =
-      record { room = sym q ∙ t .room; bytes = f ∙ e ∙ ap (λ (x : Entry). encodeNode (withMax max x)) (t .node q) }
-
--- by the node that the copy is
-pub stored-as : (f : Entry → Entry) (copy : List ℕ) (e : Entry) → decodeNode copy ≡ e → (b b′ : List ℕ) (r : Bool) → Stored (f (decodeNode copy)) b r b′ → Stored (f e) b r b′
-stored-as f copy e q b b′ r t = subst (λ (x : Entry). Stored (f x) b r b′) q t
-
 -- a reset: zeros, the node's number, the delta's last_gc
-module _ (b : List ℕ) (o : LaidNode b) (n : ℕ) (x c₁ : List ℕ) (p : n ≡ natOf (part 0 8 b)) (z : x ≡ zeros nodeWidth) (q : c₁ ≡ put 0 (bytesOf 8 n) x) where
+module _ (b : List ℕ) (o : LaidNode b) (n : ℕ) (x c₁ : List ℕ) (p : n ≡ natOf (part 0 8 b)) (z : x ≡ put 0 (zeros nodeWidth) b) (q : c₁ ≡ put 0 (bytesOf 8 n) x) where
   fits-fresh : FitsEntry (freshEntry (decodeNode b .number))
   fits-fresh =
       record { number-high = o .fits .number-high; beat-high = omega arith; max-high = omega arith; gc-high = omega arith; few = omega arith; each = λ r m. absurd (in-none m) }
 
   fresh-is : c₁ ≡ encodeNode (freshEntry (decodeNode b .number))
   unfolding decodeNode
-  fresh-is = q ∙ ap (put 0 (bytesOf 8 n)) z ∙ fresh-bytes n ∙ ap (λ (k : ℕ). encodeNode (freshEntry k)) p
+  fresh-is = q ∙ ap (put 0 (bytesOf 8 n)) (z ∙ put-all (zeros nodeWidth) b (omega (arith, length-zeros nodeWidth, o .long))) ∙ fresh-bytes n ∙ ap (λ (k : ℕ). encodeNode (freshEntry k)) p
 
   pub laid-fresh : LaidNode c₁
   laid-fresh = subst LaidNode (sym fresh-is) (laid-node (freshEntry (decodeNode b .number)) fits-fresh)
 
-  module _ (gc : ℕ) (gc-fits : gc < numbers) (c₂ : List ℕ) (r : c₂ ≡ encodeNode (withGc gc (decodeNode c₁))) where
-    fits-emptied : FitsEntry (emptied gc (decodeNode b))
-    fits-emptied =
-        record { number-high = o .fits .number-high; beat-high = omega arith; max-high = omega arith; gc-high = gc-fits; few = omega arith; each = λ r m. absurd (in-none m) }
-
-    emptied-bytes : c₂ ≡ encodeNode (emptied gc (decodeNode b))
+  module _ (gc : ℕ) (c₂ : List ℕ) (r : c₂ ≡ encodeNode (withGc gc (decodeNode c₁))) where
+    pub emptied-bytes : c₂ ≡ encodeNode (emptied gc (decodeNode b))
     emptied-bytes =
         r ∙ ap (λ (e : Entry). encodeNode (withGc gc e)) (ap decodeNode fresh-is ∙ decode-encode-node (freshEntry (decodeNode b .number)) fits-fresh)
 
-    pub laid-emptied : LaidNode c₂
-    laid-emptied = subst LaidNode (sym emptied-bytes) (laid-node (emptied gc (decodeNode b)) fits-emptied)
+-- the node before the first record is taken
+module _ (b : List ℕ) (gc : ℕ) where
+  pub begun-bytes : (afresh : Bool) (b′ : List ℕ) → afresh ≡ true → b′ ≡ encodeNode (emptied gc (decodeNode b)) → b′ ≡ encodeNode (begun afresh gc (decodeNode b))
+  begun-bytes afresh b′ e q = rw e q
 
-    pub emptied-is : decodeNode c₂ ≡ emptied gc (decodeNode b)
-    emptied-is = ap decodeNode emptied-bytes ∙ decode-encode-node (emptied gc (decodeNode b)) fits-emptied
+  pub begun-same : LaidNode b → (afresh : Bool) → afresh ≡ false → b ≡ encodeNode (begun afresh gc (decodeNode b))
+  begun-same o afresh e = rw e (sym (o .is))
+
+module _ (b : List ℕ) (o : Rising b) (gc : ℕ) (gc-fits : gc < numbers) where
+  fits-begun : (afresh : Bool) → FitsEntry (begun afresh gc (decodeNode b))
+  fits-begun true =
+      record { number-high = o .laid .fits .number-high; beat-high = omega arith; max-high = omega arith; gc-high = gc-fits; few = omega arith; each = λ r m. absurd (in-none m) }
+  fits-begun false = o .laid .fits
+
+  keys-begun : (afresh : Bool) → keysRise (begun afresh gc (decodeNode b) .node .recs) ≡ true
+  unfolding keysRise
+  keys-begun true = refl
+  keys-begun false = o .keys
+
+  module _ (afresh : Bool) (b′ : List ℕ) (q : b′ ≡ encodeNode (begun afresh gc (decodeNode b))) where
+    pub begun-is : decodeNode b′ ≡ begun afresh gc (decodeNode b)
+    begun-is = ap decodeNode q ∙ decode-encode-node (begun afresh gc (decodeNode b)) (fits-begun afresh)
+
+    pub begun-rising : Rising b′
+    begun-rising =
+        record { laid = subst LaidNode (sym q) (laid-node (begun afresh gc (decodeNode b)) (fits-begun afresh)); keys = ap (λ (e : Entry). keysRise (e .node .recs)) begun-is ∙ keys-begun afresh }
+
+  -- no more records than before, and so many
+  pub surely : (afresh : Bool) (clock : ℕ) (s : List ℕ) (at max count : ℕ) → length (recsFrom s at) ≤ count → count ≤ maxRecords - countOf b
+      → hasRoom (grown clock s at max (begun afresh gc (decodeNode b)) .node .recs) ≡ true
+  surely afresh clock s at max count h k =
+      let e : Entry = begun afresh gc (decodeNode b) in
+      let few : length (e .node .recs) ≤ countOf b = held afresh in
+      let n = takes-few (e .node .max) (e .node .last-gc) clock (recsFrom s at) (e .node .recs) in
+      le-leb (length (takeAll (e .node .max) (e .node .last-gc) clock (recsFrom s at) (e .node .recs))) maxRecords (omega (arith, n, few, o .laid .few))
+    where
+      held : (afresh : Bool) → length (begun afresh gc (decodeNode b) .node .recs) ≤ countOf b
+      held true = omega arith
+      held false = omega (arith, length-recs b)
+
+-- the records are taken, and max is the delta's
+module _ (clock : ℕ) (s : List ℕ) (at max : ℕ) (e : Entry) (c₁ : List ℕ) (d : decodeNode c₁ ≡ e) (h : Header) (i : h ≡ headerOf (decodeNode c₁ .node)) (r : Bool) (c₂ : List ℕ)
+    (t : Tried (takeAll (h .max) (h .«last_gc») clock (recsFrom s at) (recsOf c₁)) c₁ r c₂) where
+  as-grown : withMax max (withRecs (takeAll (h .max) (h .«last_gc») clock (recsFrom s at) (recsOf c₁)) (decodeNode c₁)) ≡ grown clock s at max e
+  as-grown =
+      ap (λ (x : Header). withMax max (withRecs (takeAll (x .max) (x .«last_gc») clock (recsFrom s at) (recsOf c₁)) (decodeNode c₁))) i
+      ∙ ap (grown clock s at max) d
+
+  has : r ≡ hasRoom (grown clock s at max e .node .recs)
+  has = t .room ∙ ap (λ (x : Entry). hasRoom (x .node .recs)) as-grown
+
+  pub not-grown : r ≡ false → (b′ : List ℕ) → Grown (grown clock s at max e) false b′
+  not-grown q b′ = record { room = sym q ∙ has; bytes = λ f. let z : _≡_ {A = ℕ} 0 1 = cc in absurd (omega arith) }
+
+  pub is-grown : r ≡ true → (c₃ : List ℕ) → c₃ ≡ encodeNode (withMax max (decodeNode c₂)) → Grown (grown clock s at max e) true c₃
+  is-grown q c₃ p =
+      record { room = sym q ∙ has; bytes = λ _. p ∙ ap (λ (x : Entry). encodeNode (withMax max x)) (t .node q) ∙ ap encodeNode as-grown }
+
+-- the node is the outcome's, or what it was
+module _ (e : Entry) (b : List ℕ) (r : Bool) (b₁ : List ℕ) (g : Grown e r b₁) where
+  pub stored : r ≡ true → Stored e b true b₁
+  stored q = record { room = sym q ∙ g .room; bytes = g .bytes q }
+
+  pub kept : r ≡ false → (saved b′ : List ℕ) → saved ≡ b → b′ ≡ put 0 saved b₁ → length b₁ ≤ length saved → Stored e b false b′
+  kept q saved b′ p k h = record { room = sym q ∙ g .room; bytes = k ∙ put-all saved b₁ h ∙ p }
+
+  pub stored-surely : hasRoom (e .node .recs) ≡ true → Stored e b r b₁
+  stored-surely q =
+      let z : r ≡ true = g .room ∙ q in
+      record { room = g .room; bytes = g .bytes z ∙ ap (λ (x : Bool). pick x (encodeNode e) b) (sym z) }
 
 -- ---- a node's answer, by the status
 
-module _ (clock : ℕ) (d : rule.NodeDelta) (b : List ℕ) (o : LaidNode b) (v : DeltaStatus) (is : v ≡ deltaStatus (decodeNode b .node) d) where
+module _ (clock : ℕ) (s : List ℕ) (gc from max at : ℕ) (b : List ℕ) (o : LaidNode b) where
+  d : rule.NodeDelta
+  d = deltaOf s gc from max at
+
   n : Node
   n = decodeNode b .node
 
-  by-status : (w : DeltaStatus) → v ≡ w → applyNode clock d n ≡ answered w (outcome w clock d n) n
-  unfolding n applyNode
-  by-status w q = ap (λ (x : DeltaStatus). answered x (outcome x clock d n) n) (sym is ∙ q)
-
-  answers : (w : DeltaStatus) → v ≡ w → (a : NodeAnswer) (m : Node) (b′ : List ℕ) → answered w (outcome w clock d n) n ≡ takenAs a m → b′ ≡ encodeNode (withNode m (decodeNode b))
-      → Answered (applyNode clock d (decodeNode b .node)) b a b′
-  unfolding n
-  answers w q a m b′ e f =
-      let p : applyNode clock d n ≡ takenAs a m = by-status w q ∙ e in
-      record { answer = sym (ap (λ (x : Taken). x .answer) p); bytes = f ∙ ap (λ (x : Taken). encodeNode (withNode (x .node) (decodeNode b))) (sym p) }
-
-  pub rejected : v ≡ Reject → Answered (applyNode clock d (decodeNode b .node)) b node.Reject b
-  unfolding n
-  rejected q = answers Reject q node.Reject n b refl (sym (o .is))
-
-  module _ (q : v ≡ Apply) (r : Bool) (b′ : List ℕ) (t : Stored (withNode (outcome Apply clock d (decodeNode b .node)) (decodeNode b)) b r b′) where
-    pub applied : r ≡ true → Answered (applyNode clock d (decodeNode b .node)) b node.Apply b′
-    unfolding n
-    applied e =
-        answers Apply q node.Apply (outcome Apply clock d n) b′ (ap (λ (x : Bool). pick x (takenAs node.Apply (outcome Apply clock d n)) (takenAs node.Room n)) (sym (t .room) ∙ e))
-        (t .bytes ∙ ap (λ (x : Bool). pick x (encodeNode (withNode (outcome Apply clock d n) (decodeNode b))) b) e)
-
-    pub applied-full : r ≡ false → Answered (applyNode clock d (decodeNode b .node)) b node.Room b′
-    unfolding n
-    applied-full e =
-        answers Apply q node.Room n b′ (ap (λ (x : Bool). pick x (takenAs node.Apply (outcome Apply clock d n)) (takenAs node.Room n)) (sym (t .room) ∙ e))
-        (t .bytes ∙ ap (λ (x : Bool). pick x (encodeNode (withNode (outcome Apply clock d n) (decodeNode b))) b) e ∙ sym (o .is))
-
-  module _ (q : v ≡ ApplyAfterReset) (r : Bool) (b′ : List ℕ) (t : Stored (withNode (outcome ApplyAfterReset clock d (decodeNode b .node)) (decodeNode b)) b r b′) where
-    pub reset : r ≡ true → Answered (applyNode clock d (decodeNode b .node)) b node.ApplyAfterReset b′
-    unfolding n
-    reset e =
-        answers ApplyAfterReset q node.ApplyAfterReset (outcome ApplyAfterReset clock d n) b′
-        (ap (λ (x : Bool). pick x (takenAs node.ApplyAfterReset (outcome ApplyAfterReset clock d n)) (takenAs node.Room n)) (sym (t .room) ∙ e))
-        (t .bytes ∙ ap (λ (x : Bool). pick x (encodeNode (withNode (outcome ApplyAfterReset clock d n) (decodeNode b))) b) e)
-
-    pub reset-full : r ≡ false → Answered (applyNode clock d (decodeNode b .node)) b node.Room b′
-    unfolding n
-    reset-full e =
-        answers ApplyAfterReset q node.Room n b′
-        (ap (λ (x : Bool). pick x (takenAs node.ApplyAfterReset (outcome ApplyAfterReset clock d n)) (takenAs node.Room n)) (sym (t .room) ∙ e))
-        (t .bytes ∙ ap (λ (x : Bool). pick x (encodeNode (withNode (outcome ApplyAfterReset clock d n) (decodeNode b))) b) e ∙ sym (o .is))
-
--- the header that was read is the node's
-module _ (b s : List ℕ) (number gc from max at clock : ℕ) where
+  -- the header that was read is the node's
   pub status-is : (h : Header) (v : DeltaStatus) → h ≡ headerOf (decodeNode b .node) → v ≡ statusOf (h .«last_gc») (h .max) from gc max
-      → v ≡ deltaStatus (decodeNode b .node) (partOf s number gc from max at .delta)
+      → v ≡ deltaStatus (decodeNode b .node) (deltaOf s gc from max at)
   unfolding deltaStatus
   status-is h v e q = q ∙ ap (λ (x : Header). statusOf (x .«last_gc») (x .max) from gc max) e
 
-  pub as-applied : (h : Header) → h ≡ headerOf (decodeNode b .node) → (r : Bool) (b′ : List ℕ) → Stored (grown (h .max) (h .«last_gc») clock s at max (decodeNode b)) b r b′
-      → Stored (withNode (outcome Apply clock (partOf s number gc from max at .delta) (decodeNode b .node)) (decodeNode b)) b r b′
-  unfolding outcome
-  as-applied h e r b′ t = subst (λ (x : Header). Stored (grown (x .max) (x .«last_gc») clock s at max (decodeNode b)) b r b′) e t
+  by-room : (a : NodeAnswer) (x : Node) (r : Bool) (b′ : List ℕ) → Stored (withNode x (decodeNode b)) b r b′ → (y : Taken) → y ≡ withRoom a x (decodeNode b .node)
+      → Answered y b (pick r a node.Room) b′
+  by-room a x true b′ t y e =
+      let p : y ≡ takenAs a x = e ∙ ap (λ (q : Bool). pick q (takenAs a x) (takenAs node.Room (decodeNode b .node))) (sym (t .room)) in
+      record { answer = sym (ap (λ (z : Taken). z .answer) p); bytes = t .bytes ∙ ap (λ (z : Taken). encodeNode (withNode (z .node) (decodeNode b))) (sym p) }
+  by-room a x false b′ t y e =
+      let p : y ≡ takenAs node.Room (decodeNode b .node) = e ∙ ap (λ (q : Bool). pick q (takenAs a x) (takenAs node.Room (decodeNode b .node))) (sym (t .room)) in
+      record { answer = sym (ap (λ (z : Taken). z .answer) p); bytes = t .bytes ∙ sym (o .is) ∙ ap (λ (z : Taken). encodeNode (withNode (z .node) (decodeNode b))) (sym p) }
 
-  pub as-reset : (r : Bool) (b′ : List ℕ) → Stored (grown 0 gc clock s at max (emptied gc (decodeNode b))) b r b′
-      → Stored (withNode (outcome ApplyAfterReset clock (partOf s number gc from max at .delta) (decodeNode b .node)) (decodeNode b)) b r b′
-  unfolding outcome
-  as-reset r b′ t = t
+  module _ (v : DeltaStatus) (is : v ≡ deltaStatus (decodeNode b .node) (deltaOf s gc from max at)) where
+    by-status : (w : DeltaStatus) → v ≡ w → applyNode clock d n ≡ answered w (outcome w clock d n) n
+    unfolding d n applyNode
+    by-status w q = ap (λ (x : DeltaStatus). answered x (outcome x clock d n) n) (sym is ∙ q)
+
+    pub rejected : rejects v ≡ true → Answered (applyNode clock (deltaOf s gc from max at) (decodeNode b .node)) b node.Reject b
+    unfolding d n
+    rejected q = go v refl q
+      where
+        go : (w : DeltaStatus) → v ≡ w → rejects w ≡ true → Answered (applyNode clock (deltaOf s gc from max at) (decodeNode b .node)) b node.Reject b
+        go Reject p q =
+            let y = by-status Reject p in
+            record { answer = sym (ap (λ (z : Taken). z .answer) y); bytes = sym (o .is) ∙ ap (λ (z : Taken). encodeNode (withNode (z .node) (decodeNode b))) (sym y) }
+        go Apply p q = let z : _≡_ {A = ℕ} 0 1 = cc in absurd (omega arith)
+        go ApplyAfterReset p q = let z : _≡_ {A = ℕ} 0 1 = cc in absurd (omega arith)
+
+    pub concluded : rejects v ≡ false → (f : Bool) → f ≡ resets v → (r : Bool) (b′ : List ℕ) → Stored (grown clock s at max (begun f gc (decodeNode b))) b r b′ → (a : NodeAnswer) → a ≡ answerAs v r
+        → Answered (applyNode clock (deltaOf s gc from max at) (decodeNode b .node)) b a b′
+    unfolding d n outcome
+    concluded q f fe r b′ t a ae = go v refl q (fe) ae
+      where
+        go : (w : DeltaStatus) → v ≡ w → rejects w ≡ false → f ≡ resets w → a ≡ answerAs w r → Answered (applyNode clock (deltaOf s gc from max at) (decodeNode b .node)) b a b′
+        go Reject p q fe ae = let z : _≡_ {A = ℕ} 0 1 = cc in absurd (omega arith)
+        go Apply p q fe ae = rw ae (by-room node.Apply (outcome Apply clock d n) r b′ (rw fe at t) (applyNode clock d n) (by-status Apply p))
+        go ApplyAfterReset p q fe ae =
+            rw ae (by-room node.ApplyAfterReset (outcome ApplyAfterReset clock d n) r b′ (rw fe at t) (applyNode clock d n) (by-status ApplyAfterReset p))
+
+-- by the numbers that were read
+pub numbers-read : (clock : ℕ) (s : List ℕ) (gc gc′ from from′ max at : ℕ) → gc ≡ gc′ → from ≡ from′ → (n : Node) (b : List ℕ) (r : NodeAnswer) (b′ : List ℕ)
+    → Answered (applyNode clock (deltaOf s gc from max at) n) b r b′ → Answered (applyNode clock (deltaOf s gc′ from′ max at) n) b r b′
+numbers-read clock s gc gc′ from from′ max at p q n b r b′ t = rw (p, q) at t
 
 -- ---- one node delta on a table
 
-module _ (l : List ℕ) (v : valid l ≡ true) (clock : ℕ) (s : List ℕ) (number gc from max at : ℕ) (i : ℕ) where
-  pub turned-unknown : findNode number (decode l) ≡ Free i → Turned clock (partOf s number gc from max at) (decode l) node.Unknown l
+module _ (l : List ℕ) (v : valid l ≡ true) (clock : ℕ) (x : rule.Part) (i : ℕ) where
+  pub turned-unknown : findNode (x .number) (decode l) ≡ Free i → Turned clock x (decode l) node.Unknown l
   turned-unknown e =
-      let x = partOf s number gc from max at in
-      let m = node-missing l v number i e in
+      let m = node-missing l v (x .number) i e in
       record { answer = ap (partAnswer clock x) (sym m); bytes = sym (encode-decode l v) ∙ ap (λ (o : Option Node). encode (partTable clock x o (decode l))) (sym m) }
 
-  module _ (e : findNode number (decode l) ≡ At i) where
+  module _ (e : findNode (x .number) (decode l) ≡ At i) where
     pub in-table : i < maxNodes
-    in-table = omega (arith, node-in l v number i e, valid-few l v)
+    in-table = omega (arith, node-in l v (x .number) i e, valid-few l v)
 
-    pub laid-seen : LaidNode (take (nodePlace i + nodeWidth - nodePlace i) (drop (nodePlace i) l))
-    laid-seen = subst LaidNode (sym (seen (nodePlace i) nodeWidth l)) (node-laid l v i (node-in l v number i e))
+    pub rising-seen : Rising (take (nodePlace i + nodeWidth - nodePlace i) (drop (nodePlace i) l))
+    rising-seen =
+        let h = node-in l v (x .number) i e in
+        subst Rising (sym (seen (nodePlace i) nodeWidth l)) (record { laid = node-laid l v i h; keys = node-rises l v i h })
 
     pub turned : (r : NodeAnswer) (y : List ℕ)
-        → Answered (applyNode clock (partOf s number gc from max at .delta) (decodeNode (take (nodePlace i + nodeWidth - nodePlace i) (drop (nodePlace i) l)) .node)) (take (nodePlace i + nodeWidth - nodePlace i) (drop (nodePlace i) l)) r y
-        → Turned clock (partOf s number gc from max at) (decode l) r (putMid (nodePlace i) (nodePlace i + nodeWidth - nodePlace i) l y)
+        → Answered (applyNode clock (x .delta) (decodeNode (take (nodePlace i + nodeWidth - nodePlace i) (drop (nodePlace i) l)) .node)) (take (nodePlace i + nodeWidth - nodePlace i) (drop (nodePlace i) l)) r y
+        → Turned clock x (decode l) r (putMid (nodePlace i) (nodePlace i + nodeWidth - nodePlace i) l y)
     turned r y t =
-        let x = partOf s number gc from max at in
-        let m = node-found l v number i e in
+        let m = node-found l v (x .number) i e in
         let a : Answered (applyNode clock (x .delta) (nodeAt i l .node)) (nodeBytes i l) r y =
         subst (λ (b : List ℕ). Answered (applyNode clock (x .delta) (decodeNode b .node)) b r y) (seen (nodePlace i) nodeWidth l) t in
         record {
           answer = a .answer ∙ ap (partAnswer clock x) (sym m);
           bytes =
-              node-changed l v number i e (applyNode clock (x .delta) (nodeAt i l .node) .node) (putMid (nodePlace i) (nodePlace i + nodeWidth - nodePlace i) l y)
+              node-changed l v (x .number) i e (applyNode clock (x .delta) (nodeAt i l .node) .node) (putMid (nodePlace i) (nodePlace i + nodeWidth - nodePlace i) l y)
               (lent (nodePlace i) nodeWidth l y (encodeNode (withNode (applyNode clock (x .delta) (nodeAt i l .node) .node) (nodeAt i l))) (a .bytes) (ap length (a .bytes) ∙ length-node _))
               ∙ ap (λ (o : Option Node). encode (partTable clock x o (decode l))) (sym m);
         }
@@ -225,14 +265,7 @@ part-ok clock h x t d ok =
 
 -- ---- the stream
 
--- a delta that is accepted: its operations begin with a Node, and its node deltas are in order
-chain-leads : (ops : List rule.Op) → Chain rule.nothingRead ops → Leads ops
-unfolding Chain rule.follow
-chain-leads [] c = tt
-chain-leads (rule.NodeOp n g f ∷ ops) c = tt
-chain-leads (rule.KeyValueOp r ∷ ops) c = let e = c .1 in let z : _≡_ {A = ℕ} 0 1 = cc in omega arith
-chain-leads (rule.SetMaxVersionOp m ∷ ops) c = let e = c .1 in let z : _≡_ {A = ℕ} 0 1 = cc in omega arith
-
+-- a delta that is accepted: its node deltas are in order
 abbrev pub AllOk : List rule.Part → Type 0
 AllOk xs = (x : rule.Part) → x ∈ xs → OkDelta (x .delta)
 
@@ -244,82 +277,74 @@ module _ (s : List ℕ) (a : Accepted s) where
   unfolding partsFrom
   accepted-parts = ap rule.partsOf accepted-ops
 
-  module _ (h : Bytes s) where
-    pub first-begins : Begins s 0
-    first-begins = subst Leads (sym accepted-ops) (chain-leads (a .0) (delta-is s (a .0) h (a .1) .0 .chain))
+  -- it is not read as one that is refused
+  pub not-refused : {X : Type 0} (why : Refusal) (at : ℕ) → rule.deltaRead s ≡ read.Refused why at → X
+  unfolding rule.deltaRead
+  not-refused why at e = let z : read.Good (length (a .0)) (length (rule.partsOf (a .0))) ≡ read.Refused why at = ap rule.readAnswer (sym (a .1)) ∙ e in let y : _≡_ {A = ℕ} 0 1 = cc in absurd (omega arith)
 
+  module _ (h : Bytes s) where
     pub all-ok : AllOk (partsFrom s 0)
     all-ok =
         let d = delta-is s (a .0) h (a .1) .0 in
         subst AllOk (sym accepted-parts) (parts-ok (a .0) rule.nothingRead (d .chain) (d .small))
 
 -- what holds at the head of the loop: the node deltas that are left, on the table as it is, give the whole's table and answers
-pub record Stands (clock : ℕ) (s t₀ l₀ : List ℕ) (at i : ℕ) (t l : List ℕ) : Type 0 where
+pub record Stands (clock : ℕ) (s t₀ l₀ : List ℕ) (i : ℕ) (t l : List ℕ) : Type 0 where
   pub good : valid t ≡ true
-  pub inside : at ≤ length s
-  pub begins : Begins s at
-  pub ok : AllOk (partsFrom s at)
   pub same : length t ≡ length t₀
   pub long : length l ≡ length l₀
-  pub places : i + length (partsFrom s at) ≤ length l₀
-  pub table : applyEach (applyNode clock) (partsFrom s at) (decode t) .table ≡ applyEach (applyNode clock) (partsFrom s 0) (decode t₀) .table
-  pub list : put i (codes (applyEach (applyNode clock) (partsFrom s at) (decode t) .answers)) l ≡ put 0 (codes (applyEach (applyNode clock) (partsFrom s 0) (decode t₀) .answers)) l₀
+  pub table : applyEach (applyNode clock) (drop i (partsFrom s 0)) (decode t) .table ≡ applyEach (applyNode clock) (partsFrom s 0) (decode t₀) .table
+  pub list : put i (codes (applyEach (applyNode clock) (drop i (partsFrom s 0)) (decode t) .answers)) l ≡ put 0 (codes (applyEach (applyNode clock) (partsFrom s 0) (decode t₀) .answers)) l₀
 
 module _ (clock : ℕ) (s t₀ l₀ : List ℕ) where
-  pub stands-first : valid t₀ ≡ true → Accepted s → Bytes s → length (partsFrom s 0) ≤ length l₀ → Stands clock s t₀ l₀ 0 0 t₀ l₀
-  stands-first v a h n =
-      record { good = v; inside = omega arith; begins = first-begins s a h; ok = all-ok s a h; same = refl; long = refl; places = omega arith; table = refl; list = refl }
+  pub stands-first : valid t₀ ≡ true → Stands clock s t₀ l₀ 0 t₀ l₀
+  stands-first v = record { good = v; same = refl; long = refl; table = refl; list = refl }
 
-  module _ (at i : ℕ) (t l : List ℕ) (inv : Stands clock s t₀ l₀ at i t l) where
-    pub stands-last : partsFrom s at ≡ []
+  module _ (i : ℕ) (t l : List ℕ) (inv : Stands clock s t₀ l₀ i t l) where
+    pub stands-last : length (partsFrom s 0) ≤ i
         → (t ≡ encode (applyEach (applyNode clock) (partsFrom s 0) (decode t₀) .table)) × (l ≡ put 0 (codes (applyEach (applyNode clock) (partsFrom s 0) (decode t₀) .answers)) l₀)
     unfolding applyEach codes
-    stands-last e =
-        let p : applyEach (applyNode clock) (partsFrom s at) (decode t) ≡ record { answers = []; table = decode t } = ap (λ (xs : List rule.Part). applyEach (applyNode clock) xs (decode t)) e in (
+    stands-last h =
+        let e : drop i (partsFrom s 0) ≡ [] = drop-of-length-le (partsFrom s 0) {i = i} h in
+        let p : applyEach (applyNode clock) (drop i (partsFrom s 0)) (decode t) ≡ record { answers = []; table = decode t } = ap (λ (xs : List rule.Part). applyEach (applyNode clock) xs (decode t)) e in (
           sym (encode-decode t (inv .good)) ∙ ap encode (sym (ap (λ (y : Stream). y .table) p) ∙ inv .table),
           sym (put-nil i l) ∙ ap (λ (y : Stream). put i (codes (y .answers)) l) (sym p) ∙ inv .list,
         )
 
-    module _ (number gc from max records end : ℕ) (h : Headed s at (Of number gc from max records end)) where
+    module _ (h : i < length (partsFrom s 0)) (place : i < length l) where
       x : rule.Part
-      x = partOf s number gc from max records
+      x = getD (partsFrom s 0) i noPart
 
       u : Table
-      u = partTable clock x (nodeOf number (decode t)) (decode t)
+      u = partTable clock x (nodeOf (x .number) (decode t)) (decode t)
 
-      count : length (partsFrom s at) ≡ suc (length (partsFrom s end))
-      count = ap length (h .0)
+      left : drop i (partsFrom s 0) ≡ x ∷ drop (i + 1) (partsFrom s 0)
+      unfolding x
+      left = drop-cons (partsFrom s 0) i noPart h ∙ ap (λ (j : ℕ). getD (partsFrom s 0) i noPart ∷ drop j (partsFrom s 0)) (sym (add-one i))
 
-      pub place-left : i < length l
-      place-left = omega (arith, count, inv .places, inv .long)
-
-      pub stands-next : clock < numbers → (r : NodeAnswer) (t′ l′ : List ℕ) → Turned clock (partOf s number gc from max records) (decode t) r t′ → l′ ≡ set l i (codeOf r)
-          → Stands clock s t₀ l₀ end (i + 1) t′ l′
+      pub stands-next : clock < numbers → Accepted s → Bytes s → (r : NodeAnswer) (t′ l′ : List ℕ) → Turned clock (getD (partsFrom s 0) i noPart) (decode t) r t′ → l′ ≡ set l i (codeOf r)
+          → Stands clock s t₀ l₀ (i + 1) t′ l′
       unfolding x u codes
-      stands-next k r t′ l′ w q =
-          let first : x ∈ partsFrom s at = subst (λ (xs : List rule.Part). x ∈ xs) (sym (h .0)) (here refl) in
-          let ok-u : OkTable u = part-ok clock k x (decode t) (inv .ok x first) (table-facts (decode t) (valid-obeys t (inv .good))) in
+      stands-next k acc bytes r t′ l′ w q =
+          let rest : List rule.Part = drop (i + 1) (partsFrom s 0) in
+          let ok-u : OkTable u = part-ok clock k x (decode t) (all-ok s acc bytes x (in-at (partsFrom s 0) i noPart h)) (table-facts (decode t) (valid-obeys t (inv .good))) in
           let obeys-u : obeys u ≡ true = facts-table u ok-u in
           let d : decode t′ ≡ u = ap decode (w .bytes) ∙ decode-encode u obeys-u in
-          let a : NodeAnswer = partAnswer clock x (nodeOf number (decode t)) in
-          let p : applyEach (applyNode clock) (partsFrom s at) (decode t) ≡ answering a (applyEach (applyNode clock) (partsFrom s end) (decode t′)) =
-          ap (λ (xs : List rule.Part). applyEach (applyNode clock) xs (decode t)) (h .0)
-          ∙ each-cons clock x (partsFrom s end) (decode t)
-          ∙ ap (λ (v : Table). answering a (applyEach (applyNode clock) (partsFrom s end) v)) (sym d) in
+          let a : NodeAnswer = partAnswer clock x (nodeOf (x .number) (decode t)) in
+          let p : applyEach (applyNode clock) (drop i (partsFrom s 0)) (decode t) ≡ answering a (applyEach (applyNode clock) rest (decode t′)) =
+          ap (λ (xs : List rule.Part). applyEach (applyNode clock) xs (decode t)) left
+          ∙ each-cons clock x rest (decode t)
+          ∙ ap (λ (v : Table). answering a (applyEach (applyNode clock) rest v)) (sym d) in
           record {
             good = ap valid (w .bytes) ∙ valid-encode u obeys-u;
-            inside = h .2;
-            begins = h .3;
-            ok = λ y m. inv .ok y (subst (λ (xs : List rule.Part). y ∈ xs) (sym (h .0)) (later m));
             same = ap length (w .bytes) ∙ length-table u ∙ sym (valid-long t (inv .good)) ∙ inv .same;
             long = ap length q ∙ length-set l i (codeOf r) ∙ inv .long;
-            places = omega (arith, count, inv .places);
             table = sym (ap (λ (y : Stream). y .table) p) ∙ inv .table;
             list =
-                let others : List ℕ = codes (applyEach (applyNode clock) (partsFrom s end) (decode t′) .answers) in
+                let others : List ℕ = codes (applyEach (applyNode clock) rest (decode t′) .answers) in
                 ap (put (i + 1) others) (q ∙ ap (λ (y : NodeAnswer). set l i (codeOf y)) (w .answer))
                 ∙ ap (λ (j : ℕ). put j others (set l i (codeOf a))) (add-one i)
-                ∙ put-cons i (codeOf a) others l place-left
+                ∙ put-cons i (codeOf a) others l place
                 ∙ ap (λ (y : Stream). put i (codes (y .answers)) l) (sym p)
                 ∙ inv .list;
           }
@@ -357,8 +382,16 @@ module _ (delta : List ℕ) (clock : ℕ) (list l : List ℕ) where
           go (rule.Good os) q a = let k : length (rule.partsOf os) ≡ nodes = cc in ((os, q), sym k)
           go (rule.Faulty y b) q a = let z : _≡_ {A = ℕ} 0 1 = cc in absurd (omega arith)
 
-      pub enough : nodes ≤ length list → length (partsFrom delta 0) ≤ length list
-      enough h = omega (arith, ap length (accepted-parts delta (accepted .0)), accepted .1)
+      pub told : (r : Heads) → Gathered delta (r .at) (r .count) (r .max) → Told delta nodes r
+      told r g =
+          record {
+            all = accepted .1 ∙ ap length (sym (accepted-parts delta (accepted .0)));
+            few = omega (arith, g .few ops nodes (sym e));
+            long-at = g .long-at;
+            long-count = g .long-count;
+            long-max = g .long-max;
+            heads = g .heads ops nodes (sym e);
+          }
 
       pub no-places : length list < nodes → Gives delta clock list l (Refused NoPlace 0) l list
       unfolding lentApply apply

@@ -1,100 +1,143 @@
-// Applying a delta to a lent table: each node delta in stream order, and one answer for each. A node is changed on a copy, which is stored back only
-// where the outcome has room, so that Room leaves it as it is. Nothing is touched before the whole delta is known to be good.
+// Applying a delta to a lent table: each node delta in stream order, and one answer for each. Nothing is touched before the whole delta is known to be
+// good. A node is changed where it stands; where its records may be too many it is saved first and put back if they are, so that Room leaves it as it is.
 use place::Place;
 use rules::Applied;
 use rules::DeltaRead;
 use rules::DeltaStatus;
+use rules::Header;
 use rules::NodeAnswer;
 use rules::Refusal;
 use table::layout;
-use take::NodeDelta;
+use take::Heads;
 ghost use mathlib.Core.Bool.{true};
 ghost use mathlib.Core.Path.{_≡_};
-ghost use Prim.Native.Nat.{_≤_};
+ghost use Prim.Native.Nat.{_+_, _≤_};
 ghost use lib.ListN.{length};
 ghost use Rattle.fields.specs.Parts.{put};
 ghost use Rattle.rules.specs.Apply.{applyNode, applyEach, codes};
-ghost use Rattle.rules.specs.Layout.{nodeWidth, encode, decode, decodeNode, valid};
+ghost use Rattle.rules.specs.Layout.{nodeWidth, encodeNode, encode, decode, decodeNode, valid};
 ghost use Rattle.rules.specs.Lent.{lentApply};
 ghost use Rattle.table.specs.Fits.{LaidNode};
-ghost use Rattle.take.specs.Taking.{partOf, partsFrom};
-ghost use Rattle.apply.specs.Applying.{Stored, grown, emptied, Answered, Turned, Accepted};
+ghost use Rattle.take.specs.Taking.{Rising, recsFrom, partsFrom, deltaOf, partAt};
+ghost use Rattle.apply.specs.Applying.{emptied, begun, grown, Grown, Stored, rejects, resets, answerAs, Answered, Turned, Accepted, Told};
 
 // ---- one node
 
-// Takes the records into the copy. Where there is room, its max becomes the delta's, and the node becomes the copy.
-fn take_into(
-    b: &mut [u8],
-    copy: &mut [u8],
-    s: &[u8],
-    at: usize,
-    held: u64,
-    gc: u64,
-    max: u64,
-    clock: u64,
-) -> bool
-    requires { ⌜ LaidNode (now copy) × (length (now b) ≡ nodeWidth) × (at ≤ length (now s)) ⌝ }
-    ensures { λ r. ⌜ Stored (grown held gc clock (now (s .entry)) at max (decodeNode (now (copy .entry)))) (now (b .entry)) r (now (b .exit)) ⌝ }
+// A reset: a fresh node under the same number with the delta's last_gc.
+fn reset(b: &mut [u8], gc: u64)
+    requires { ⌜ LaidNode (now b) ⌝ }
+    ensures { λ _. ⌜ now (b .exit) ≡ encodeNode (emptied gc (decodeNode (now (b .entry)))) ⌝ }
 {
-    if take::take_records(copy, s, at, held, gc, clock) {
-        change::set_max(copy, max);
-        fields::copy_to(b, 0, copy);
+    let number = fields::read_u64(b, layout::NUMBER);
+    fields::clear(b, 0, layout::NODE);
+    fields::write_u64(b, layout::NUMBER, number);
+    change::set_last_gc(b, gc);
+}
+
+// The node before the first record is taken: as it is, or after a reset.
+fn begin(b: &mut [u8], afresh: bool, gc: u64)
+    requires { ⌜ LaidNode (now b) ⌝ }
+    ensures { λ _. ⌜ now (b .exit) ≡ encodeNode (begun afresh gc (decodeNode (now (b .entry)))) ⌝ }
+{
+    if afresh {
+        reset(b, gc);
+        return;
+    }
+}
+
+// The node with the records from `at` taken and max the delta's, and whether there was room. Without room its bytes are of no further use.
+fn grow(b: &mut [u8], s: &[u8], at: usize, afresh: bool, gc: u64, max: u64, clock: u64) -> bool
+    requires { ⌜ Rising (now b) × (at ≤ length (now s)) ⌝ }
+    ensures { λ r. ⌜ Grown (grown clock (now (s .entry)) at max (begun afresh gc (decodeNode (now (b .entry))))) r (now (b .exit)) ⌝ }
+{
+    begin(b, afresh, gc);
+    let own = place::read_header(b);
+    if take::take_records(b, s, at, own.max, own.last_gc, clock) {
+        change::set_max(b, max);
         return true;
     }
     false
 }
 
-// Apply: the node with the records taken.
-fn apply_over(b: &mut [u8], s: &[u8], at: usize, held: u64, gc: u64, max: u64, clock: u64) -> bool
-    requires { ⌜ LaidNode (now b) × (at ≤ length (now s)) ⌝ }
-    ensures { λ r. ⌜ Stored (grown held gc clock (now (s .entry)) at max (decodeNode (now (b .entry)))) (now (b .entry)) r (now (b .exit)) ⌝ }
-{
-    let mut copy = [0u8; layout::NODE];
-    fields::copy_to(&mut copy, 0, b);
-    take_into(b, &mut copy, s, at, held, gc, max, clock)
-}
-
-// ApplyAfterReset: a fresh node under the same number with the delta's last_gc, and the records taken.
-fn reset_over(b: &mut [u8], s: &[u8], at: usize, gc: u64, max: u64, clock: u64) -> bool
-    requires { ⌜ LaidNode (now b) × (at ≤ length (now s)) ⌝ }
-    ensures { λ r. ⌜ Stored (grown 0 gc clock (now (s .entry)) at max (emptied gc (decodeNode (now (b .entry))))) (now (b .entry)) r (now (b .exit)) ⌝ }
-{
-    let mut copy = [0u8; layout::NODE];
-    fields::write_u64(
-        &mut copy,
-        layout::NUMBER,
-        fields::read_u64(b, layout::NUMBER),
-    );
-    change::set_last_gc(&mut copy, gc);
-    take_into(b, &mut copy, s, at, 0, gc, max, clock)
-}
-
-// Applies the node delta whose records begin at `at` to a node.
-fn apply_node(
+// The same, but without room the node is as it was.
+fn grow_or_keep(
     b: &mut [u8],
     s: &[u8],
     at: usize,
-    number: u64,
+    afresh: bool,
     gc: u64,
-    from: u64,
     max: u64,
     clock: u64,
-) -> NodeAnswer
-    requires { ⌜ LaidNode (now b) × (at ≤ length (now s)) ⌝ }
-    ensures { λ r. ⌜ Answered (applyNode clock (partOf (now (s .entry)) number gc from max at .delta) (decodeNode (now (b .entry)) .node)) (now (b .entry)) r (now (b .exit)) ⌝ }
+) -> bool
+    requires { ⌜ Rising (now b) × (at ≤ length (now s)) ⌝ }
+    ensures { λ r. ⌜ Stored (grown clock (now (s .entry)) at max (begun afresh gc (decodeNode (now (b .entry))))) (now (b .entry)) r (now (b .exit)) ⌝ }
 {
-    let own = place::read_header(b);
-    let status = rules::check_delta_status(own.last_gc, own.max, from, gc, max);
+    let mut saved = [0u8; layout::NODE];
+    fields::copy_to(&mut saved, 0, b);
+    if grow(b, s, at, afresh, gc, max, clock) {
+        return true;
+    }
+    fields::copy_to(b, 0, &saved);
+    false
+}
+
+// The same, where no more than `count` records come: if there is room for so many, nothing need be saved.
+fn grow_in_place(
+    b: &mut [u8],
+    s: &[u8],
+    at: usize,
+    count: usize,
+    afresh: bool,
+    gc: u64,
+    max: u64,
+    clock: u64,
+) -> bool
+    requires { ⌜ Rising (now b) × (at ≤ length (now s)) × (length (recsFrom (now s) at) ≤ count) ⌝ }
+    ensures { λ r. ⌜ Stored (grown clock (now (s .entry)) at max (begun afresh gc (decodeNode (now (b .entry))))) (now (b .entry)) r (now (b .exit)) ⌝ }
+{
+    let free = Header::RECORDS - fields::byte_at(b, layout::COUNT);
+    if count <= free {
+        return grow(b, s, at, afresh, gc, max, clock);
+    }
+    grow_or_keep(b, s, at, afresh, gc, max, clock)
+}
+
+// Whether the status is Reject.
+fn is_reject(status: DeltaStatus) -> bool
+    ensures { λ r. ⌜ r ≡ rejects status ⌝ }
+{
+    match status {
+        DeltaStatus::Reject => true,
+        DeltaStatus::Apply => false,
+        DeltaStatus::ApplyAfterReset => false,
+    }
+}
+
+// Whether the node begins afresh.
+fn is_reset(status: DeltaStatus) -> bool
+    ensures { λ r. ⌜ r ≡ resets status ⌝ }
+{
+    match status {
+        DeltaStatus::Reject => false,
+        DeltaStatus::Apply => false,
+        DeltaStatus::ApplyAfterReset => true,
+    }
+}
+
+// What is answered, where there was room for the outcome or not.
+fn answer_as(status: DeltaStatus, room: bool) -> NodeAnswer
+    ensures { λ r. ⌜ r ≡ answerAs status room ⌝ }
+{
     match status {
         DeltaStatus::Reject => NodeAnswer::Reject,
         DeltaStatus::Apply => {
-            if apply_over(b, s, at, own.max, own.last_gc, max, clock) {
+            if room {
                 return NodeAnswer::Apply;
             }
             NodeAnswer::Room
         }
         DeltaStatus::ApplyAfterReset => {
-            if reset_over(b, s, at, gc, max, clock) {
+            if room {
                 return NodeAnswer::ApplyAfterReset;
             }
             NodeAnswer::Room
@@ -102,29 +145,62 @@ fn apply_node(
     }
 }
 
-// ---- a table
-
-// Applies the node delta to the node with its number, or answers Unknown.
-fn apply_part(
-    t: &mut [u8],
+// Applies the node delta with these numbers, whose records begin at `at` and are no more than `count`, to a node.
+fn apply_node(
+    b: &mut [u8],
     s: &[u8],
     at: usize,
-    number: u64,
+    count: usize,
     gc: u64,
     from: u64,
     max: u64,
     clock: u64,
 ) -> NodeAnswer
-    requires { ⌜ (valid (now t) ≡ true) × (at ≤ length (now s)) ⌝ }
-    ensures { λ r. ⌜ Turned clock (partOf (now (s .entry)) number gc from max at) (decode (now (t .entry))) r (now (t .exit)) ⌝ }
+    requires { ⌜ Rising (now b) × (at ≤ length (now s)) × (length (recsFrom (now s) at) ≤ count) ⌝ }
+    ensures { λ r. ⌜ Answered (applyNode clock (deltaOf (now (s .entry)) gc from max at) (decodeNode (now (b .entry)) .node)) (now (b .entry)) r (now (b .exit)) ⌝ }
 {
+    let own = place::read_header(b);
+    let status = rules::check_delta_status(own.last_gc, own.max, from, gc, max);
+    if is_reject(status) {
+        return NodeAnswer::Reject;
+    }
+    let room = grow_in_place(b, s, at, count, is_reset(status), gc, max, clock);
+    answer_as(status, room)
+}
+
+// ---- a table
+
+// Applies the node delta whose Node stands at `at` to the node with its number, or answers Unknown.
+fn apply_part(t: &mut [u8], s: &[u8], at: usize, count: usize, max: u64, clock: u64) -> NodeAnswer
+    requires { ⌜ (valid (now t) ≡ true) × (at + 25 ≤ length (now s)) × (length (recsFrom (now s) (at + 25)) ≤ count) ⌝ }
+    ensures { λ r. ⌜ Turned clock (partAt (now (s .entry)) at max) (decode (now (t .entry))) r (now (t .exit)) ⌝ }
+{
+    let number = fields::read_u64(s, at + 1);
+    let gc = fields::read_u64(s, at + 9);
+    let from = fields::read_u64(s, at + 17);
     match place::find_node(t, number) {
         Place::At(i) => {
             let a = layout::NODES + i * layout::NODE;
             let e = a + layout::NODE;
-            apply_node(&mut t[a..e], s, at, number, gc, from, max, clock)
+            apply_node(&mut t[a..e], s, at + 25, count, gc, from, max, clock)
         }
         Place::Free(_) => NodeAnswer::Unknown,
+    }
+}
+
+// Applies the node deltas that were found in an accepted delta to a good table, one answer for each.
+fn apply_each(t: &mut [u8], s: &[u8], heads: Heads, nodes: usize, clock: u64, answers: &mut [u8])
+    requires { ⌜ (valid (now t) ≡ true) × Accepted (now s) × Told (now s) nodes heads × (nodes ≤ length (now answers)) ⌝ }
+    ensures { λ _. ⌜ (now (t .exit) ≡ encode (applyEach (applyNode clock) (partsFrom (now (s .entry)) 0) (decode (now (t .entry))) .table)) × (now (answers .exit) ≡ put 0 (codes (applyEach (applyNode clock) (partsFrom (now (s .entry)) 0) (decode (now (t .entry))) .answers)) (now (answers .entry))) ⌝ }
+{
+    let places = heads.at;
+    let counts = heads.count;
+    let maxes = heads.max;
+    let mut i = 0;
+    while i < nodes {
+        let answer = apply_part(t, s, places[i], counts[i], maxes[i], clock);
+        answers[i] = answer.code();
+        i += 1;
     }
 }
 
@@ -133,27 +209,12 @@ pub fn apply_good(t: &mut [u8], s: &[u8], clock: u64, answers: &mut [u8])
     requires { ⌜ (valid (now t) ≡ true) × Accepted (now s) × (length (partsFrom (now s) 0) ≤ length (now answers)) ⌝ }
     ensures { λ _. ⌜ (now (t .exit) ≡ encode (applyEach (applyNode clock) (partsFrom (now (s .entry)) 0) (decode (now (t .entry))) .table)) × (now (answers .exit) ≡ put 0 (codes (applyEach (applyNode clock) (partsFrom (now (s .entry)) 0) (decode (now (t .entry))) .answers)) (now (answers .entry))) ⌝ }
 {
-    let mut at = 0;
-    let mut i = 0;
-    while at < s.len() {
-        let next = take::node_delta(s, at);
-        match next {
-            NodeDelta::Of {
-                number,
-                gc,
-                from,
-                max,
-                records,
-                end,
-            } => {
-                let answer = apply_part(t, s, records, number, gc, from, max, clock);
-                answers[i] = answer.code();
-                i += 1;
-                at = end;
-            }
-            NodeDelta::Nothing => return,
-        }
-    }
+    let heads = take::read_heads(s);
+    let read = heads.read;
+    let DeltaRead::Good { ops: _, nodes } = read else {
+        return;
+    };
+    apply_each(t, s, heads, nodes, clock, answers);
 }
 
 // Applies the bytes of a delta to a lent table at the receiver's clock, and gives one answer for each node delta. It takes any bytes, and refuses in
@@ -162,7 +223,8 @@ pub fn apply(table: &mut [u8], delta: &[u8], clock: u64, answers: &mut [u8]) -> 
     ensures { λ r. ⌜ (r ≡ lentApply (now (delta .entry)) clock (now (answers .entry)) (now (table .entry)) .answer) × (now (table .exit) ≡ lentApply (now (delta .entry)) clock (now (answers .entry)) (now (table .entry)) .bytes) × (now (answers .exit) ≡ lentApply (now (delta .entry)) clock (now (answers .entry)) (now (table .entry)) .list) ⌝ }
 {
     if valid::check_table(table) {
-        let read = delta::read_delta(delta);
+        let heads = take::read_heads(delta);
+        let read = heads.read;
         match read {
             DeltaRead::Refused { why, at } => Applied::Refused { why, at },
             DeltaRead::Good { ops: _, nodes } => {
@@ -172,7 +234,7 @@ pub fn apply(table: &mut [u8], delta: &[u8], clock: u64, answers: &mut [u8]) -> 
                         at: 0,
                     };
                 }
-                apply_good(table, delta, clock, answers);
+                apply_each(table, delta, heads, nodes, clock, answers);
                 Applied::Nodes(nodes)
             }
         }

@@ -2,3 +2,4 @@ pub mod Reading
 pub mod Steps
 pub mod Following
 pub mod Plain
+pub mod Counted

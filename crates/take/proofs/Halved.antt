@@ -90,8 +90,7 @@ module _ (key b : List ℕ) (o : Rising b) where
       pub between-more : x ≡ More → Between key b (j + 1) high
       between-more q =
           let t : orderOf key (keyOf (recAt j b)) ≡ More = sym e ∙ q in
-          let m : lessBytes (keyOf (recAt j b)) key ≡ true = order-more key (keyOf (recAt j b)) t in
-          (
+          let m : lessBytes (keyOf (recAt j b)) key ≡ true = order-more key (keyOf (recAt j b)) t in (
             omega arith,
             inv .1,
             sym (step-more (toKey key) (recsOf b) j (recAt j b) (recs-drop j b inside) t)

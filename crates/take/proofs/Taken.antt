@@ -22,6 +22,7 @@ use Rattle.rules.specs.Layout.{encodeNode, decodeNode}
 use Rattle.rules.specs.Delta as rule
 use Rattle.rules.proofs.Records.{keyOf, sorted-store}
 use Rattle.rules.proofs.Obeys.{keys-sorted, sorted-keys}
+use Rattle.rules.proofs.Keeps.{store-longer}
 use Rattle.rules.specs.declared.Status.{Status}
 use Rattle.rules.specs.declared.Status.the-variants.{Set, Delete, Ttl}
 use Rattle.delta.specs.declared.Op.{Op}
@@ -208,6 +209,18 @@ module _ (held gc clock : ℕ) where
           → length l ≤ length (takeAll held gc clock rs (pick t (store (stamp clock r) l) l))
       go true p q = omega (arith, store-grows (stamp clock r) l)
       go false p q = q
+
+  -- as many records more at most
+  pub takes-few : (rs : List KeyValue) (l : List Rec) → length (takeAll held gc clock rs l) ≤ length l + length rs
+  unfolding takeAll
+  takes-few [] l = omega arith
+  takes-few (r ∷ rs) l = go (takes held gc r) (takes-few rs (store (stamp clock r) l)) (takes-few rs l)
+    where
+      go : (t : Bool) → length (takeAll held gc clock rs (store (stamp clock r) l)) ≤ length (store (stamp clock r) l) + length rs
+          → length (takeAll held gc clock rs l) ≤ length l + length rs
+          → length (takeAll held gc clock rs (pick t (store (stamp clock r) l) l)) ≤ length l + suc (length rs)
+      go true p q = omega (arith, store-longer (stamp clock r) l)
+      go false p q = omega arith
 
   module _ (ops : List rule.Op) (l : List Rec) where
     pub goes-on : (o : rule.Op) → stepOf held gc clock o l ≡ Taken

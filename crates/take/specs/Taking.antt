@@ -1,12 +1,13 @@
--- What taking the records of a node delta leaves in a node, operation by operation, and a node delta as it stands in the bytes of a delta: its records
--- up to the next Node, the running max there, and where the next one begins.
+-- What taking the records of a node delta leaves in a node, operation by operation, and the node deltas as they stand in the bytes of a delta: where
+-- each begins, how many records it has at most, and the running max at its end.
 use Prim.Native.Nat.{ℕ, _+_, _≤_, _<_}
 use mathlib.Core.Path.{_≡_}
 use mathlib.Core.Bool.{Bool, true, false, not, _&&_}
 use mathlib.Core.List.{List, [], _∷_}
-use lib.ListN.{length}
+use lib.ListN.{length, getD}
 use lib.Dec.{leb, ltb}
 use Rattle.fields.specs.Choice.{pick}
+use Rattle.fields.specs.Numbers.{natOf}
 use Rattle.fields.specs.Parts.{part}
 use Rattle.rules.specs.Sizes.{maxRecords}
 use Rattle.rules.specs.Node.{KeyValue, Rec, scheduled, store}
@@ -15,15 +16,13 @@ use Rattle.rules.specs.Table.{keysRise}
 use Rattle.rules.specs.Layout.{decodeNode}
 use Rattle.rules.specs.Delta as rule
 use Rattle.rules.specs.declared.Status.{Status}
+use Rattle.rules.specs.declared.DeltaRead.the-variants as read
 use Rattle.delta.specs.Plain.{opsFrom}
 use Rattle.table.specs.Changes.{withRecs}
 use Rattle.table.specs.Tests.{recsOf}
 use Rattle.table.specs.Fits.{LaidNode}
 use Rattle.take.specs.declared.Step.{Step}
 use Rattle.take.specs.declared.Step.the-variants.{Taken, Full, Over}
-use Rattle.take.specs.declared.Behind.{Behind}
-use Rattle.take.specs.declared.NodeDelta.{NodeDelta}
-use Rattle.take.specs.declared.NodeDelta.the-variants.{Of, Nothing}
 
 -- ---- one record
 
@@ -80,30 +79,28 @@ recsFrom s at = rule.recsOf (opsFrom s at)
 unfoldable pub partsFrom : List ℕ → ℕ → List rule.Part
 partsFrom s at = rule.partsOf (opsFrom s at)
 
--- a Node comes first, or nothing
-abbrev pub Leads : List rule.Op → Type 0
-Leads [] = Unit {0}
-Leads (rule.NodeOp n g f ∷ ops) = Unit {0}
-Leads (rule.KeyValueOp r ∷ ops) = ⊥
-Leads (rule.SetMaxVersionOp m ∷ ops) = ⊥
-
-abbrev pub Begins : List ℕ → ℕ → Type 0
-Begins s at = Leads (opsFrom s at)
-
--- what is found ahead of a place: the running max at the next Node or the end, and that place
-pub record Ahead (s : List ℕ) (at : ℕ) (r : Behind) : Type 0 where
-  pub max-is : r .max ≡ rule.maxOf 0 (opsFrom s at)
-  pub later : at ≤ r .end
-  pub inside : r .end ≤ length s
-  pub begins : Begins s (r .end)
-  pub rest : partsFrom s (r .end) ≡ partsFrom s at
-
 -- a node delta by its numbers and the place of its records
-abbrev pub partOf : List ℕ → ℕ → ℕ → ℕ → ℕ → ℕ → rule.Part
-partOf s number gc from max records = record { number = number; delta = record { from = from; last-gc = gc; recs = recsFrom s records; max = max } }
+abbrev pub deltaOf : List ℕ → ℕ → ℕ → ℕ → ℕ → rule.NodeDelta
+deltaOf s gc from max records = record { from = from; last-gc = gc; recs = recsFrom s records; max = max }
 
--- the node delta that begins at a place, and what comes behind it
-abbrev pub Headed : List ℕ → ℕ → NodeDelta → Type 0
-Headed s at (Of number gc from max records end) =
-    (partsFrom s at ≡ partOf s number gc from max records ∷ partsFrom s end) × (at < end) × (end ≤ length s) × Begins s end × (records ≤ length s)
-Headed s at Nothing = partsFrom s at ≡ []
+-- the node delta whose Node stands at a place, with the running max at its end
+abbrev pub partAt : List ℕ → ℕ → ℕ → rule.Part
+partAt s at max =
+    record { number = natOf (part (at + 1) 8 s); delta = deltaOf s (natOf (part (at + 9) 8 s)) (natOf (part (at + 17) 8 s)) max (at + 25) }
+
+-- the node delta x stands there, with no more than so many records
+pub record Head (s : List ℕ) (x : rule.Part) (at count max : ℕ) : Type 0 where
+  pub inside : at + 25 ≤ length s
+  pub is : x ≡ partAt s at max
+  pub few : length (x .delta .recs) ≤ count
+
+abbrev pub noPart : rule.Part
+noPart = record { number = 0; delta = record { from = 0; last-gc = 0; recs = []; max = 0 } }
+
+-- the node deltas of an accepted delta, one behind the other: what stands in the lists behind them is of no use
+pub record Gathered (s at count max : List ℕ) : Type 0 where
+  pub long-at : length at ≡ 8
+  pub long-count : length count ≡ 8
+  pub long-max : length max ≡ 8
+  pub few : (ops nodes : ℕ) → read.Good ops nodes ≡ rule.deltaRead s → nodes ≤ 8
+  pub heads : (ops nodes : ℕ) → read.Good ops nodes ≡ rule.deltaRead s → (i : ℕ) → i < nodes → Head s (getD (partsFrom s 0) i noPart) (getD at i 0) (getD count i 0) (getD max i 0)

@@ -1,9 +1,12 @@
 // A node delta in the bytes of an accepted delta, and the taking of its records into the bytes of one node. Each record is taken or skipped as
 // document 01 says; a record that would be a 33rd key ends the taking with no room.
+use delta::Followed;
 use delta::Op;
 use delta::OpRead;
 use place::Place;
+use rules::DeltaRead;
 use rules::Header;
+use rules::Refusal;
 use rules::Status;
 use table::layout;
 ghost use mathlib.Core.Path.{_≡_};
@@ -12,11 +15,12 @@ ghost use lib.ListN.{length};
 ghost use Rattle.rules.specs.Sizes.{maxKey, maxValue};
 ghost use Rattle.rules.specs.Node.{scheduled, store};
 ghost use Rattle.rules.specs.Apply.{startAt, takeAll};
+ghost use Rattle.rules.specs.Delta.{deltaRead};
 ghost use Rattle.delta.specs.Places.{Inside, opOf};
 ghost use Rattle.place.specs.Find.{findKey};
 ghost use Rattle.table.specs.Tests.{recsOf};
 ghost use Rattle.table.specs.Changes.{recOf};
-ghost use Rattle.take.specs.Taking.{takesAs, carried, Rising, Tried, takeOne, Stepped, recsFrom, Begins, Ahead, Headed};
+ghost use Rattle.take.specs.Taking.{takesAs, carried, Rising, Tried, takeOne, Stepped, recsFrom, Gathered};
 
 // What an operation of a node delta comes to.
 pub enum Step {
@@ -28,24 +32,17 @@ pub enum Step {
     Over,
 }
 
-// What stands behind a Node operation: the running max at the next Node or the end, and its place.
-pub struct Behind {
-    pub max: u64,
-    pub end: usize,
+// A delta's verdict and, where it is accepted, each of its node deltas: where its Node stands, how many operations stand behind that Node at most, and
+// the running max at their end.
+pub struct Heads {
+    pub read: DeltaRead,
+    pub at: [usize; 8],
+    pub count: [usize; 8],
+    pub max: [u64; 8],
 }
 
-// A node delta: its numbers, where its records begin, and where the next one begins.
-pub enum NodeDelta {
-    Of {
-        number: u64,
-        gc: u64,
-        from: u64,
-        max: u64,
-        records: usize,
-        end: usize,
-    },
-    Nothing,
-}
+// The longest delta.
+const LONGEST: usize = 16384;
 
 // ---- one record
 
@@ -229,71 +226,68 @@ pub fn take_records(b: &mut [u8], s: &[u8], at: usize, held: u64, gc: u64, clock
 
 // ---- the node deltas of a delta
 
-// Looks from behind a Node operation to the next Node or the end.
-pub fn look_ahead(s: &[u8], at: usize) -> Behind
-    requires { ⌜ at ≤ length (now s) ⌝ }
-    ensures { λ r. ⌜ Ahead (now (s .entry)) at r ⌝ }
+// A delta that is refused.
+fn refused(why: Refusal, at: usize) -> Heads
+    ensures { λ r. ⌜ (r .read ≡ DeltaRead.Refused why at) × (length (r .at) ≡ 8) × (length (r .count) ≡ 8) × (length (r .max) ≡ 8) ⌝ }
 {
-    let mut max: u64 = 0;
-    let mut i = at;
-    while i < s.len() {
-        let read = delta::read_op(s, i);
-        let OpRead::Got { op, next } = read else {
-            return Behind { max, end: s.len() };
-        };
-        match op {
-            Op::Node {
-                number: _,
-                gc: _,
-                from: _,
-            } => return Behind { max, end: i },
-            Op::KeyValue {
-                keyat: _,
-                keylen: _,
-                valueat: _,
-                valuelen: _,
-                version,
-                status: _,
-            } => max = version,
-            Op::SetMaxVersion { max: given } => max = given,
-        }
-        i = next;
+    Heads {
+        read: DeltaRead::Refused { why, at },
+        at: [0usize; 8],
+        count: [0usize; 8],
+        max: [0u64; 8],
     }
-    Behind { max, end: i }
 }
 
-// The node delta whose Node operation stands at `at`.
-pub fn node_delta(s: &[u8], at: usize) -> NodeDelta
-    requires { ⌜ (at ≤ length (now s)) × Begins (now s) at ⌝ }
-    ensures { λ r. ⌜ Headed (now (s .entry)) at r ⌝ }
+// The verdict on a delta, and its node deltas. One pass: who applies the delta need not look for its node deltas again.
+pub fn read_heads(s: &[u8]) -> Heads
+    ensures { λ r. ⌜ (r .read ≡ deltaRead (now (s .entry))) × Gathered (now (s .entry)) (r .at) (r .count) (r .max) ⌝ }
 {
-    if at == s.len() {
-        return NodeDelta::Nothing;
+    if LONGEST < s.len() {
+        return refused(Refusal::TooMany, 0);
     }
-    let read = delta::read_op(s, at);
-    let OpRead::Got { op, next } = read else {
-        return NodeDelta::Nothing;
-    };
-    match op {
-        Op::Node { number, gc, from } => {
-            let behind = look_ahead(s, next);
-            NodeDelta::Of {
-                number,
-                gc,
-                from,
-                max: behind.max,
-                records: next,
-                end: behind.end,
+    let mut places = [0usize; 8];
+    let mut counts = [0usize; 8];
+    let mut maxes = [0u64; 8];
+    let mut seen = [0u64; 8];
+    let mut nodes: usize = 0;
+    let mut running: u64 = 0;
+    let mut under: usize = 0;
+    let mut ops: usize = 0;
+    let mut at: usize = 0;
+    while at < s.len() {
+        let read = delta::read_op(s, at);
+        match read {
+            OpRead::Bad(why) => return refused(why, at),
+            OpRead::Got { op, next } => {
+                match delta::follow(&seen, nodes, running, op) {
+                    Followed::Fault(why) => return refused(why, at),
+                    Followed::Entered(number) => {
+                        seen[nodes] = number;
+                        places[nodes] = at;
+                        counts[nodes] = 0;
+                        maxes[nodes] = 0;
+                        nodes += 1;
+                        running = 0;
+                        under = 0;
+                        ops += 1;
+                        at = next;
+                    }
+                    Followed::Under(version) => {
+                        under += 1;
+                        counts[nodes - 1] = under;
+                        maxes[nodes - 1] = version;
+                        running = version;
+                        ops += 1;
+                        at = next;
+                    }
+                }
             }
         }
-        Op::KeyValue {
-            keyat: _,
-            keylen: _,
-            valueat: _,
-            valuelen: _,
-            version: _,
-            status: _,
-        } => NodeDelta::Nothing,
-        Op::SetMaxVersion { max: _ } => NodeDelta::Nothing,
+    }
+    Heads {
+        read: DeltaRead::Good { ops, nodes },
+        at: places,
+        count: counts,
+        max: maxes,
     }
 }

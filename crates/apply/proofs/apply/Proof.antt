@@ -2,7 +2,7 @@
 use mathlib.Core.Path.{_≡_, sym, _∙_}
 use mathlib.Core.Bool.{true}
 use Rattle.rules.specs.Layout.{valid}
-use Rattle.apply.proofs.Applied.{bad-table, at-fault, no-places, accepted, enough, gives}
+use Rattle.apply.proofs.Applied.{bad-table, at-fault, no-places, accepted, told, gives}
 use borrow.Author.Needs.{needs}
 use Rattle.apply.proofs.apply.Statement.{statement}
 use Rattle.apply.proofs.apply.Tie as tie
@@ -11,14 +11,14 @@ abbrev entry : tie.After-check-table → tie.Start
 entry c = c .before .before .before .before .before
 
 -- where a delta is read the table is good
-good : (c : tie.After-read-delta) → valid (entry (c .before .before) .args .table .now) ≡ true
+good : (c : tie.After-read-heads) → valid (entry (c .before .before) .args .table .now) ≡ true
 good c = sym (c .before .before .check-table .ensures) ∙ c .before .if1 .taken
 
 check-table-requires : tie.Need-check-table-requires
 check-table-requires c κs = search needs
 
-read-delta-requires : tie.Need-read-delta-requires
-read-delta-requires c κs = search needs
+read-heads-requires : tie.Need-read-heads-requires
+read-heads-requires c κs = search needs
 
 enum-known-read : tie.Need-enum-known-read
 enum-known-read c = search needs
@@ -31,18 +31,23 @@ same-length c = search needs
 
 returns : tie.Need-returns
 returns c =
-    let told = c .before .before in
-    let rd = told .before .before in
+    let read = c .before .before in
+    let rd = read .before .before in
     let a = entry (rd .before .before) .args in
-    no-places (a .delta .now) (a .clock) (a .answers .now) (a .table .now) (good rd) _ _ (sym (rd .read-delta .ensures) ∙ told .read2 .given .1) (c .if2 .taken)
+    no-places (a .delta .now) (a .clock) (a .answers .now) (a .table .now) (good rd) _ _ (sym (rd .read-heads .ensures .0) ∙ read .read2 .given .1) (c .if2 .taken)
 
-apply-good-requires : tie.Need-apply-good-requires
-apply-good-requires c κs =
-    let told = c .before .before .before .before in
-    let rd = told .before .before in
+apply-each-requires : tie.Need-apply-each-requires
+apply-each-requires c κs =
+    let places = c .before .before in
+    let known = places .before in
+    let rd = known .before .before .before in
     let a = entry (rd .before .before) .args in
-    let e = sym (rd .read-delta .ensures) ∙ told .read2 .given .1 in
-    (good rd, accepted (a .delta .now) (a .clock) (a .answers .now) (a .table .now) (good rd) _ _ e .0, enough (a .delta .now) (a .clock) (a .answers .now) (a .table .now) (good rd) _ _ e (c .before .before .if2 .left))
+    let e = sym (rd .read-heads .ensures .0) ∙ known .before .read2 .given .1 in (
+      good rd,
+      accepted (a .delta .now) (a .clock) (a .answers .now) (a .table .now) (good rd) _ _ e .0,
+      told (a .delta .now) (a .clock) (a .answers .now) (a .table .now) (good rd) _ _ e (rd .read-heads .result) (rd .read-heads .ensures .1),
+      places .if2 .left,
+    )
 
 same-length-2 : tie.Need-same-length-2
 same-length-2 c = search needs
@@ -51,7 +56,7 @@ returns-2 : tie.Need-returns-2
 returns-2 c =
     let rd = c .before .before .before in
     let a = entry (rd .before .before) .args in
-    at-fault (a .delta .now) (a .clock) (a .answers .now) (a .table .now) (good rd) _ _ (sym (rd .read-delta .ensures) ∙ c .before .read .given .1)
+    at-fault (a .delta .now) (a .clock) (a .answers .now) (a .table .now) (good rd) _ _ (sym (rd .read-heads .ensures .0) ∙ c .before .read .given .1)
 
 same-length-3 : tie.Need-same-length-3
 same-length-3 c = search needs
@@ -62,10 +67,11 @@ same-length-4 c = search needs
 returns-3 : tie.Need-returns-3
 returns-3 c =
     let call = c .before .before .before .before in
-    let told = call .before .before .before .before .before in
-    let rd = told .before .before in
+    let places = call .before .before .before in
+    let read = places .before .before in
+    let rd = read .before .before in
     let a = entry (rd .before .before) .args in
-    gives (a .delta .now) (a .clock) (a .answers .now) (a .table .now) (good rd) _ _ (sym (rd .read-delta .ensures) ∙ told .read2 .given .1) (call .before .before .before .if2 .left) _ _ (call .apply-good .ensures .0) (call .apply-good .ensures .1)
+    gives (a .delta .now) (a .clock) (a .answers .now) (a .table .now) (good rd) _ _ (sym (rd .read-heads .ensures .0) ∙ read .read2 .given .1) (places .if2 .left) _ _ (call .apply-each .ensures .0) (call .apply-each .ensures .1)
 
 same-length-5 : tie.Need-same-length-5
 same-length-5 c = search needs
@@ -80,12 +86,12 @@ apply-spec =
     tie.close
     (tie.spec
     check-table-requires
-    read-delta-requires
+    read-heads-requires
     enum-known-read
     enum-known-read-2
     same-length
     returns
-    apply-good-requires
+    apply-each-requires
     same-length-2
     returns-2
     same-length-3
