@@ -10,7 +10,8 @@ use lib.Dec.{leb, ltb}
 use borrow.Author.Tests.{le-leb, lt-leb, lt-ltb, le-ltb, leb-true, leb-false}
 use Rattle.fields.specs.Choice.{pick, _∈_, here, later}
 use Rattle.fields.specs.Blocks.{insertAt}
-use Rattle.fields.specs.Order.{sameBytes, lessBytes}
+use Rattle.fields.specs.Order.{sameBytes, lessBytes, orderOf}
+use Rattle.fields.specs.declared.Order.the-variants.{More}
 use Rattle.fields.proofs.Choice.{in-none}
 use Rattle.fields.proofs.Lent.{seen}
 use Rattle.fields.proofs.Blocks.{length-insert}
@@ -36,9 +37,11 @@ use Rattle.table.specs.Changes.{withRecs, recOf}
 use Rattle.table.specs.Tests.{countOf, recsOf}
 use Rattle.table.specs.Fits.{FitsRec, FitsEntry, LaidNode}
 use Rattle.table.proofs.Nodes.{decode-encode-node, laid-node}
-use Rattle.table.proofs.Places.{length-recs}
+use Rattle.table.proofs.Places.{recAt, length-recs}
 use Rattle.place.specs.Find.{findKey, toKey}
 use Rattle.place.specs.declared.Place.the-variants.{At, Free}
+use Rattle.place.proofs.Found.{start, end}
+use Rattle.place.proofs.Halves.{half-more}
 use Rattle.place.proofs.Placed.{store-at, store-free, free-in}
 use Rattle.place.proofs.Searched.{rec-in}
 use Rattle.take.specs.declared.Step.{Step}
@@ -71,6 +74,17 @@ module _ (held gc version : ℕ) where
     pub new-ttl : st ≡ Ttl → ltb gc version ≡ takesAs held gc version st
     unfolding takesAs
     new-ttl e = rw (e, takesAs, lt-ltb held version h) (sym not-below)
+
+-- ---- where a key belongs
+
+module _ (key b : List ℕ) where
+  pub last-of-none : 0 ≡ countOf b → findKey key (recsOf b) ≡ Free (countOf b)
+  last-of-none e =
+      sym (start (toKey key) (recsOf b)) ∙ end (toKey key) (recsOf b) 0 (omega (arith, length-recs b)) ∙ ap Free e
+
+  pub behind-last : keysRise (recsOf b) ≡ true → (j : ℕ) → j + 1 ≡ countOf b → orderOf key (recAt j b .kv .key) ≡ More → findKey key (recsOf b) ≡ Free (countOf b)
+  behind-last s j e q =
+      sym (half-more key b s j (omega arith) q) ∙ end (toKey key) (recsOf b) (j + 1) (omega (arith, length-recs b)) ∙ ap Free e
 
 -- ---- storing one
 

@@ -9,8 +9,9 @@ use rules::Header;
 use rules::Refusal;
 use rules::Status;
 use table::layout;
+ghost use mathlib.Core.Bool.{true};
 ghost use mathlib.Core.Path.{_≡_};
-ghost use Prim.Native.Nat.{_+_, _≤_, _<_};
+ghost use Prim.Native.Nat.{_+_, _≤_};
 ghost use lib.ListN.{length};
 ghost use Rattle.rules.specs.Sizes.{maxKey, maxValue};
 ghost use Rattle.rules.specs.Node.{scheduled, store};
@@ -18,7 +19,8 @@ ghost use Rattle.rules.specs.Apply.{startAt, takeAll};
 ghost use Rattle.rules.specs.Delta.{deltaRead};
 ghost use Rattle.delta.specs.Places.{Inside, opOf};
 ghost use Rattle.place.specs.Find.{findKey};
-ghost use Rattle.table.specs.Tests.{recsOf};
+ghost use Rattle.place.specs.declared.Place.the-variants.{Free};
+ghost use Rattle.table.specs.Tests.{countOf, recsOf};
 ghost use Rattle.table.specs.Changes.{recOf};
 ghost use Rattle.take.specs.Taking.{takesAs, carried, Rising, Tried, takeOne, Stepped, recsFrom, Gathered};
 
@@ -71,35 +73,31 @@ fn takes(held: u64, gc: u64, version: u64, status: Status) -> bool
     }
 }
 
-// The record to look at next, of those from `low` to `high` of a node with `n`: first the last one, because keys often come in order; then the one in
-// the middle.
-fn probe(low: usize, high: usize, n: usize) -> usize
-    requires { ⌜ (low < high) × (high ≤ n) × (n < 256) ⌝ }
-    ensures { λ r. ⌜ (low ≤ r) × (r < high) ⌝ }
+// Whether the key comes behind all keys of the node.
+fn comes_last(b: &[u8], key: &[u8]) -> bool
+    requires { ⌜ Rising (now b) ⌝ }
+    ensures { λ r. ⌜ (r ≡ true → findKey (now (key .entry)) (recsOf (now (b .entry))) ≡ Free (countOf (now (b .entry)))) ⌝ }
 {
-    if high == n {
-        return high - 1;
+    let n = fields::byte_at(b, layout::COUNT);
+    if n == 0 {
+        return true;
     }
-    low + (high - low) / 2
+    match fields::compare(key, table::key_of(table::record_of(b, n - 1))) {
+        fields::Order::Less => false,
+        fields::Order::Same => false,
+        fields::Order::More => true,
+    }
 }
 
-// The place of the record with this key in a node whose keys rise.
+// The place of the record with this key. Records often come in the order of their keys, so the last key is looked at first.
 fn find_key(b: &[u8], key: &[u8]) -> Place
     requires { ⌜ Rising (now b) ⌝ }
     ensures { λ r. ⌜ r ≡ findKey (now (key .entry)) (recsOf (now (b .entry))) ⌝ }
 {
-    let n = fields::byte_at(b, layout::COUNT);
-    let mut low = 0;
-    let mut high = n;
-    while low < high {
-        let j = probe(low, high, n);
-        match fields::compare(key, table::key_of(table::record_of(b, j))) {
-            fields::Order::Same => return Place::At(j),
-            fields::Order::Less => high = j,
-            fields::Order::More => low = j + 1,
-        }
+    if comes_last(b, key) {
+        return Place::Free(fields::byte_at(b, layout::COUNT));
     }
-    Place::Free(low)
+    place::search_key(b, key)
 }
 
 // Stores a record in a node, and says whether there was room for it.
