@@ -46,27 +46,30 @@ fn open(hub: &mut [u8]) {
     done(nodes::add_node(hub, WATER));
 }
 
+fn set(hub: &mut [u8], number: u64, key: &[u8], value: &[u8]) {
+    done(local::set(hub, number, key, value));
+}
+
 fn first_day_power(hub: &mut [u8]) {
-    done(local::set(hub, POWER, b"total", b"004127.3 kWh"));
-    done(local::set(
+    set(hub, POWER, b"total", b"004127.3 kWh");
+    set(
         hub,
         POWER,
         b"load",
         b"0.4 0.3 0.3 0.2 0.9 1.7 2.2 1.1 0.8 0.7 0.6 1.3",
-    ));
-    done(local::set(hub, POWER, b"tariff", b"night"));
-    done(pulse::local_beat(hub, POWER));
+    );
+    set(hub, POWER, b"tariff", b"night");
 }
 
 fn first_day_water(hub: &mut [u8]) {
-    done(local::set(hub, WATER, b"total", b"000088.031 m3"));
+    set(hub, WATER, b"total", b"000088.031 m3");
+    set(hub, WATER, b"flow", b"0 0 0 3 11 4 2 0 0 6 9 1");
     done(local::set_with_ttl(hub, WATER, b"valve", b"open", 1000));
-    done(local::set(hub, WATER, b"flow", b"0 0 0 3 11 4 2 0 0 6 9 1"));
 }
 
-// The tariff goes, and so does the valve, whose time has come.
+// The tariff is deleted, and the valve's time has come: the removal takes both. The flow is to go later.
 fn second_day(hub: &mut [u8]) {
-    done(local::set(hub, POWER, b"total", b"004139.0 kWh"));
+    set(hub, POWER, b"total", b"004139.0 kWh");
     done(local::delete(hub, POWER, b"tariff", 50000));
     done(local::delete_after_ttl(hub, WATER, b"flow", 80000));
     done(removal::remove_scheduled(hub, 90000, 30000));
@@ -234,17 +237,27 @@ fn meet(publisher: &[u8], follower: &mut [u8], clock: u64) {
     say(b"\n");
 }
 
+// ---- the two days
+
+fn follow_first_day(first: &mut [u8], second: &mut [u8]) {
+    first_day_power(first);
+    first_day_water(first);
+    meet(first, second, 2000);
+    say_hub(b"the second hub", second);
+}
+
+fn follow_second_day(first: &mut [u8], second: &mut [u8]) {
+    second_day(first);
+    meet(first, second, 91000);
+    say_hub(b"the first hub", first);
+    say_hub(b"the second hub", second);
+}
+
 fn main() {
     let mut first = [0u8; layout::TABLE];
     let mut second = [0u8; layout::TABLE];
     open(&mut first);
     open(&mut second);
-    first_day_power(&mut first);
-    first_day_water(&mut first);
-    meet(&first, &mut second, 2000);
-    say_hub(b"the second hub", &second);
-    second_day(&mut first);
-    meet(&first, &mut second, 91000);
-    say_hub(b"the first hub", &first);
-    say_hub(b"the second hub", &second);
+    follow_first_day(&mut first, &mut second);
+    follow_second_day(&mut first, &mut second);
 }
