@@ -8,7 +8,7 @@ use Rattle.fields.specs.Choice.{pick}
 use Rattle.rules.specs.Node.{KeyValue}
 use Rattle.rules.specs.Table.{nodeOf}
 use Rattle.rules.specs.Layout.{encode, decode}
-use Rattle.rules.specs.Lent.{lentCall, lentGc, lentOffer, lentBeat, lentDigest, lentCompute, lentApply}
+use Rattle.rules.specs.Lent.{lentAdd, lentCall, lentGc, lentOffer, lentBeat, lentDigest, lentCompute, lentApply}
 use Rattle.rules.specs.World.{Exchange, Idle, DigestSent, DeltaSent, Side, Publishers, Followers, Event, Writing, Beating, Offering, Removing, Digesting, Computing, Applying, possible, givenIn, afterDigest, afterDelta, freshTable}
 
 -- ---- the world
@@ -23,6 +23,11 @@ pub record LentWorld : Type 0 where
 -- both tables fresh with the same nodes, and nothing given yet
 unfoldable pub lentStart : List ℕ → LentWorld
 lentStart is = record { publisher = encode (freshTable is); follower = encode (freshTable is); given = λ i. []; exchange = Idle }
+
+-- The bytes that adding these nodes one after the other leaves. So the start is made of the new table (proofs/Start).
+unfoldable pub lentAdds : List ℕ → List ℕ → List ℕ
+lentAdds [] l = l
+lentAdds (i ∷ is) l = lentAdds is (lentAdd i l .bytes)
 
 -- ---- what is on its way after a call
 
