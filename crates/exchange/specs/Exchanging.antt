@@ -78,7 +78,7 @@ lentExchange g publisher follower = afterDigesting g publisher follower (lentDig
 -- ---- what the code promises
 
 -- the answer r, and the follower's table, the delta's datagram and the answers afterwards
-pub record Answers (o : LentExchange) (r : Exchanged) (follower delta answers : List ℕ) : Type 0 where
+pub record ComesTo (o : LentExchange) (r : Exchanged) (follower delta answers : List ℕ) : Type 0 where
   pub answer-is : r ≡ o .answer
   pub follower-is : follower ≡ o .follower
   pub delta-is : delta ≡ o .delta
@@ -86,7 +86,7 @@ pub record Answers (o : LentExchange) (r : Exchanged) (follower delta answers : 
 
 -- and the digest's datagram
 pub record Exchanges (g : Lending) (publisher before : List ℕ) (r : Exchanged) (follower digest delta answers : List ℕ) : Type 0 where
-  pub comes-to : Answers (lentExchange g publisher before) r follower delta answers
+  pub comes-to : ComesTo (lentExchange g publisher before) r follower delta answers
   pub digest-is : digest ≡ lentDigestOf g before
 
 -- ---- what a refusal leaves

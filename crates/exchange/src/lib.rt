@@ -4,7 +4,7 @@ use rules::Applied;
 use rules::Computed;
 use rules::Refusal;
 use rules::Written;
-ghost use Rattle.exchange.specs.Exchanging.{Answers, Exchanges, lending, lentAnswer};
+ghost use Rattle.exchange.specs.Exchanging.{ComesTo, Exchanges, lending, lentAnswer};
 
 // What an exchange came to.
 pub enum Exchanged {
@@ -37,7 +37,7 @@ fn answer_digest(
     delta: &mut [u8],
     answers: &mut [u8],
 ) -> Exchanged
-    ensures { λ r. ⌜ Answers
+    ensures { λ r. ⌜ ComesTo
         (lentAnswer (now (unsent .entry)) (now (ties .entry)) mtu clock (now (told .entry)) (now (delta .entry)) (now (answers .entry)) (now (publisher .entry)) (now (follower .entry)))
         r
         (now (follower .exit))
