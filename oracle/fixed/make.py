@@ -1,0 +1,555 @@
+#!/usr/bin/env python3
+"""Writes the stored scripts that are made: each call at each of document 01's boundaries, each refusal that it can give, and the
+pairs of refusals in their order. The others beside it are written by hand (local-walk is a random walk over local calls).
+
+    python3 oracle/fixed/make.py           writes the scripts
+    oracle/fixed/check --store             the original's answers to them
+    oracle/fixed/check --gate              what the gate runs the port on
+"""
+import struct
+from pathlib import Path
+
+HERE = Path(__file__).resolve().parent
+TOP = 2**64 - 1
+NODE, RECORD, TABLE = 3713, 115, 29705
+CALLS = ("add 7", "remove 7", "set 7 x61 x31", "setttl 7 x61 x31 5", "delete 7 x61 5", "deletettl 7 x61 5", "offer 7 3", "beat 7",
+         "get 7 x61", "list 7 x 32", "gc 9 1", "digest - 0 258", "compute x0000 100 - 0 0 100", "apply x 5 8")
+
+
+def u64(*numbers):
+    return b"".join(struct.pack("<Q", n) for n in numbers)
+
+
+def u16(number):
+    return struct.pack("<H", number)
+
+
+def x(data):
+    return "x" + data.hex()
+
+
+# A delta's operations, in bytes.
+def node(number, last_gc=0, start=0):
+    return b"\0" + u64(number, last_gc, start)
+
+
+def kv(key, value, version, status=0):
+    return b"\1" + u16(len(key)) + key + u16(len(value)) + value + u64(version) + bytes([status])
+
+
+def top(version):
+    return b"\2" + u64(version)
+
+
+def digest(*entries, count=None):
+    return u16(len(entries) if count is None else count) + b"".join(u64(*entry) for entry in entries)
+
+
+# A table's bytes.
+def record(key, value, version, status=0, start=0):
+    return bytes([len(key)]) + key.ljust(32, b"\0") + bytes([len(value)]) + value.ljust(64, b"\0") + u64(version) + bytes([status]) + u64(start)
+
+
+def slot(number, records, max_version, heartbeat=0, last_gc=0):
+    return (u64(number, heartbeat, max_version, last_gc) + bytes([len(records)]) + b"".join(records)).ljust(NODE, b"\0")
+
+
+def table(*slots):
+    return (bytes([len(slots)]) + b"".join(slots)).ljust(TABLE, b"\0")
+
+
+def apply(*ops, now=5, places=8):
+    return f"apply {x(b''.join(ops))} {now} {places}"
+
+
+def nodes():
+    """Eight nodes and no ninth; one held already changes nothing; removal in the middle and at both ends."""
+    yield "remove 0"
+    numbers = (5, 0, TOP, 3, 2**63, 256, 255, 1)
+    for number in numbers:
+        yield f"add {number}"
+    for number in (4, 5, 0, TOP, 6):
+        yield f"add {number}"
+    yield "set 256 x61 x31"
+    for number in (4, 0, 0, 255, TOP, 3):
+        yield f"remove {number}"
+    for number in (9, 255, 0, 3, 10):
+        yield f"add {number}"
+    yield "get 256 x61"
+    yield "get 255 x61"
+    yield "new"
+    yield "remove 5"
+
+
+def beats():
+    """Heartbeats held at 0 and above, offered below, at and above, and at the end."""
+    yield "offer 1 5"
+    yield "beat 1"
+    yield "add 1"
+    for heartbeat in (0, 5, 5, 4, 6, 0, TOP - 1, TOP - 1):
+        yield f"offer 1 {heartbeat}"
+    for _ in range(3):
+        yield "beat 1"
+    yield "offer 1 6"
+    yield f"offer 1 {TOP}"
+    yield "add 2"
+    yield "beat 2"
+    yield "offer 2 1"
+    yield "offer 2 2"
+
+
+def sizes():
+    """Keys of 0, 31, 32 and 33 bytes, values of 0, 63, 64 and 65, in each call that takes them; 2 before 1, 1 before 3."""
+    keys = [b"k" * n for n in (0, 1, 31, 32, 33)]
+    values = [b"v" * n for n in (0, 1, 63, 64, 65)]
+    writes = ("set 1 {} {}", "setttl 1 {} {} 7")
+    for call in ("set 1 {} {}", "setttl 1 {} {} 7", "delete 1 {} 7", "deletettl 1 {} 7", "get 1 {}", "list 1 {} 0"):
+        yield call.format(x(keys[4]), x(values[4]))
+    yield "add 1"
+    for call in writes:
+        for key in keys:
+            yield call.format(x(key), x(b"v"))
+        for value in values:
+            yield call.format(x(b"w"), x(value))
+        yield call.format(x(keys[4]), x(values[4]))
+        yield call.format(x(keys[3]), x(values[3]))
+    for key in keys:
+        for call in ("get 1 {}", "list 1 {} 32", "list 1 {} 0", "delete 1 {} 7", "get 1 {}", "deletettl 1 {} 8", "get 1 {}"):
+            yield call.format(x(key))
+    for key in (b"kk", b"k" * 33):
+        yield f"delete 1 {x(key)} 7"
+        yield f"deletettl 1 {x(key)} 7"
+
+
+def versions():
+    """The last version and the 33rd key: 1, 3, nothing to change, 5, 6 in this order."""
+    yield "add 1"
+    for place in range(31):
+        yield f"set 1 {x(b'k%02d' % place)} x"
+    yield "setttl 1 x6b3939 x31 9"
+    for call in ("set 1 x6e x31", "setttl 1 x6e x31 4", "set 1 x6b3030 x", "setttl 1 x6b3939 x31 10", "set 1 x6b3939 x31", "setttl 1 x6b3030 x 4"):
+        yield call
+    yield f"set 1 {x(b'n' * 33)} x"
+    yield apply(node(1), top(TOP - 1), places=1)
+    yield "set 1 x6b3031 x32"
+    writes = ("set 1 x6b3031 x32", "set 1 x6b3031 x33", "setttl 1 x6b3031 x32 4", "setttl 1 x6b3030 x 9", "delete 1 x6b3031 4", "deletettl 1 x6b3031 4",
+              "set 1 x6e x31", "setttl 1 x6e x31 4", "delete 1 x6e 4", "deletettl 1 x6e 4", "delete 1 x6b3939 4", "get 1 x6b3031")
+    yield from writes
+    for call in ("set 1 {} x", "setttl 1 {} x 4", "delete 1 {} 4", "deletettl 1 {} 4"):
+        yield call.format(x(b"n" * 33))
+    yield f"set 1 x6b3031 {x(b'v' * 65)}"
+    yield "gc 100 1"
+    yield from writes
+    yield "offer 1 5"
+    yield "compute x0000 16384 - 0 0 16384"
+
+
+def statuses():
+    """Each write on a record of each status, with the same value and with another one; what a reader sees."""
+    def look():
+        yield "get 1 x61"
+        yield "list 1 x 9"
+    first = ("set 1 x61 x31", "setttl 1 x61 x31 3", "delete 1 x61 4", "deletettl 1 x61 6")
+    second = first + ("set 1 x61 x32", "setttl 1 x61 x32 8", "set 1 x61 x", "setttl 1 x61 x 8")
+    yield "add 1"
+    for a in first:
+        for b in second:
+            yield "remove 1"
+            yield "add 1"
+            yield "set 1 x61 x31"
+            yield a
+            yield b
+            yield from look()
+    yield from (apply(node(1, 0, 0), kv(b"a", b"dead", 99, 1)), *look(), "deletettl 1 x61 5", *look(), "set 1 x61 x", "delete 1 x61 3", *look())
+
+
+def reading():
+    """Hits in key order, hidden ones counted but not told; just enough places and one too few; 2, 1, 8 in this order."""
+    yield "list 1 x 0"
+    yield f"list 1 {x(b'k' * 33)} 0"
+    yield "add 1"
+    yield "list 1 x 0"
+    keys = (b"b", b"", b"a", b"ab", b"abc", b"b\0", b"\0", "é".encode(), "éa".encode(), "\U0010ffff".encode(), b"k" * 32)
+    for key in keys:
+        yield f"set 1 {x(key)} {x(key[:1] if key[:1] < bytes([128]) else b'')}"
+    yield "delete 1 x6162 3"
+    yield "deletettl 1 x62 3"
+    for key in keys + (b"abcd", b"c", b"k" * 31):
+        yield f"get 1 {x(key)}"
+        for places in (0, 1, 2, 3, 9, 10, TOP):
+            yield f"list 1 {x(key)} {places}"
+    yield f"list 1 {x(b'k' * 33)} 0"
+    yield f"list 2 {x(b'k' * 33)} 0"
+    yield "get 2 x61"
+    for place in range(22):
+        yield f"set 1 {x(b'm%02d' % place)} x"
+    for places in (20, 21, 22, 23):
+        yield f"list 1 x6d {places}"
+    for places in (29, 30, 31, 32, 33):
+        yield f"list 1 x {places}"
+
+
+def removal():
+    """Grace at 149 and 150, sums past 2^64, last_gc as the larger, all nodes, live records stay, freed room."""
+    yield "add 1"
+    yield "add 2"
+    yield "set 1 x61 x31"
+    yield "set 1 x62 x32"
+    yield "setttl 1 x63 x33 100"
+    yield "delete 1 x62 101"
+    yield "set 2 x61 x31"
+    yield "deletettl 2 x61 100"
+    yield "gc 0 0"
+    for now in (99, 149, 150, 150, 151):
+        yield f"gc {now} 50"
+    yield "set 1 x62 x33"
+    yield "delete 1 x62 0"
+    yield f"gc {TOP} {TOP}"
+    yield f"setttl 2 x61 x {TOP}"
+    for now, grace in ((0, 0), (TOP - 1, 0), (TOP, 1), (TOP, TOP), (TOP, 0)):
+        yield f"gc {now} {grace}"
+    yield apply(node(1, 40, 0), kv(b"a", b"v", 45, 1), kv(b"b", b"v", 50, 2), kv(b"c", b"v", 60), now=7)
+    yield "gc 7 1"
+    yield "gc 7 0"
+    yield "digest - 0 66"
+    yield "new"
+    yield "add 1"
+    for place in range(32):
+        yield f"setttl 1 {x(b'k%02d' % place)} x {place}"
+    yield "set 1 x6e x"
+    yield "gc 10 3"
+    yield "list 1 x 32"
+    yield "set 1 x6e x"
+    yield "delete 1 x6b3331 40"
+    yield "gc 40 30"
+    yield "list 1 x 32"
+    yield "digest - 0 34"
+    yield "gc 9 0"
+
+
+def digests():
+    """Writing: excluded nodes, repeats and strangers, exactly enough bytes and one too few, places to the end and past it."""
+    yield "digest - 0 0"
+    yield "digest - 0 1"
+    yield "digest - 0 2"
+    yield "digest - 2 2"
+    yield "digest - 1 3"
+    for number in (9, 3, TOP, 0, 7, 256, 4, 1):
+        yield f"add {number}"
+        yield f"offer {number} {number % 97}"
+        yield f"set {number} x61 x31"
+    yield "delete 7 x61 1"
+    yield "gc 5 1"
+    for excluded, size in (("-", 258), ("3", 226), ("3,3,3", 226), ("5,6,8,10,11,12,13,14,15", 258), (f"{TOP},0", 194), ("0,1,3,4,7,9,256", 34),
+                           (f"0,1,3,4,7,9,256,{TOP}", 2)):
+        yield f"digest {excluded} 0 {size}"
+        yield f"digest {excluded} 0 {size - 1}"
+        yield f"digest {excluded} 7 {size + 7}"
+        yield f"digest {excluded} 7 {size + 6}"
+    for place, size in ((0, 300), (42, 300), (43, 300), (300, 300), (301, 300), (TOP, 300), (TOP - 1, 300), (20, 300)):
+        yield f"digest - {place} {size}"
+    yield "readdigest @digest"
+    yield "digest 3 0 226"
+    yield "digest - 0 5"
+    yield "readdigest @digest"
+
+
+def digest_reading():
+    """Cut in the count, 13, cut in the entries; repeats, any order, the rest."""
+    good = digest((2, 1, 2, 3), (1, 4, 5, 6), (2, 7, 8, 9), (TOP, TOP, TOP, TOP))
+    eight = [(n, n + 1, n + 2, n + 3) for n in (80, 70, 60, 50, 40, 30, 20, 10)]
+    for size in (0, 1, 2, 33, 34, 129, 130):
+        yield f"readdigest {x(good[:size])}"
+    yield f"readdigest {x(good + b'rest')}"
+    yield f"readdigest {x(digest())}"
+    yield f"readdigest {x(digest() + b'!')}"
+    yield f"readdigest {x(digest(*eight))}"
+    yield f"readdigest {x(digest(*eight[:7], eight[0]))}"
+    yield f"readdigest {x(digest(*eight)[:-1])}"
+    for count in (9, 255, 256, 65535):
+        yield f"readdigest {x(digest(count=count))}"
+    yield f"readdigest {x(digest(*eight, (1, 1, 1, 1)))}"
+    yield f"readdigest {x(digest(*eight, count=7))}"
+    yield f"readdigest {x(digest((5, 1, 1, 1), (5, 0, 0, 0)))}"
+    yield "readdigest @digest"
+    yield "readdelta @delta"
+
+
+def delta_reading():
+    """Each fault of a stream and its place: fields from left to right, then 11, 12, 13 on the whole operation."""
+    def read(*ops):
+        return f"readdelta {x(b''.join(ops))}"
+    yield read()
+    good = [node(1, 2, 3), kv(b"", b"", 1), kv(b"k" * 32, b"v" * 64, 2, 1), top(2), top(9), kv("é".encode(), b"t", 10, 2), node(0), top(0), top(0), node(TOP, TOP, TOP),
+            kv(b"z", b"41", TOP)]
+    for count in range(1, len(good) + 1):
+        yield read(*good[:count])
+    whole = b"".join(good)
+    for size in (1, 9, 17, 24, 26, 27, 28, 29, 30, 38, 39, 41, 42, 73, 74, 75, 139, 140, 147, 148, 149, 150, 157):
+        yield read(whole[:size])
+    for tag in (3, 4, 255):
+        yield read(node(1), bytes([tag]))
+        yield read(bytes([tag]))
+    start = node(1) + kv(b"a", b"b", 5)
+    faults = (kv(b"k" * 33, b"v", 6), kv(b"k", b"v" * 65, 6), kv(b"k" * 33, b"v" * 65, 5, 3), kv(b"k", b"v" * 65, 5, 3), kv(b"k", b"v", 6, 3), kv(b"k", b"v", 5, 3),
+              kv(b"k", b"v", 5), kv(b"k", b"v", 4), kv(b"k", b"v", 0), kv(b"k", b"v", 6, 255), top(4), top(0), node(1), node(1) + node(1))
+    yield "add 1"
+    for fault in faults:
+        yield read(start, fault)
+        yield read(start, fault[:-1])
+        yield read(fault)
+        yield apply(start, fault, places=0)
+    for key, value in ((33, 65), (65535, 65535)):
+        yield read(start, b"\1" + u16(key))
+        yield read(start, b"\1" + u16(1) + b"k" + u16(value))
+    yield read(start, b"\1" + u16(32) + b"k" * 31)
+    yield read(start, b"\1" + u16(1) + b"k" + u16(64) + b"v" * 63)
+    yield read(kv(b"a", b"", 0))
+    yield read(node(1), kv(b"a", b"", 0))
+    yield read(node(1), top(TOP), kv(b"a", b"", TOP))
+    yield read(node(1), top(TOP - 1), kv(b"a", b"", TOP), top(TOP), top(TOP - 1))
+    yield read(node(1), kv(b"a", b"", 7), node(2), kv(b"a", b"", 1), node(3), top(0))
+    for numbers in (range(8), range(9), (*range(8), 0), (*range(8), 7), (*range(7), 0), (0, 1, 2, 1), (*range(8), 9, 9)):
+        ops = [node(number) for number in numbers]
+        yield read(*ops)
+        yield read(*ops)[:-2]
+    yield read(*(node(number) for number in range(8)), top(1), top(2), b"\0")
+    yield read(node(1), kv(b"a", b"1", 1), kv(b"a", b"2", 2), kv(b"a", b"3", 3, 1))
+
+
+def delta_lengths():
+    """16,384 bytes are read and 16,385 are not, before anything else in them is looked at."""
+    longest = b"".join(node(number) + top(9) * 257 for number in range(7)) + top(9) * 2
+    assert len(longest) == 16384
+    yield f"readdelta {x(longest)}"
+    yield "add 3"
+    yield f"apply {x(bytes([7]) + longest)} 5 0"
+    yield f"apply {x(longest)} 5 7"
+
+
+def asking():
+    """Computing's numbers alone: 7, 8, 15, then the digest's 9, 13, 9, each pair in this order."""
+    yield "add 1"
+    yield "add 2"
+    yield "set 1 x61 x31"
+    good, bad = "x0000", ("x00", "x0900", x(digest(count=9) + bytes(288)), x(digest(count=1) + bytes(31)), x(digest(count=8)), "x")
+    for mtu in (0, 99, 100, 16384, 16385, TOP):
+        for place, size in ((0, min(mtu, 16385)), (1, min(mtu, 16385)), (TOP, 100), (0, 0)):
+            for ties in ("0,0", "0", "-", "0,0,0"):
+                yield f"compute {good} {mtu} 1,2 {ties} {place} {size}"
+    for digested in bad:
+        for mtu, ties, size in ((100, "0,0", 100), (99, "0,0", 99), (100, "0", 100), (100, "0,0", 99), (16384, "0,0", 16384)):
+            yield f"compute {digested} {mtu} - {ties} 0 {size}"
+    for place, size in ((100, 200), (101, 200), (200, 200), (201, 200), (0, 100), (7, 120), (TOP, 200), (TOP - 99, 200)):
+        yield f"compute {good} 100 - 0,0 {place} {size}"
+    yield f"compute {x(digest((1, 0, 0, 0), (1, 0, 0, 1)) + b'rest')} 100 - 0,0 0 100"
+    yield f"compute {x(digest((1, 0, 0, 1), (1, 0, 0, 0)))} 100 - 0,0 0 100"
+    yield "readdelta @delta"
+    yield "new"
+    yield "compute x0000 100 - - 0 100"
+    yield "compute x0000 100 - 0 0 100"
+    yield "compute x 100 - - 0 100"
+
+
+def from_where():
+    """Own (4,9) and (10,3) against digest pairs around them."""
+    for last_gc, most in ((4, 9), (10, 3), (0, 5)):
+        yield "new"
+        yield "add 1"
+        yield apply(node(1, last_gc), kv(b"b", b"2", 2), kv(b"c", b"3", 3), top(most))
+        for pair in ((0, 0), (0, 2), (0, 3), (0, 4), (0, 5), (0, 8), (0, 9), (0, 10), (3, 2), (4, 2), (4, 3), (5, 3), (9, 2), (10, 2), (11, 0), (TOP, TOP), (TOP, 0)):
+            yield f"compute {x(digest((1, 77, *pair)))} 200 - 0 0 200"
+        yield f"compute {x(digest((2, 0, 0, 9)))} 200 - 0 0 200"
+        yield "compute x0000 200 1 0 0 200"
+
+
+def in_line():
+    """From 0 first by rising max, then by most stale records; ties by the lent list, then by number."""
+    yield from (f"add {number}" for number in (1, 2, 3, 4, 5, 6, 7, 8))
+    for number, writes in ((1, 3), (2, 1), (3, 3), (4, 2), (5, 4), (6, 4), (7, 5), (8, 4)):
+        for write in range(writes):
+            yield f"set {number} {x(bytes([97 + write]))} x"
+    partly = x(digest((5, 0, 0, 1), (6, 0, 0, 1), (7, 0, 0, 1), (8, 0, 0, 3)))
+    for ties in ("0,0,0,0,0,0,0,0", "8,7,6,5,4,3,2,1", f"1,0,0,1,{TOP},0,0,0", "5,0,5,0,0,1,9,9"):
+        for excluded in ("-", "3,7,99,3", "1,2,3,4", "5,6,7,8"):
+            yield f"compute {partly} 16384 {excluded} {ties} 0 16384"
+        yield f"compute {partly} 100 - {ties} 3 110"
+    yield "compute x0000 16384 - 0,0,0,0,0,0,0 0 16384"
+    yield "compute x0000 16384 1,2,3,4,5,6,7,8 0,0,0,0,0,0,0,0 0 16384"
+
+
+def cuts():
+    """The MTU at the end of each operation and one below it: a record or a Node ends the delta, a SetMaxVersion is dropped."""
+    yield "add 1"
+    yield "add 2"
+    yield "add 3"
+    yield apply(node(1), top(20))
+    for write in range(5):
+        yield f"set 2 {x(bytes([97 + write]))} {x(b'v' * (13 * write))}"
+    yield f"set 3 {x(b'k' * 32)} {x(b'v' * 64)}"
+    yield "setttl 3 x61 x31 4"
+    yield "delete 3 x61 5"
+    for order in ("0,0,0", "2,1,0", "1,2,0"):
+        for mtu in (100, 101, 118, 119, 120, 124, 125, 134, 135, 136, 149, 150, 151, 170, 171, 183, 184, 185, 209, 210, 230, 231, 249, 250, 260, 261, 275, 276, 277,
+                    298, 299, 310, 311, 312, 400):
+            yield f"compute x0000 {mtu} - {order} 0 {mtu}"
+    for pair in ((1, 0, 0, 0), (1, 0, 0, 19), (1, 0, 0, 20)):
+        for mtu in (100, 101, 169, 170, 171, 200, 400):
+            yield f"compute {x(digest(pair, (2, 0, 0, 2)))} {mtu} - 0,0,0 5 {mtu + 9}"
+
+
+def longest_record():
+    """A record of 110 bytes: MTU 135 carries it behind its Node, 134 the Node alone."""
+    yield "add 1"
+    yield f"set 1 {x(b'k' * 32)} {x(b'v' * 64)}"
+    for mtu in (100, 134, 135, 136):
+        yield f"compute x0000 {mtu} - 0 0 {mtu}"
+        yield "readdelta @delta"
+        yield "hub 1"
+        yield "new"
+        yield "add 1"
+        yield "apply @delta 9 1"
+        yield "hub 0"
+
+
+def verdicts():
+    """The three steps around own (2,5), without records; Unknown; answers in stream order; too few places."""
+    for last_gc in (0, 2, 3, 5, 6):
+        for start in (0, 1, 5, 6):
+            for most in (0, 5, 6):
+                yield "new"
+                yield "add 1"
+                yield apply(node(1, 2), top(5))
+                yield "offer 1 9"
+                yield apply(node(1, last_gc, start), top(most))
+    yield apply(node(2), top(1), node(1, 0, 6), top(9), node(0), node(1 + TOP // 2), top(3))
+    yield apply(node(1), top(7), node(2), top(1), places=1)
+    yield apply(node(1), top(7), node(2), top(1), places=2)
+    yield "apply x 5 0"
+    yield f"apply x 5 {TOP}"
+    yield "add 2"
+    yield "add 3"
+    yield apply(node(3), kv(b"a", b"1", 1), node(1, 50), kv(b"b", b"2", 51), node(2, 0, 1), kv(b"c", b"3", 9), node(9), top(1), node(4))
+    yield "digest - 0 98"
+
+
+def taking():
+    """Records around the max and last_gc held, of each status, after a reset and without; a key twice; the max at the end."""
+    for status in (0, 1, 2):
+        for last_gc, start in ((0, 0), (3, 0), (7, 0), (3, 3)):
+            yield "new"
+            yield "add 1"
+            yield apply(node(1, 4), kv(b"a", b"old", 2), kv(b"b", b"old", 3, 1), now=1)
+            yield apply(node(1, last_gc, start), kv(b"a", b"2", 2, status), kv(b"c", b"3", 3, status), kv(b"d", b"4", 4, status), kv(b"e", b"5", 5, status),
+                        kv(b"a", b"6", 6, status), kv(b"b", b"7", 7, status), kv(b"a", b"8", 8, status), now=6)
+            yield "list 1 x 9"
+            yield "get 1 x61"
+            yield "get 1 x62"
+            yield "compute x0000 400 - 0 0 400"
+    yield apply(node(1), kv(b"z", b"1", 30), kv(b"z", b"2", 31, 1), kv(b"z", b"3", 32), kv(b"", b"", 33), kv(b"k" * 32, b"v" * 64, 34), top(40))
+    yield "get 1 x7a"
+    yield "dump"
+
+
+def room():
+    """Room counts the keys of the outcome: a held key, a skipped one and one that came twice take none. The rest goes on."""
+    yield "add 1"
+    yield "add 2"
+    yield apply(node(1, 60), *(kv(b"k%02d" % place, b"", 1 + place) for place in range(31)))
+    yield apply(node(1), kv(b"n", b"", 61), kv(b"m", b"", 62), node(2), kv(b"z", b"", 1))
+    yield apply(node(1), kv(b"n", b"", 40, 1), kv(b"m", b"", 62), node(2), kv(b"z", b"", 2))
+    yield apply(node(1), kv(b"o", b"", 50, 1), kv(b"m", b"1", 63), kv(b"m", b"2", 64), kv(b"k00", b"3", 65, 1))
+    yield apply(node(1), kv(b"o", b"", 70))
+    yield apply(node(1), kv(b"o", b"", 70, 1), node(2), kv(b"y", b"", 3))
+    yield apply(node(1), kv(b"m", b"", 71), kv(b"k00", b"4", 72))
+    yield apply(node(1, 100, 0), *(kv(b"r%02d" % place, b"", 1 + place) for place in range(33)), node(2), top(9))
+    yield apply(node(1, 100, 0), *(kv(b"r%02d" % place, b"", 1 + place, place % 2) for place in range(33)), node(2), top(10))
+    yield "list 1 x 32"
+    yield apply(node(1, 200, 0), *(kv(b"s%02d" % place, b"", 201 + place) for place in range(32)), node(2), top(11))
+    yield "set 1 x61 x"
+    yield "gc 0 0"
+    yield "digest - 0 66"
+
+
+def exchange():
+    """Two hubs: digest, delta, applied, until the follower has all; late and repeated deltas; a reset after removal."""
+    def round_trip(mtu, ties, now=9):
+        yield "hub 1"
+        yield "digest - 4 300"
+        yield "hub 0"
+        yield f"compute @digest {mtu} - {ties} 2 {mtu + 5}"
+        yield "hub 1"
+        yield f"apply @delta {now} 8"
+        yield f"apply @delta {now + 1} 8"
+        yield "hub 0"
+    for hub in (1, 0):
+        yield f"hub {hub}"
+        for number in (1, 2, 3):
+            yield f"add {number}"
+    for number in (1, 2, 3):
+        for place in range(4):
+            yield f"set {number} {x(b'k%d%d' % (number, place))} {x(b'v' * (9 * place))}"
+    yield "beat 1"
+    for mtu in (100, 101, 135, 200, 16384, 100):
+        yield from round_trip(mtu, "0,1,0")
+    yield "delete 1 x6b3130 20"
+    yield "setttl 2 x6b3230 x31 21"
+    yield from round_trip(16384, "0,0,0", 22)
+    yield "compute x0000 16384 - 0,0,0 0 16384"
+    for call in ("delete 1 x6b3131 23", "delete 3 x6b3330 23", "gc 60 30", "set 1 x6b3130 x32"):
+        yield call
+    yield "hub 1"
+    yield "apply @delta 61 3"
+    yield "offer 1 7"
+    yield "remove 3"
+    yield "hub 0"
+    for mtu in (100, 16384, 16384):
+        yield from round_trip(mtu, "1,1,1", 62)
+    yield "hub 1"
+    for call in ("get 1 x6b3131", "get 1 x6b3130", "list 1 x 32", "list 2 x 32", "gc 100 1"):
+        yield call
+    yield "hub 0"
+    yield "get 1 x6b3131"
+
+
+def bad_tables():
+    """14 before all else, for bytes of another length and for tables that break one rule. A good one is taken as it stands."""
+    yield "table x"
+    yield from CALLS
+    yield "dump"
+    for number in (1, 2, 3):
+        yield "new"
+        yield f"add {number}"
+    yield "digest - 0 34"
+    yield "table @digest"
+    yield "add 1"
+    yield "new"
+    yield "add 3"
+    yield "set 3 x61 x31"
+    yield "compute x0000 100 - 0 0 100"
+    yield "table @delta"
+    yield f"set 3 {x(b'k' * 33)} x"
+    yield "compute x 99 - - 1 0"
+    yield "digest - 9 0"
+    yield f"list 3 {x(b'k' * 33)} 0"
+    yield "apply x03 5 0"
+    yield "beat 4"
+    one, two = record(b"a", b"1", 1), record(b"b", b"2", 2, 2, 9)
+    broken = (table(slot(7, [one, two], 1)), table(slot(7, [one, record(b"b", b"2", 1)], 5)), table(slot(7, [two, one], 5)),
+              table(slot(7, [one, two], 2))[:-1])
+    for data in broken:
+        yield f"table {x(data)}"
+        yield from CALLS
+    yield f"table {x(table(slot(7, [one, two], 2, 3, TOP)))}"
+    yield from ("get 7 x62", "digest - 0 34", "compute x0000 100 - 0 0 100", "gc 9 0", "set 7 x63 x33", "new", "digest - 0 2")
+
+
+SCRIPTS = {
+    "nodes": nodes, "beats": beats, "sizes": sizes, "versions": versions, "statuses": statuses, "reading": reading, "removal": removal, "digests": digests,
+    "digest-reading": digest_reading, "delta-reading": delta_reading, "delta-lengths": delta_lengths, "asking": asking, "from": from_where, "in-line": in_line,
+    "cuts": cuts, "longest-record": longest_record, "verdicts": verdicts, "taking": taking, "room-counts": room, "exchange": exchange, "bad-tables": bad_tables,
+}
+
+if __name__ == "__main__":
+    for name, lines in SCRIPTS.items():
+        (HERE / f"{name}.script").write_text("".join(line + "\n" for line in lines()))
