@@ -314,6 +314,8 @@ def delta_reading():
         yield read(*ops)
         yield read(*ops)[:-2]
     yield read(*(node(number) for number in range(8)), top(1), top(2), b"\0")
+    yield apply(*(node(number) for number in range(9)), places=0)
+    yield apply(start[:-1], places=0)
     yield read(node(1), kv(b"a", b"1", 1), kv(b"a", b"2", 2), kv(b"a", b"3", 3, 1))
 
 
