@@ -1,4 +1,4 @@
-//! Damaged copies of good bytes. Texts stay valid UTF-8: the original can be asked about nothing else.
+//! Damaged copies of good bytes. Texts stay valid UTF-8, because the original can be asked about nothing else; beyond it they need not.
 
 use script::table::{self, KEY, NODE_BYTES, NODE_HEAD_BYTES, Node, RECORD_BYTES, TABLE_BYTES, VALUE};
 
@@ -33,7 +33,7 @@ pub fn digest(random: &mut Random, bytes: &[u8]) -> Vec<u8> {
 pub fn delta(random: &mut Random, bytes: &[u8]) -> Vec<u8> {
     loop {
         let damaged = damage(random, bytes);
-        if texts_are_utf8(&damaged) {
+        if random.beyond || texts_are_utf8(&damaged) {
             return damaged;
         }
     }

@@ -3,6 +3,7 @@
 //!     compare run JUDGE N SEED OTHER..      the sweeps (not with ORACLE_SWEEPS=0) and N random scripts
 //!     compare find JUDGE N SEED OTHER..     the same, but a difference is only told, not shrunk
 //!     compare peers JUDGE N SEED OTHER..    N random scripts of computing and applying alone, every MTU in its turn
+//!     compare beyond PLAIN N SEED OTHER..   N random scripts that the original cannot be asked; the judge is oracle/plain
 //!     compare count JUDGE N SEED OTHER..    how many of the sweeps and of N random scripts show a difference
 //!     compare script SEED INDEX             prints one random script
 //!     compare sweep NAME                    prints one sweep; without a name, lists them
@@ -30,7 +31,7 @@ const BATCH: u64 = 100;
 type Make = fn(u64, u64) -> Vec<String>;
 
 fn usage() -> ExitCode {
-    eprintln!("compare run|find|peers|count JUDGE N SEED OTHER.. | script SEED INDEX | sweep [NAME] | shrink JUDGE FILE OTHER..");
+    eprintln!("compare run|find|peers|beyond|count JUDGE N SEED OTHER.. | script SEED INDEX | sweep [NAME] | shrink JUDGE FILE OTHER..");
     ExitCode::from(2)
 }
 
@@ -38,11 +39,14 @@ fn main() -> ExitCode {
     let words: Vec<String> = std::env::args().skip(1).collect();
     let words: Vec<&str> = words.iter().map(String::as_str).collect();
     match words[..] {
-        [how @ ("run" | "find" | "peers"), judge, count, seed, ref other @ ..] if !other.is_empty() => {
+        [how @ ("run" | "find" | "peers" | "beyond"), judge, count, seed, ref other @ ..] if !other.is_empty() => {
             let (Ok(count), Ok(seed)) = (count.parse(), seed.parse()) else { return usage() };
             let sides = Sides::new(judge, other);
-            let (sweeps, make): (_, Make) =
-                if how == "peers" { (vec![], scripts::peers) } else { (wanted_sweeps(), scripts::random) };
+            let (sweeps, make): (_, Make) = match how {
+                "peers" => (vec![], scripts::peers),
+                "beyond" => (vec![], scripts::beyond),
+                _ => (wanted_sweeps(), scripts::random),
+            };
             match run(&sides, sweeps, make, count, seed) {
                 Ok(()) => ExitCode::SUCCESS,
                 Err(_) if how == "find" => ExitCode::FAILURE,

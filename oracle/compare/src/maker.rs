@@ -121,7 +121,7 @@ impl Maker {
     fn prefix(&mut self) -> Vec<u8> {
         let key = self.key();
         let mut len = self.random.place(key.len() + 1);
-        while std::str::from_utf8(&key[..len]).is_err() {
+        while !self.random.beyond && std::str::from_utf8(&key[..len]).is_err() {
             len -= 1;
         }
         key[..len].to_vec()
@@ -311,7 +311,7 @@ impl Maker {
         let max = if self.random.once_in(4) { top.saturating_add(self.random.below(9)) } else { top };
         let records = keys.into_iter().zip(versions).map(|(key, version)| {
             let status = self.random.below(3) as u8;
-            let start = if status == table::SET { 0 } else { pieces::moment(&mut self.random) };
+            let start = if status == table::SET && !self.random.beyond { 0 } else { pieces::moment(&mut self.random) };
             let len = match status {
                 _ if long => self.random.within(48, 64),
                 table::DELETE if !self.random.once_in(5) => 0,

@@ -4,8 +4,11 @@ use crate::random::Random;
 
 const LAST: u64 = u64::MAX;
 
-/// Valid UTF-8 of exactly `len` bytes, often with characters of several bytes, also as the first one.
+/// Valid UTF-8 of exactly `len` bytes, often with characters of several bytes, also as the first one. Beyond that, any bytes.
 pub fn text(random: &mut Random, len: usize) -> Vec<u8> {
+    if random.beyond && random.once_in(2) {
+        return (0..len).map(|_| *random.pick(&[0, 97, 127, 128, 195, 254, 255])).collect();
+    }
     const CHARACTERS: [&str; 9] = ["a", "b", "z", "\0", " ", "é", "ß", "日", "\u{10FFFF}"];
     let mut text = String::new();
     while text.len() < len {

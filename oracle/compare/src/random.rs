@@ -1,17 +1,21 @@
 //! Chance that can be replayed: splitmix64.
 
-pub struct Random(u64);
+pub struct Random {
+    state: u64,
+    /// Whether scripts may leave what the original can be asked: texts of any bytes, a start under Set.
+    pub beyond: bool,
+}
 
 impl Random {
     pub fn new(seed: u64, index: u64) -> Random {
-        let mut random = Random(seed);
+        let mut random = Random { state: seed, beyond: false };
         let mixed = random.next() ^ index;
-        Random(mixed)
+        Random { state: mixed, beyond: false }
     }
 
     pub fn next(&mut self) -> u64 {
-        self.0 = self.0.wrapping_add(0x9E37_79B9_7F4A_7C15);
-        let mut z = self.0;
+        self.state = self.state.wrapping_add(0x9E37_79B9_7F4A_7C15);
+        let mut z = self.state;
         z = (z ^ (z >> 30)).wrapping_mul(0xBF58_476D_1CE4_E5B9);
         z = (z ^ (z >> 27)).wrapping_mul(0x94D0_49BB_1331_11EB);
         z ^ (z >> 31)

@@ -7,7 +7,17 @@ use crate::random::Random;
 use crate::{damage, pieces};
 
 pub fn random(seed: u64, index: u64) -> Vec<String> {
+    any(Random::new(seed, index))
+}
+
+/// As `random`, with what the original cannot be asked: texts that are no UTF-8, a start under Set.
+pub fn beyond(seed: u64, index: u64) -> Vec<String> {
     let mut random = Random::new(seed, index);
+    random.beyond = true;
+    any(random)
+}
+
+fn any(mut random: Random) -> Vec<String> {
     match random.below(20) {
         0..=2 => local(random),
         3 => sizes(random),
@@ -271,7 +281,7 @@ fn hand_deltas(mut random: Random) -> Vec<String> {
             let mut padded = bytes.clone();
             pad(&mut m, &mut padded);
             // Behind a damaged end the padding may be read as a text.
-            if damage::texts_are_utf8(&padded) {
+            if m.random.beyond || damage::texts_are_utf8(&padded) {
                 bytes = padded;
             }
         }
