@@ -1,5 +1,5 @@
 -- A call of `exchange::exchange` as a run of the world of lent bytes, and many of them one after the other. So demand 3 (LentDemand3) speaks of that
--- function; the theorems are in proofs/Runs.
+-- function; the theorems are in proofs/Runs and proofs/Closing.
 use Prim.Native.Nat.{ℕ, _≤_, _<_}
 use mathlib.Core.Path.{_≡_}
 use mathlib.Core.Bool.{Bool, true, false, _&&_}

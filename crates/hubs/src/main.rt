@@ -32,7 +32,7 @@ fn say_number(name: &[u8], n: u64) {
 
 // ---- the first hub's readings
 
-// No call here is refused; one that were would be told.
+// A refused call would be told; none here is.
 fn done(a: Answer) {
     match a {
         Answer::Done => {}
