@@ -1,19 +1,22 @@
 -- Demand 3's end by calls of `exchange::exchange` alone: after any run, as many of them as the publisher holds records and nodes, with nothing excluded and nothing
--- refused, make every max equal.
+-- refused, make every max equal, and both tables then hold the same Set records.
 use Prim.Native.Nat.{ℕ, _≤_, suc}
 use mathlib.Core.Path.{_≡_, _∙_, ap, refl, subst, sym}
 use mathlib.Core.Bool.{false, false≢true, true}
 use mathlib.Core.List.{List, [], _∷_, _++_}
+use mathlib.Core.Option.{some}
 use lib.ListN.{length}
 use Rattle.fields.proofs.Choice.{and-intro, and-left, and-right}
-use Rattle.rules.specs.Table.{obeys}
+use Rattle.rules.specs.Node.{KeyValue, Node}
+use Rattle.rules.specs.Table.{nodeOf, obeys}
 use Rattle.rules.specs.Layout.{decode}
 use Rattle.rules.specs.World.{Applying, Computing, Digesting, Event, Exchange, freshTable}
-use Rattle.rules.specs.Demand3.{Quiet, SameMax, Wide, exchangeOf, exchanges, holdings}
+use Rattle.rules.specs.Demand3.{Holds, Quiet, SameMax, Wide, exchangeOf, exchanges, holdings}
+use Rattle.rules.specs.declared.Status.the-variants.{Set}
 use Rattle.exchange.specs.declared.Exchanged.{Exchanged}
 use Rattle.exchange.specs.declared.Exchanged.the-variants as exchanged
 use Rattle.exchange.specs.LentWorld.{LentWorld, lentAfter, lentHappen, lentStart}
-use Rattle.exchange.specs.LentDemand3.{allLentGranted, lentGranted}
+use Rattle.exchange.specs.LentDemand3.{LentSound, allLentGranted, lentGranted}
 use Rattle.exchange.specs.Exchanging.{Lending, LentExchange, lentExchange}
 use Rattle.exchange.specs.Runs.{AllPlain, Plain, afterExchanges, allExchanged, eventsOf, exchangedTo, grantedAs, isGranted, runOf}
 use Rattle.exchange.proofs.LentDemand3.{lent-append, lent-demand3}
@@ -118,3 +121,20 @@ module _ (is : List ℕ) (ok : obeys (freshTable is) ≡ true) where
       let r = runs gs w p g in
       subst (λ (x : LentWorld). SameMax (decode (x .publisher)) (decode (x .follower))) (r .ends)
       (lent-demand3 is ok .closing-count es (quiets gs) (wide-quiets gs p) (r .grants) (subst (λ (n : ℕ). holdings (decode (w .publisher)) ≤ n) (sym (length-quiets gs)) h))
+
+  -- So that in the end every Set record of the publisher has arrived, and the follower has no other.
+  pub exchanges-arrive : (es : List Event) (gs : List Lending)
+      → AllPlain gs
+      → let w = lentAfter es (lentStart is) in allExchanged gs (w .publisher) (w .follower) ≡ true
+      → holdings (decode (w .publisher)) ≤ length gs
+      → (i : ℕ) (p f : Node)
+      → nodeOf i (decode (w .publisher)) ≡ some p
+      → nodeOf i (decode (afterExchanges gs (w .publisher) (w .follower))) ≡ some f
+      → (s : KeyValue)
+      → s .status ≡ Set
+      → (Holds p s → Holds f s) × (Holds f s → Holds p s)
+  exchanges-arrive es gs p g h i a b x y =
+      let w = lentAfter es (lentStart is) in
+      let r = runs gs w p g in
+      let end = subst (LentSound is) (lent-append es (exchanges (quiets gs)) (lentStart is) ∙ r .ends) (lent-demand3 is ok .at-every-moment (es ++ exchanges (quiets gs))) in
+      end .claims i a b x y .same-set (exchanges-close es gs p g h i a b x y)
