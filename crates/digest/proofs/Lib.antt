@@ -4,3 +4,4 @@ pub mod Telling
 pub mod Pairs
 pub mod Gathering
 pub mod Reading
+pub mod Ascending

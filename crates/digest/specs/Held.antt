@@ -1,9 +1,10 @@
 -- A digest as the code holds it: the answer, and eight places for the entries. What each function makes of the bytes, by the definitions of
 -- `rules`.
 use Prim.Native.Nat.{ℕ, zero, suc, _*_, _-_}
+use mathlib.Core.Bool.{Bool, true, _&&_}
 use mathlib.Core.List.{List, [], _∷_}
 use lib.ListN.{length, take, drop}
-use lib.Dec.{leb}
+use lib.Dec.{leb, ltb}
 use Rattle.fields.specs.Choice.{pick}
 use Rattle.fields.specs.Numbers.{natOf}
 use Rattle.fields.specs.Parts.{part}
@@ -64,6 +65,12 @@ countIn l =
 -- the first n entries behind the count, as they stand
 abbrev pub entriesAt : ℕ → List ℕ → List NodeDigest
 entriesAt n l = unblock entryWidth entryOf n (drop countWidth l)
+
+-- each number below the next
+unfoldable pub rises : List NodeDigest → Bool
+rises [] = true
+rises (a ∷ []) = true
+rises (a ∷ b ∷ l) = ltb (a .number) (b .number) && rises (b ∷ l)
 
 -- ---- the digest
 
