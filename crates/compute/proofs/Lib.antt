@@ -2,3 +2,4 @@ pub mod Behind
 pub mod Lining
 pub mod Whole
 pub mod Calling
+pub mod Unique
