@@ -1,7 +1,7 @@
 // Two hubs' tables, which one is current, and what `@digest` and `@delta` stand for.
 use crate::peer_calls;
 use crate::tell;
-use crate::verbs::Shelf;
+use crate::verbs;
 use rules::Answer;
 use rules::Refusal;
 use table::layout;
@@ -9,7 +9,6 @@ use words::print;
 use words::read;
 use words::read::Count;
 use words::read::Numeral;
-use words::read::Words;
 ghost use Prim.Native.Nat.{_≤_};
 
 // Room for a table, good or not.
@@ -69,14 +68,12 @@ impl Desk {
 }
 
 // The current hub is changed before the call, so that the checksum is the new one's.
-pub fn turned(desk: Desk, line: &[u8], ws: Words) -> Desk {
+pub fn turned(desk: Desk, line: &[u8]) -> Desk {
     let mut d = desk;
-    if ws.count == 2 {
-        if read::same(read::word(line, ws, 0), b"hub") {
-            if let Numeral::Is(n) = read::number(read::word(line, ws, 1)) {
-                if n < 2 {
-                    d.hub = n;
-                }
+    if verbs::asked(line) == verbs::HUB {
+        if let Numeral::Is(n) = read::number(read::word(line, 1)) {
+            if n < 2 {
+                d.hub = n;
             }
         }
     }
@@ -88,8 +85,8 @@ fn done(desk: Desk, out: &mut [u8]) -> Desk {
 }
 
 // Whether there is such a hub was not asked when it was turned to.
-fn hub(desk: Desk, line: &[u8], ws: Words, out: &mut [u8]) -> Desk {
-    let Numeral::Is(n) = read::number(read::word(line, ws, 1)) else {
+fn hub(desk: Desk, line: &[u8], out: &mut [u8]) -> Desk {
+    let Numeral::Is(n) = read::number(read::word(line, 1)) else {
         return desk;
     };
     if n < 2 {
@@ -128,21 +125,20 @@ fn dump(desk: Desk, table: &[u8], out: &mut [u8]) -> Desk {
 
 pub fn shelf_call(
     desk: Desk,
-    verb: Shelf,
+    verb: usize,
     table: &mut [u8],
     digest: &[u8],
     delta: &[u8],
     given: &mut [u8],
     line: &[u8],
-    ws: Words,
     out: &mut [u8],
 ) -> Desk {
     match verb {
-        Shelf::New => new_table(desk, table, out),
-        Shelf::Hub => hub(desk, line, ws, out),
-        Shelf::Dump => dump(desk, table, out),
-        Shelf::Table => {
-            let Count::Is(n) = peer_calls::bytes_of(read::word(line, ws, 1), digest, delta, given)
+        verbs::NEW => new_table(desk, table, out),
+        verbs::HUB => hub(desk, line, out),
+        verbs::DUMP => dump(desk, table, out),
+        _ => {
+            let Count::Is(n) = peer_calls::bytes_of(read::word(line, 1), digest, delta, given)
             else {
                 return desk;
             };

@@ -1,8 +1,6 @@
 // The calls on one table that no peer has a part in. Where a word is none that the call takes, nothing is written.
 use crate::tell;
-use crate::verbs::Keyed;
-use crate::verbs::Plain;
-use crate::verbs::Write;
+use crate::verbs;
 use lookup::Found;
 use rules::Heartbeat;
 use rules::Listed;
@@ -10,7 +8,6 @@ use words::print;
 use words::read;
 use words::read::Count;
 use words::read::Numeral;
-use words::read::Words;
 ghost use Prim.Native.Nat.{_≤_};
 
 // The longest key or value of a script.
@@ -32,32 +29,25 @@ pub fn least(v: u64, most: usize) -> usize
 
 // ---- calls that take numbers alone
 
-fn two_call(t: &mut [u8], verb: Plain, a: u64, word: &[u8], out: &mut [u8], at: usize) -> usize {
+fn two_call(t: &mut [u8], verb: usize, a: u64, word: &[u8], out: &mut [u8], at: usize) -> usize {
     let Numeral::Is(b) = read::number(word) else {
         return at;
     };
-    match verb {
-        Plain::Offer => tell::offered(out, at, pulse::offer_heartbeat(t, a, Heartbeat(b))),
-        _ => tell::answer(out, at, removal::remove_scheduled(t, a, b)),
+    if verb == verbs::OFFER {
+        return tell::offered(out, at, pulse::offer_heartbeat(t, a, Heartbeat(b)));
     }
+    tell::answer(out, at, removal::remove_scheduled(t, a, b))
 }
 
-pub fn plain_call(
-    t: &mut [u8],
-    verb: Plain,
-    line: &[u8],
-    ws: Words,
-    out: &mut [u8],
-    at: usize,
-) -> usize {
-    let Numeral::Is(a) = read::number(read::word(line, ws, 1)) else {
+pub fn plain_call(t: &mut [u8], verb: usize, line: &[u8], out: &mut [u8], at: usize) -> usize {
+    let Numeral::Is(a) = read::number(read::word(line, 1)) else {
         return at;
     };
     match verb {
-        Plain::Add => tell::answer(out, at, nodes::add_node(t, a)),
-        Plain::Remove => tell::answer(out, at, nodes::remove_node(t, a)),
-        Plain::Beat => tell::answer(out, at, pulse::local_beat(t, a)),
-        _ => two_call(t, verb, a, read::word(line, ws, 2), out, at),
+        verbs::ADD => tell::answer(out, at, nodes::add_node(t, a)),
+        verbs::REMOVE => tell::answer(out, at, nodes::remove_node(t, a)),
+        verbs::BEAT => tell::answer(out, at, pulse::local_beat(t, a)),
+        _ => two_call(t, verb, a, read::word(line, 2), out, at),
     }
 }
 
@@ -120,10 +110,13 @@ fn set_ttl(
     number: u64,
     key: &[u8],
     word: &[u8],
-    time: u64,
+    last: &[u8],
     out: &mut [u8],
     at: usize,
 ) -> usize {
+    let Numeral::Is(time) = read::number(last) else {
+        return at;
+    };
     let mut value = [0u8; TEXT];
     let Count::Is(n) = read::bytes(word, &mut value) else {
         return at;
@@ -135,61 +128,51 @@ fn set_ttl(
     )
 }
 
-// The writes that have a time, which is their last word.
-fn timed(
+// The deletes.
+fn delete(
     t: &mut [u8],
-    verb: Write,
+    verb: usize,
     number: u64,
     key: &[u8],
-    line: &[u8],
-    ws: Words,
+    word: &[u8],
     out: &mut [u8],
     at: usize,
 ) -> usize {
-    let Numeral::Is(time) = read::number(read::last(line, ws)) else {
+    let Numeral::Is(time) = read::number(word) else {
         return at;
     };
-    match verb {
-        Write::Delete => tell::answer(out, at, local::delete(t, number, key, time)),
-        Write::DeleteTtl => tell::answer(out, at, local::delete_after_ttl(t, number, key, time)),
-        _ => set_ttl(t, number, key, read::word(line, ws, 3), time, out, at),
+    if verb == verbs::DELETE {
+        return tell::answer(out, at, local::delete(t, number, key, time));
     }
+    tell::answer(out, at, local::delete_after_ttl(t, number, key, time))
 }
 
 fn at_key(
     t: &mut [u8],
-    verb: Keyed,
+    verb: usize,
     number: u64,
     key: &[u8],
     line: &[u8],
-    ws: Words,
     out: &mut [u8],
     at: usize,
 ) -> usize {
+    let word = read::word(line, 3);
     match verb {
-        Keyed::Get => look_up(t, number, key, out, at),
-        Keyed::List => list(t, number, key, read::word(line, ws, 3), out, at),
-        Keyed::Writing(w) => match w {
-            Write::Set => set(t, number, key, read::word(line, ws, 3), out, at),
-            _ => timed(t, w, number, key, line, ws, out, at),
-        },
+        verbs::GET => look_up(t, number, key, out, at),
+        verbs::LIST => list(t, number, key, word, out, at),
+        verbs::SET => set(t, number, key, word, out, at),
+        verbs::SET_TTL => set_ttl(t, number, key, word, read::word(line, 4), out, at),
+        _ => delete(t, verb, number, key, word, out, at),
     }
 }
 
-pub fn key_call(
-    t: &mut [u8],
-    verb: Keyed,
-    line: &[u8],
-    ws: Words,
-    out: &mut [u8],
-    at: usize,
-) -> usize {
-    let Numeral::Is(number) = read::number(read::word(line, ws, 1)) else {
+pub fn key_call(t: &mut [u8], verb: usize, line: &[u8], out: &mut [u8], at: usize) -> usize {
+    let Numeral::Is(number) = read::number(read::word(line, 1)) else {
         return at;
     };
     let mut key = [0u8; TEXT];
-    let Count::Is(n) = read::bytes(read::word(line, ws, 2), &mut key) else {
+    let Count::Is(n) = read::bytes(read::word(line, 2), &mut key) else {
         return at;
     };
-    at_key(t, verb, number, read::front(&key, n), line, ws, out, at)
+    at_key(t, verb, number, read::front(&key, n), line, out, at)
 }

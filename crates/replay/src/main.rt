@@ -10,12 +10,9 @@ mod verbs;
 use desk::Desk;
 use libc::STDOUT_FILENO;
 use lines::Source;
-use verbs::Peer;
-use verbs::Verb;
 use words::print;
 use words::read;
 use words::read::Count;
-use words::read::Words;
 
 // Room for output: what is there is written once it is half full, and no answer is longer than the other half.
 const OUT: usize = 131072;
@@ -33,32 +30,21 @@ const DATAGRAM: usize = 32768;
 // The calls of an exchange that take bytes.
 fn bytes_call(
     desk: Desk,
-    verb: Peer,
+    verb: usize,
     t: &mut [u8],
     delta: &mut [u8],
     datagram: &mut [u8],
     bytes: &[u8],
     line: &[u8],
-    ws: Words,
     out: &mut [u8],
 ) -> Desk {
     let at = desk.out;
     match verb {
-        Peer::ReadDigest => desk.with_out(peer_calls::read_digest(bytes, out, at)),
-        Peer::ReadDelta => desk.with_out(peer_calls::read_delta(bytes, out, at)),
-        Peer::Apply => desk.with_out(peer_calls::apply(t, bytes, line, ws, out, at)),
+        verbs::READ_DIGEST => desk.with_out(peer_calls::read_digest(bytes, out, at)),
+        verbs::READ_DELTA => desk.with_out(peer_calls::read_delta(bytes, out, at)),
+        verbs::APPLY => desk.with_out(peer_calls::apply(t, bytes, line, out, at)),
         _ => {
-            let kept = peer_calls::compute(
-                t,
-                bytes,
-                line,
-                ws,
-                datagram,
-                delta,
-                desk.delta,
-                out,
-                at,
-            );
+            let kept = peer_calls::compute(t, bytes, line, datagram, delta, desk.delta, out, at);
             let mut d = desk.with_out(kept.at);
             d.delta = kept.len;
             d
@@ -72,10 +58,9 @@ fn digest_call(
     digest: &mut [u8],
     datagram: &mut [u8],
     line: &[u8],
-    ws: Words,
     out: &mut [u8],
 ) -> Desk {
-    let kept = peer_calls::digest(t, line, ws, datagram, digest, desk.digest, out, desk.out);
+    let kept = peer_calls::digest(t, line, datagram, digest, desk.digest, out, desk.out);
     let mut d = desk.with_out(kept.at);
     d.digest = kept.len;
     d
@@ -83,21 +68,20 @@ fn digest_call(
 
 fn peer_call(
     desk: Desk,
-    verb: Peer,
+    verb: usize,
     t: &mut [u8],
     digest: &mut [u8],
     delta: &mut [u8],
     datagram: &mut [u8],
     given: &mut [u8],
     line: &[u8],
-    ws: Words,
     out: &mut [u8],
 ) -> Desk {
     match verb {
-        Peer::Digest => digest_call(desk, t, digest, datagram, line, ws, out),
+        verbs::DIGEST => digest_call(desk, t, digest, datagram, line, out),
         _ => {
             let Count::Is(n) = peer_calls::bytes_of(
-                read::word(line, ws, 1),
+                read::word(line, 1),
                 read::front(digest, desk.digest),
                 read::front(delta, desk.delta),
                 given,
@@ -112,7 +96,6 @@ fn peer_call(
                 datagram,
                 read::front(given, n),
                 line,
-                ws,
                 out,
             )
         }
@@ -128,46 +111,45 @@ fn call(
     datagram: &mut [u8],
     given: &mut [u8],
     line: &[u8],
-    ws: Words,
     out: &mut [u8],
 ) -> Desk {
     let n = desk.lent();
     if table.len() < n {
         return desk;
     }
-    match verbs::asked(line, ws) {
-        Verb::OfShelf(v) => desk::shelf_call(
-            desk,
-            v,
-            table,
-            read::front(digest, desk.digest),
-            read::front(delta, desk.delta),
-            given,
-            line,
-            ws,
-            out,
-        ),
-        Verb::OfPlain(v) => {
-            desk.with_out(local_calls::plain_call(&mut table[..n], v, line, ws, out, desk.out))
+    let verb = verbs::asked(line);
+    let at = desk.out;
+    match verb {
+        verbs::SET..=verbs::LIST => {
+            desk.with_out(local_calls::key_call(&mut table[..n], verb, line, out, at))
         }
-        Verb::OfKeyed(v) => {
-            desk.with_out(local_calls::key_call(&mut table[..n], v, line, ws, out, desk.out))
+        verbs::ADD..=verbs::GC => {
+            desk.with_out(local_calls::plain_call(&mut table[..n], verb, line, out, at))
         }
-        Verb::OfPeer(v) => {
+        verbs::DIGEST..=verbs::APPLY => {
             peer_call(
                 desk,
-                v,
+                verb,
                 &mut table[..n],
                 digest,
                 delta,
                 datagram,
                 given,
                 line,
-                ws,
                 out,
             )
         }
-        Verb::Nothing => desk,
+        verbs::NEW..=verbs::DUMP => desk::shelf_call(
+            desk,
+            verb,
+            table,
+            read::front(digest, desk.digest),
+            read::front(delta, desk.delta),
+            given,
+            line,
+            out,
+        ),
+        _ => desk,
     }
 }
 
@@ -188,10 +170,9 @@ fn step(
     datagram: &mut [u8; DATAGRAM],
     given: &mut [u8; desk::TABLE],
     line: &[u8],
-    ws: Words,
     out: &mut [u8; OUT],
 ) -> Desk {
-    let after = call(desk, table, digest, delta, datagram, given, line, ws, out);
+    let after = call(desk, table, digest, delta, datagram, given, line, out);
     closed(desk, after, table, out)
 }
 
@@ -229,13 +210,12 @@ fn on_line(
     line: &[u8],
     out: &mut [u8; OUT],
 ) -> Desk {
-    let ws = read::split(line);
-    let desk = desk::turned(before, line, ws);
+    let desk = desk::turned(before, line);
     if desk.hub == 0 {
-        let after = step(desk, first, digest, delta, datagram, given, line, ws, out);
+        let after = step(desk, first, digest, delta, datagram, given, line, out);
         return flushed(after, out);
     }
-    let after = step(desk, second, digest, delta, datagram, given, line, ws, out);
+    let after = step(desk, second, digest, delta, datagram, given, line, out);
     flushed(after, out)
 }
 

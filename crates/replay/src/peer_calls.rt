@@ -12,7 +12,6 @@ use words::print;
 use words::read;
 use words::read::Count;
 use words::read::Numeral;
-use words::read::Words;
 ghost use mathlib.Core.Path.{_≡_};
 ghost use lib.ListN.{length};
 
@@ -144,18 +143,11 @@ fn apply_at(
     tell_applied(applied, &answers, out, at)
 }
 
-pub fn apply(
-    t: &mut [u8],
-    bytes: &[u8],
-    line: &[u8],
-    ws: Words,
-    out: &mut [u8],
-    at: usize,
-) -> usize {
-    let Numeral::Is(time) = read::number(read::word(line, ws, 2)) else {
+pub fn apply(t: &mut [u8], bytes: &[u8], line: &[u8], out: &mut [u8], at: usize) -> usize {
+    let Numeral::Is(time) = read::number(read::word(line, 2)) else {
         return at;
     };
-    let Numeral::Is(places) = read::number(read::word(line, ws, 3)) else {
+    let Numeral::Is(places) = read::number(read::word(line, 3)) else {
         return at;
     };
     apply_at(t, bytes, time, places, out, at)
@@ -244,7 +236,6 @@ fn digest_in(
 pub fn digest(
     t: &[u8],
     line: &[u8],
-    ws: Words,
     datagram: &mut [u8],
     kept: &mut [u8],
     held: usize,
@@ -252,13 +243,13 @@ pub fn digest(
     at: usize,
 ) -> Kept {
     let mut excluded = [0u64; LIST];
-    let Count::Is(n) = read::numbers(read::word(line, ws, 1), &mut excluded) else {
+    let Count::Is(n) = read::numbers(read::word(line, 1), &mut excluded) else {
         return Kept { at, len: held };
     };
-    let Numeral::Is(place) = read::number(read::word(line, ws, 2)) else {
+    let Numeral::Is(place) = read::number(read::word(line, 2)) else {
         return Kept { at, len: held };
     };
-    let Numeral::Is(len) = read::number(read::word(line, ws, 3)) else {
+    let Numeral::Is(len) = read::number(read::word(line, 3)) else {
         return Kept { at, len: held };
     };
     digest_in(
@@ -332,20 +323,19 @@ fn compute_in(
     excluded: &[u64],
     ties: &[u64],
     line: &[u8],
-    ws: Words,
     datagram: &mut [u8],
     kept: &mut [u8],
     held: usize,
     out: &mut [u8],
     at: usize,
 ) -> Kept {
-    let Numeral::Is(mtu) = read::number(read::word(line, ws, 2)) else {
+    let Numeral::Is(mtu) = read::number(read::word(line, 2)) else {
         return Kept { at, len: held };
     };
-    let Numeral::Is(place) = read::number(read::word(line, ws, 5)) else {
+    let Numeral::Is(place) = read::number(read::word(line, 5)) else {
         return Kept { at, len: held };
     };
-    let Numeral::Is(len) = read::number(read::word(line, ws, 6)) else {
+    let Numeral::Is(len) = read::number(read::word(line, 6)) else {
         return Kept { at, len: held };
     };
     let m = mtu as usize;
@@ -373,7 +363,6 @@ pub fn compute(
     t: &[u8],
     digest: &[u8],
     line: &[u8],
-    ws: Words,
     datagram: &mut [u8],
     kept: &mut [u8],
     held: usize,
@@ -381,11 +370,11 @@ pub fn compute(
     at: usize,
 ) -> Kept {
     let mut excluded = [0u64; LIST];
-    let Count::Is(e) = read::numbers(read::word(line, ws, 3), &mut excluded) else {
+    let Count::Is(e) = read::numbers(read::word(line, 3), &mut excluded) else {
         return Kept { at, len: held };
     };
     let mut ties = [0u64; LIST];
-    let Count::Is(n) = read::numbers(read::word(line, ws, 4), &mut ties) else {
+    let Count::Is(n) = read::numbers(read::word(line, 4), &mut ties) else {
         return Kept { at, len: held };
     };
     compute_in(
@@ -394,7 +383,6 @@ pub fn compute(
         read::front_numbers(&excluded, e),
         read::front_numbers(&ties, n),
         line,
-        ws,
         datagram,
         kept,
         held,

@@ -4,6 +4,7 @@ use rules::Answer;
 use rules::Offered;
 use rules::Refusal;
 use words::print;
+use words::read;
 ghost use Prim.Native.Nat.{_<_};
 
 // What lent memory is filled with before a call.
@@ -100,14 +101,11 @@ pub fn entries(out: &mut [u8], at: usize, es: [NodeDigest; 8], count: usize) -> 
 
 // What was answered for one node delta, by its code.
 fn verdict(out: &mut [u8], at: usize, code: u8) -> usize {
-    match code {
-        0 => print::text(out, at, b"reject"),
-        1 => print::text(out, at, b"apply"),
-        2 => print::text(out, at, b"reset"),
-        3 => print::text(out, at, b"room"),
-        4 => print::text(out, at, b"unknown"),
-        _ => touched(out, at),
-    }
+    print::text(
+        out,
+        at,
+        read::word(b"reject apply reset room unknown", code as usize),
+    )
 }
 
 // What was answered for each node delta, with commas between them; a dash where there is none.

@@ -1,137 +1,61 @@
-// Which call a line asks for. A line with another count of words than its call has asks for none.
+// Which call a line asks for, by number: those at a key of a node, those that take numbers alone, those of the desk itself, those of an exchange.
 use words::read;
-use words::read::Words;
 
-// The calls of the desk itself.
-pub enum Shelf {
-    New,
-    Hub,
-    Table,
-    Dump,
-}
+pub const SET: usize = 0;
 
-// The calls on a table that take numbers alone.
-pub enum Plain {
-    Add,
-    Remove,
-    Beat,
-    Offer,
-    Gc,
-}
+pub const SET_TTL: usize = 1;
 
-// The four calls that give a version.
-pub enum Write {
-    Set,
-    SetTtl,
-    Delete,
-    DeleteTtl,
-}
+pub const DELETE: usize = 2;
 
-// The calls at a key of a node.
-pub enum Keyed {
-    Writing(Write),
-    Get,
-    List,
-}
+pub const DELETE_TTL: usize = 3;
 
-// The calls of an exchange.
-pub enum Peer {
-    Digest,
-    ReadDigest,
-    ReadDelta,
-    Compute,
-    Apply,
-}
+pub const GET: usize = 4;
 
-pub enum Verb {
-    OfShelf(Shelf),
-    OfPlain(Plain),
-    OfKeyed(Keyed),
-    OfPeer(Peer),
-    Nothing,
-}
+pub const LIST: usize = 5;
 
-// Whether the line has so many words, and this one first.
-fn is(line: &[u8], ws: Words, name: &[u8], count: usize) -> bool {
-    if ws.count != count {
-        return false;
-    }
-    read::same(read::word(line, ws, 0), name)
-}
+pub const ADD: usize = 6;
 
-fn of_peer(line: &[u8], ws: Words) -> Verb {
-    if is(line, ws, b"digest", 4) {
-        return Verb::OfPeer(Peer::Digest);
-    }
-    if is(line, ws, b"readdigest", 2) {
-        return Verb::OfPeer(Peer::ReadDigest);
-    }
-    if is(line, ws, b"readdelta", 2) {
-        return Verb::OfPeer(Peer::ReadDelta);
-    }
-    if is(line, ws, b"compute", 7) {
-        return Verb::OfPeer(Peer::Compute);
-    }
-    if is(line, ws, b"apply", 4) {
-        return Verb::OfPeer(Peer::Apply);
-    }
-    Verb::Nothing
-}
+pub const REMOVE: usize = 7;
 
-fn of_shelf(line: &[u8], ws: Words) -> Verb {
-    if is(line, ws, b"new", 1) {
-        return Verb::OfShelf(Shelf::New);
-    }
-    if is(line, ws, b"hub", 2) {
-        return Verb::OfShelf(Shelf::Hub);
-    }
-    if is(line, ws, b"table", 2) {
-        return Verb::OfShelf(Shelf::Table);
-    }
-    if is(line, ws, b"dump", 1) {
-        return Verb::OfShelf(Shelf::Dump);
-    }
-    of_peer(line, ws)
-}
+pub const BEAT: usize = 8;
 
-fn of_plain(line: &[u8], ws: Words) -> Verb {
-    if is(line, ws, b"add", 2) {
-        return Verb::OfPlain(Plain::Add);
-    }
-    if is(line, ws, b"remove", 2) {
-        return Verb::OfPlain(Plain::Remove);
-    }
-    if is(line, ws, b"beat", 2) {
-        return Verb::OfPlain(Plain::Beat);
-    }
-    if is(line, ws, b"offer", 3) {
-        return Verb::OfPlain(Plain::Offer);
-    }
-    if is(line, ws, b"gc", 3) {
-        return Verb::OfPlain(Plain::Gc);
-    }
-    of_shelf(line, ws)
-}
+pub const OFFER: usize = 9;
 
-// The call of the line.
-pub fn asked(line: &[u8], ws: Words) -> Verb {
-    if is(line, ws, b"set", 4) {
-        return Verb::OfKeyed(Keyed::Writing(Write::Set));
+pub const GC: usize = 10;
+
+pub const NEW: usize = 11;
+
+pub const HUB: usize = 12;
+
+pub const TABLE: usize = 13;
+
+pub const DUMP: usize = 14;
+
+pub const DIGEST: usize = 15;
+
+pub const READ_DIGEST: usize = 16;
+
+pub const READ_DELTA: usize = 17;
+
+pub const COMPUTE: usize = 18;
+
+pub const APPLY: usize = 19;
+
+pub const NOTHING: usize = 20;
+
+// How many words a line of each call has.
+const WORDS: [usize; 20] = [4, 5, 4, 4, 3, 4, 2, 2, 2, 3, 3, 1, 2, 2, 1, 4, 2, 2, 7, 4];
+
+// The call of the line. One with another count of words than its call has asks for none.
+pub fn asked(line: &[u8]) -> usize {
+    let names =
+        b"set setttl delete deletettl get list add remove beat offer gc new hub table dump digest readdigest readdelta compute apply";
+    let verb = read::place_of(names, read::word(line, 0));
+    if NOTHING <= verb {
+        return NOTHING;
     }
-    if is(line, ws, b"setttl", 5) {
-        return Verb::OfKeyed(Keyed::Writing(Write::SetTtl));
+    if WORDS[verb] == read::words_of(line) {
+        return verb;
     }
-    if is(line, ws, b"delete", 4) {
-        return Verb::OfKeyed(Keyed::Writing(Write::Delete));
-    }
-    if is(line, ws, b"deletettl", 4) {
-        return Verb::OfKeyed(Keyed::Writing(Write::DeleteTtl));
-    }
-    if is(line, ws, b"get", 3) {
-        return Verb::OfKeyed(Keyed::Get);
-    }
-    if is(line, ws, b"list", 4) {
-        return Verb::OfKeyed(Keyed::List);
-    }
-    of_plain(line, ws)
+    NOTHING
 }

@@ -2,18 +2,8 @@
 ghost use Prim.Native.Nat.{_≤_, _<_};
 ghost use lib.ListN.{length};
 
-// The most words of a line.
-const WORDS: usize = 8;
-
 // The largest number.
 const MOST: u64 = 18446744073709551615;
-
-// Where the words of a line stand: word k from starts[k] to ends[k]. A line of more than 8 words has a count of 9.
-pub struct Words {
-    pub count: usize,
-    pub starts: [usize; 8],
-    pub ends: [usize; 8],
-}
 
 // A decimal number below 2^64.
 pub enum Numeral {
@@ -42,31 +32,51 @@ fn end_of(s: &[u8], at: usize, b: u8) -> usize
     i
 }
 
-// What stands between single spaces. Two spaces have an empty word between them, and so has an empty line.
-pub fn split(line: &[u8]) -> Words {
-    let mut starts = [0usize; 8];
-    let mut ends = [0usize; 8];
-    let mut count: usize = 0;
+// How many words the line has: what stands between single spaces. Two spaces have an empty word between them, and so has an empty line.
+pub fn words_of(line: &[u8]) -> usize {
+    let mut n: usize = 0;
+    let mut i = 0;
+    while i < line.len() {
+        if line[i] == b' ' {
+            n += 1;
+        }
+        i += 1;
+    }
+    n + 1
+}
+
+// Word k of the line; an empty one where there is none.
+pub fn word(line: &[u8], k: usize) -> &[u8] {
     let mut at: usize = 0;
-    while count < WORDS {
+    let mut i: usize = 0;
+    while i < k {
         let e = end_of(line, at, b' ');
-        starts[count] = at;
-        ends[count] = e;
-        count += 1;
         if e == line.len() {
-            return Words {
-                count,
-                starts,
-                ends,
-            };
+            return &line[..0];
+        }
+        at = e + 1;
+        i += 1;
+    }
+    let end = end_of(line, at, b' ');
+    &line[at..end]
+}
+
+// Which of the names the word is; as many as there are names where it is none of them.
+pub fn place_of(names: &[u8], w: &[u8]) -> usize {
+    let mut at: usize = 0;
+    let mut k: usize = 0;
+    while at < names.len() {
+        let e = end_of(names, at, b' ');
+        if same(&names[at..e], w) {
+            return k;
+        }
+        k += 1;
+        if e == names.len() {
+            return k;
         }
         at = e + 1;
     }
-    Words {
-        count: 9,
-        starts,
-        ends,
-    }
+    k
 }
 
 // The first `n` bytes; all of them where there are fewer.
@@ -91,33 +101,6 @@ pub fn front_numbers(s: &[u64], n: usize) -> &[u64] {
         return s;
     }
     &s[..n]
-}
-
-// Word k of the line; an empty one where there is none.
-pub fn word(line: &[u8], ws: Words, k: usize) -> &[u8] {
-    if WORDS <= k {
-        return &line[..0];
-    }
-    let starts = ws.starts;
-    let ends = ws.ends;
-    let a = starts[k];
-    let e = ends[k];
-    if line.len() < e {
-        return &line[..0];
-    }
-    if e < a {
-        return &line[..0];
-    }
-    &line[a..e]
-}
-
-// The last word of the line.
-pub fn last(line: &[u8], ws: Words) -> &[u8] {
-    let n = ws.count;
-    if n == 0 {
-        return &line[..0];
-    }
-    word(line, ws, n - 1)
 }
 
 // Whether the two are the same bytes.

@@ -15,20 +15,17 @@ returns c = search needs
 asked-requires : tie.Need-asked-requires
 asked-requires c κs = search needs
 
-enum-known-v : tie.Need-enum-known-v
-enum-known-v c = search needs
+slice-relend-prefix-key-call : tie.Need-slice-relend-prefix-key-call
+slice-relend-prefix-key-call c = search needs
 
-front-requires : tie.Need-front-requires
-front-requires c κs = search needs
+slice-aggregate-key-call : tie.Need-slice-aggregate-key-call
+slice-aggregate-key-call c = sym (length-take-le _ _ (omega arith))
 
-front-requires-2 : tie.Need-front-requires-2
-front-requires-2 c κs = search needs
+key-call-requires : tie.Need-key-call-requires
+key-call-requires c κs = search needs
 
-shelf-call-requires : tie.Need-shelf-call-requires
-shelf-call-requires c κs = search needs
-
-enum-known-v-2 : tie.Need-enum-known-v-2
-enum-known-v-2 c = search needs
+with-out-requires : tie.Need-with-out-requires
+with-out-requires c κs = search needs
 
 slice-relend-prefix-plain-call : tie.Need-slice-relend-prefix-plain-call
 slice-relend-prefix-plain-call c = search needs
@@ -39,26 +36,17 @@ slice-aggregate-plain-call c = sym (length-take-le _ _ (omega arith))
 plain-call-requires : tie.Need-plain-call-requires
 plain-call-requires c κs = search needs
 
-with-out-requires : tie.Need-with-out-requires
-with-out-requires c κs = search needs
-
-enum-known-v-3 : tie.Need-enum-known-v-3
-enum-known-v-3 c = search needs
-
-slice-relend-prefix-key-call : tie.Need-slice-relend-prefix-key-call
-slice-relend-prefix-key-call c = search needs
-
-slice-aggregate-key-call : tie.Need-slice-aggregate-key-call
-slice-aggregate-key-call c = sym (length-take-le _ _ (omega arith))
-
-key-call-requires : tie.Need-key-call-requires
-key-call-requires c κs = search needs
-
 with-out-requires-2 : tie.Need-with-out-requires-2
 with-out-requires-2 c κs = search needs
 
-enum-known-v-4 : tie.Need-enum-known-v-4
-enum-known-v-4 c = search needs
+front-requires : tie.Need-front-requires
+front-requires c κs = search needs
+
+front-requires-2 : tie.Need-front-requires-2
+front-requires-2 c κs = search needs
+
+shelf-call-requires : tie.Need-shelf-call-requires
+shelf-call-requires c κs = search needs
 
 slice-relend-prefix-peer-call : tie.Need-slice-relend-prefix-peer-call
 slice-relend-prefix-peer-call c = search needs
@@ -69,14 +57,14 @@ slice-aggregate-peer-call c = sym (length-take-le _ _ (omega arith))
 peer-call-requires : tie.Need-peer-call-requires
 peer-call-requires c κs = search needs
 
-enum-told : tie.Need-enum-told
-enum-told c = search needs
-
 same-length : tie.Need-same-length
 same-length c = search needs
 
 same-length-2 : tie.Need-same-length-2
 same-length-2 c = search needs
+
+returns-2 : tie.Need-returns-2
+returns-2 c = search needs
 
 same-length-3 : tie.Need-same-length-3
 same-length-3 c = search needs
@@ -84,20 +72,17 @@ same-length-3 c = search needs
 same-length-4 : tie.Need-same-length-4
 same-length-4 c = search needs
 
+returns-3 : tie.Need-returns-3
+returns-3 c = search needs
+
 same-length-5 : tie.Need-same-length-5
 same-length-5 c = search needs
-
-returns-2 : tie.Need-returns-2
-returns-2 c = search needs
 
 same-length-6 : tie.Need-same-length-6
 same-length-6 c = search needs
 
 same-length-7 : tie.Need-same-length-7
 same-length-7 c = search needs
-
-returns-3 : tie.Need-returns-3
-returns-3 c = search needs
 
 same-length-8 : tie.Need-same-length-8
 same-length-8 c = search needs
@@ -139,34 +124,29 @@ call-spec =
     lent-requires
     returns
     asked-requires
-    enum-known-v
-    front-requires
-    front-requires-2
-    shelf-call-requires
-    enum-known-v-2
-    slice-relend-prefix-plain-call
-    slice-aggregate-plain-call
-    plain-call-requires
-    with-out-requires
-    enum-known-v-3
     slice-relend-prefix-key-call
     slice-aggregate-key-call
     key-call-requires
+    with-out-requires
+    slice-relend-prefix-plain-call
+    slice-aggregate-plain-call
+    plain-call-requires
     with-out-requires-2
-    enum-known-v-4
+    front-requires
+    front-requires-2
+    shelf-call-requires
     slice-relend-prefix-peer-call
     slice-aggregate-peer-call
     peer-call-requires
-    enum-told
     same-length
     same-length-2
+    returns-2
     same-length-3
     same-length-4
+    returns-3
     same-length-5
-    returns-2
     same-length-6
     same-length-7
-    returns-3
     same-length-8
     same-length-9
     returns-4

@@ -1,0 +1,71 @@
+-- `words::read::place_of` is safe and ends. Assumes nothing.
+use Prim.Native.Nat.{_≤_, _-_}
+use lib.ListN.{length}
+use borrow.Author.Needs.{needs}
+use Rattle.words.proofs.read.place_of.Statement.{statement}
+use Rattle.words.proofs.read.place_of.Tie as tie
+
+abbrev Inv-loop : tie.InvT-loop
+Inv-loop names w at₀ k₀ at k = (at ≤ length names) × (k ≤ at)
+
+abbrev μ-loop : tie.MeasureT-loop
+μ-loop names w at₀ k₀ at k = length names - at
+
+loop-holds : tie.Need-loop-holds Inv-loop μ-loop
+loop-holds c = search needs
+
+end-of-requires : tie.Need-end-of-requires Inv-loop μ-loop
+end-of-requires c κs = search needs
+
+sub-same : tie.Need-sub-same Inv-loop μ-loop
+sub-same c = search needs
+
+part-same-start : tie.Need-part-same-start Inv-loop μ-loop
+part-same-start c = search needs
+
+part-same-end : tie.Need-part-same-end Inv-loop μ-loop
+part-same-end c = search needs
+
+same-requires : tie.Need-same-requires Inv-loop μ-loop
+same-requires c κs = search needs
+
+returns : tie.Need-returns Inv-loop μ-loop
+returns c = search needs
+
+add-k : tie.Need-add-k Inv-loop μ-loop
+add-k c = search needs
+
+returns-2 : tie.Need-returns-2 Inv-loop μ-loop
+returns-2 c = search needs
+
+add-at : tie.Need-add-at Inv-loop μ-loop
+add-at c = search needs
+
+loop-less : tie.Need-loop-less Inv-loop μ-loop
+loop-less c = search needs
+
+loop-again : tie.Need-loop-again Inv-loop μ-loop
+loop-again c = search needs
+
+returns-3 : tie.Need-returns-3 Inv-loop μ-loop
+returns-3 c = search needs
+
+pub place-of-spec : {M : Type 1} → statement M
+place-of-spec =
+    tie.close
+    (tie.spec
+    Inv-loop
+    μ-loop
+    loop-holds
+    end-of-requires
+    sub-same
+    part-same-start
+    part-same-end
+    same-requires
+    returns
+    add-k
+    returns-2
+    add-at
+    loop-less
+    loop-again
+    returns-3)
