@@ -69,6 +69,15 @@ pub fn empty() -> Vec<u8> {
     table::encode(&[])
 }
 
+/// The same table where removals have gone up to this version in each node.
+pub fn with_last_gc(table: &[u8], last_gc: u64) -> Vec<u8> {
+    let mut table = table.to_vec();
+    for node in table[1..].chunks_mut(table::NODE_BYTES) {
+        node[24..32].copy_from_slice(&last_gc.to_le_bytes());
+    }
+    table
+}
+
 /// Each node and record once, in an order without a pattern.
 pub fn each(records: &[usize]) -> Vec<(u64, usize)> {
     let count = NODES as usize * records.len();

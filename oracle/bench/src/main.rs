@@ -472,6 +472,23 @@ fn applying(rows: &mut Rows, name: &'static str, before: &[u8], delta: &[u8], an
 const REJECT: u8 = 0;
 const APPLY: u8 = 1;
 
+fn deepest_compute(table: &[u8]) -> usize {
+    let mut datagram = vec![0; 16_384];
+    stack::deepest(|| {
+        black_box(port::compute(table, &NO_DIGEST, &TIES, &mut datagram, false));
+    })
+}
+
+fn deepest_apply(before: &[u8], delta: &[u8]) -> usize {
+    let mut table = before.to_vec();
+    let mut answers = [9; NODES as usize];
+    let deepest = stack::deepest(|| {
+        black_box(port::apply(&mut table, delta, NOW, &mut answers, false));
+    });
+    assert_ne!(table, before, "the delta was not applied");
+    deepest
+}
+
 fn main() {
     let full = inputs::full();
     let scattered = inputs::table(&inputs::all(), inputs::scattered);
@@ -517,16 +534,19 @@ fn main() {
         false,
         Aim::None,
     );
+    let half = inputs::table(&inputs::half(), inputs::in_order);
+    let (newer, _) = delta_of(&inputs::table(&inputs::all(), |record| 100 + inputs::in_order(record)));
+    applying(&mut rows, "apply 16,384 bytes to a half full table", &half, &newer, APPLY, false, Aim::None);
     rows.print();
 
-    let mut datagram = vec![0; 16_384];
-    let computing = stack::deepest(|| {
-        port::compute(&full, &NO_DIGEST, &TIES, &mut datagram, false);
-    });
-    let mut table = fresh.clone();
-    let applying = stack::deepest(|| {
-        port::apply(&mut table, &delta, NOW, &mut [0; NODES as usize], false);
-    });
+    let (reset, _) = delta_of(&inputs::with_last_gc(&full, 200));
+    let computing = [&full, &scattered].map(|table| deepest_compute(table));
+    let applying = [(&fresh, &delta), (&fresh, &mixed), (&half, &newer), (&half, &reset)]
+        .map(|(before, delta)| deepest_apply(before, delta));
     println!();
-    println!("Deepest stack: compute {computing} bytes, apply {applying} bytes (aim: 8,192).");
+    println!(
+        "Deepest stack: compute {} bytes, apply {} bytes (aim: 8,192).",
+        computing.iter().max().unwrap(),
+        applying.iter().max().unwrap()
+    );
 }
