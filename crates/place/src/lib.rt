@@ -84,24 +84,7 @@ pub fn find_node(s: &[u8], number: u64) -> Place
     Place::Free(i)
 }
 
-// The place of the record with this key in a node's bytes.
-pub fn find_key(b: &[u8], key: &[u8]) -> Place
-    requires { ⌜ LaidNode (now b) ⌝ }
-    ensures { λ r. ⌜ r ≡ findKey (now (key .entry)) (recsOf (now (b .entry))) ⌝ }
-{
-    let n = fields::byte_at(b, layout::COUNT);
-    let mut j = 0;
-    while j < n {
-        match fields::compare(key, table::key_of(table::record_of(b, j))) {
-            fields::Order::Same => return Place::At(j),
-            fields::Order::Less => return Place::Free(j),
-            fields::Order::More => j += 1,
-        }
-    }
-    Place::Free(j)
-}
-
-// The same where the keys of the node rise: by halves.
+// The place of the record with this key in a node's bytes, whose keys rise. It is sought by halves.
 pub fn search_key(b: &[u8], key: &[u8]) -> Place
     requires { ⌜ LaidNode (now b) × (keysRise (recsOf (now b)) ≡ true) ⌝ }
     ensures { λ r. ⌜ r ≡ findKey (now (key .entry)) (recsOf (now (b .entry))) ⌝ }
