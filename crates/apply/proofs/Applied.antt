@@ -1,6 +1,6 @@
 -- Applying, level by level: the outcome of each status on a node's bytes, one node delta on a table's bytes, the stream of them, and the whole call.
 -- Assumes nothing.
-use Prim.Native.Nat.{ℕ, zero, suc, _+_, _-_, _≤_, _<_}
+use Prim.Native.Nat.{ℕ, _+_, _-_, _≤_, _<_}
 use mathlib.Core.Path.{_≡_, refl, ap, sym, _∙_, subst}
 use mathlib.Core.Bool.{Bool, true, false}
 use mathlib.Core.List.{List, [], _∷_, _++_, append-nil}
@@ -10,7 +10,7 @@ use native.Mathlib.Numerals.{add-one}
 use lib.ListN.{length, take, drop, getD, set, length-set, drop-of-length-le}
 use lib.Seq.{drop-cons}
 use lib.Dec.{leb}
-use borrow.Author.Tests.{le-leb, lt-leb, leb-true}
+use borrow.Author.Tests.{le-leb, lt-leb}
 use Rattle.fields.specs.Choice.{pick, _∈_, here, later}
 use Rattle.fields.specs.Numbers.{natOf, bytesOf, Bytes}
 use Rattle.fields.specs.Blocks.{zeros}
@@ -22,10 +22,10 @@ use Rattle.fields.proofs.Parts.{put-nil, put-cons}
 use borrow.Rule.Slice.PartMut.{putMid}
 use Rattle.rules.specs.Sizes.{maxNodes, maxRecords, numbers}
 use Rattle.rules.specs.Answers.{codeOf}
-use Rattle.rules.specs.Node.{Rec, Node, beats}
-use Rattle.rules.specs.Table.{Entry, Table, nodeOf, setNode, keysRise, obeys}
+use Rattle.rules.specs.Node.{Node}
+use Rattle.rules.specs.Table.{Entry, Table, nodeOf, keysRise, obeys}
 use Rattle.rules.specs.Delta as rule
-use Rattle.rules.specs.Apply.{Taken, Stream, takenAs, withRoom, answered, statusOf, deltaStatus, outcome, takeAll, applyNode, onNode, answering, applyEach, codes, apply, applyOps, applyParts}
+use Rattle.rules.specs.Apply.{Taken, Stream, takenAs, withRoom, answered, statusOf, deltaStatus, outcome, takeAll, applyNode, onNode, answering, applyEach, codes, apply}
 use Rattle.rules.specs.Layout.{nodeWidth, encodeNode, decodeNode, encode, decode, valid}
 use Rattle.rules.specs.Lent.{lentApply}
 use Rattle.rules.specs.declared.DeltaStatus.{DeltaStatus}

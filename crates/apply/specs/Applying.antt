@@ -6,7 +6,6 @@ use mathlib.Core.Bool.{Bool, true, false}
 use mathlib.Core.List.{List}
 use mathlib.Core.Option.{Option, none, some}
 use lib.ListN.{length, getD}
-use lib.Dec.{leb}
 use Rattle.fields.specs.Choice.{pick}
 use Rattle.rules.specs.Node.{Node}
 use Rattle.rules.specs.Table.{Entry, Table, nodeOf, setNode}

@@ -1,8 +1,7 @@
 -- Reading a whole delta with its counts, turn by turn: what is left to be read, with what is counted so far, has the whole's answer. Assumes nothing.
-use Prim.Native.Nat.{ℕ, zero, suc, _+_, _-_, _≤_, _<_}
-use mathlib.Core.Path.{_≡_, refl, ap, ap₂, sym, _∙_, subst}
+use Prim.Native.Nat.{ℕ, _+_, _≤_, _<_}
+use mathlib.Core.Path.{_≡_, ap, ap₂, sym, _∙_, subst}
 use mathlib.Core.List.{List, [], _∷_}
-use mathlib.Core.Logic.{_⊎_, inl, inr, ⊎-elim}
 use native.Mathlib.Omega.{arith}
 use native.Mathlib.Numerals.{add-one}
 use native.Mathlib.Nat.{add-zero}
@@ -12,7 +11,6 @@ use Rattle.rules.specs.Sizes.{maxDelta, maxNodes}
 use Rattle.rules.specs.Delta as rule
 use Rattle.rules.specs.declared.Refusal.{Refusal}
 use Rattle.rules.specs.declared.Refusal.the-variants.{TooMany}
-use Rattle.rules.specs.declared.DeltaRead.{DeltaRead}
 use Rattle.rules.specs.declared.DeltaRead.the-variants as read
 use Rattle.delta.specs.declared.Op.{Op}
 use Rattle.delta.specs.declared.OpRead.the-variants.{Got, Bad}

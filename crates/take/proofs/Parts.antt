@@ -19,7 +19,6 @@ use Rattle.rules.specs.Node as node
 use Rattle.rules.specs.Delta as rule
 use Rattle.rules.specs.declared.Refusal.{Refusal}
 use Rattle.rules.specs.declared.Refusal.the-variants.{OutOfOrder, NodeTwice, TooMany}
-use Rattle.rules.specs.declared.Status.{Status}
 use Rattle.rules.specs.declared.DeltaRead.the-variants as read
 use Rattle.delta.specs.declared.Op.{Op}
 use Rattle.delta.specs.declared.Op.the-variants.{Node, KeyValue, SetMaxVersion}
@@ -29,11 +28,11 @@ use Rattle.delta.specs.declared.TextRead.{TextRead}
 use Rattle.delta.specs.declared.TextRead.the-variants as text
 use Rattle.delta.specs.declared.Followed.{Followed}
 use Rattle.delta.specs.declared.Followed.the-variants.{Entered, Under, Fault}
-use Rattle.delta.specs.Places.{opOf, opAt, onText, textAt, taggedAt, nodeAt, versionAt, valueAt, keyValueAt, setMaxVersionAt, seenOf, underNode, nodeFollows, recordFollows, maxFollows, followAt}
+use Rattle.delta.specs.Places.{opAt, onText, textAt, taggedAt, nodeAt, versionAt, valueAt, keyValueAt, setMaxVersionAt, seenOf, underNode, nodeFollows, recordFollows, maxFollows, followAt}
 use Rattle.delta.specs.Plain.{opsFrom}
 use Rattle.delta.proofs.Plain.{plain-end, plain-next}
 use Rattle.delta.proofs.Reading.{Within, op-within, le-or-lt}
-use Rattle.take.specs.Taking.{recsFrom, partsFrom, deltaOf, partAt, noPart, Head, Gathered}
+use Rattle.take.specs.Taking.{recsFrom, partsFrom, partAt, noPart, Head, Gathered}
 
 -- where an operation ends
 pub op-ends : (s : List ℕ) (at : ℕ) (o : Op) (next : ℕ) → opAt s at ≡ Got o next → (at < next) × (next ≤ length s)

@@ -1,8 +1,8 @@
 -- Taking records: which are taken, what storing one leaves in a node's bytes, and how a list of them is taken operation by operation. The number of keys
 -- never falls while records are taken, so no room at one record is no room for the outcome. Assumes nothing.
-use Prim.Native.Nat.{ℕ, zero, suc, _+_, _-_, _≤_, _<_}
+use Prim.Native.Nat.{ℕ, suc, _+_, _-_, _≤_, _<_}
 use mathlib.Core.Path.{_≡_, refl, ap, sym, _∙_, subst}
-use mathlib.Core.Bool.{Bool, true, false, not, _&&_}
+use mathlib.Core.Bool.{Bool, true, false, not}
 use mathlib.Core.List.{List, [], _∷_}
 use native.Mathlib.Omega.{arith}
 use lib.ListN.{length, take, drop, set, length-set}
@@ -28,7 +28,7 @@ use Rattle.rules.specs.declared.Status.{Status}
 use Rattle.rules.specs.declared.Status.the-variants.{Set, Delete, Ttl}
 use Rattle.delta.specs.declared.Op.{Op}
 use Rattle.delta.specs.declared.Op.the-variants.{Node, KeyValue as Record, SetMaxVersion}
-use Rattle.delta.specs.declared.OpRead.the-variants.{Got, Bad}
+use Rattle.delta.specs.declared.OpRead.the-variants.{Got}
 use Rattle.delta.specs.Places.{opOf, opAt, Inside}
 use Rattle.delta.specs.Plain.{opsFrom}
 use Rattle.delta.proofs.Plain.{plain-next}
@@ -43,7 +43,6 @@ use Rattle.place.specs.declared.Place.the-variants.{At, Free}
 use Rattle.place.proofs.Found.{start, end}
 use Rattle.place.proofs.Halves.{half-more}
 use Rattle.place.proofs.Placed.{store-at, store-free, free-in}
-use Rattle.place.proofs.Searched.{rec-in}
 use Rattle.take.specs.declared.Step.{Step}
 use Rattle.take.specs.declared.Step.the-variants.{Taken, Full, Over}
 use Rattle.take.specs.Taking.{takesAs, carried, hasRoom, Rising, Tried, takeOne, afterOp, stepOf, Stepped, recsFrom}

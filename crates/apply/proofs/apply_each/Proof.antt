@@ -1,7 +1,7 @@
 -- `apply::apply_each` meets its contract: the node deltas that are left give the whole's table and answers. Assumes nothing.
 use Prim.Native.Nat.{ℕ, _-_, _≤_, _<_}
 use Rattle.fields.proofs.Choice.{at-in}
-use mathlib.Core.Path.{_≡_, ap, sym, subst}
+use mathlib.Core.Path.{ap, sym, subst}
 use native.Mathlib.Omega.{arith}
 use lib.ListN.{length, getD, set}
 use Rattle.rules.specs.Delta.{Part}

@@ -1,5 +1,5 @@
 -- `apply::apply_good` meets its contract: an accepted delta is read as one. Assumes nothing.
-use mathlib.Core.Path.{_≡_, sym, _∙_}
+use mathlib.Core.Path.{sym, _∙_}
 use native.Mathlib.Omega.{arith}
 use Rattle.apply.proofs.Applied.{not-refused, told}
 use borrow.Author.Needs.{needs}

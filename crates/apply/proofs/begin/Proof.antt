@@ -1,5 +1,4 @@
 -- `apply::begin` meets its contract: a reset, or nothing. Assumes nothing.
-use mathlib.Core.Path.{_≡_}
 use Rattle.apply.proofs.Applied.{begun-bytes, begun-same}
 use borrow.Author.Needs.{needs}
 use Rattle.apply.proofs.begin.Statement.{statement}

@@ -1,5 +1,4 @@
 -- `apply::grow_in_place` meets its contract: there is room for all that come, or the node is saved. Assumes nothing.
-use mathlib.Core.Path.{sym}
 use native.Mathlib.Omega.{arith}
 use Rattle.apply.proofs.Applied.{surely, stored-surely}
 use borrow.Author.Needs.{needs}

@@ -1,5 +1,5 @@
 -- `apply::grow_or_keep` meets its contract: the node is the outcome's, or what was saved. Assumes nothing.
-use mathlib.Core.Path.{_≡_, ap, sym, _∙_}
+use mathlib.Core.Path.{_≡_, ap, _∙_}
 use native.Mathlib.Omega.{arith}
 use lib.ListN.{length}
 use Rattle.apply.proofs.Applied.{put-all, stored, kept}

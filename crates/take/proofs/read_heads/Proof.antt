@@ -1,12 +1,11 @@
 -- `take::read_heads` meets its contract: what is left to be read has the whole's answer, and brings the rest of the last node delta. Assumes nothing.
 use Prim.Native.Nat.{ℕ, _-_, _≤_, _<_}
-use mathlib.Core.Path.{_≡_, refl, ap, sym, _∙_, subst}
+use mathlib.Core.Path.{_≡_, refl, sym, _∙_}
 use mathlib.Core.List.{List}
 use native.Mathlib.Omega.{arith}
 use lib.ListN.{length}
 use Rattle.delta.specs.declared.OpRead.the-variants.{Got}
-use Rattle.delta.specs.declared.Followed.the-variants.{Entered, Under}
-use Rattle.delta.specs.Places.{opAt, followAt}
+use Rattle.delta.specs.Places.{opAt}
 use Rattle.delta.proofs.Counted.{So-far, too-long, start, done, bad, fault, ends, on-new, on-under}
 use Rattle.delta.proofs.Following.{entered}
 use Rattle.take.proofs.Parts.{Gathering, gathering-first, gathering-entered, gathering-under, gathering-last, some-node, gathered-none, gathered}
