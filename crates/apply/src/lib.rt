@@ -15,7 +15,7 @@ ghost use Prim.Native.Nat.{_+_, _≤_};
 ghost use lib.ListN.{length};
 ghost use Rattle.fields.specs.Parts.{put};
 ghost use Rattle.rules.specs.Apply.{applyNode, applyEach, codes};
-ghost use Rattle.rules.specs.Layout.{nodeWidth, encodeNode, encode, decode, decodeNode, valid};
+ghost use Rattle.rules.specs.Layout.{encodeNode, encode, decode, decodeNode, valid};
 ghost use Rattle.rules.specs.Lent.{lentApply};
 ghost use Rattle.table.specs.Fits.{LaidNode};
 ghost use Rattle.take.specs.Taking.{Rising, recsFrom, partsFrom, deltaOf, partAt};

@@ -50,7 +50,7 @@ pub enum Followed {
 }
 
 // The longest delta, and the most nodes in it.
-const LONGEST: usize = 16384;
+pub const LONGEST: usize = 16384;
 
 const NODES: usize = 8;
 

@@ -43,9 +43,6 @@ pub struct Heads {
     pub max: [u64; 8],
 }
 
-// The longest delta.
-const LONGEST: usize = 16384;
-
 // ---- one record
 
 // A taken scheduled record starts at the receiver's clock.
@@ -240,7 +237,7 @@ fn refused(why: Refusal, at: usize) -> Heads
 pub fn read_heads(s: &[u8]) -> Heads
     ensures { λ r. ⌜ (r .read ≡ deltaRead (now (s .entry))) × Gathered (now (s .entry)) (r .at) (r .count) (r .max) ⌝ }
 {
-    if LONGEST < s.len() {
+    if delta::LONGEST < s.len() {
         return refused(Refusal::TooMany, 0);
     }
     let mut places = [0usize; 8];
