@@ -89,11 +89,11 @@ fn break_table(random: &mut Random, nodes: &[Node]) -> Option<Vec<u8>> {
         bytes
     };
     match random.below(16) {
-        0 => Some(set(&nodes, 0, random.within(9, 255) as u8)),
-        1 => nodes.get(at).map(|_| set(&nodes, node_start + NODE_HEAD_BYTES - 1, random.within(33, 255) as u8)),
-        2 => has_record(&nodes, at).then(|| set(&nodes, record_start, random.within(33, 255) as u8)),
-        3 => has_record(&nodes, at).then(|| set(&nodes, record_start + 1 + KEY, random.within(65, 255) as u8)),
-        4 => has_record(&nodes, at).then(|| set(&nodes, record_start + RECORD_BYTES - 9, random.within(3, 255) as u8)),
+        0 => Some(set(&nodes, 0, over(random, 9))),
+        1 => nodes.get(at).map(|_| set(&nodes, node_start + NODE_HEAD_BYTES - 1, over(random, 33))),
+        2 => has_record(&nodes, at).then(|| set(&nodes, record_start, over(random, 33))),
+        3 => has_record(&nodes, at).then(|| set(&nodes, record_start + 1 + KEY, over(random, 65))),
+        4 => has_record(&nodes, at).then(|| set(&nodes, record_start + RECORD_BYTES - 9, over(random, 3))),
         5 => {
             nodes.get_mut(at)?.records.get_mut(record_at)?.version = 0;
             Some(table::encode(&nodes))
@@ -129,16 +129,14 @@ fn break_table(random: &mut Random, nodes: &[Node]) -> Option<Vec<u8>> {
         12 => {
             let mut bytes = table::encode(&nodes);
             let used = 1 + nodes.len() * NODE_BYTES;
-            let place = used + random.place((TABLE_BYTES - used).max(1));
-            *bytes.get_mut(place)? = random.within(1, 255) as u8;
+            soil(random, bytes.get_mut(used..)?)?;
             Some(bytes)
         }
         13 => {
             let mut bytes = table::encode(&nodes);
             let records = nodes.get(at)?.records.len();
             let used = node_start + NODE_HEAD_BYTES + records * RECORD_BYTES;
-            let free = node_start + NODE_BYTES - used;
-            (free > 0).then(|| bytes[used + random.place(free)] = random.within(1, 255) as u8)?;
+            soil(random, &mut bytes[used..node_start + NODE_BYTES])?;
             Some(bytes)
         }
         14 => {
@@ -159,6 +157,21 @@ fn break_table(random: &mut Random, nodes: &[Node]) -> Option<Vec<u8>> {
             Some(bytes)
         }
     }
+}
+
+/// A byte that is too large: often by one.
+fn over(random: &mut Random, least: u64) -> u8 {
+    (if random.once_in(2) { least } else { random.within(least, 255) }) as u8
+}
+
+/// One byte of what should be zero, or the same one twice.
+fn soil(random: &mut Random, unused: &mut [u8]) -> Option<()> {
+    let dirt = random.within(1, 255) as u8;
+    for _ in 0..random.within(1, 2) {
+        let place = (!unused.is_empty()).then(|| random.place(unused.len()))?;
+        unused[place] = dirt;
+    }
+    Some(())
 }
 
 fn has_record(nodes: &[Node], at: usize) -> bool {
