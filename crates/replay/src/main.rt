@@ -10,6 +10,7 @@ mod verbs;
 use desk::Desk;
 use libc::STDOUT_FILENO;
 use lines::Source;
+use peer_calls::Kept;
 use words::print;
 use words::read;
 use words::read::Count;
@@ -44,7 +45,11 @@ fn bytes_call(
         verbs::READ_DELTA => desk.with_out(peer_calls::read_delta(bytes, out, at)),
         verbs::APPLY => desk.with_out(peer_calls::apply(t, bytes, line, out, at)),
         _ => {
-            let kept = peer_calls::compute(t, bytes, line, datagram, delta, desk.delta, out, at);
+            let held = Kept {
+                at,
+                len: desk.delta,
+            };
+            let kept = peer_calls::compute(t, bytes, line, datagram, delta, held, out);
             let mut d = desk.with_out(kept.at);
             d.delta = kept.len;
             d
@@ -60,7 +65,11 @@ fn digest_call(
     line: &[u8],
     out: &mut [u8],
 ) -> Desk {
-    let kept = peer_calls::digest(t, line, datagram, digest, desk.digest, out, desk.out);
+    let held = Kept {
+        at: desk.out,
+        len: desk.digest,
+    };
+    let kept = peer_calls::digest(t, line, datagram, digest, held, out);
     let mut d = desk.with_out(kept.at);
     d.digest = kept.len;
     d

@@ -18,10 +18,17 @@ ghost use lib.ListN.{length};
 // The most numbers of a list, and the most answer places of applying.
 const LIST: usize = 16;
 
-// The place behind the answer, and how many bytes `@digest` or `@delta` stands for from now on.
+// The place behind the output so far, and how many bytes `@digest` or `@delta` stands for.
 pub struct Kept {
     pub at: usize,
     pub len: usize,
+}
+
+impl Kept {
+    // More is told; what is kept stays.
+    fn told(self, at: usize) -> Self {
+        Kept { at, len: self.len }
+    }
 }
 
 // ---- lent memory
@@ -156,43 +163,23 @@ pub fn apply(t: &mut [u8], bytes: &[u8], line: &[u8], out: &mut [u8], at: usize)
 // ---- writing a digest
 
 // A digest was written from `place` to `e`: the whole datagram is told, and the digest is kept.
-fn keep_digest(
-    d: &[u8],
-    place: usize,
-    e: usize,
-    kept: &mut [u8],
-    held: usize,
-    out: &mut [u8],
-    at: usize,
-) -> Kept {
+fn keep_digest(d: &[u8], place: usize, e: usize, kept: &mut [u8], k: Kept, out: &mut [u8]) -> Kept {
     if is_left(d, place, e) {
         let Count::Is(len) = read::copy(part(d, place, e), kept) else {
-            return Kept { at, len: held };
+            return k;
         };
-        let next = tell::named(out, at, b"bytes ", d);
-        return Kept { at: next, len };
+        let at = tell::named(out, k.at, b"bytes ", d);
+        return Kept { at, len };
     }
-    let next = tell::touched(out, at);
-    Kept {
-        at: next,
-        len: held,
-    }
+    k.told(tell::touched(out, k.at))
 }
 
 // A refused call must have left the whole datagram.
-fn refuse(r: Refusal, d: &[u8], held: usize, out: &mut [u8], at: usize) -> Kept {
+fn refuse(r: Refusal, d: &[u8], k: Kept, out: &mut [u8]) -> Kept {
     if tell::is_marked(d) {
-        let next = tell::refused(out, at, r);
-        return Kept {
-            at: next,
-            len: held,
-        };
+        return k.told(tell::refused(out, k.at, r));
     }
-    let next = tell::touched(out, at);
-    Kept {
-        at: next,
-        len: held,
-    }
+    k.told(tell::touched(out, k.at))
 }
 
 fn digest_into(
@@ -201,36 +188,46 @@ fn digest_into(
     place: usize,
     d: &mut [u8],
     kept: &mut [u8],
-    held: usize,
+    k: Kept,
     out: &mut [u8],
-    at: usize,
 ) -> Kept {
     mark(d);
     let written = digestwrite::write_digest(t, excluded, d, place);
     match written {
-        Written::Bytes(n) => keep_digest(d, place, end_of(place, n), kept, held, out, at),
-        Written::Refused(r) => refuse(r, d, held, out, at),
+        Written::Bytes(n) => keep_digest(d, place, end_of(place, n), kept, k, out),
+        Written::Refused(r) => refuse(r, d, k, out),
     }
 }
 
-// A datagram of `len` marked bytes.
+// A datagram of as many bytes as the last word says.
 fn digest_in(
     t: &[u8],
     excluded: &[u64],
-    place: u64,
-    len: u64,
+    line: &[u8],
     datagram: &mut [u8],
     kept: &mut [u8],
-    held: usize,
+    k: Kept,
     out: &mut [u8],
-    at: usize,
 ) -> Kept {
-    let p = place as usize;
+    let Numeral::Is(place) = read::number(read::word(line, 2)) else {
+        return k;
+    };
+    let Numeral::Is(len) = read::number(read::word(line, 3)) else {
+        return k;
+    };
     let n = len as usize;
     if datagram.len() < n {
-        return Kept { at, len: held };
+        return k;
     }
-    digest_into(t, excluded, p, &mut datagram[..n], kept, held, out, at)
+    digest_into(
+        t,
+        excluded,
+        place as usize,
+        &mut datagram[..n],
+        kept,
+        k,
+        out,
+    )
 }
 
 pub fn digest(
@@ -238,61 +235,47 @@ pub fn digest(
     line: &[u8],
     datagram: &mut [u8],
     kept: &mut [u8],
-    held: usize,
+    k: Kept,
     out: &mut [u8],
-    at: usize,
 ) -> Kept {
     let mut excluded = [0u64; LIST];
     let Count::Is(n) = read::numbers(read::word(line, 1), &mut excluded) else {
-        return Kept { at, len: held };
-    };
-    let Numeral::Is(place) = read::number(read::word(line, 2)) else {
-        return Kept { at, len: held };
-    };
-    let Numeral::Is(len) = read::number(read::word(line, 3)) else {
-        return Kept { at, len: held };
+        return k;
     };
     digest_in(
         t,
         read::front_numbers(&excluded, n),
-        place,
-        len,
+        line,
         datagram,
         kept,
-        held,
+        k,
         out,
-        at,
     )
 }
 
 // ---- computing
 
-// A delta of `ops` operations was written from `place` to `e`: it is told and kept.
+// A delta of `ops` operations and `bytes` bytes was written from `place` on: it is told and kept.
 fn keep_delta(
     d: &[u8],
     ops: usize,
     place: usize,
     bytes: usize,
     kept: &mut [u8],
-    held: usize,
+    k: Kept,
     out: &mut [u8],
-    at: usize,
 ) -> Kept {
     let e = end_of(place, bytes);
     if is_left(d, place, e) {
         let Count::Is(len) = read::copy(part(d, place, e), kept) else {
-            return Kept { at, len: held };
+            return k;
         };
-        let mut next = tell::numbered(out, at, b"ops=", ops);
-        next = tell::numbered(out, next, b" bytes=", bytes);
-        next = tell::named(out, next, b" ", part(d, place, e));
-        return Kept { at: next, len };
+        let mut at = tell::numbered(out, k.at, b"ops=", ops);
+        at = tell::numbered(out, at, b" bytes=", bytes);
+        at = tell::named(out, at, b" ", part(d, place, e));
+        return Kept { at, len };
     }
-    let next = tell::touched(out, at);
-    Kept {
-        at: next,
-        len: held,
-    }
+    k.told(tell::touched(out, k.at))
 }
 
 fn compute_into(
@@ -304,19 +287,18 @@ fn compute_into(
     place: usize,
     d: &mut [u8],
     kept: &mut [u8],
-    held: usize,
+    k: Kept,
     out: &mut [u8],
-    at: usize,
 ) -> Kept {
     mark(d);
     let computed = compute::compute(t, digest, mtu, excluded, ties, d, place);
     match computed {
-        Computed::Delta { ops, bytes } => keep_delta(d, ops, place, bytes, kept, held, out, at),
-        Computed::Refused(r) => refuse(r, d, held, out, at),
+        Computed::Delta { ops, bytes } => keep_delta(d, ops, place, bytes, kept, k, out),
+        Computed::Refused(r) => refuse(r, d, k, out),
     }
 }
 
-// A datagram of `len` marked bytes; the last three words are the MTU's, the place's and the length's.
+// The MTU, the place, and a datagram of as many bytes as the last word says.
 fn compute_in(
     t: &[u8],
     digest: &[u8],
@@ -325,37 +307,33 @@ fn compute_in(
     line: &[u8],
     datagram: &mut [u8],
     kept: &mut [u8],
-    held: usize,
+    k: Kept,
     out: &mut [u8],
-    at: usize,
 ) -> Kept {
     let Numeral::Is(mtu) = read::number(read::word(line, 2)) else {
-        return Kept { at, len: held };
+        return k;
     };
     let Numeral::Is(place) = read::number(read::word(line, 5)) else {
-        return Kept { at, len: held };
+        return k;
     };
     let Numeral::Is(len) = read::number(read::word(line, 6)) else {
-        return Kept { at, len: held };
+        return k;
     };
-    let m = mtu as usize;
-    let p = place as usize;
     let n = len as usize;
     if datagram.len() < n {
-        return Kept { at, len: held };
+        return k;
     }
     compute_into(
         t,
         digest,
-        m,
+        mtu as usize,
         excluded,
         ties,
-        p,
+        place as usize,
         &mut datagram[..n],
         kept,
-        held,
+        k,
         out,
-        at,
     )
 }
 
@@ -365,17 +343,16 @@ pub fn compute(
     line: &[u8],
     datagram: &mut [u8],
     kept: &mut [u8],
-    held: usize,
+    k: Kept,
     out: &mut [u8],
-    at: usize,
 ) -> Kept {
     let mut excluded = [0u64; LIST];
     let Count::Is(e) = read::numbers(read::word(line, 3), &mut excluded) else {
-        return Kept { at, len: held };
+        return k;
     };
     let mut ties = [0u64; LIST];
     let Count::Is(n) = read::numbers(read::word(line, 4), &mut ties) else {
-        return Kept { at, len: held };
+        return k;
     };
     compute_in(
         t,
@@ -385,8 +362,7 @@ pub fn compute(
         line,
         datagram,
         kept,
-        held,
+        k,
         out,
-        at,
     )
 }
