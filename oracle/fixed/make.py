@@ -11,7 +11,7 @@ from pathlib import Path
 
 HERE = Path(__file__).resolve().parent
 TOP = 2**64 - 1
-NODE, RECORD, TABLE = 3713, 115, 29705
+NODE, TABLE = 3713, 29705
 CALLS = ("add 7", "remove 7", "set 7 x61 x31", "setttl 7 x61 x31 5", "delete 7 x61 5", "deletettl 7 x61 5", "offer 7 3", "beat 7",
          "get 7 x61", "list 7 x 32", "gc 9 1", "digest - 0 258", "compute x0000 100 - 0 0 100", "apply x 5 8")
 

@@ -15,10 +15,10 @@ use words::print;
 use words::read;
 use words::read::Count;
 
-// Room for output: what is there is written once it is half full, and no answer is longer than the other half.
+// Room for output. It is written once it holds ENOUGH; the longest answer, a digest in the longest datagram, has 65,555 bytes and fits behind.
 const OUT: usize = 131072;
 
-const HALF: usize = 65536;
+const ENOUGH: usize = 65000;
 
 // The longest digest and the longest delta.
 const DIGEST: usize = 258;
@@ -191,9 +191,9 @@ fn write_out(desk: Desk, out: &[u8; OUT]) -> Desk {
     desk.with_out(0)
 }
 
-// Writes the output once it is half full.
+// Writes the output once there is enough of it.
 fn flushed(desk: Desk, out: &[u8; OUT]) -> Desk {
-    if desk.out < HALF {
+    if desk.out < ENOUGH {
         return desk;
     }
     write_out(desk, out)
