@@ -65,10 +65,10 @@ fn end_of(place: usize, n: usize) -> usize {
 
 // A byte string: written out, or what was last written by `digest` or `compute`.
 pub fn bytes_of(word: &[u8], digest: &[u8], delta: &[u8], given: &mut [u8]) -> Count {
-    if read::same(word, b"@digest") {
+    if fields::same(word, b"@digest") {
         return read::copy(digest, given);
     }
-    if read::same(word, b"@delta") {
+    if fields::same(word, b"@delta") {
         return read::copy(delta, given);
     }
     read::bytes(word, given)

@@ -1,6 +1,9 @@
 // Taking a line apart.
-ghost use Prim.Native.Nat.{_≤_, _<_};
-ghost use lib.ListN.{length};
+ghost use mathlib.Core.Path.{_≡_};
+ghost use mathlib.Core.List.{[]};
+ghost use Prim.Native.Nat.{_+_, _*_, _≤_, _<_};
+ghost use lib.ListN.{length, getD, take, drop};
+ghost use Rattle.words.specs.Reading.{pieces, wordsOf, placeIn, withDigit, numeralOf, counted, stored};
 
 // The largest number.
 const MOST: u64 = 18446744073709551615;
@@ -20,7 +23,7 @@ pub enum Count {
 // The place of the first `b` from `at` on, or the end.
 fn end_of(s: &[u8], at: usize, b: u8) -> usize
     requires { ⌜ at ≤ length (now s) ⌝ }
-    ensures { λ r. ⌜ (at ≤ r) × (r ≤ length (now (s .entry))) ⌝ }
+    ensures { λ r. ⌜ (r ≡ at + length (getD (pieces b (drop at (now (s .entry)))) 0 [])) × (r ≤ length (now (s .entry))) ⌝ }
 {
     let mut i = at;
     while i < s.len() {
@@ -32,55 +35,72 @@ fn end_of(s: &[u8], at: usize, b: u8) -> usize
     i
 }
 
-// How many words the line has: what stands between single spaces. Two spaces have an empty word between them, and so has an empty line.
-pub fn words_of(line: &[u8]) -> usize {
-    let mut n: usize = 0;
+// How many pieces stand between the bytes `b`.
+fn pieces_of(s: &[u8], b: u8) -> usize
+    ensures { λ r. ⌜ r ≡ length (pieces b (now (s .entry))) ⌝ }
+{
+    let mut n: usize = 1;
     let mut i = 0;
-    while i < line.len() {
-        if line[i] == b' ' {
+    while i < s.len() {
+        if s[i] == b {
             n += 1;
         }
         i += 1;
     }
-    n + 1
+    n
 }
 
-// Word k of the line; an empty one where there is none.
-pub fn word(line: &[u8], k: usize) -> &[u8] {
+// Piece k between the bytes `b`; an empty one where there is none.
+fn piece(s: &[u8], b: u8, k: usize) -> &[u8]
+    ensures { λ r. ⌜ now r ≡ getD (pieces b (now (s .entry))) k [] ⌝ }
+{
     let mut at: usize = 0;
     let mut i: usize = 0;
     while i < k {
-        let e = end_of(line, at, b' ');
-        if e == line.len() {
-            return &line[..0];
+        let e = end_of(s, at, b);
+        if e == s.len() {
+            return &s[..0];
         }
         at = e + 1;
         i += 1;
     }
-    let end = end_of(line, at, b' ');
-    &line[at..end]
+    let end = end_of(s, at, b);
+    &s[at..end]
+}
+
+// How many words the line has: what stands between single spaces. Two spaces have an empty word between them, and so has an empty line.
+pub fn words_of(line: &[u8]) -> usize
+    ensures { λ r. ⌜ r ≡ length (wordsOf (now (line .entry))) ⌝ }
+{
+    pieces_of(line, b' ')
+}
+
+// Word k of the line; an empty one where there is none.
+pub fn word(line: &[u8], k: usize) -> &[u8]
+    ensures { λ r. ⌜ now r ≡ getD (wordsOf (now (line .entry))) k [] ⌝ }
+{
+    piece(line, b' ', k)
 }
 
 // Which of the names the word is; as many as there are names where it is none of them.
-pub fn place_of(names: &[u8], w: &[u8]) -> usize {
-    let mut at: usize = 0;
+pub fn place_of(names: &[u8], w: &[u8]) -> usize
+    ensures { λ r. ⌜ r ≡ placeIn (now (w .entry)) (wordsOf (now (names .entry))) ⌝ }
+{
+    let n = words_of(names);
     let mut k: usize = 0;
-    while at < names.len() {
-        let e = end_of(names, at, b' ');
-        if same(&names[at..e], w) {
+    while k < n {
+        if fields::same(word(names, k), w) {
             return k;
         }
         k += 1;
-        if e == names.len() {
-            return k;
-        }
-        at = e + 1;
     }
     k
 }
 
 // The first `n` bytes; all of them where there are fewer.
-pub fn front(s: &[u8], n: usize) -> &[u8] {
+pub fn front(s: &[u8], n: usize) -> &[u8]
+    ensures { λ r. ⌜ now r ≡ take n (now (s .entry)) ⌝ }
+{
     if s.len() < n {
         return s;
     }
@@ -88,7 +108,9 @@ pub fn front(s: &[u8], n: usize) -> &[u8] {
 }
 
 // The bytes behind the first `n`; none where there are fewer.
-pub fn behind(s: &[u8], n: usize) -> &[u8] {
+pub fn behind(s: &[u8], n: usize) -> &[u8]
+    ensures { λ r. ⌜ now r ≡ drop n (now (s .entry)) ⌝ }
+{
     if s.len() < n {
         return &s[..0];
     }
@@ -96,37 +118,26 @@ pub fn behind(s: &[u8], n: usize) -> &[u8] {
 }
 
 // The first `n` numbers; all of them where there are fewer.
-pub fn front_numbers(s: &[u64], n: usize) -> &[u64] {
+pub fn front_numbers(s: &[u64], n: usize) -> &[u64]
+    ensures { λ r. ⌜ now r ≡ take n (now (s .entry)) ⌝ }
+{
     if s.len() < n {
         return s;
     }
     &s[..n]
 }
 
-// Whether the two are the same bytes.
-pub fn same(a: &[u8], b: &[u8]) -> bool {
-    if a.len() != b.len() {
-        return false;
-    }
-    let mut i = 0;
-    while i < a.len() {
-        if a[i] != b[i] {
-            return false;
-        }
-        i += 1;
-    }
-    true
-}
-
 // A byte as a number.
 fn wide(b: u8) -> u64
-    ensures { λ r. ⌜ r < 256 ⌝ }
+    ensures { λ r. ⌜ (r ≡ b) × (r < 256) ⌝ }
 {
     b as u64
 }
 
 // The number with one decimal digit more.
-fn with_digit(v: u64, b: u8) -> Numeral {
+fn with_digit(v: u64, b: u8) -> Numeral
+    ensures { λ r. ⌜ r ≡ withDigit v b ⌝ }
+{
     let d = wide(b);
     if d < 48 {
         return Numeral::Not;
@@ -135,20 +146,16 @@ fn with_digit(v: u64, b: u8) -> Numeral {
         return Numeral::Not;
     }
     let low = d - 48;
-    if v < MOST / 10 {
-        return Numeral::Is(v * 10 + low);
-    }
-    if MOST / 10 < v {
-        return Numeral::Not;
-    }
-    if MOST % 10 < low {
+    if (MOST - low) / 10 < v {
         return Numeral::Not;
     }
     Numeral::Is(v * 10 + low)
 }
 
 // The number that the word writes in decimal digits.
-pub fn number(w: &[u8]) -> Numeral {
+pub fn number(w: &[u8]) -> Numeral
+    ensures { λ r. ⌜ r ≡ numeralOf (now (w .entry)) ⌝ }
+{
     if w.len() == 0 {
         return Numeral::Not;
     }
@@ -228,7 +235,7 @@ pub fn bytes(w: &[u8], out: &mut [u8]) -> Count {
 
 // The numbers that the word lists with commas, to the front of the lent ones; `-` is the empty list.
 pub fn numbers(w: &[u8], out: &mut [u64]) -> Count {
-    if same(w, b"-") {
+    if fields::same(w, b"-") {
         return Count::Is(0);
     }
     let mut at: usize = 0;
@@ -249,14 +256,12 @@ pub fn numbers(w: &[u8], out: &mut [u64]) -> Count {
 }
 
 // All of `src`, to the front of the lent bytes. Where there is no room for them, it counts as none.
-pub fn copy(src: &[u8], out: &mut [u8]) -> Count {
+pub fn copy(src: &[u8], out: &mut [u8]) -> Count
+    ensures { λ r. ⌜ (r ≡ counted (now (src .entry)) (now (out .entry))) × (now (out .exit) ≡ stored (now (src .entry)) (now (out .entry))) ⌝ }
+{
     if out.len() < src.len() {
         return Count::Not;
     }
-    let mut i = 0;
-    while i < src.len() {
-        out[i] = src[i];
-        i += 1;
-    }
-    Count::Is(i)
+    fields::copy_to(out, 0, src);
+    Count::Is(src.len())
 }

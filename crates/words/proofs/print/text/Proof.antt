@@ -1,52 +1,37 @@
--- `words::print::text` is safe and ends. Assumes nothing.
-use mathlib.Core.Path.{_≡_}
-use Prim.Native.Nat.{_≤_, _-_}
+-- `words::print::text` meets its contract. Assumes nothing.
+use Prim.Native.Nat.{_+_, _≤_}
+use mathlib.Core.Path.{refl, sym, _∙_}
+use native.Mathlib.Omega.{arith}
 use lib.ListN.{length}
+use borrow.Author.Tests.{leb-true, leb-false}
+use Rattle.words.proofs.Said.{said, unsaid}
 use borrow.Author.Needs.{needs}
 use Rattle.words.proofs.print.text.Statement.{statement}
 use Rattle.words.proofs.print.text.Tie as tie
 
-abbrev Inv-loop : tie.InvT-loop
-Inv-loop out₀ at text next₀ i₀ out next i = (i ≤ length text) × (length out ≡ length out₀)
+has-room-requires : tie.Need-has-room-requires
+has-room-requires c κs = search needs
 
-abbrev μ-loop : tie.MeasureT-loop
-μ-loop out₀ at text next₀ i₀ out next i = length text - i
+add-end : tie.Need-add-end
+add-end c =
+    let a = c .before .before .before .before .args in
+    let room : a .at + length (a .text .now) ≤ length (a .out .now) = leb-true _ _ (sym (c .before .has-room .ensures) ∙ c .if1 .taken) in
+    search (needs, room)
 
-loop-holds : tie.Need-loop-holds Inv-loop μ-loop
-loop-holds c = search needs
+copy-to-requires : tie.Need-copy-to-requires
+copy-to-requires c κs = leb-true _ _ (sym (c .before .before .has-room .ensures) ∙ c .before .if1 .taken)
 
-shared-slice-read-byte : tie.Need-shared-slice-read-byte Inv-loop μ-loop
-shared-slice-read-byte c = search needs
-
-byte-requires : tie.Need-byte-requires Inv-loop μ-loop
-byte-requires c κs = search needs
-
-add-i : tie.Need-add-i Inv-loop μ-loop
-add-i c = search needs
-
-loop-less : tie.Need-loop-less Inv-loop μ-loop
-loop-less c = search needs
-
-loop-again : tie.Need-loop-again Inv-loop μ-loop
-loop-again c = search needs
-
-same-length : tie.Need-same-length Inv-loop μ-loop
+same-length : tie.Need-same-length
 same-length c = search needs
 
-returns : tie.Need-returns Inv-loop μ-loop
-returns c = search needs
+returns : tie.Need-returns
+returns c =
+    let asked = c .before .before .before .before in
+    let room = leb-true _ _ (sym (asked .before .has-room .ensures) ∙ asked .if1 .taken) in
+    said _ _ _ _ _ room refl (c .before .before .copy-to .ensures)
+
+returns-2 : tie.Need-returns-2
+returns-2 c = unsaid _ _ _ (leb-false _ _ (sym (c .before .has-room .ensures) ∙ c .if1 .left))
 
 pub text-spec : {M : Type 1} → statement M
-text-spec =
-    tie.close
-    (tie.spec
-    Inv-loop
-    μ-loop
-    loop-holds
-    shared-slice-read-byte
-    byte-requires
-    add-i
-    loop-less
-    loop-again
-    same-length
-    returns)
+text-spec = tie.close (tie.spec has-room-requires add-end copy-to-requires same-length returns returns-2)

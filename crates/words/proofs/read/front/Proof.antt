@@ -1,13 +1,15 @@
--- `words::read::front` is safe and ends. Assumes nothing.
+-- `words::read::front` meets its contract. Assumes nothing.
 use mathlib.Core.Path.{sym}
 use native.Mathlib.Omega.{arith}
-use lib.Seq.{length-take-le}
+use lib.Seq.{length-take-le, take-all}
 use borrow.Author.Needs.{needs}
 use Rattle.words.proofs.read.front.Statement.{statement}
 use Rattle.words.proofs.read.front.Tie as tie
 
 returns : tie.Need-returns
-returns c = search needs
+returns c =
+    let a = c .before .args in
+    sym (take-all (a .n) (a .s .now) (omega arith))
 
 slice-aggregate-result : tie.Need-slice-aggregate-result
 slice-aggregate-result c = sym (length-take-le _ _ (omega arith))

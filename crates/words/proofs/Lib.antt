@@ -1,0 +1,3 @@
+pub mod Said
+pub mod Pieces
+pub mod Stored
