@@ -1,5 +1,5 @@
 -- A contract that gives the answer and the lent memory afterwards as equations with a definition admits one outcome: no second one meets it.
--- Every public contract has this form, with one, two or three pieces of memory. Assumes nothing.
+-- Every public contract has this form, with so many pieces of memory as the call is lent to change. Assumes nothing.
 use mathlib.Core.Path.{_∙_, _≡_, sym}
 
 pub one-answer : {A : Type 0} (f : A) {a b : A} → a ≡ f → b ≡ f → a ≡ b

@@ -236,7 +236,7 @@ pub enum Listed {
     Refused(Refusal),
 }
 
-// The answer of digest writing: how many bytes it wrote.
+// The answer of digest writing and of the listing of a delta: how many bytes were written.
 pub enum Written {
     Bytes(usize),
     Refused(Refusal),
