@@ -326,6 +326,8 @@ def delta_lengths():
     yield "add 3"
     yield f"apply {x(bytes([7]) + longest)} 5 0"
     yield f"apply {x(longest)} 5 7"
+    yield f"readdelta {x(bytes([7]) + longest)}"
+    yield f"readdelta {x(longest)}"
 
 
 def asking():

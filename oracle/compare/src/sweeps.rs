@@ -6,13 +6,14 @@ use script::table::{self, Node, RECORDS, Record, SET};
 use crate::damage::texts_are_utf8;
 use crate::pieces::{Op, delta, digest};
 
-const SWEEPS: [(&str, fn() -> Vec<String>); 13] = [
+const SWEEPS: [(&str, fn() -> Vec<String>); 14] = [
     ("bench", bench),
     ("writes", writes),
     ("verdicts", verdicts),
     ("taking", taking),
     ("room", room),
     ("from", from),
+    ("late", late),
     ("cuts", cuts),
     ("brim", brim),
     ("exchanges", exchanges),
@@ -191,6 +192,17 @@ fn from() -> Vec<String> {
             let digest = hex(&digest(&[[1, 0, pair / 6, pair % 6]]));
             lines.push(format!("compute {digest} 100 - 0 0 100"));
         }
+    }
+    lines
+}
+
+/// Records whose start has one bit, gone at the very moment: no byte of them may stay behind.
+fn late() -> Vec<String> {
+    let mut lines = Vec::new();
+    for start in (0..64).map(|bit| 1u64 << bit) {
+        lines.extend(["new".into(), "add 1".into(), "set 1 x61 x76".into(), "set 1 x62 x77".into()]);
+        lines.extend([format!("setttl 1 x63 x78 {start}"), format!("delete 1 x62 {start}")]);
+        lines.extend([format!("gc {} 0", start - 1), format!("gc {start} 0")]);
     }
     lines
 }
