@@ -1,5 +1,6 @@
-// The calls that the measurement and a foreign caller link, as C functions: a slice is a pointer and a length. Each is one call of a crate below and
-// tells its answer as one number. A `_good` function asks for a table that `kev_check` accepts, and nobody checks a foreign caller.
+// The calls that are measured beside the original, as C functions: a slice is a pointer and a length. Each is one call of a crate below and tells one
+// number of its answer. They are for measuring: where that number is a count, a refusal is told as 0 too, so a hub calls the crates below. A `_good`
+// function asks for a table that `kev_check` accepts, and nobody checks a foreign caller.
 use digest::DigestRead;
 use lookup::Found;
 use rules::Answer;

@@ -51,7 +51,7 @@ unfoldable pub numeralOf : List ℕ → Numeral
 numeralOf [] = numeral.Not
 numeralOf (b ∷ l) = digitsFrom 0 (b ∷ l)
 
--- what stored the list at the front of a lent one answers, and leaves
+-- storing a list at the front of a lent one: the answer, and what is left there
 abbrev pub counted : List ℕ → List ℕ → Count
 counted vs l = pick (leb (length vs) (length l)) (count.Is (length vs)) count.Not
 
