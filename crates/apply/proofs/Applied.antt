@@ -41,23 +41,23 @@ use Rattle.rules.proofs.Obeys.{OkTable, table-facts, facts-table}
 use Rattle.rules.proofs.Received.{OkDelta, parts-ok}
 use Rattle.rules.proofs.Deltas.{delta-is}
 use Rattle.rules.proofs.Calls.{ok-each}
-use Rattle.delta.specs.Plain.{opsFrom}
-use Rattle.delta.proofs.Plain.{good-plain}
+use Rattle.delta_read.specs.Plain.{opsFrom}
+use Rattle.delta_read.proofs.Plain.{good-plain}
 use Rattle.table.specs.Fits.{FitsEntry, LaidNode}
 use Rattle.table.specs.Changes.{withNode, withMax, withGc, withRecs, freshEntry}
 use Rattle.table.specs.Tests.{countOf, recsOf}
 use Rattle.table.proofs.Nodes.{length-node, laid-node, decode-encode-node}
 use Rattle.table.proofs.Changed.{fresh-bytes}
 use Rattle.table.proofs.Places.{nodePlace, nodeBytes, nodeAt, length-recs}
-use Rattle.place.specs.Find.{findNode, headerOf}
-use Rattle.place.specs.declared.Place.the-variants.{At, Free}
-use Rattle.place.proofs.Searched.{node-in, node-found, node-missing, node-laid, node-rises}
-use Rattle.place.proofs.Placed.{node-changed}
+use Rattle.table_read.specs.Find.{findNode, headerOf}
+use Rattle.table_read.specs.declared.Place.the-variants.{At, Free}
+use Rattle.table_read.proofs.Searched.{node-in, node-found, node-missing, node-laid, node-rises}
+use Rattle.table_read.proofs.Placed.{node-changed}
 use Rattle.rules.specs.declared.Header.{Header}
 use Rattle.table.proofs.Tables.{length-table, decode-encode, valid-encode, encode-decode, valid-obeys, valid-long, valid-few}
-use Rattle.take.specs.declared.Heads.{Heads}
-use Rattle.take.specs.Taking.{hasRoom, Rising, Tried, recsFrom, partsFrom, deltaOf, noPart, Gathered}
-use Rattle.take.proofs.Taken.{takes-few}
+use Rattle.apply_node.specs.declared.Heads.{Heads}
+use Rattle.apply_node.specs.Taking.{hasRoom, Rising, Tried, recsFrom, partsFrom, deltaOf, noPart, Gathered}
+use Rattle.apply_node.proofs.Taken.{takes-few}
 use Rattle.apply.specs.Applying.{emptied, begun, grown, Grown, Stored, rejects, resets, answerAs, Answered, partAnswer, partTable, Turned, Accepted, Told}
 
 -- ---- a node

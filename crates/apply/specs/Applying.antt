@@ -17,8 +17,8 @@ use Rattle.rules.specs.declared.NodeAnswer.the-variants as node
 use Rattle.rules.specs.declared.DeltaStatus.{DeltaStatus}
 use Rattle.rules.specs.declared.DeltaStatus.the-variants.{Reject, Apply, ApplyAfterReset}
 use Rattle.table.specs.Changes.{withNode, withMax, withGc, withRecs, freshEntry}
-use Rattle.take.specs.Taking.{hasRoom, recsFrom, partsFrom, noPart, Head}
-use Rattle.take.specs.declared.Heads.{Heads}
+use Rattle.apply_node.specs.Taking.{hasRoom, recsFrom, partsFrom, noPart, Head}
+use Rattle.apply_node.specs.declared.Heads.{Heads}
 
 -- ---- a node
 

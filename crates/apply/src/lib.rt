@@ -1,6 +1,6 @@
 // Applying a delta to a lent table: each node delta in stream order, and one answer for each. Nothing is touched before the whole delta is known to be
 // good. A node is changed where it stands; where its records may be too many it is saved first and put back if they are, so that Room leaves it as it is.
-use place::Place;
+use apply_node::Heads;
 use rules::Applied;
 use rules::DeltaRead;
 use rules::DeltaStatus;
@@ -8,7 +8,7 @@ use rules::Header;
 use rules::NodeAnswer;
 use rules::Refusal;
 use table::layout;
-use take::Heads;
+use table_read::Place;
 ghost use mathlib.Core.Bool.{true};
 ghost use mathlib.Core.Path.{_≡_};
 ghost use Prim.Native.Nat.{_+_, _≤_};
@@ -18,7 +18,7 @@ ghost use Rattle.rules.specs.Apply.{applyNode, applyEach, codes};
 ghost use Rattle.rules.specs.Layout.{encodeNode, encode, decode, decodeNode, valid};
 ghost use Rattle.rules.specs.Lent.{lentApply};
 ghost use Rattle.table.specs.Fits.{LaidNode};
-ghost use Rattle.take.specs.Taking.{Rising, recsFrom, partsFrom, deltaOf, partAt};
+ghost use Rattle.apply_node.specs.Taking.{Rising, recsFrom, partsFrom, deltaOf, partAt};
 ghost use Rattle.apply.specs.Applying.{emptied, begun, grown, Grown, Stored, rejects, resets, answerAs, Answered, Turned, Accepted, Told};
 
 // ---- one node
@@ -31,7 +31,7 @@ fn reset(b: &mut [u8], gc: u64)
     let number = fields::read_u64(b, layout::NUMBER);
     fields::clear(b, 0, layout::NODE);
     fields::write_u64(b, layout::NUMBER, number);
-    change::set_last_gc(b, gc);
+    table_write::set_last_gc(b, gc);
 }
 
 // The node before the first record is taken: as it is, or after a reset.
@@ -51,9 +51,9 @@ fn grow(b: &mut [u8], s: &[u8], at: usize, afresh: bool, gc: u64, max: u64, cloc
     ensures { λ r. ⌜ Grown (grown clock (now (s .entry)) at max (begun afresh gc (decodeNode (now (b .entry))))) r (now (b .exit)) ⌝ }
 {
     begin(b, afresh, gc);
-    let own = place::read_header(b);
-    if take::take_records(b, s, at, own.max, own.last_gc, clock) {
-        change::set_max(b, max);
+    let own = table_read::read_header(b);
+    if apply_node::take_records(b, s, at, own.max, own.last_gc, clock) {
+        table_write::set_max(b, max);
         return true;
     }
     false
@@ -159,7 +159,7 @@ fn apply_node(
     requires { ⌜ Rising (now b) × (at ≤ length (now s)) × (length (recsFrom (now s) at) ≤ count) ⌝ }
     ensures { λ r. ⌜ Answered (applyNode clock (deltaOf (now (s .entry)) gc from max at) (decodeNode (now (b .entry)) .node)) (now (b .entry)) r (now (b .exit)) ⌝ }
 {
-    let own = place::read_header(b);
+    let own = table_read::read_header(b);
     let status = rules::check_delta_status(own.last_gc, own.max, from, gc, max);
     if is_reject(status) {
         return NodeAnswer::Reject;
@@ -178,7 +178,7 @@ fn apply_part(t: &mut [u8], s: &[u8], at: usize, count: usize, max: u64, clock: 
     let number = fields::read_u64(s, at + 1);
     let gc = fields::read_u64(s, at + 9);
     let from = fields::read_u64(s, at + 17);
-    match place::find_node(t, number) {
+    match table_read::find_node(t, number) {
         Place::At(i) => {
             let a = layout::NODES + i * layout::NODE;
             let e = a + layout::NODE;
@@ -209,7 +209,7 @@ pub fn apply_good(t: &mut [u8], s: &[u8], clock: u64, answers: &mut [u8])
     requires { ⌜ (valid (now t) ≡ true) × Accepted (now s) × (length (partsFrom (now s) 0) ≤ length (now answers)) ⌝ }
     ensures { λ _. ⌜ (now (t .exit) ≡ encode (applyEach (applyNode clock) (partsFrom (now (s .entry)) 0) (decode (now (t .entry))) .table)) × (now (answers .exit) ≡ put 0 (codes (applyEach (applyNode clock) (partsFrom (now (s .entry)) 0) (decode (now (t .entry))) .answers)) (now (answers .entry))) ⌝ }
 {
-    let heads = take::read_heads(s);
+    let heads = apply_node::read_heads(s);
     let read = heads.read;
     let DeltaRead::Good { ops: _, nodes } = read else {
         return;
@@ -222,8 +222,8 @@ pub fn apply_good(t: &mut [u8], s: &[u8], clock: u64, answers: &mut [u8])
 pub fn apply(table: &mut [u8], delta: &[u8], clock: u64, answers: &mut [u8]) -> Applied
     ensures { λ r. ⌜ (r ≡ lentApply (now (delta .entry)) clock (now (answers .entry)) (now (table .entry)) .answer) × (now (table .exit) ≡ lentApply (now (delta .entry)) clock (now (answers .entry)) (now (table .entry)) .bytes) × (now (answers .exit) ≡ lentApply (now (delta .entry)) clock (now (answers .entry)) (now (table .entry)) .list) ⌝ }
 {
-    if valid::check_table(table) {
-        let heads = take::read_heads(delta);
+    if table_check::check_table(table) {
+        let heads = apply_node::read_heads(delta);
         let read = heads.read;
         match read {
             DeltaRead::Refused { why, at } => Applied::Refused { why, at },

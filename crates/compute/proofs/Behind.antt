@@ -10,9 +10,9 @@ use Rattle.fields.specs.Choice.{pick}
 use Rattle.rules.specs.Table.{Table, among}
 use Rattle.rules.specs.Digest.{NodeDigest}
 use Rattle.rules.specs.Compute.{toldOf, fromOf}
-use Rattle.digest.specs.Held.{pairOf}
-use Rattle.digest.specs.declared.Pair.{Pair}
-use Rattle.line.specs.Line.{entryAt, goes}
+use Rattle.digest_read.specs.Held.{pairOf}
+use Rattle.digest_read.specs.declared.Pair.{Pair}
+use Rattle.compute_order.specs.Line.{entryAt, goes}
 use Rattle.compute.specs.Plan.{fromAt, stalenessOf}
 use Rattle.compute.specs.declared.Staleness.{Staleness}
 use Rattle.compute.specs.declared.Staleness.the-variants.{UpToDate, From}

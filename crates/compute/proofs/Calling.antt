@@ -25,7 +25,7 @@ use Rattle.rules.specs.Layout.{decode, valid}
 use Rattle.rules.specs.Lent.{fromTable, lentCompute}
 use Rattle.rules.proofs.Accepted.{cut-bytes}
 use Rattle.rules.specs.declared.Refusal.the-variants.{BadMtu, NoPlace, BadTies, BadTable}
-use Rattle.send.specs.declared.Sent.{Sent}
+use Rattle.compute_write.specs.declared.Sent.{Sent}
 use Rattle.rules.specs.declared.Computed.{Computed}
 use Rattle.rules.specs.declared.Computed.the-variants as computed
 use Rattle.compute.specs.Asking.{mtuFits, isFree, askedOf}

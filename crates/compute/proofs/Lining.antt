@@ -12,10 +12,10 @@ use Rattle.fields.proofs.Choice.{in-none}
 use Rattle.rules.specs.Table.{Table}
 use Rattle.rules.specs.Digest.{NodeDigest}
 use Rattle.rules.specs.Compute.{StaleNode, stale, staleOf, sooner}
-use Rattle.stale.specs.Arranged.{span, listed, insert, arranged}
-use Rattle.stale.proofs.Arranged.{insert-in, insert-agree, arranged-start, arranged-takes, arranged-leaves, arranged-in}
-use Rattle.line.specs.Line.{entryAt, Rank, rankOf, ahead, rankAt, aheadAt, staleAt, goes, soonerAt, lineOf}
-use Rattle.line.proofs.Lined.{ahead-is}
+use Rattle.compute_stale.specs.Arranged.{span, listed, insert, arranged}
+use Rattle.compute_stale.proofs.Arranged.{insert-in, insert-agree, arranged-start, arranged-takes, arranged-leaves, arranged-in}
+use Rattle.compute_order.specs.Line.{entryAt, Rank, rankOf, ahead, rankAt, aheadAt, staleAt, goes, soonerAt, lineOf}
+use Rattle.compute_order.proofs.Lined.{ahead-is}
 use Rattle.compute.specs.Plan.{fromAt, Planned}
 use Rattle.compute.specs.declared.Plan.{Plan}
 

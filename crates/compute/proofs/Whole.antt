@@ -11,11 +11,11 @@ use Rattle.rules.specs.Digest.{NodeDigest}
 use Rattle.rules.specs.Local.{Filled, fills}
 use Rattle.rules.specs.Delta.{Op, NodeOp, deltaBytes}
 use Rattle.rules.specs.Compute.{stale, bodyOps, allOps, cut, ordered, staleNodes, deltaFor}
-use Rattle.stale.specs.Arranged.{listed}
-use Rattle.line.specs.Line.{entryAt, staleAt, lineOf}
-use Rattle.line.proofs.Lined.{line-nodes, line-in}
-use Rattle.send.specs.Sending.{opsOfNode, opsAt, counts, behind, sending}
-use Rattle.send.specs.declared.Sent.{Sent}
+use Rattle.compute_stale.specs.Arranged.{listed}
+use Rattle.compute_order.specs.Line.{entryAt, staleAt, lineOf}
+use Rattle.compute_order.proofs.Lined.{line-nodes, line-in}
+use Rattle.compute_write.specs.Sending.{opsOfNode, opsAt, counts, behind, sending}
+use Rattle.compute_write.specs.declared.Sent.{Sent}
 use Rattle.compute.specs.Plan.{fromAt, Planned}
 use Rattle.compute.specs.declared.Plan.{Plan}
 

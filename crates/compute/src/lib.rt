@@ -1,10 +1,10 @@
 // Computing a delta for a digest that a peer sent: which nodes it is behind with, their line, and what fits of them under the MTU, written into the
 // lent datagram from a stated place on. Any table bytes, any digest bytes and any lists are an input.
-use digest::Digest;
-use digest::DigestRead;
+use compute_write::Sent;
+use digest_read::Digest;
+use digest_read::DigestRead;
 use rules::Computed;
 use rules::Refusal;
-use send::Sent;
 ghost use mathlib.Core.Path.{_≡_};
 ghost use mathlib.Core.Bool.{true};
 ghost use Prim.Native.Nat.{ℕ, _+_, _≤_, _<_};
@@ -15,7 +15,7 @@ ghost use Rattle.rules.specs.Compute.{fromOf, deltaFor, compute};
 ghost use Rattle.rules.specs.Layout.{decode, valid};
 ghost use Rattle.table.specs.Fits.{LaidTable};
 ghost use Rattle.table.specs.Tests.{nodesOf};
-ghost use Rattle.digest.specs.Held.{entriesIn};
+ghost use Rattle.digest_read.specs.Held.{entriesIn};
 ghost use Rattle.rules.specs.Lent.{lentCompute};
 ghost use Rattle.compute.specs.Asking.{mtuFits, isFree, askedOf};
 ghost use Rattle.compute.specs.Plan.{stalenessOf, Planned};
@@ -53,16 +53,16 @@ fn stale_from(s: &[u8], p: usize, d: Digest, excluded: &[u64]) -> Staleness
     requires { ⌜ LaidTable (now s) × (p < nodesOf (now s)) ⌝ }
     ensures { λ r. ⌜ r ≡ stalenessOf (now (excluded .entry)) (entriesIn d) (decode (now (s .entry))) p ⌝ }
 {
-    let number = line::number_at(s, p);
-    if digestwrite::is_excluded(excluded, number) {
+    let number = compute_order::number_at(s, p);
+    if digest_write::is_excluded(excluded, number) {
         return Staleness::UpToDate;
     }
-    let told = digest::told(d, number);
+    let told = digest_read::told(d, number);
     let max = told.max;
-    if line::max_at(s, p) <= max {
+    if compute_order::max_at(s, p) <= max {
         return Staleness::UpToDate;
     }
-    Staleness::From(from_of(line::last_gc_at(s, p), told.last_gc, max))
+    Staleness::From(from_of(compute_order::last_gc_at(s, p), told.last_gc, max))
 }
 
 // The line of the stale nodes.
@@ -79,8 +79,8 @@ fn line_up(s: &[u8], d: Digest, excluded: &[u64], ties: &[u64]) -> Plan
         i -= 1;
         if let Staleness::From(from) = stale_from(s, i, d, excluded) {
             froms[i] = from;
-            counts[i] = stale::count_stale(table::node_of(s, i), from) as u64;
-            line::queue(s, &froms, &counts, ties, &mut line, n, i);
+            counts[i] = compute_stale::count_stale(table::node_of(s, i), from) as u64;
+            compute_order::queue(s, &froms, &counts, ties, &mut line, n, i);
             n += 1;
         }
     }
@@ -102,7 +102,7 @@ pub fn write_delta(s: &[u8], d: Digest, excluded: &[u64], ties: &[u64], part: &m
     let p = line_up(s, d, excluded, ties);
     let line = p.line;
     let froms = p.froms;
-    send::send(s, &froms, &line, p.count, part)
+    compute_write::send(s, &froms, &line, p.count, part)
 }
 
 // Whether a call can go ahead, by its numbers alone.
@@ -177,7 +177,7 @@ pub fn compute_good(
     if let Asked::Refused(why) = asked {
         return Computed::Refused(why);
     }
-    let d = digest::read_digest(digest);
+    let d = digest_read::read_digest(digest);
     let read = d.read;
     match read {
         DigestRead::Nodes { count: _, rest: _ } => {
@@ -207,7 +207,7 @@ pub fn compute(
         × (now (datagram .exit)
         ≡ lentCompute (now (excluded .entry)) (now (ties .entry)) mtu place (now (digest .entry)) (now (datagram .entry)) (now (table .entry)) .list) ⌝ }
 {
-    if valid::check_table(table) {
+    if table_check::check_table(table) {
         return compute_good(table, digest, mtu, excluded, ties, datagram, place);
     }
     Computed::Refused(Refusal::BadTable)

@@ -82,7 +82,7 @@ pub fn exchange(
         (now (delta .exit))
         (now (answers .exit)) ⌝ }
 {
-    let written = digestwrite::write_digest(follower, unasked, digest, 0);
+    let written = digest_write::write_digest(follower, unasked, digest, 0);
     match written {
         Written::Bytes(n) => answer_digest(
             publisher,

@@ -8,8 +8,8 @@ use Rattle.rules.specs.declared.DeltaRead.{DeltaRead}
 use Rattle.rules.specs.declared.DeltaRead.the-variants as read
 use Rattle.rules.specs.declared.Applied.{Applied}
 use Rattle.rules.specs.declared.Applied.the-variants as applied
-use Rattle.digest.specs.declared.DigestRead.{DigestRead}
-use Rattle.digest.specs.declared.DigestRead.the-variants as digest
+use Rattle.digest_read.specs.declared.DigestRead.{DigestRead}
+use Rattle.digest_read.specs.declared.DigestRead.the-variants as digest
 
 -- how many bytes a digest took, 0 where it was refused
 abbrev pub bytesWritten : Written → ℕ

@@ -1,14 +1,14 @@
 // The calls that are measured beside the original, as C functions: a slice is a pointer and a length. Each is one call of a crate below and tells one
 // number of its answer. They are for measuring: where that number is a count, a refusal is told as 0 too, so a hub calls the crates below. A `_good`
 // function asks for a table that `kev_check` accepts, and nobody checks a foreign caller.
-use digest::DigestRead;
+use digest_read::DigestRead;
+use local_node::Kind;
 use lookup::Found;
 use rules::Answer;
 use rules::Applied;
 use rules::Computed;
 use rules::DeltaRead;
 use rules::Written;
-use write::Kind;
 ghost use mathlib.Core.Path.{_≡_};
 ghost use mathlib.Core.Bool.{true};
 ghost use Prim.Native.Nat.{_≤_};
@@ -24,8 +24,8 @@ ghost use Rattle.rules.specs.Apply.{applyNode, applyEach, codes};
 ghost use Rattle.rules.specs.Layout.{encode, decode, valid};
 ghost use Rattle.rules.specs.Lent.{lentCall, lentGc, lentDigest, lentCompute, lentApply};
 ghost use Rattle.lookup.specs.Lookup.{foundIn, lentFind, startOf};
-ghost use Rattle.digest.specs.Held.{digestIn};
-ghost use Rattle.take.specs.Taking.{partsFrom};
+ghost use Rattle.digest_read.specs.Held.{digestIn};
+ghost use Rattle.apply_node.specs.Taking.{partsFrom};
 ghost use Rattle.apply.specs.Applying.{Accepted};
 ghost use Rattle.exports.specs.Numbers.{bytesWritten, bytesComputed, opsRead, nodesApplied, nodesTold};
 
@@ -108,7 +108,7 @@ fn nodes_told(d: DigestRead) -> usize
 pub extern "C" fn kev_check(table: &[u8]) -> bool
     ensures { λ r. ⌜ r ≡ valid (now (table .entry)) ⌝ }
 {
-    valid::check_table(table)
+    table_check::check_table(table)
 }
 
 // ---- lookup
@@ -193,14 +193,14 @@ pub extern "C" fn kev_write_digest(
     ensures { λ r. ⌜ (r ≡ bytesWritten (lentDigest (now (excluded .entry)) place (now (datagram .entry)) (now (table .entry)) .answer))
         × (now (datagram .exit) ≡ lentDigest (now (excluded .entry)) place (now (datagram .entry)) (now (table .entry)) .list) ⌝ }
 {
-    bytes_written(digestwrite::write_digest(table, excluded, datagram, place))
+    bytes_written(digest_write::write_digest(table, excluded, datagram, place))
 }
 
 #[no_mangle]
 pub extern "C" fn kev_read_digest(bytes: &[u8]) -> usize
     ensures { λ r. ⌜ r ≡ nodesTold (digestIn (now (bytes .entry)) .read) ⌝ }
 {
-    let d = digest::read_digest(bytes);
+    let d = digest_read::read_digest(bytes);
     let read = d.read;
     nodes_told(read)
 }
@@ -211,7 +211,7 @@ pub extern "C" fn kev_read_digest(bytes: &[u8]) -> usize
 pub extern "C" fn kev_read_delta(delta: &[u8]) -> usize
     ensures { λ r. ⌜ r ≡ opsRead (deltaRead (now (delta .entry))) ⌝ }
 {
-    ops_read(delta::read_delta(delta))
+    ops_read(delta_read::read_delta(delta))
 }
 
 #[no_mangle]

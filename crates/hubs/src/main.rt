@@ -2,11 +2,11 @@
 // max is equal. It takes no more exchanges than the first hub holds records and nodes, as demand 3 says. On the second day readings are deleted and
 // removed before the second hub hears of it: they do not come back.
 use exchange::Exchanged;
+use inspect::Count;
+use inspect::NodeHeader;
+use inspect::RecordRead;
+use inspect_text::Text;
 use libc::STDOUT_FILENO;
-use look::Count;
-use look::NodeHeader;
-use look::RecordRead;
-use recordtext::Text;
 use rules::Answer;
 use rules::Header;
 use rules::Refusal;
@@ -87,14 +87,14 @@ fn count(c: Count) -> u64 {
 // Records, tombstones and TTL records counted, and nodes together.
 fn holdings(hub: &[u8]) -> u64 {
     let records = std::num::wrapping_add_u64(
-        count(look::record_count(hub, POWER)),
-        count(look::record_count(hub, WATER)),
+        count(inspect::record_count(hub, POWER)),
+        count(inspect::record_count(hub, WATER)),
     );
-    std::num::wrapping_add_u64(records, count(look::node_count(hub)))
+    std::num::wrapping_add_u64(records, count(inspect::node_count(hub)))
 }
 
 fn max_of(hub: &[u8], number: u64) -> u64 {
-    match look::node_header(hub, number) {
+    match inspect::node_header(hub, number) {
         NodeHeader::Is(h) => h.max,
         NodeHeader::Refused(_) => 0,
     }
@@ -112,14 +112,14 @@ fn agree(a: &[u8], b: &[u8]) -> bool {
 
 // A Set record, as node, key, value and version.
 fn say_record(hub: &[u8], number: u64, j: usize) {
-    if let RecordRead::Is(r) = look::record_at(hub, number, j) {
+    if let RecordRead::Is(r) = inspect::record_at(hub, number, j) {
         let status = r.status;
         if let Status::Set = status {
             say_number(b"  ", number);
             say(b" ");
-            say(recordtext::text_at(hub, number, j, Text::Key));
+            say(inspect_text::text_at(hub, number, j, Text::Key));
             say(b" = ");
-            say(recordtext::text_at(hub, number, j, Text::Value));
+            say(inspect_text::text_at(hub, number, j, Text::Value));
             say_number(b" at version ", r.version);
             say(b"\n");
         }

@@ -22,15 +22,15 @@ use Rattle.rules.specs.declared.Refusal.the-variants.{NoPlace}
 use Rattle.rules.specs.declared.Written.the-variants.{Bytes, Refused}
 use Rattle.rules.specs.declared.DeltaRead.{DeltaRead}
 use Rattle.rules.specs.declared.DeltaRead.the-variants as read
-use Rattle.delta.specs.declared.Op.{Op}
-use Rattle.delta.specs.declared.Op.the-variants.{Node, KeyValue, SetMaxVersion}
-use Rattle.delta.specs.declared.OpRead.{OpRead}
-use Rattle.delta.specs.declared.OpRead.the-variants.{Got, Bad}
-use Rattle.delta.specs.Places.{opOf, opAt, Inside, widthOf}
-use Rattle.delta.specs.Plain.{opsFrom}
-use Rattle.delta.proofs.Reading.{Within, op-within, le-or-lt}
-use Rattle.delta.proofs.Plain.{plain-end, plain-bad, plain-next, good-plain}
-use Rattle.text.proofs.Texts.{decimal-long, shown-long}
+use Rattle.delta_read.specs.declared.Op.{Op}
+use Rattle.delta_read.specs.declared.Op.the-variants.{Node, KeyValue, SetMaxVersion}
+use Rattle.delta_read.specs.declared.OpRead.{OpRead}
+use Rattle.delta_read.specs.declared.OpRead.the-variants.{Got, Bad}
+use Rattle.delta_read.specs.Places.{opOf, opAt, Inside, widthOf}
+use Rattle.delta_read.specs.Plain.{opsFrom}
+use Rattle.delta_read.proofs.Reading.{Within, op-within, le-or-lt}
+use Rattle.delta_read.proofs.Plain.{plain-end, plain-bad, plain-next, good-plain}
+use Rattle.listing_text.proofs.Texts.{decimal-long, shown-long}
 use Rattle.listing.specs.Front.{frontAnswer, frontOut, linesFrom, goodText, refusedText, lineLength}
 
 -- ---- one line

@@ -11,11 +11,11 @@ use Rattle.rules.specs.Listing.{ascii, decimal, statusText, lineFeed, opLine}
 use Rattle.rules.specs.declared.Refusal.the-variants.{NoPlace}
 use Rattle.rules.specs.declared.Written.{Written}
 use Rattle.rules.specs.declared.Written.the-variants.{Bytes, Refused}
-use Rattle.delta.specs.declared.Op.{Op}
-use Rattle.delta.specs.declared.Op.the-variants.{Node, KeyValue, SetMaxVersion}
-use Rattle.delta.specs.Plain.{opsFrom}
+use Rattle.delta_read.specs.declared.Op.{Op}
+use Rattle.delta_read.specs.declared.Op.the-variants.{Node, KeyValue, SetMaxVersion}
+use Rattle.delta_read.specs.Plain.{opsFrom}
 use Rattle.rules.specs.declared.Status.{Status}
-use Rattle.text.specs.Wrote.{numbered, named}
+use Rattle.listing_text.specs.Wrote.{numbered, named}
 
 -- a text at the front of a buffer of n bytes, and what it leaves of a buffer
 unfoldable pub frontAnswer : List ℕ → ℕ → Written

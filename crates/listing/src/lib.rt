@@ -5,11 +5,11 @@ ghost use Prim.Native.Nat.{_+_, _*_, _≤_};
 ghost use lib.ListN.{length};
 ghost use Rattle.rules.specs.Delta.{NodeOp, KeyValueOp, SetMaxVersionOp};
 ghost use Rattle.rules.specs.Listing.{statusText, opLine, listing};
-ghost use Rattle.delta.specs.Places.{opOf, Inside, widthOf};
-ghost use Rattle.text.specs.Wrote.{Wrote, Room};
+ghost use Rattle.delta_read.specs.Places.{opOf, Inside, widthOf};
+ghost use Rattle.listing_text.specs.Wrote.{Wrote, Room};
 ghost use Rattle.listing.specs.Front.{frontAnswer, frontOut, lastLine, versionText, textsText, recordLine, linesFrom, goodText, refusedText, lineLength};
-use delta::Op;
-use delta::OpRead;
+use delta_read::Op;
+use delta_read::OpRead;
 use rules::DeltaRead;
 use rules::Refusal;
 use rules::Status;
@@ -34,7 +34,10 @@ fn line_len(op: Op) -> usize
 {
     match op {
         Op::Node { number, gc, from } => {
-            22 + text::decimal_len(number) + text::decimal_len(gc) + text::decimal_len(from)
+            22
+                + listing_text::decimal_len(number)
+                + listing_text::decimal_len(gc)
+                + listing_text::decimal_len(from)
         }
         Op::KeyValue {
             keyat: _,
@@ -43,8 +46,8 @@ fn line_len(op: Op) -> usize
             valuelen,
             version,
             status,
-        } => 35 + text::decimal_len(version) + status_len(status) + keylen + valuelen,
-        Op::SetMaxVersion { max } => 16 + text::decimal_len(max),
+        } => 35 + listing_text::decimal_len(version) + status_len(status) + keylen + valuelen,
+        Op::SetMaxVersion { max } => 16 + listing_text::decimal_len(max),
     }
 }
 
@@ -56,7 +59,7 @@ fn lines_len(s: &[u8]) -> usize
     let mut n: usize = 0;
     let mut at: usize = 0;
     while at < s.len() {
-        let read = delta::read_op(s, at);
+        let read = delta_read::read_op(s, at);
         match read {
             OpRead::Bad(_) => {
                 return n;
@@ -76,10 +79,10 @@ fn put_node(out: &mut [u8], at: usize, number: u64, gc: u64, from: u64) -> usize
     requires { ⌜ Room at (opLine (NodeOp number gc from)) (now out) ⌝ }
     ensures { λ r. ⌜ Wrote at (opLine (NodeOp number gc from)) (now (out .entry)) (now (out .exit)) r ⌝ }
 {
-    let a = text::put_numbered(out, at, b"op=node id=", number);
-    let b = text::put_numbered(out, a, b" gc=", gc);
-    let c = text::put_numbered(out, b, b" from=", from);
-    text::put_text(out, c, b"\n")
+    let a = listing_text::put_numbered(out, at, b"op=node id=", number);
+    let b = listing_text::put_numbered(out, a, b" gc=", gc);
+    let c = listing_text::put_numbered(out, b, b" from=", from);
+    listing_text::put_text(out, c, b"\n")
 }
 
 // Version and status of a record, the front of its line.
@@ -87,9 +90,9 @@ fn put_version(out: &mut [u8], at: usize, version: u64, status: Status) -> usize
     requires { ⌜ Room at (versionText version status) (now out) ⌝ }
     ensures { λ r. ⌜ Wrote at (versionText version status) (now (out .entry)) (now (out .exit)) r ⌝ }
 {
-    let a = text::put_numbered(out, at, b"op=kv version=", version);
-    let b = text::put_text(out, a, b" status=");
-    text::put_status(out, b, status)
+    let a = listing_text::put_numbered(out, at, b"op=kv version=", version);
+    let b = listing_text::put_text(out, a, b" status=");
+    listing_text::put_status(out, b, status)
 }
 
 // Key and value of a record, the rest of its line.
@@ -97,9 +100,9 @@ fn put_texts(out: &mut [u8], at: usize, key: &[u8], value: &[u8]) -> usize
     requires { ⌜ Room at (textsText (now key) (now value)) (now out) ⌝ }
     ensures { λ r. ⌜ Wrote at (textsText (now (key .entry)) (now (value .entry))) (now (out .entry)) (now (out .exit)) r ⌝ }
 {
-    let a = text::put_named(out, at, b" key=", key);
-    let b = text::put_named(out, a, b" value=", value);
-    text::put_text(out, b, b"\n")
+    let a = listing_text::put_named(out, at, b" key=", key);
+    let b = listing_text::put_named(out, a, b" value=", value);
+    listing_text::put_text(out, b, b"\n")
 }
 
 fn put_key_value(
@@ -121,8 +124,8 @@ fn put_set_max_version(out: &mut [u8], at: usize, max: u64) -> usize
     requires { ⌜ Room at (opLine (SetMaxVersionOp max)) (now out) ⌝ }
     ensures { λ r. ⌜ Wrote at (opLine (SetMaxVersionOp max)) (now (out .entry)) (now (out .exit)) r ⌝ }
 {
-    let a = text::put_numbered(out, at, b"op=max version=", max);
-    text::put_text(out, a, b"\n")
+    let a = listing_text::put_numbered(out, at, b"op=max version=", max);
+    listing_text::put_text(out, a, b"\n")
 }
 
 // The line of an operation of `s`.
@@ -156,7 +159,7 @@ fn put_lines(s: &[u8], out: &mut [u8]) -> usize
     let mut n: usize = 0;
     let mut at: usize = 0;
     while at < s.len() {
-        let read = delta::read_op(s, at);
+        let read = delta_read::read_op(s, at);
         match read {
             OpRead::Bad(_) => {
                 return n;
@@ -175,9 +178,9 @@ fn put_last(out: &mut [u8], at: usize, first: &[u8], a: u64, second: &[u8], b: u
     requires { ⌜ Room at (lastLine (now first) a (now second) b) (now out) ⌝ }
     ensures { λ r. ⌜ Wrote at (lastLine (now (first .entry)) a (now (second .entry)) b) (now (out .entry)) (now (out .exit)) r ⌝ }
 {
-    let m = text::put_numbered(out, at, first, a);
-    let n = text::put_numbered(out, m, second, b);
-    text::put_text(out, n, b"\n")
+    let m = listing_text::put_numbered(out, at, first, a);
+    let n = listing_text::put_numbered(out, m, second, b);
+    listing_text::put_text(out, n, b"\n")
 }
 
 // ---- the listing
@@ -189,7 +192,7 @@ fn list_good(s: &[u8], out: &mut [u8], ops: usize) -> Written
 {
     let count = ops as u64;
     let bytes = s.len() as u64;
-    let n = lines_len(s) + 19 + text::decimal_len(count) + text::decimal_len(bytes);
+    let n = lines_len(s) + 19 + listing_text::decimal_len(count) + listing_text::decimal_len(bytes);
     if out.len() < n {
         return Written::Refused(Refusal::NoPlace);
     }
@@ -202,7 +205,7 @@ fn list_good(s: &[u8], out: &mut [u8], ops: usize) -> Written
 fn list_refused(out: &mut [u8], code: u64, at: u64) -> Written
     ensures { λ r. ⌜ (r ≡ frontAnswer (refusedText code at) (length (now (out .entry)))) × (now (out .exit) ≡ frontOut (refusedText code at) (now (out .entry))) ⌝ }
 {
-    let n = 22 + text::decimal_len(code) + text::decimal_len(at);
+    let n = 22 + listing_text::decimal_len(code) + listing_text::decimal_len(at);
     if out.len() < n {
         return Written::Refused(Refusal::NoPlace);
     }
@@ -214,7 +217,7 @@ fn list_refused(out: &mut [u8], code: u64, at: u64) -> Written
 pub fn list_delta(s: &[u8], out: &mut [u8]) -> Written
     ensures { λ r. ⌜ (r ≡ frontAnswer (listing (now (s .entry))) (length (now (out .entry)))) × (now (out .exit) ≡ frontOut (listing (now (s .entry))) (now (out .entry))) ⌝ }
 {
-    let read = delta::read_delta(s);
+    let read = delta_read::read_delta(s);
     match read {
         DeltaRead::Good { ops, nodes: _ } => list_good(s, out, ops),
         DeltaRead::Refused { why, at } => list_refused(out, why.number(), at as u64),

@@ -14,11 +14,11 @@ use Rattle.rules.specs.declared.Refusal.the-variants.{NoNode}
 use Rattle.table.specs.Changes.{withNode}
 use Rattle.table.proofs.Tables.{encode-decode}
 use Rattle.table.proofs.Places.{nodePlace, nodeBytes, nodeAt}
-use Rattle.place.specs.Find.{findNode}
-use Rattle.place.specs.declared.Place.the-variants.{At, Free}
-use Rattle.place.proofs.Searched.{node-found, node-missing}
-use Rattle.place.proofs.Placed.{node-changed}
-use Rattle.write.specs.Writes.{Acted, nodeIn}
+use Rattle.table_read.specs.Find.{findNode}
+use Rattle.table_read.specs.declared.Place.the-variants.{At, Free}
+use Rattle.table_read.proofs.Searched.{node-found, node-missing}
+use Rattle.table_read.proofs.Placed.{node-changed}
+use Rattle.local_node.specs.Writes.{Acted, nodeIn}
 
 module _ (c : Call) (n : ℕ) (k l : List ℕ) (v : valid l ≡ true) (i : ℕ) where
   pub called : findNode n (decode l) ≡ At i → (r : Answer) (s t : List ℕ) → Acted k (decide c k (nodeIn (nodeBytes i l))) (nodeBytes i l) r s

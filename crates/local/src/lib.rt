@@ -1,18 +1,18 @@
 // The four local calls that give a version, on a lent table: set, set with TTL, delete, delete after TTL. The entry points take any bytes and refuse in
 // document 01's order: 14, 2, then what the node's rules say (crate `write`): 1, 3, nothing to change, 5, 6. A refused call changes no byte.
 // `write_good` is all four on a table known to be good, for a caller that need not pay for the check again.
-use place::Place;
+use local_node::Kind;
 use rules::Answer;
 use rules::Refusal;
 use table::layout;
-use write::Kind;
+use table_read::Place;
 ghost use mathlib.Core.Path.{_≡_};
 ghost use mathlib.Core.Bool.{true};
 ghost use Rattle.rules.specs.Node.{Setting, SettingTtl, Deleting, DeletingAfterTtl};
 ghost use Rattle.rules.specs.Local.{call};
 ghost use Rattle.rules.specs.Lent.{lentCall};
 ghost use Rattle.rules.specs.Layout.{encode, decode, valid};
-ghost use Rattle.write.specs.Writes.{callOf};
+ghost use Rattle.local_node.specs.Writes.{callOf};
 
 // One of the four calls at a key of a node of a good table: 2, then what the node's rules say.
 pub fn write_good(
@@ -26,11 +26,11 @@ pub fn write_good(
     requires { ⌜ valid (now s) ≡ true ⌝ }
     ensures { λ r. ⌜ (r ≡ call (callOf kind (now (value .entry)) time) number (now (key .entry)) (decode (now (s .entry))) .answer) × (now (s .exit) ≡ encode (call (callOf kind (now (value .entry)) time) number (now (key .entry)) (decode (now (s .entry))) .table)) ⌝ }
 {
-    match place::find_node(s, number) {
+    match table_read::find_node(s, number) {
         Place::At(i) => {
             let a = layout::NODES + i * layout::NODE;
             let e = a + layout::NODE;
-            write::write_node(&mut s[a..e], kind, key, value, time)
+            local_node::write_node(&mut s[a..e], kind, key, value, time)
         }
         Place::Free(_) => Answer::Refused(Refusal::NoNode),
     }
@@ -40,7 +40,7 @@ pub fn write_good(
 fn write(s: &mut [u8], number: u64, kind: Kind, key: &[u8], value: &[u8], time: u64) -> Answer
     ensures { λ r. ⌜ (r ≡ lentCall (callOf kind (now (value .entry)) time) number (now (key .entry)) (now (s .entry)) .answer) × (now (s .exit) ≡ lentCall (callOf kind (now (value .entry)) time) number (now (key .entry)) (now (s .entry)) .bytes) ⌝ }
 {
-    if valid::check_table(s) {
+    if table_check::check_table(s) {
         return write_good(s, number, kind, key, value, time);
     }
     Answer::Refused(Refusal::BadTable)

@@ -26,10 +26,10 @@ use Rattle.table.specs.Fits.{LaidNode}
 use Rattle.table.proofs.Tables.{valid-long, valid-few}
 use Rattle.table.proofs.Places.{recPlace, recBytes, recAt, recs-at, in-rec, nodePlace, nodeBytes, nodeAt, decode-at, in-node}
 use Rattle.table.proofs.Laid.{rec-long, laid-value}
-use Rattle.place.specs.Find.{toNode, toKey, findNode, findKey}
-use Rattle.place.specs.declared.Place.{Place}
-use Rattle.place.specs.declared.Place.the-variants as place
-use Rattle.place.proofs.Searched.{search-at, search-free, node-hit, key-hit, nodes-ordered, node-in, node-found, node-missing, node-laid, node-rises, rec-in, rec-found, rec-missing, recs-ordered}
+use Rattle.table_read.specs.Find.{toNode, toKey, findNode, findKey}
+use Rattle.table_read.specs.declared.Place.{Place}
+use Rattle.table_read.specs.declared.Place.the-variants as place
+use Rattle.table_read.proofs.Searched.{search-at, search-free, node-hit, key-hit, nodes-ordered, node-in, node-found, node-missing, node-laid, node-rises, rec-in, rec-found, rec-missing, recs-ordered}
 use Rattle.lookup.specs.Lookup.{valuePlace, foundRec, findRec, findIn, findFrom, foundIn, lentFind, valueIn, handed, startOf, lenOf, Within}
 use Rattle.lookup.specs.declared.Found.{Found}
 use Rattle.lookup.specs.declared.Found.the-variants.{At, Nothing, Refused}

@@ -1,10 +1,10 @@
 // Looking a value up in a lent table. `find` tells where it stands, or that there is none, or why the call is refused; `lookup` hands out the value as
 // those very bytes of the caller's slice. Both take any bytes. `find_good` and `lookup_good` do the same on a table known to be good, without the check.
-use place::Place;
 use rules::Record;
 use rules::Refusal;
 use rules::Status;
 use table::layout;
+use table_read::Place;
 ghost use mathlib.Core.Path.{_≡_};
 ghost use mathlib.Core.Bool.{true};
 ghost use Prim.Native.Nat.{_+_, _*_, _<_};
@@ -33,7 +33,7 @@ fn in_record(b: &[u8], i: usize, j: usize) -> Found
     requires { ⌜ LaidNode (now b) × (i < maxNodes) × (j < countOf (now b)) ⌝ }
     ensures { λ r. ⌜ r ≡ foundRec i j (decodeRec (part (33 + j * recWidth) recWidth (now (b .entry)))) ⌝ }
 {
-    let r = place::read_record(table::record_of(b, j));
+    let r = table_read::read_record(table::record_of(b, j));
     let start = layout::NODES
         + i * layout::NODE
         + (layout::RECORDS + j * layout::RECORD + layout::VALUE);
@@ -56,7 +56,7 @@ fn in_node(b: &[u8], i: usize, key: &[u8]) -> Found
     requires { ⌜ LaidNode (now b) × (keysRise (recsOf (now b)) ≡ true) × (i < maxNodes) ⌝ }
     ensures { λ r. ⌜ r ≡ findRec (now (key .entry)) i 0 (recsOf (now (b .entry))) ⌝ }
 {
-    match place::search_key(b, key) {
+    match table_read::search_key(b, key) {
         Place::At(j) => in_record(b, i, j),
         Place::Free(_) => Found::Nothing,
     }
@@ -67,7 +67,7 @@ pub fn find_good(table: &[u8], number: u64, key: &[u8]) -> Found
     requires { ⌜ valid (now table) ≡ true ⌝ }
     ensures { λ r. ⌜ r ≡ foundIn number (now (key .entry)) (decode (now (table .entry))) ⌝ }
 {
-    match place::find_node(table, number) {
+    match table_read::find_node(table, number) {
         Place::At(i) => {
             if Record::KEY < key.len() {
                 return Found::Refused(Refusal::TooLong);
@@ -82,7 +82,7 @@ pub fn find_good(table: &[u8], number: u64, key: &[u8]) -> Found
 pub fn find(table: &[u8], number: u64, key: &[u8]) -> Found
     ensures { λ r. ⌜ r ≡ lentFind number (now (key .entry)) (now (table .entry)) ⌝ }
 {
-    if valid::check_table(table) {
+    if table_check::check_table(table) {
         find_good(table, number, key)
     } else {
         Found::Refused(Refusal::BadTable)

@@ -26,10 +26,10 @@ use Rattle.table.specs.Changes.{freshEntry}
 use Rattle.table.specs.Tests.{nodesOf}
 use Rattle.table.proofs.Nodes.{length-node}
 use Rattle.table.proofs.Tables.{encode-decode, length-decode}
-use Rattle.place.specs.Find.{findNode}
-use Rattle.place.specs.declared.Place.the-variants.{At, Free}
-use Rattle.place.proofs.Searched.{nodes-ordered}
-use Rattle.place.proofs.Placed.{add-free, drop-at, held, not-held}
+use Rattle.table_read.specs.Find.{findNode}
+use Rattle.table_read.specs.declared.Place.the-variants.{At, Free}
+use Rattle.table_read.proofs.Searched.{nodes-ordered}
+use Rattle.table_read.proofs.Placed.{add-free, drop-at, held, not-held}
 use Rattle.nodes.specs.New.{lentMade}
 
 -- ---- an empty table is zeros

@@ -1,10 +1,10 @@
 // Making a lent table, and nodes that come and go by their numbers. The entry points take any bytes: `add_node` refuses with 14 and 4, `remove_node` with
 // 14 and 2, and a node held already is left as it is. `new_table` asks only how long the slice is. `add_good` and `remove_good` do the same on a
 // table known to be good. A refused call changes no byte.
-use place::Place;
 use rules::Answer;
 use rules::Refusal;
 use table::layout;
+use table_read::Place;
 ghost use mathlib.Core.Path.{_≡_};
 ghost use mathlib.Core.Bool.{true};
 ghost use Rattle.rules.specs.Local.{add, removeNode};
@@ -28,13 +28,13 @@ pub fn add_good(s: &mut [u8], number: u64) -> Answer
     requires { ⌜ valid (now s) ≡ true ⌝ }
     ensures { λ r. ⌜ (r ≡ add number (decode (now (s .entry))) .answer) × (now (s .exit) ≡ encode (add number (decode (now (s .entry))) .table)) ⌝ }
 {
-    match place::find_node(s, number) {
+    match table_read::find_node(s, number) {
         Place::At(_) => Answer::Done,
         Place::Free(i) => {
             if layout::MOST_NODES <= fields::byte_at(s, 0) {
                 return Answer::Refused(Refusal::NinthNode);
             }
-            change::insert_node(s, i, number);
+            table_write::insert_node(s, i, number);
             Answer::Done
         }
     }
@@ -45,9 +45,9 @@ pub fn remove_good(s: &mut [u8], number: u64) -> Answer
     requires { ⌜ valid (now s) ≡ true ⌝ }
     ensures { λ r. ⌜ (r ≡ removeNode number (decode (now (s .entry))) .answer) × (now (s .exit) ≡ encode (removeNode number (decode (now (s .entry))) .table)) ⌝ }
 {
-    match place::find_node(s, number) {
+    match table_read::find_node(s, number) {
         Place::At(i) => {
-            change::remove_node(s, i);
+            table_write::remove_node(s, i);
             Answer::Done
         }
         Place::Free(_) => Answer::Refused(Refusal::NoNode),
@@ -58,7 +58,7 @@ pub fn remove_good(s: &mut [u8], number: u64) -> Answer
 pub fn add_node(s: &mut [u8], number: u64) -> Answer
     ensures { λ r. ⌜ (r ≡ lentAdd number (now (s .entry)) .answer) × (now (s .exit) ≡ lentAdd number (now (s .entry)) .bytes) ⌝ }
 {
-    if valid::check_table(s) {
+    if table_check::check_table(s) {
         return add_good(s, number);
     }
     Answer::Refused(Refusal::BadTable)
@@ -68,7 +68,7 @@ pub fn add_node(s: &mut [u8], number: u64) -> Answer
 pub fn remove_node(s: &mut [u8], number: u64) -> Answer
     ensures { λ r. ⌜ (r ≡ lentRemoveNode number (now (s .entry)) .answer) × (now (s .exit) ≡ lentRemoveNode number (now (s .entry)) .bytes) ⌝ }
 {
-    if valid::check_table(s) {
+    if table_check::check_table(s) {
         return remove_good(s, number);
     }
     Answer::Refused(Refusal::BadTable)

@@ -24,10 +24,10 @@ use Rattle.rules.specs.declared.Listed.{Listed}
 use Rattle.rules.specs.declared.Listed.the-variants as listed
 use Rattle.table.specs.Tests.{countOf, recsOf}
 use Rattle.table.proofs.Places.{recAt, recs-drop, length-recs, nodeBytes}
-use Rattle.place.specs.Find.{findNode}
-use Rattle.place.specs.declared.Place.the-variants as place
-use Rattle.place.proofs.Searched.{node-found, node-missing}
-use Rattle.place.proofs.Entry.{from-good, from-bad}
+use Rattle.table_read.specs.Find.{findNode}
+use Rattle.table_read.specs.declared.Place.the-variants as place
+use Rattle.table_read.proofs.Searched.{node-found, node-missing}
+use Rattle.table_read.proofs.Entry.{from-good, from-bad}
 
 -- the hits from record j on
 abbrev pub hitsLeft : List ℕ → ℕ → List ℕ → List ℕ

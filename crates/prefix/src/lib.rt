@@ -1,12 +1,12 @@
 // Listing the records of a node whose keys begin with a prefix. A hit is a record that is not hidden; its place among all records of the node goes to
 // the caller's list, one byte each, in key order from the front. The hits are counted before the first is written, so that a call without room for them
 // writes nothing. `list_prefix` takes any bytes, and `list_good` a table known to be good, without the check.
-use place::Place;
 use rules::Listed;
 use rules::Record;
 use rules::Refusal;
 use rules::Status;
 use table::layout;
+use table_read::Place;
 ghost use mathlib.Core.Path.{_≡_};
 ghost use mathlib.Core.Bool.{true};
 ghost use Prim.Native.Nat.{_+_, _*_, _≤_, _<_};
@@ -26,7 +26,7 @@ fn is_hit(b: &[u8], j: usize, prefix: &[u8]) -> bool
 {
     let record = table::record_of(b, j);
     if fields::starts_with(prefix, table::key_of(record)) {
-        let r = place::read_record(record);
+        let r = table_read::read_record(record);
         let status = r.status;
         match status {
             Status::Delete => false,
@@ -90,7 +90,7 @@ pub fn list_good(table: &[u8], number: u64, prefix: &[u8], out: &mut [u8]) -> Li
     requires { ⌜ valid (now table) ≡ true ⌝ }
     ensures { λ r. ⌜ (r ≡ prefixed number (now (prefix .entry)) (decode (now (table .entry))) (now (out .entry)) .answer) × (now (out .exit) ≡ prefixed number (now (prefix .entry)) (decode (now (table .entry))) (now (out .entry)) .list) ⌝ }
 {
-    match place::find_node(table, number) {
+    match table_read::find_node(table, number) {
         Place::At(i) => {
             if Record::KEY < prefix.len() {
                 return Listed::Refused(Refusal::TooLong);
@@ -105,7 +105,7 @@ pub fn list_good(table: &[u8], number: u64, prefix: &[u8], out: &mut [u8]) -> Li
 pub fn list_prefix(table: &[u8], number: u64, prefix: &[u8], out: &mut [u8]) -> Listed
     ensures { λ r. ⌜ (r ≡ lentPrefixed number (now (prefix .entry)) (now (out .entry)) (now (table .entry)) .answer) × (now (out .exit) ≡ lentPrefixed number (now (prefix .entry)) (now (out .entry)) (now (table .entry)) .list) ⌝ }
 {
-    if valid::check_table(table) {
+    if table_check::check_table(table) {
         list_good(table, number, prefix, out)
     } else {
         Listed::Refused(Refusal::BadTable)

@@ -36,7 +36,7 @@ fn must_go(b: &[u8], j: usize, time: u64, grace: u64) -> bool
     requires { ⌜ LaidNode (now b) × (j < countOf (now b)) ⌝ }
     ensures { λ r. ⌜ r ≡ goes (due time grace) (recAt j (now (b .entry))) ⌝ }
 {
-    let r = place::read_record(table::record_of(b, j));
+    let r = table_read::read_record(table::record_of(b, j));
     let status = r.status;
     match status {
         Status::Set => false,
@@ -60,8 +60,8 @@ fn take_out(b: &mut [u8], j: usize)
     let held = fields::read_u64(b, layout::LAST_GC);
     let version = fields::read_u64(b, layout::RECORDS + j * layout::RECORD + layout::VERSION);
     let last_gc = larger(held, version);
-    change::remove_record(b, j);
-    change::set_last_gc(b, last_gc);
+    table_write::remove_record(b, j);
+    table_write::set_last_gc(b, last_gc);
 }
 
 // All records of a node that are due go. Where one has gone, the next stands in its place.
@@ -100,7 +100,7 @@ pub fn remove_good(table: &mut [u8], time: u64, grace: u64)
 pub fn remove_scheduled(table: &mut [u8], time: u64, grace: u64) -> Answer
     ensures { λ r. ⌜ (r ≡ lentGc time grace (now (table .entry)) .answer) × (now (table .exit) ≡ lentGc time grace (now (table .entry)) .bytes) ⌝ }
 {
-    if valid::check_table(table) {
+    if table_check::check_table(table) {
         remove_good(table, time, grace);
         Answer::Done
     } else {

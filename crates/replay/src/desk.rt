@@ -2,13 +2,13 @@
 use crate::peer_calls;
 use crate::tell;
 use crate::verbs;
+use replay_words::print;
+use replay_words::read;
+use replay_words::read::Count;
+use replay_words::read::Numeral;
 use rules::Answer;
 use rules::Refusal;
 use table::layout;
-use words::print;
-use words::read;
-use words::read::Count;
-use words::read::Numeral;
 ghost use Prim.Native.Nat.{_≤_};
 
 // Room for a table, good or not.

@@ -2,12 +2,12 @@
 use crate::tell;
 use crate::verbs;
 use lookup::Found;
+use replay_words::print;
+use replay_words::read;
+use replay_words::read::Count;
+use replay_words::read::Numeral;
 use rules::Heartbeat;
 use rules::Listed;
-use words::print;
-use words::read;
-use words::read::Count;
-use words::read::Numeral;
 ghost use Prim.Native.Nat.{_≤_};
 
 // The longest key or value of a script.
@@ -34,7 +34,7 @@ fn two_call(t: &mut [u8], verb: usize, a: u64, word: &[u8], out: &mut [u8], at: 
         return at;
     };
     if verb == verbs::OFFER {
-        return tell::offered(out, at, pulse::offer_heartbeat(t, a, Heartbeat(b)));
+        return tell::offered(out, at, heartbeat::offer_heartbeat(t, a, Heartbeat(b)));
     }
     tell::answer(out, at, removal::remove_scheduled(t, a, b))
 }
@@ -46,7 +46,7 @@ pub fn plain_call(t: &mut [u8], verb: usize, line: &[u8], out: &mut [u8], at: us
     match verb {
         verbs::ADD => tell::answer(out, at, nodes::add_node(t, a)),
         verbs::REMOVE => tell::answer(out, at, nodes::remove_node(t, a)),
-        verbs::BEAT => tell::answer(out, at, pulse::local_beat(t, a)),
+        verbs::BEAT => tell::answer(out, at, heartbeat::local_beat(t, a)),
         _ => two_call(t, verb, a, read::word(line, 2), out, at),
     }
 }

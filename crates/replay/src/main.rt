@@ -11,9 +11,9 @@ use desk::Desk;
 use libc::STDOUT_FILENO;
 use lines::Source;
 use peer_calls::Kept;
-use words::print;
-use words::read;
-use words::read::Count;
+use replay_words::print;
+use replay_words::read;
+use replay_words::read::Count;
 
 // Room for output. It is written once it holds ENOUGH; the longest answer, a digest in the longest datagram, has 65,555 bytes and fits behind.
 const OUT: usize = 131072;

@@ -2,16 +2,16 @@
 // before a call; where a call wrote outside what it answers, the answer is `touched`.
 use crate::local_calls;
 use crate::tell;
-use digest::DigestRead;
+use digest_read::DigestRead;
+use replay_words::print;
+use replay_words::read;
+use replay_words::read::Count;
+use replay_words::read::Numeral;
 use rules::Applied;
 use rules::Computed;
 use rules::DeltaRead;
 use rules::Refusal;
 use rules::Written;
-use words::print;
-use words::read;
-use words::read::Count;
-use words::read::Numeral;
 ghost use mathlib.Core.Path.{_≡_};
 ghost use lib.ListN.{length};
 
@@ -77,21 +77,21 @@ pub fn bytes_of(word: &[u8], digest: &[u8], delta: &[u8], given: &mut [u8]) -> C
 // ---- reading
 
 pub fn read_digest(bytes: &[u8], out: &mut [u8], at: usize) -> usize {
-    let d = digest::read_digest(bytes);
+    let d = digest_read::read_digest(bytes);
     let got = d.read;
     match got {
         DigestRead::Nodes { count, rest: _ } => {
             let es = d.entries;
             let mut next = print::text(out, at, b"digest ");
             next = tell::entries(out, next, es, count);
-            tell::numbered(out, next, b" rest=", digest::digest_rest(bytes).len())
+            tell::numbered(out, next, b" rest=", digest_read::digest_rest(bytes).len())
         }
         DigestRead::Refused(r) => tell::refused(out, at, r),
     }
 }
 
 pub fn read_delta(bytes: &[u8], out: &mut [u8], at: usize) -> usize {
-    let got = delta::read_delta(bytes);
+    let got = delta_read::read_delta(bytes);
     match got {
         DeltaRead::Good { ops, nodes } => {
             let mut next = tell::numbered(out, at, b"ops=", ops);
@@ -192,7 +192,7 @@ fn digest_into(
     out: &mut [u8],
 ) -> Kept {
     mark(d);
-    let written = digestwrite::write_digest(t, excluded, d, place);
+    let written = digest_write::write_digest(t, excluded, d, place);
     match written {
         Written::Bytes(n) => keep_digest(d, place, end_of(place, n), kept, k, out),
         Written::Refused(r) => refuse(r, d, k, out),

@@ -1,10 +1,10 @@
 // Answers to words, into the output from a place on. Each answers the place behind it.
-use digest::NodeDigest;
+use digest_read::NodeDigest;
+use replay_words::print;
+use replay_words::read;
 use rules::Answer;
 use rules::Offered;
 use rules::Refusal;
-use words::print;
-use words::read;
 ghost use Prim.Native.Nat.{_<_};
 
 // What lent memory is filled with before a call.

@@ -1,5 +1,5 @@
 // Which call a line asks for, by number: those at a key of a node, those that take numbers alone, those of the desk itself, those of an exchange.
-use words::read;
+use replay_words::read;
 
 pub const SET: usize = 0;
 

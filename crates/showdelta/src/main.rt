@@ -4,5 +4,5 @@ use libc::STDIN_FILENO;
 fn main() {
     let mut input = [0u8; 16385];
     let n = io::read_full(STDIN_FILENO, &mut input);
-    show::show(&input[..n]);
+    listing_show::show(&input[..n]);
 }

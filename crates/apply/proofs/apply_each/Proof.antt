@@ -6,7 +6,7 @@ use native.Mathlib.Omega.{arith}
 use lib.ListN.{length, getD, set}
 use Rattle.rules.specs.Delta.{Part}
 use Rattle.rules.specs.Layout.{decode}
-use Rattle.take.specs.Taking.{partsFrom, noPart, Head}
+use Rattle.apply_node.specs.Taking.{partsFrom, noPart, Head}
 use Rattle.apply.specs.Applying.{Turned}
 use Rattle.apply.proofs.Applied.{Stands, stands-first, stands-next, stands-last}
 use borrow.Author.Needs.{needs}

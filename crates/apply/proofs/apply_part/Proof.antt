@@ -5,9 +5,9 @@ use native.Mathlib.Omega.{arith}
 use Rattle.rules.specs.Delta.{Part}
 use Rattle.rules.specs.Layout.{decode}
 use Rattle.table.proofs.Tables.{valid-long, valid-few}
-use Rattle.place.specs.Find.{findNode}
-use Rattle.place.specs.declared.Place.the-variants.{At}
-use Rattle.take.specs.Taking.{partAt}
+use Rattle.table_read.specs.Find.{findNode}
+use Rattle.table_read.specs.declared.Place.the-variants.{At}
+use Rattle.apply_node.specs.Taking.{partAt}
 use Rattle.apply.proofs.Applied.{in-table, rising-seen, turned, turned-unknown, numbers-read}
 use borrow.Author.Needs.{needs}
 use Rattle.apply.proofs.apply_part.Statement.{statement}

@@ -10,7 +10,7 @@ use Rattle.compute.proofs.compute.Tie as tie
 use Rattle.compute.proofs.compute.Reads as reads
 use Rattle.compute.proofs.compute.Lts as lts
 use Rattle.compute.proofs.compute_good.Reads as compute-good-reads
-use Rattle.valid.proofs.check_table.Reads as check-table-reads
+use Rattle.table_check.proofs.check_table.Reads as check-table-reads
 
 check-table-requires : tie.Need-check-table-requires
 check-table-requires c κs = search needs

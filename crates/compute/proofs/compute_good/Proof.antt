@@ -10,9 +10,9 @@ use Rattle.rules.specs.Layout.{decode}
 use Rattle.rules.specs.declared.Computed.{Computed}
 use Rattle.table.specs.Fits.{LaidTable}
 use Rattle.table.proofs.Tables.{length-decode, valid-laid}
-use Rattle.digest.specs.Held.{digestIn, entriesIn, restOf}
-use Rattle.digest.specs.declared.Digest.{Digest}
-use Rattle.digest.proofs.Reading.{read-nodes, read-refused}
+use Rattle.digest_read.specs.Held.{digestIn, entriesIn, restOf}
+use Rattle.digest_read.specs.declared.Digest.{Digest}
+use Rattle.digest_read.proofs.Reading.{read-nodes, read-refused}
 use Rattle.compute.specs.Asking.{askedOf}
 use Rattle.compute.specs.declared.Asked.the-variants.{Good}
 use Rattle.compute.proofs.Calling.{Granted, granted, by-refused, by-digest, by-part}
@@ -23,7 +23,7 @@ use Rattle.compute.proofs.compute_good.Reads as reads
 use Rattle.compute.proofs.compute_good.Lts as lts
 use Rattle.compute.proofs.ask.Reads as ask-reads
 use Rattle.compute.proofs.write_delta.Reads as write-delta-reads
-use Rattle.digest.proofs.read_digest.Reads as read-digest-reads
+use Rattle.digest_read.proofs.read_digest.Reads as read-digest-reads
 use Rattle.fields.proofs.byte_at.Reads as byte-at-reads
 
 laid : (c : tie.Start) → LaidTable (c .args .table .now)

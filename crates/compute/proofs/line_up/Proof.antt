@@ -11,9 +11,9 @@ use Rattle.rules.specs.Compute.{stale}
 use Rattle.rules.specs.Layout.{decode}
 use Rattle.table.specs.Tests.{nodesOf}
 use Rattle.table.proofs.Tables.{length-decode}
-use Rattle.line.specs.Line.{entryAt}
-use Rattle.send.proofs.Located.{lent-node, node-long, count-low, recs-are}
-use Rattle.digest.specs.Held.{entriesIn}
+use Rattle.compute_order.specs.Line.{entryAt}
+use Rattle.compute_write.proofs.Located.{lent-node, node-long, count-low, recs-are}
+use Rattle.digest_read.specs.Held.{entriesIn}
 use Rattle.compute.specs.Plan.{fromAt}
 use Rattle.compute.proofs.Behind.{goes-from, goes-not}
 use Rattle.compute.proofs.Lining.{Upto, none-yet, above, stays, joins, all-in-line}
@@ -23,8 +23,8 @@ use Rattle.compute.proofs.line_up.Reads as reads
 use Rattle.compute.proofs.line_up.Lts as lts
 use Rattle.compute.proofs.stale_from.Reads as stale-from-reads
 use Rattle.fields.proofs.byte_at.Reads as byte-at-reads
-use Rattle.line.proofs.queue.Reads as queue-reads
-use Rattle.stale.proofs.count_stale.Reads as count-stale-reads
+use Rattle.compute_order.proofs.queue.Reads as queue-reads
+use Rattle.compute_stale.proofs.count_stale.Reads as count-stale-reads
 use Rattle.table.proofs.node_of.Reads as node-of-reads
 
 abbrev Inv-loop : tie.InvT-loop

@@ -5,8 +5,8 @@ use lib.ListN.{length}
 use Rattle.rules.specs.Local.{Filled}
 use Rattle.rules.specs.Layout.{decode}
 use Rattle.table.proofs.Tables.{length-decode}
-use Rattle.digest.specs.Held.{entriesIn}
-use Rattle.send.specs.declared.Sent.{Sent}
+use Rattle.digest_read.specs.Held.{entriesIn}
+use Rattle.compute_write.specs.declared.Sent.{Sent}
 use Rattle.compute.proofs.Whole.{delta-is, line-within}
 use borrow.Author.Needs.{needs}
 use Rattle.compute.proofs.write_delta.Statement.{statement}
@@ -14,7 +14,7 @@ use Rattle.compute.proofs.write_delta.Tie as tie
 use Rattle.compute.proofs.write_delta.Reads as reads
 use Rattle.compute.proofs.write_delta.Lts as lts
 use Rattle.compute.proofs.line_up.Reads as line-up-reads
-use Rattle.send.proofs.send.Reads as send-reads
+use Rattle.compute_write.proofs.send.Reads as send-reads
 
 line-up-requires : tie.Need-line-up-requires
 line-up-requires c κs = search needs

@@ -1,13 +1,13 @@
 -- `exports::kev_read_digest` meets its contract: the call, and its answer as a number. Assumes nothing.
 use mathlib.Core.Path.{ap, _∙_}
-use Rattle.digest.specs.declared.Digest.{Digest}
+use Rattle.digest_read.specs.declared.Digest.{Digest}
 use Rattle.exports.specs.Numbers.{nodesTold}
 use borrow.Author.Needs.{needs}
 use Rattle.exports.proofs.kev_read_digest.Statement.{statement}
 use Rattle.exports.proofs.kev_read_digest.Tie as tie
 use Rattle.exports.proofs.kev_read_digest.Reads as reads
 use Rattle.exports.proofs.kev_read_digest.Lts as lts
-use Rattle.digest.proofs.read_digest.Reads as read-digest-reads
+use Rattle.digest_read.proofs.read_digest.Reads as read-digest-reads
 use Rattle.exports.proofs.nodes_told.Reads as nodes-told-reads
 
 read-digest-requires : tie.Need-read-digest-requires

@@ -5,9 +5,9 @@ use native.Mathlib.Omega.{arith}
 use lib.ListN.{length}
 use Rattle.rules.specs.declared.Status.{Status}
 use Rattle.rules.specs.Listing.{decimal, statusText}
-use Rattle.delta.specs.declared.Op.{Op}
-use Rattle.delta.specs.declared.Op.the-variants.{Node, KeyValue, SetMaxVersion}
-use Rattle.delta.specs.Places.{widthOf}
+use Rattle.delta_read.specs.declared.Op.{Op}
+use Rattle.delta_read.specs.declared.Op.the-variants.{Node, KeyValue, SetMaxVersion}
+use Rattle.delta_read.specs.Places.{widthOf}
 use Rattle.listing.specs.Front.{lineLength}
 use Rattle.listing.proofs.Lines.{status-long}
 use borrow.Author.Needs.{needs}

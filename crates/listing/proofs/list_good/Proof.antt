@@ -5,8 +5,8 @@ use mathlib.Core.List.{List, [], _∷_, _++_}
 use native.Mathlib.Omega.{arith}
 use lib.ListN.{length}
 use Rattle.rules.specs.Listing.{ascii}
-use Rattle.text.specs.Wrote.{Room}
-use Rattle.text.proofs.Texts.{room-second, then}
+use Rattle.listing_text.specs.Wrote.{Room}
+use Rattle.listing_text.proofs.Texts.{room-second, then}
 use Rattle.listing.specs.Front.{lastLine, linesFrom, goodText}
 use Rattle.listing.proofs.Lines.{front-none, front-whole, good-long}
 use borrow.Author.Needs.{needs}

@@ -8,11 +8,11 @@ use Rattle.fields.specs.Parts.{part}
 use Rattle.fields.proofs.Lent.{seen}
 use Rattle.rules.specs.Delta as rule
 use Rattle.rules.specs.declared.Status.{Status}
-use Rattle.delta.specs.declared.Op.{Op}
-use Rattle.delta.specs.declared.Op.the-variants.{Node, KeyValue, SetMaxVersion}
-use Rattle.delta.specs.Places.{opOf, Inside}
+use Rattle.delta_read.specs.declared.Op.{Op}
+use Rattle.delta_read.specs.declared.Op.the-variants.{Node, KeyValue, SetMaxVersion}
+use Rattle.delta_read.specs.Places.{opOf, Inside}
 use Rattle.rules.specs.Listing.{ascii, decimal, statusText, opLine}
-use Rattle.text.specs.Wrote.{Wrote, Room}
+use Rattle.listing_text.specs.Wrote.{Wrote, Room}
 use Rattle.listing.specs.Front.{textsText, recordLine}
 use borrow.Author.Needs.{needs}
 use Rattle.listing.proofs.put_line.Statement.{statement}

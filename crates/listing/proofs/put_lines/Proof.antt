@@ -4,16 +4,16 @@ use mathlib.Core.Path.{_≡_, refl, ap, sym, _∙_, subst}
 use mathlib.Core.List.{List, [], _∷_, _++_}
 use native.Mathlib.Omega.{arith}
 use lib.ListN.{length, length-append}
-use Rattle.delta.specs.declared.Op.{Op}
+use Rattle.delta_read.specs.declared.Op.{Op}
 use Rattle.fields.specs.Parts.{put}
 use Rattle.fields.proofs.Parts.{put-nil}
-use Rattle.delta.specs.Places.{opOf, opAt, Inside, widthOf}
-use Rattle.delta.specs.declared.OpRead.the-variants.{Got, Bad}
+use Rattle.delta_read.specs.Places.{opOf, opAt, Inside, widthOf}
+use Rattle.delta_read.specs.declared.OpRead.the-variants.{Got, Bad}
 use Rattle.rules.specs.declared.Refusal.{Refusal}
-use Rattle.delta.proofs.Reading.{Within, op-within}
+use Rattle.delta_read.proofs.Reading.{Within, op-within}
 use Rattle.rules.specs.Listing.{opLine}
-use Rattle.text.specs.Wrote.{Wrote, Room}
-use Rattle.text.proofs.Texts.{room-first, put-then, wrote-long}
+use Rattle.listing_text.specs.Wrote.{Wrote, Room}
+use Rattle.listing_text.proofs.Texts.{room-first, put-then, wrote-long}
 use Rattle.listing.specs.Front.{linesFrom}
 use Rattle.listing.proofs.Lines.{lines-end, lines-bad, lines-next}
 use borrow.Author.Needs.{needs}

@@ -1,8 +1,8 @@
 -- `listing::put_node` meets its contract: four texts, one behind the other. Assumes nothing.
 use mathlib.Core.List.{List, [], _∷_, _++_}
 use Rattle.rules.specs.Listing.{ascii, decimal, lineFeed, opLine}
-use Rattle.text.specs.Wrote.{numbered}
-use Rattle.text.proofs.Texts.{room-first, room-second, room-two, room-three, then, three}
+use Rattle.listing_text.specs.Wrote.{numbered}
+use Rattle.listing_text.proofs.Texts.{room-first, room-second, room-two, room-three, then, three}
 use borrow.Author.Needs.{needs}
 use Rattle.listing.proofs.put_node.Statement.{statement}
 use Rattle.listing.proofs.put_node.Tie as tie

@@ -16,18 +16,18 @@ use Rattle.table.specs.Tests.{recsOf, nodesOf}
 use Rattle.table.proofs.Nodes.{length-node}
 use Rattle.table.proofs.Tables.{valid-long, valid-few}
 use Rattle.table.proofs.Places.{nodeBytes, nodeAt, nodePlace}
-use Rattle.place.specs.Find.{findNode}
-use Rattle.place.specs.declared.Place.the-variants.{At}
-use Rattle.place.proofs.Searched.{node-in, node-laid, node-rises}
-use Rattle.write.specs.Writes.{Acted, nodeIn, callOf}
+use Rattle.table_read.specs.Find.{findNode}
+use Rattle.table_read.specs.declared.Place.the-variants.{At}
+use Rattle.table_read.proofs.Searched.{node-in, node-laid, node-rises}
+use Rattle.local_node.specs.Writes.{Acted, nodeIn, callOf}
 use Rattle.local.proofs.Called.{called, no-node}
 use borrow.Author.Needs.{needs}
 use Rattle.local.proofs.write_good.Statement.{statement}
 use Rattle.local.proofs.write_good.Tie as tie
 use Rattle.local.proofs.write_good.Reads as reads
 use Rattle.local.proofs.write_good.Lts as lts
-use Rattle.place.proofs.find_node.Reads as find-node-reads
-use Rattle.write.proofs.write_node.Reads as write-node-reads
+use Rattle.table_read.proofs.find_node.Reads as find-node-reads
+use Rattle.local_node.proofs.write_node.Reads as write-node-reads
 
 -- where the node stands
 stands : (c : tie.After-i) → findNode ((c .before .before .before .before .before .before .before) .args .number) (decode ((c .before .before .before .before .before .before .before) .args .s .now)) ≡ At (c .i .given .0 .0)

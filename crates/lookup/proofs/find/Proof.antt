@@ -1,7 +1,7 @@
 -- `lookup::find` meets its contract: the check, then the rule. Assumes nothing.
 use mathlib.Core.Path.{sym, _∙_}
 use Rattle.rules.specs.declared.Refusal.the-variants.{BadTable}
-use Rattle.place.proofs.Entry.{from-good, from-bad}
+use Rattle.table_read.proofs.Entry.{from-good, from-bad}
 use Rattle.lookup.specs.Lookup.{foundIn}
 use Rattle.lookup.specs.declared.Found.the-variants.{Refused}
 use borrow.Author.Needs.{needs}
@@ -10,7 +10,7 @@ use Rattle.lookup.proofs.find.Tie as tie
 use Rattle.lookup.proofs.find.Reads as reads
 use Rattle.lookup.proofs.find.Lts as lts
 use Rattle.lookup.proofs.find_good.Reads as find-good-reads
-use Rattle.valid.proofs.check_table.Reads as check-table-reads
+use Rattle.table_check.proofs.check_table.Reads as check-table-reads
 
 check-table-requires : tie.Need-check-table-requires
 check-table-requires c κs = search needs

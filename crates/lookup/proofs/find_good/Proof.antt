@@ -15,9 +15,9 @@ use Rattle.table.specs.Tests.{nodesOf, recsOf}
 use Rattle.table.specs.Fits.{LaidNode}
 use Rattle.table.proofs.Places.{nodeBytes}
 use Rattle.table.proofs.Tables.{valid-long, valid-few}
-use Rattle.place.specs.Find.{findNode}
-use Rattle.place.specs.declared.Place.the-variants as place
-use Rattle.place.proofs.Searched.{node-in, node-laid, node-rises}
+use Rattle.table_read.specs.Find.{findNode}
+use Rattle.table_read.specs.declared.Place.the-variants as place
+use Rattle.table_read.proofs.Searched.{node-in, node-laid, node-rises}
 use Rattle.lookup.specs.Lookup.{findRec, foundIn}
 use Rattle.lookup.specs.declared.Found.{Found}
 use Rattle.lookup.specs.declared.Found.the-variants.{Refused}
@@ -28,7 +28,7 @@ use Rattle.lookup.proofs.find_good.Tie as tie
 use Rattle.lookup.proofs.find_good.Reads as reads
 use Rattle.lookup.proofs.find_good.Lts as lts
 use Rattle.lookup.proofs.in_node.Reads as in-node-reads
-use Rattle.place.proofs.find_node.Reads as find-node-reads
+use Rattle.table_read.proofs.find_node.Reads as find-node-reads
 use Rattle.table.proofs.node_of.Reads as node-of-reads
 
 -- the node was found in place i

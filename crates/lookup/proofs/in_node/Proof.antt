@@ -1,6 +1,6 @@
 -- `lookup::in_node` meets its contract: what the search for the key says of the place. Assumes nothing.
 use mathlib.Core.Path.{sym, _∙_}
-use Rattle.place.proofs.Searched.{rec-in}
+use Rattle.table_read.proofs.Searched.{rec-in}
 use Rattle.lookup.proofs.Values.{rec-place, rec-nowhere}
 use borrow.Author.Needs.{needs}
 use Rattle.lookup.proofs.in_node.Statement.{statement}
@@ -8,7 +8,7 @@ use Rattle.lookup.proofs.in_node.Tie as tie
 use Rattle.lookup.proofs.in_node.Reads as reads
 use Rattle.lookup.proofs.in_node.Lts as lts
 use Rattle.lookup.proofs.in_record.Reads as in-record-reads
-use Rattle.place.proofs.search_key.Reads as search-key-reads
+use Rattle.table_read.proofs.search_key.Reads as search-key-reads
 
 search-key-requires : tie.Need-search-key-requires
 search-key-requires c κs = search needs

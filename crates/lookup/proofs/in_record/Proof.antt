@@ -14,7 +14,7 @@ use Rattle.rules.specs.declared.Status.the-variants.{Set, Delete, Ttl}
 use Rattle.table.specs.Tests.{keyLength, valueLength}
 use Rattle.table.proofs.Places.{recBytes, recAt}
 use Rattle.table.proofs.Laid.{rec-long, laid-key, laid-value}
-use Rattle.place.specs.Find.{recordOf}
+use Rattle.table_read.specs.Find.{recordOf}
 use Rattle.lookup.specs.Lookup.{valuePlace, foundRec}
 use Rattle.lookup.specs.declared.Found.the-variants.{At, Nothing}
 use borrow.Author.Needs.{needs}
@@ -22,7 +22,7 @@ use Rattle.lookup.proofs.in_record.Statement.{statement}
 use Rattle.lookup.proofs.in_record.Tie as tie
 use Rattle.lookup.proofs.in_record.Reads as reads
 use Rattle.lookup.proofs.in_record.Lts as lts
-use Rattle.place.proofs.read_record.Reads as read-record-reads
+use Rattle.table_read.proofs.read_record.Reads as read-record-reads
 use Rattle.table.proofs.record_of.Reads as record-of-reads
 
 -- by the status that was read

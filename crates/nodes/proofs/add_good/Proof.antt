@@ -7,18 +7,18 @@ use Rattle.rules.specs.Layout.{decode}
 use Rattle.rules.specs.Sizes.{maxNodes}
 use Rattle.table.specs.Tests.{nodesOf}
 use Rattle.table.proofs.Tables.{valid-long, valid-few, valid-laid, length-decode}
-use Rattle.place.specs.Find.{findNode, toNode}
-use Rattle.place.specs.declared.Place.the-variants.{Free}
-use Rattle.place.proofs.Placed.{free-in}
+use Rattle.table_read.specs.Find.{findNode, toNode}
+use Rattle.table_read.specs.declared.Place.the-variants.{Free}
+use Rattle.table_read.proofs.Placed.{free-in}
 use Rattle.nodes.proofs.Coming.{add-held, add-full, add-new}
 use borrow.Author.Needs.{needs}
 use Rattle.nodes.proofs.add_good.Statement.{statement}
 use Rattle.nodes.proofs.add_good.Tie as tie
 use Rattle.nodes.proofs.add_good.Reads as reads
 use Rattle.nodes.proofs.add_good.Lts as lts
-use Rattle.change.proofs.insert_node.Reads as insert-node-reads
+use Rattle.table_write.proofs.insert_node.Reads as insert-node-reads
 use Rattle.fields.proofs.byte_at.Reads as byte-at-reads
-use Rattle.place.proofs.find_node.Reads as find-node-reads
+use Rattle.table_read.proofs.find_node.Reads as find-node-reads
 
 -- where the number belongs
 belongs : (c : tie.After-i) → findNode ((c .before .before .before .before .before) .args .number) (decode ((c .before .before .before .before .before) .args .s .now)) ≡ Free (c .i .given .0 .0)

@@ -2,17 +2,17 @@
 use mathlib.Core.Path.{_≡_, sym, _∙_}
 use Rattle.rules.specs.Layout.{decode}
 use Rattle.table.proofs.Tables.{valid-long, valid-few, valid-laid}
-use Rattle.place.specs.Find.{findNode}
-use Rattle.place.specs.declared.Place.the-variants.{At}
-use Rattle.place.proofs.Searched.{node-in}
+use Rattle.table_read.specs.Find.{findNode}
+use Rattle.table_read.specs.declared.Place.the-variants.{At}
+use Rattle.table_read.proofs.Searched.{node-in}
 use Rattle.nodes.proofs.Coming.{remove-held, remove-none}
 use borrow.Author.Needs.{needs}
 use Rattle.nodes.proofs.remove_good.Statement.{statement}
 use Rattle.nodes.proofs.remove_good.Tie as tie
 use Rattle.nodes.proofs.remove_good.Reads as reads
 use Rattle.nodes.proofs.remove_good.Lts as lts
-use Rattle.change.proofs.remove_node.Reads as remove-node-reads
-use Rattle.place.proofs.find_node.Reads as find-node-reads
+use Rattle.table_write.proofs.remove_node.Reads as remove-node-reads
+use Rattle.table_read.proofs.find_node.Reads as find-node-reads
 
 -- where the node stands
 stands : (c : tie.After-i) → findNode ((c .before .before .before .before .before) .args .number) (decode ((c .before .before .before .before .before) .args .s .now)) ≡ At (c .i .given .0 .0)

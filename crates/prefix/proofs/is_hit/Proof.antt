@@ -14,14 +14,14 @@ use Rattle.rules.specs.declared.Status.the-variants.{Set, Delete, Ttl}
 use Rattle.table.specs.Tests.{keyLength, valueLength}
 use Rattle.table.proofs.Places.{recBytes, recAt}
 use Rattle.table.proofs.Laid.{rec-long, laid-key, laid-value}
-use Rattle.place.specs.Find.{recordOf}
+use Rattle.table_read.specs.Find.{recordOf}
 use borrow.Author.Needs.{needs}
 use Rattle.prefix.proofs.is_hit.Statement.{statement}
 use Rattle.prefix.proofs.is_hit.Tie as tie
 use Rattle.prefix.proofs.is_hit.Reads as reads
 use Rattle.prefix.proofs.is_hit.Lts as lts
 use Rattle.fields.proofs.starts_with.Reads as starts-with-reads
-use Rattle.place.proofs.read_record.Reads as read-record-reads
+use Rattle.table_read.proofs.read_record.Reads as read-record-reads
 use Rattle.table.proofs.key_of.Reads as key-of-reads
 use Rattle.table.proofs.record_of.Reads as record-of-reads
 

@@ -6,16 +6,16 @@ use Rattle.rules.specs.Layout.{decode}
 use Rattle.table.specs.Tests.{nodesOf}
 use Rattle.table.specs.Fits.{LaidNode}
 use Rattle.table.proofs.Tables.{valid-long, valid-few}
-use Rattle.place.specs.Find.{findNode}
-use Rattle.place.specs.declared.Place.the-variants as place
-use Rattle.place.proofs.Searched.{node-in, node-laid}
+use Rattle.table_read.specs.Find.{findNode}
+use Rattle.table_read.specs.declared.Place.the-variants as place
+use Rattle.table_read.proofs.Searched.{node-in, node-laid}
 use Rattle.prefix.proofs.Hits.{no-node, too-long, in-place}
 use borrow.Author.Needs.{needs}
 use Rattle.prefix.proofs.list_good.Statement.{statement}
 use Rattle.prefix.proofs.list_good.Tie as tie
 use Rattle.prefix.proofs.list_good.Reads as reads
 use Rattle.prefix.proofs.list_good.Lts as lts
-use Rattle.place.proofs.find_node.Reads as find-node-reads
+use Rattle.table_read.proofs.find_node.Reads as find-node-reads
 use Rattle.prefix.proofs.in_node.Reads as in-node-reads
 use Rattle.table.proofs.node_of.Reads as node-of-reads
 

@@ -7,7 +7,7 @@ use Rattle.prefix.proofs.list_prefix.Tie as tie
 use Rattle.prefix.proofs.list_prefix.Reads as reads
 use Rattle.prefix.proofs.list_prefix.Lts as lts
 use Rattle.prefix.proofs.list_good.Reads as list-good-reads
-use Rattle.valid.proofs.check_table.Reads as check-table-reads
+use Rattle.table_check.proofs.check_table.Reads as check-table-reads
 
 check-table-requires : tie.Need-check-table-requires
 check-table-requires c κs = search needs

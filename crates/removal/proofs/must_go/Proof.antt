@@ -14,13 +14,13 @@ use Rattle.rules.specs.declared.Status.the-variants.{Set, Delete, Ttl}
 use Rattle.table.specs.Tests.{keyLength, valueLength}
 use Rattle.table.proofs.Places.{recBytes, recAt}
 use Rattle.table.proofs.Laid.{rec-long, laid-key, laid-value}
-use Rattle.place.specs.Find.{recordOf}
+use Rattle.table_read.specs.Find.{recordOf}
 use borrow.Author.Needs.{needs}
 use Rattle.removal.proofs.must_go.Statement.{statement}
 use Rattle.removal.proofs.must_go.Tie as tie
 use Rattle.removal.proofs.must_go.Reads as reads
 use Rattle.removal.proofs.must_go.Lts as lts
-use Rattle.place.proofs.read_record.Reads as read-record-reads
+use Rattle.table_read.proofs.read_record.Reads as read-record-reads
 use Rattle.removal.proofs.is_due.Reads as is-due-reads
 use Rattle.table.proofs.record_of.Reads as record-of-reads
 

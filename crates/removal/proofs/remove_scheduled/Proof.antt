@@ -7,7 +7,7 @@ use Rattle.removal.proofs.remove_scheduled.Tie as tie
 use Rattle.removal.proofs.remove_scheduled.Reads as reads
 use Rattle.removal.proofs.remove_scheduled.Lts as lts
 use Rattle.removal.proofs.remove_good.Reads as remove-good-reads
-use Rattle.valid.proofs.check_table.Reads as check-table-reads
+use Rattle.table_check.proofs.check_table.Reads as check-table-reads
 
 check-table-requires : tie.Need-check-table-requires
 check-table-requires c κs = search needs

@@ -15,8 +15,8 @@ use Rattle.removal.proofs.take_out.Statement.{statement}
 use Rattle.removal.proofs.take_out.Tie as tie
 use Rattle.removal.proofs.take_out.Reads as reads
 use Rattle.removal.proofs.take_out.Lts as lts
-use Rattle.change.proofs.remove_record.Reads as remove-record-reads
-use Rattle.change.proofs.set_last_gc.Reads as set-last-gc-reads
+use Rattle.table_write.proofs.remove_record.Reads as remove-record-reads
+use Rattle.table_write.proofs.set_last_gc.Reads as set-last-gc-reads
 use Rattle.fields.proofs.read_u64.Reads as read-u64-reads
 use Rattle.removal.proofs.larger.Reads as larger-reads
 

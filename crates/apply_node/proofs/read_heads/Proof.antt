@@ -1,0 +1,238 @@
+-- `apply_node::read_heads` meets its contract: what is left to be read has the whole's answer, and brings the rest of the last node delta. Assumes nothing.
+use Prim.Native.Nat.{ℕ, _-_, _≤_, _<_}
+use mathlib.Core.Path.{_≡_, refl, sym, _∙_}
+use mathlib.Core.List.{List}
+use native.Mathlib.Omega.{arith}
+use lib.ListN.{length}
+use Rattle.delta_read.specs.declared.OpRead.the-variants.{Got}
+use Rattle.delta_read.specs.Places.{opAt}
+use Rattle.delta_read.proofs.Counted.{So-far, too-long, start, done, bad, fault, ends, on-new, on-under}
+use Rattle.delta_read.proofs.Following.{entered}
+use Rattle.apply_node.proofs.Parts.{Gathering, gathering-first, gathering-entered, gathering-under, gathering-last, some-node, gathered-none, gathered}
+use borrow.Author.Needs.{needs}
+use Rattle.apply_node.proofs.read_heads.Statement.{statement}
+use Rattle.apply_node.proofs.read_heads.Tie as tie
+
+abbrev Inv-loop : tie.InvT-loop
+Inv-loop s places₀ counts₀ maxes₀ seen₀ nodes₀ running₀ under₀ ops₀ at₀ places counts maxes seen nodes running under ops at =
+    So-far s seen nodes running ops at × Gathering s places counts maxes nodes under at × (under ≤ ops)
+
+abbrev μ-loop : tie.MeasureT-loop
+μ-loop s places₀ counts₀ maxes₀ seen₀ nodes₀ running₀ under₀ ops₀ at₀ places counts maxes seen nodes running under ops at = length s - at
+
+-- the turn in which something may follow, and the operation that it read
+abbrev looping : (c : tie.After-follow Inv-loop μ-loop) → tie.In-loop Inv-loop μ-loop
+looping c = c .before .before .before .before .before .before
+
+got : (c : tie.After-follow Inv-loop μ-loop)
+    → opAt (looping c .before .before .before .before .args .s .now) (looping c .before .loop .at) ≡ Got (c .before .before .before .read2 .given .0 .0) (c .before .before .before .read2 .given .0 .1 .0)
+got c = sym (c .before .before .before .before .before .read-op .ensures) ∙ c .before .before .before .read2 .given .1
+
+-- a Node, or an operation under one
+abbrev node-follow : (c : tie.After-known-told4 Inv-loop μ-loop) → tie.After-follow Inv-loop μ-loop
+node-follow c = c .before .before .before
+
+abbrev under-follow : (c : tie.After-known-told5 Inv-loop μ-loop) → tie.After-follow Inv-loop μ-loop
+under-follow c = c .before .before .before
+
+below-eight : (c : tie.After-known-told4 Inv-loop μ-loop) → looping (node-follow c) .before .loop .nodes < 8
+below-eight c =
+    let f = node-follow c in
+    entered (looping f .before .before .before .before .args .s .now) _ _ _ _ _ (sym (f .follow .ensures) ∙ c .before .number .given .1) .1
+
+from-one : (c : tie.After-known-told5 Inv-loop μ-loop) → 0 < looping (under-follow c) .before .loop .nodes
+from-one c = some-node _ _ _ _ _ (sym (under-follow c .follow .ensures) ∙ c .before .version .given .1)
+
+refused-requires : tie.Need-refused-requires Inv-loop μ-loop
+refused-requires c κs = search needs
+
+returns : tie.Need-returns Inv-loop μ-loop
+returns c =
+    let e = too-long _ (c .before .if1 .taken) in
+    let r = c .refused .ensures in
+    (r .0 ∙ e, gathered-none _ _ _ _ (r .1) (r .2) (r .3) _ _ e)
+
+loop-holds : tie.Need-loop-holds Inv-loop μ-loop
+loop-holds c =
+    let l : List ℕ = c .before .before .args .s .now in
+    ((omega arith, omega arith, omega arith, refl, start l _ (omega arith)), gathering-first l _ _ _ refl refl refl, omega arith)
+
+read-op-requires : tie.Need-read-op-requires Inv-loop μ-loop
+read-op-requires c κs = search needs
+
+enum-known-read : tie.Need-enum-known-read Inv-loop μ-loop
+enum-known-read c = search needs
+
+refused-requires-2 : tie.Need-refused-requires-2 Inv-loop μ-loop
+refused-requires-2 c κs = search needs
+
+returns-2 : tie.Need-returns-2 Inv-loop μ-loop
+returns-2 c =
+    let told = c .before in
+    let in-loop = told .before .before .before .before in
+    let e = bad _ _ _ _ _ _ (in-loop .before .loop .inv .0 .4) (in-loop .loop-test .taken) _ (sym (told .before .before .before .read-op .ensures) ∙ told .before .read .given .1) in
+    let r = c .refused2 .ensures in
+    (r .0 ∙ e, gathered-none _ _ _ _ (r .1) (r .2) (r .3) _ _ e)
+
+enum-known-read-2 : tie.Need-enum-known-read-2 Inv-loop μ-loop
+enum-known-read-2 c = search needs
+
+follow-requires : tie.Need-follow-requires Inv-loop μ-loop
+follow-requires c κs = search needs
+
+enum-known-why : tie.Need-enum-known-why Inv-loop μ-loop
+enum-known-why c = search needs
+
+refused-requires-3 : tie.Need-refused-requires-3 Inv-loop μ-loop
+refused-requires-3 c κs = search needs
+
+returns-3 : tie.Need-returns-3 Inv-loop μ-loop
+returns-3 c =
+    let told = c .before in
+    let f = told .before .before .before in
+    let in-loop = looping f in
+    let e = fault _ _ _ _ _ _ (in-loop .before .loop .inv .0 .4) (in-loop .loop-test .taken) _ _ (got f) _ (sym (f .follow .ensures) ∙ told .before .why .given .1) in
+    let r = c .refused3 .ensures in
+    (r .0 ∙ e, gathered-none _ _ _ _ (r .1) (r .2) (r .3) _ _ e)
+
+enum-known-number : tie.Need-enum-known-number Inv-loop μ-loop
+enum-known-number c = search needs
+
+mul-seen : tie.Need-mul-seen Inv-loop μ-loop
+mul-seen c = omega (arith, below-eight c)
+
+array-write-seen : tie.Need-array-write-seen Inv-loop μ-loop
+array-write-seen c = below-eight c
+
+mul-places : tie.Need-mul-places Inv-loop μ-loop
+mul-places c = omega (arith, below-eight c)
+
+array-write-places : tie.Need-array-write-places Inv-loop μ-loop
+array-write-places c = below-eight c
+
+mul-counts : tie.Need-mul-counts Inv-loop μ-loop
+mul-counts c = omega (arith, below-eight c)
+
+array-write-counts : tie.Need-array-write-counts Inv-loop μ-loop
+array-write-counts c = below-eight c
+
+mul-maxes : tie.Need-mul-maxes Inv-loop μ-loop
+mul-maxes c = omega (arith, below-eight c)
+
+array-write-maxes : tie.Need-array-write-maxes Inv-loop μ-loop
+array-write-maxes c = below-eight c
+
+add-nodes : tie.Need-add-nodes Inv-loop μ-loop
+add-nodes c = omega (arith, below-eight c)
+
+-- the count of operations stays below the length
+more-ops : (c : tie.In-loop Inv-loop μ-loop) → c .before .loop .ops < 16384
+more-ops c = omega (arith, c .loop-test .taken, c .before .loop .inv .0 .2, c .before .before .if1 .left)
+
+add-ops : tie.Need-add-ops Inv-loop μ-loop
+add-ops c = omega (arith, more-ops (looping (node-follow c)))
+
+loop-less : tie.Need-loop-less Inv-loop μ-loop
+loop-less c =
+    let n = ends _ _ _ _ (got (node-follow c)) in
+    omega (arith, n .0, n .1)
+
+loop-again : tie.Need-loop-again Inv-loop μ-loop
+loop-again c =
+    let f = node-follow c in
+    let in-loop = looping f in
+    let inv = in-loop .before .loop .inv in
+    let e = sym (f .follow .ensures) ∙ c .before .number .given .1 in
+    (on-new _ _ _ _ _ _ (inv .0) (in-loop .loop-test .taken) _ _ (got f) _ _ _ _ e refl refl refl, gathering-entered _ _ _ _ _ _ _ (inv .1) (in-loop .loop-test .taken) _ _ _ (got f) _ _ e, omega arith)
+
+enum-known-version : tie.Need-enum-known-version Inv-loop μ-loop
+enum-known-version c = search needs
+
+add-under : tie.Need-add-under Inv-loop μ-loop
+add-under c =
+    let in-loop = looping (under-follow c) in
+    omega (arith, more-ops in-loop, in-loop .before .loop .inv .2)
+
+sub-counts : tie.Need-sub-counts Inv-loop μ-loop
+sub-counts c = omega (arith, from-one c)
+
+mul-counts-2 : tie.Need-mul-counts-2 Inv-loop μ-loop
+mul-counts-2 c = omega (arith, looping (under-follow c) .before .loop .inv .0 .1)
+
+array-write-counts-2 : tie.Need-array-write-counts-2 Inv-loop μ-loop
+array-write-counts-2 c = omega (arith, from-one c, looping (under-follow c) .before .loop .inv .0 .1)
+
+sub-maxes : tie.Need-sub-maxes Inv-loop μ-loop
+sub-maxes c = omega (arith, from-one c)
+
+mul-maxes-2 : tie.Need-mul-maxes-2 Inv-loop μ-loop
+mul-maxes-2 c = omega (arith, looping (under-follow c) .before .loop .inv .0 .1)
+
+array-write-maxes-2 : tie.Need-array-write-maxes-2 Inv-loop μ-loop
+array-write-maxes-2 c = omega (arith, from-one c, looping (under-follow c) .before .loop .inv .0 .1)
+
+add-ops-2 : tie.Need-add-ops-2 Inv-loop μ-loop
+add-ops-2 c = omega (arith, more-ops (looping (under-follow c)))
+
+loop-less-2 : tie.Need-loop-less-2 Inv-loop μ-loop
+loop-less-2 c =
+    let n = ends _ _ _ _ (got (under-follow c)) in
+    omega (arith, n .0, n .1)
+
+loop-again-2 : tie.Need-loop-again-2 Inv-loop μ-loop
+loop-again-2 c =
+    let f = under-follow c in
+    let in-loop = looping f in
+    let inv = in-loop .before .loop .inv in
+    let e = sym (f .follow .ensures) ∙ c .before .version .given .1 in
+    (on-under _ _ _ _ _ _ (inv .0) (in-loop .loop-test .taken) _ _ (got f) _ _ _ _ e refl refl refl, gathering-under _ _ _ _ _ _ _ (inv .1) (in-loop .loop-test .taken) _ _ _ (got f) (inv .0 .1) _ _ e, omega (arith, inv .2))
+
+returns-4 : tie.Need-returns-4 Inv-loop μ-loop
+returns-4 c =
+    let inv = c .before .loop .inv in
+    let e = done _ _ _ _ _ _ (inv .0 .4) (c .loop-test .left) in
+    (e, gathered _ _ _ _ (inv .1 .long-at) (inv .1 .long-count) (inv .1 .long-max) _ _ e (inv .0 .1) (gathering-last _ _ _ _ _ _ _ (inv .1) (c .loop-test .left)))
+
+pub read-heads-spec : {M : Type 1} → statement M
+read-heads-spec =
+    tie.close
+    (tie.spec
+    Inv-loop
+    μ-loop
+    refused-requires
+    returns
+    loop-holds
+    read-op-requires
+    enum-known-read
+    refused-requires-2
+    returns-2
+    enum-known-read-2
+    follow-requires
+    enum-known-why
+    refused-requires-3
+    returns-3
+    enum-known-number
+    mul-seen
+    array-write-seen
+    mul-places
+    array-write-places
+    mul-counts
+    array-write-counts
+    mul-maxes
+    array-write-maxes
+    add-nodes
+    add-ops
+    loop-less
+    loop-again
+    enum-known-version
+    add-under
+    sub-counts
+    mul-counts-2
+    array-write-counts-2
+    sub-maxes
+    mul-maxes-2
+    array-write-maxes-2
+    add-ops-2
+    loop-less-2
+    loop-again-2
+    returns-4)

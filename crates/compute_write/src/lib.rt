@@ -1,0 +1,99 @@
+// Writing a delta under the MTU: for each node in line a Node operation, then its stale records by rising version, or a SetMaxVersion where there
+// are none. Each operation is written to the part of the datagram that begins at its place and ends where the MTU does.
+use delta_write::Wrote;
+ghost use mathlib.Core.Path.{_≡_};
+ghost use Prim.Native.Nat.{ℕ, _≤_, _<_};
+ghost use lib.ListN.{length};
+ghost use Rattle.fields.specs.Choice.{_∈_};
+ghost use Rattle.rules.specs.Delta.{KeyValueOp};
+ghost use Rattle.rules.specs.Layout.{decode};
+ghost use Rattle.table.specs.Fits.{LaidTable};
+ghost use Rattle.table.specs.Tests.{nodesOf};
+ghost use Rattle.delta_write.specs.Written.{WritesOp};
+ghost use Rattle.compute_stale.specs.Arranged.{listed};
+ghost use Rattle.compute_order.specs.Line.{entryAt};
+ghost use Rattle.compute_write.specs.Sending.{nodeOpAt, recordAt, opsAt, sending, closed};
+
+// How many operations were written, in how many bytes.
+pub struct Sent {
+    pub ops: usize,
+    pub bytes: usize,
+}
+
+// The Node operation of the node at `p`.
+fn send_node(s: &[u8], p: usize, from: u64, d: &mut [u8]) -> Wrote
+    requires { ⌜ LaidTable (now s) × (p < nodesOf (now s)) ⌝ }
+    ensures { λ r. ⌜ WritesOp (nodeOpAt (decode (now (s .entry))) p from) (now (d .entry)) r (now (d .exit)) ⌝ }
+{
+    delta_write::write_node(
+        d,
+        compute_order::number_at(s, p),
+        compute_order::last_gc_at(s, p),
+        from,
+    )
+}
+
+// Record `q` of the node at `p`.
+fn send_record(s: &[u8], p: usize, q: usize, d: &mut [u8]) -> Wrote
+    requires { ⌜ LaidTable (now s) × (p < nodesOf (now s)) × (q < length (entryAt (decode (now s)) p .node .recs)) ⌝ }
+    ensures { λ r. ⌜ WritesOp (KeyValueOp (recordAt (decode (now (s .entry))) p q)) (now (d .entry)) r (now (d .exit)) ⌝ }
+{
+    let b = table::record_of(table::node_of(s, p), q);
+    let r = table_read::read_record(b);
+    let status = r.status;
+    delta_write::write_key_value(d, table::key_of(b), table::value_of(b), r.version, status)
+}
+
+// SetMaxVersion, where the node at `p` has no stale records. It is dropped where it does not fit.
+fn send_max(s: &[u8], p: usize, stale: usize, d: &mut [u8]) -> Sent
+    requires { ⌜ LaidTable (now s) × (p < nodesOf (now s)) ⌝ }
+    ensures { λ r. ⌜ (r ≡ closed stale (entryAt (decode (now (s .entry))) p .node .max) (now (d .entry)) .answer)
+        × (now (d .exit) ≡ closed stale (entryAt (decode (now (s .entry))) p .node .max) (now (d .entry)) .list) ⌝ }
+{
+    if stale != 0 {
+        return Sent { ops: 0, bytes: 0 };
+    }
+    match delta_write::write_set_max_version(d, compute_order::max_at(s, p)) {
+        Wrote::Bytes(bytes) => Sent { ops: 1, bytes },
+        Wrote::NoFit => Sent { ops: 0, bytes: 0 },
+    }
+}
+
+// Writes the operations of the `n` nodes in line, first to last, while they fit. The first record that does not fit ends the whole delta, and so
+// does a Node.
+pub fn send(s: &[u8], froms: &[u64], line: &[usize], n: usize, d: &mut [u8]) -> Sent
+    requires { ⌜ LaidTable (now s) × (length (now froms) ≡ 8) × (length (now line) ≡ 8) × (n ≤ 8)
+        × ((p : ℕ) → p ∈ listed n (now line) → p < nodesOf (now s)) ⌝ }
+    ensures { λ r. ⌜ (r ≡ sending 0 0 (opsAt (decode (now (s .entry))) (now (froms .entry)) (listed n (now (line .entry)))) (now (d .entry)) .answer)
+        × (now (d .exit) ≡ sending 0 0 (opsAt (decode (now (s .entry))) (now (froms .entry)) (listed n (now (line .entry)))) (now (d .entry)) .list) ⌝ }
+{
+    let mut ops = 0;
+    let mut used = 0;
+    let mut j = n;
+    'nodes: while 0 < j {
+        j -= 1;
+        let p = line[j];
+        let from = froms[p];
+        let Wrote::Bytes(size) = send_node(s, p, from, &mut d[used..]) else {
+            break 'nodes;
+        };
+        ops += 1;
+        used += size;
+        let stale = compute_stale::stale_places(table::node_of(s, p), from);
+        let at = stale.at;
+        let mut k = stale.count;
+        let sent = send_max(s, p, k, &mut d[used..]);
+        ops += sent.ops;
+        used += sent.bytes;
+        while 0 < k {
+            k -= 1;
+            let q = at[k];
+            let Wrote::Bytes(size) = send_record(s, p, q, &mut d[used..]) else {
+                break 'nodes;
+            };
+            ops += 1;
+            used += size;
+        }
+    }
+    Sent { ops, bytes: used }
+}

@@ -1,0 +1,57 @@
+-- `delta_read::read_key_value` meets its contract: what is read behind the key, or its refusal. Assumes nothing.
+use Prim.Native.Nat.{ℕ, zero, suc, _+_, _-_, _≤_, _<_}
+use mathlib.Core.Path.{_≡_, refl, ap, sym, _∙_, subst}
+use mathlib.Core.List.{List, [], _∷_}
+use native.Mathlib.Omega.{arith}
+use lib.ListN.{length}
+use Rattle.rules.specs.Sizes.{maxKey}
+use Rattle.rules.specs.declared.Refusal.{Refusal}
+use Rattle.delta_read.specs.declared.TextRead.the-variants as text
+use Rattle.delta_read.specs.declared.OpRead.{OpRead}
+use Rattle.delta_read.specs.declared.OpRead.the-variants.{Got, Bad}
+use Rattle.delta_read.specs.Places.{textAt, onText, valueAt, keyValueAt}
+use Rattle.delta_read.proofs.Reading.{TextWithin, text-within}
+use borrow.Author.Needs.{needs}
+use Rattle.delta_read.proofs.read_key_value.Statement.{statement}
+use Rattle.delta_read.proofs.read_key_value.Tie as tie
+
+-- the key's bytes are there
+there : (l : List ℕ) (at k n : ℕ) → textAt maxKey l at ≡ text.Held k n → k + n ≤ length l
+there l at k n e = subst (TextWithin maxKey (length l) at) e (text-within l maxKey at) .1
+
+held : (l : List ℕ) (at k n : ℕ) (r : OpRead) → textAt maxKey l at ≡ text.Held k n → r ≡ valueAt l k n → r ≡ keyValueAt l at
+unfolding keyValueAt
+held l at k n r e q = q ∙ ap (onText (λ k n. valueAt l k n)) (sym e)
+
+bad : (l : List ℕ) (at : ℕ) (why : Refusal) → textAt maxKey l at ≡ text.Bad why → Bad why ≡ keyValueAt l at
+unfolding keyValueAt
+bad l at why e = ap (onText (λ k n. valueAt l k n)) (sym e)
+
+read-text-requires : tie.Need-read-text-requires
+read-text-requires c κs = search needs
+
+enum-known-key : tie.Need-enum-known-key
+enum-known-key c = search needs
+
+read-value-requires : tie.Need-read-value-requires
+read-value-requires c κs = there _ _ _ _ (sym (c .before .before .before .read-text .ensures) ∙ c .before .key .given .1)
+
+enum-known-key-2 : tie.Need-enum-known-key-2
+enum-known-key-2 c = search needs
+
+returns : tie.Need-returns
+returns c = held _ _ _ _ _ (sym (c .before .before .before .before .read-text .ensures) ∙ c .before .before .key .given .1) (c .read-value .ensures)
+
+returns-2 : tie.Need-returns-2
+returns-2 c = bad _ _ _ (sym (c .before .before .before .read-text .ensures) ∙ c .before .key2 .given .1)
+
+pub read-key-value-spec : {M : Type 1} → statement M
+read-key-value-spec =
+    tie.close
+    (tie.spec
+    read-text-requires
+    enum-known-key
+    read-value-requires
+    enum-known-key-2
+    returns
+    returns-2)

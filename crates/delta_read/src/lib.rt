@@ -1,0 +1,314 @@
+// Reading a delta: one operation at a place of the lent bytes, and a whole delta with its verdict. An operation holds its numbers, and where
+// its key and value stand in the caller's bytes; nothing is copied. What is read is what the definitions of `rules` say (specs/Places.antt).
+ghost use mathlib.Core.Path.{_≡_};
+ghost use Prim.Native.Nat.{_+_, _≤_, _<_};
+ghost use lib.ListN.{length};
+ghost use Rattle.rules.specs.Delta.{deltaRead};
+ghost use Rattle.rules.specs.Table.{among};
+ghost use Rattle.delta_read.specs.Places.{textAt, statusOf, nodeAt, versionAt, valueAt, keyValueAt, setMaxVersionAt, opAt, seenOf, nodeFollows, recordFollows, maxFollows, followAt};
+use rules::DeltaRead;
+use rules::Record;
+use rules::Refusal;
+use rules::Status;
+
+pub enum Op {
+    Node {
+        number: u64,
+        gc: u64,
+        from: u64,
+    },
+    KeyValue {
+        keyat: usize,
+        keylen: usize,
+        valueat: usize,
+        valuelen: usize,
+        version: u64,
+        status: Status,
+    },
+    SetMaxVersion {
+        max: u64,
+    },
+}
+
+// An operation and the place behind it, or why there is none.
+pub enum OpRead {
+    Got { op: Op, next: usize },
+    Bad(Refusal),
+}
+
+// A text behind its length of two bytes: where it stands and how long it is, or why there is none.
+pub enum TextRead {
+    Held { start: usize, len: usize },
+    Bad(Refusal),
+}
+
+// Whether an operation may follow those before it: a further node, or the running max under the last one, or a refusal.
+pub enum Followed {
+    Entered(u64),
+    Under(u64),
+    Fault(Refusal),
+}
+
+// The longest delta, and the most nodes in it.
+pub const LONGEST: usize = 16384;
+
+const NODES: usize = 8;
+
+// ---- one operation
+
+// The text whose length stands at `at`. An overlong length is refused before its bytes are looked at.
+fn read_text(s: &[u8], at: usize, most: usize) -> TextRead
+    requires { ⌜ at ≤ length (now s) ⌝ }
+    ensures { λ r. ⌜ r ≡ textAt most (now (s .entry)) at ⌝ }
+{
+    if s.len() - at < 2 {
+        return TextRead::Bad(Refusal::Cut);
+    }
+    let len = fields::read_u16(s, at);
+    if most < len {
+        return TextRead::Bad(Refusal::TooLong);
+    }
+    if s.len() - (at + 2) < len {
+        return TextRead::Bad(Refusal::Cut);
+    }
+    TextRead::Held { start: at + 2, len }
+}
+
+// Node, last_gc and from, behind the tag.
+fn read_node(s: &[u8], at: usize) -> OpRead
+    requires { ⌜ at ≤ length (now s) ⌝ }
+    ensures { λ r. ⌜ r ≡ nodeAt (now (s .entry)) at ⌝ }
+{
+    if s.len() - at < 24 {
+        return OpRead::Bad(Refusal::Cut);
+    }
+    OpRead::Got {
+        op: Op::Node {
+            number: fields::read_u64(s, at),
+            gc: fields::read_u64(s, at + 8),
+            from: fields::read_u64(s, at + 16),
+        },
+        next: at + 24,
+    }
+}
+
+// The status that a byte up to 2 stands for.
+fn status(b: usize) -> Status
+    requires { ⌜ b ≤ 2 ⌝ }
+    ensures { λ r. ⌜ r ≡ statusOf b ⌝ }
+{
+    if b == 0 {
+        return Status::Set;
+    }
+    if b == 1 {
+        return Status::Delete;
+    }
+    Status::Ttl
+}
+
+// Version and status, behind the value.
+fn read_version(s: &[u8], keyat: usize, keylen: usize, valueat: usize, valuelen: usize) -> OpRead
+    requires { ⌜ valueat + valuelen ≤ length (now s) ⌝ }
+    ensures { λ r. ⌜ r ≡ versionAt (now (s .entry)) keyat keylen valueat valuelen ⌝ }
+{
+    let at = valueat + valuelen;
+    if s.len() - at < 9 {
+        return OpRead::Bad(Refusal::Cut);
+    }
+    let b = fields::byte_at(s, at + 8);
+    if 2 < b {
+        return OpRead::Bad(Refusal::BadTag);
+    }
+    OpRead::Got {
+        op: Op::KeyValue {
+            keyat,
+            keylen,
+            valueat,
+            valuelen,
+            version: fields::read_u64(s, at),
+            status: status(b),
+        },
+        next: at + 9,
+    }
+}
+
+// Value, version and status, behind the key.
+fn read_value(s: &[u8], keyat: usize, keylen: usize) -> OpRead
+    requires { ⌜ keyat + keylen ≤ length (now s) ⌝ }
+    ensures { λ r. ⌜ r ≡ valueAt (now (s .entry)) keyat keylen ⌝ }
+{
+    let value = read_text(s, keyat + keylen, Record::VALUE);
+    match value {
+        TextRead::Held { start, len } => read_version(s, keyat, keylen, start, len),
+        TextRead::Bad(why) => OpRead::Bad(why),
+    }
+}
+
+// Key, value, version and status, behind the tag.
+fn read_key_value(s: &[u8], at: usize) -> OpRead
+    requires { ⌜ at ≤ length (now s) ⌝ }
+    ensures { λ r. ⌜ r ≡ keyValueAt (now (s .entry)) at ⌝ }
+{
+    let key = read_text(s, at, Record::KEY);
+    match key {
+        TextRead::Held { start, len } => read_value(s, start, len),
+        TextRead::Bad(why) => OpRead::Bad(why),
+    }
+}
+
+// The max, behind the tag.
+fn read_set_max_version(s: &[u8], at: usize) -> OpRead
+    requires { ⌜ at ≤ length (now s) ⌝ }
+    ensures { λ r. ⌜ r ≡ setMaxVersionAt (now (s .entry)) at ⌝ }
+{
+    if s.len() - at < 8 {
+        return OpRead::Bad(Refusal::Cut);
+    }
+    OpRead::Got {
+        op: Op::SetMaxVersion {
+            max: fields::read_u64(s, at),
+        },
+        next: at + 8,
+    }
+}
+
+// The operation whose tag stands at `at`.
+pub fn read_op(s: &[u8], at: usize) -> OpRead
+    requires { ⌜ at ≤ length (now s) ⌝ }
+    ensures { λ r. ⌜ r ≡ opAt (now (s .entry)) at ⌝ }
+{
+    if at == s.len() {
+        return OpRead::Bad(Refusal::Cut);
+    }
+    let tag = fields::byte_at(s, at);
+    match tag {
+        0 => read_node(s, at + 1),
+        1 => read_key_value(s, at + 1),
+        2 => read_set_max_version(s, at + 1),
+        _ => OpRead::Bad(Refusal::BadTag),
+    }
+}
+
+// ---- a whole delta
+
+// Whether the number is one of the first `nodes`, looked through from the newest back.
+fn is_seen(seen: &[u64; 8], nodes: usize, number: u64) -> bool
+    requires { ⌜ nodes ≤ 8 ⌝ }
+    ensures { λ r. ⌜ r ≡ among number (seenOf nodes (now (seen .entry))) ⌝ }
+{
+    let mut i = nodes;
+    while 0 < i {
+        i -= 1;
+        if number == seen[i] {
+            return true;
+        }
+    }
+    false
+}
+
+// A Node: not repeated, and not the ninth.
+fn follow_node(seen: &[u64; 8], nodes: usize, number: u64) -> Followed
+    requires { ⌜ nodes ≤ 8 ⌝ }
+    ensures { λ r. ⌜ r ≡ nodeFollows nodes (now (seen .entry)) number ⌝ }
+{
+    if is_seen(seen, nodes, number) {
+        return Followed::Fault(Refusal::NodeTwice);
+    }
+    if nodes < NODES {
+        return Followed::Entered(number);
+    }
+    Followed::Fault(Refusal::TooMany)
+}
+
+// A record: under a Node, with a version above the running max.
+fn follow_record(nodes: usize, running: u64, version: u64) -> Followed
+    ensures { λ r. ⌜ r ≡ recordFollows nodes running version ⌝ }
+{
+    if nodes == 0 {
+        return Followed::Fault(Refusal::OutOfOrder);
+    }
+    if running < version {
+        return Followed::Under(version);
+    }
+    Followed::Fault(Refusal::OutOfOrder)
+}
+
+// A SetMaxVersion: under a Node, and not below the running max.
+fn follow_max(nodes: usize, running: u64, max: u64) -> Followed
+    ensures { λ r. ⌜ r ≡ maxFollows nodes running max ⌝ }
+{
+    if nodes == 0 {
+        return Followed::Fault(Refusal::OutOfOrder);
+    }
+    if running <= max {
+        return Followed::Under(max);
+    }
+    Followed::Fault(Refusal::OutOfOrder)
+}
+
+// Whether the operation may follow, where `nodes` nodes are seen and the running max is `running`.
+pub fn follow(seen: &[u64; 8], nodes: usize, running: u64, op: Op) -> Followed
+    requires { ⌜ nodes ≤ 8 ⌝ }
+    ensures { λ r. ⌜ r ≡ followAt nodes (now (seen .entry)) running op ⌝ }
+{
+    match op {
+        Op::Node {
+            number,
+            gc: _,
+            from: _,
+        } => follow_node(seen, nodes, number),
+        Op::KeyValue {
+            keyat: _,
+            keylen: _,
+            valueat: _,
+            valuelen: _,
+            version,
+            status: _,
+        } => follow_record(nodes, running, version),
+        Op::SetMaxVersion { max } => follow_max(nodes, running, max),
+    }
+}
+
+// How many operations and nodes the delta holds, or why it is refused and where the tag of the faulty operation stands. One pass.
+pub fn read_delta(s: &[u8]) -> DeltaRead
+    ensures { λ r. ⌜ r ≡ deltaRead (now (s .entry)) ⌝ }
+{
+    if LONGEST < s.len() {
+        return DeltaRead::Refused {
+            why: Refusal::TooMany,
+            at: 0,
+        };
+    }
+    let mut seen = [0u64; 8];
+    let mut nodes: usize = 0;
+    let mut running: u64 = 0;
+    let mut ops: usize = 0;
+    let mut at: usize = 0;
+    while at < s.len() {
+        let read = read_op(s, at);
+        match read {
+            OpRead::Bad(why) => {
+                return DeltaRead::Refused { why, at };
+            }
+            OpRead::Got { op, next } => {
+                let followed = follow(&seen, nodes, running, op);
+                match followed {
+                    Followed::Fault(why) => {
+                        return DeltaRead::Refused { why, at };
+                    }
+                    Followed::Entered(number) => {
+                        seen[nodes] = number;
+                        nodes += 1;
+                        running = 0;
+                    }
+                    Followed::Under(version) => {
+                        running = version;
+                    }
+                }
+                ops += 1;
+                at = next;
+            }
+        }
+    }
+    DeltaRead::Good { ops, nodes }
+}

@@ -1,0 +1,52 @@
+-- Where there is room the record is stored. Assumes nothing.
+use Prim.Native.Nat.{_+_, _≤_}
+use mathlib.Core.Path.{_∙_, sym}
+use native.Mathlib.Omega.{arith}
+use lib.ListN.{length}
+use borrow.Author.Tests.{leb-true, leb-false}
+use Rattle.delta_write.proofs.Fronts.{fits, no-fit, key-value-size}
+use borrow.Author.Needs.{needs}
+use Rattle.delta_write.proofs.write_key_value.Statement.{statement}
+use Rattle.delta_write.proofs.write_key_value.Tie as tie
+
+-- where the test holds there is room
+room : (c : tie.Then1) → 14 + length (c .before .before .before .before .before .args .key .now) + length (c .before .before .before .before .before .args .value .now) ≤ length (c .before .before .before .before .before .args .d .now)
+room c = leb-true _ _ (sym (c .before .record-fits .ensures) ∙ c .if1 .taken)
+
+record-fits-requires : tie.Need-record-fits-requires
+record-fits-requires c κs = search needs
+
+add-size : tie.Need-add-size
+add-size c = search needs
+
+add-size-2 : tie.Need-add-size-2
+add-size-2 c = let h = room c in omega arith
+
+store-key-value-requires : tie.Need-store-key-value-requires
+store-key-value-requires c κs = room (c .before)
+
+same-length : tie.Need-same-length
+same-length c = search needs
+
+returns : tie.Need-returns
+returns c =
+    let a = c .before .before .before .before .before .before .before .before .before .args in
+    fits _ _ (a .d .now) _ (key-value-size (a .key .now) (a .value .now) (a .version) (a .status)) (room (c .before .before .before .before)) (c .before .before .store-key-value .ensures)
+
+returns-2 : tie.Need-returns-2
+returns-2 c =
+    let a = c .before .before .before .before .before .args in
+    no-fit _ _ (a .d .now) (key-value-size (a .key .now) (a .value .now) (a .version) (a .status))
+    (leb-false _ _ (sym (c .before .record-fits .ensures) ∙ c .if1 .left))
+
+pub write-key-value-spec : {M : Type 1} → statement M
+write-key-value-spec =
+    tie.close
+    (tie.spec
+    record-fits-requires
+    add-size
+    add-size-2
+    store-key-value-requires
+    same-length
+    returns
+    returns-2)

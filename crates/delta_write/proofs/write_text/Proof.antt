@@ -1,0 +1,25 @@
+-- The length and the text are one put, side by side. Assumes nothing.
+use native.Mathlib.Omega.{arith}
+use Rattle.delta_write.proofs.Fronts.{text-fields}
+use borrow.Author.Needs.{needs}
+use Rattle.delta_write.proofs.write_text.Statement.{statement}
+use Rattle.delta_write.proofs.write_text.Tie as tie
+
+write-u16-requires : tie.Need-write-u16-requires
+write-u16-requires c κs = search needs
+
+add-copy-to : tie.Need-add-copy-to
+add-copy-to c = search needs
+
+copy-to-requires : tie.Need-copy-to-requires
+copy-to-requires c κs = search needs
+
+same-length : tie.Need-same-length
+same-length c = search needs
+
+returns : tie.Need-returns
+returns c = text-fields (c .before .before .before .before .before .before .before .before .before .before .args .text .now) (c .before .before .before .before .before .before .before .before .before .before .args .at) (c .before .before .before .before .before .before .before .before .before .before .args .d .now) _ _ (omega arith) (c .before .before .before .before .before .before .write-u16 .ensures) (c .before .before .copy-to .ensures)
+
+pub write-text-spec : {M : Type 1} → statement M
+write-text-spec =
+    tie.close (tie.spec write-u16-requires add-copy-to copy-to-requires same-length returns)

@@ -1,0 +1,127 @@
+// Writing the three operations of a delta. Each function is lent the part of the datagram that begins at the operation's place and ends where
+// the MTU does, and writes the operation to its front where it fits. What is written is what the definitions of `rules` say (specs/Written.antt).
+ghost use mathlib.Core.Path.{_≡_};
+ghost use Prim.Native.Nat.{_+_, _≤_};
+ghost use lib.Dec.{leb};
+ghost use lib.ListN.{length};
+ghost use Rattle.fields.specs.Parts.{put};
+ghost use Rattle.rules.specs.Delta.{NodeOp, SetMaxVersionOp, opBytes, statusByte, textBytes};
+ghost use Rattle.delta_write.specs.Written.{WritesOp, keyValue};
+use rules::Status;
+
+// How many bytes an operation took, or that it does not fit.
+pub enum Wrote {
+    Bytes(usize),
+    NoFit,
+}
+
+// The tags.
+const NODE: usize = 0;
+
+const KEY_VALUE: usize = 1;
+
+const SET_MAX_VERSION: usize = 2;
+
+// The widths of a tag or a status, of a length, and of a number.
+const BYTE: usize = 1;
+
+const LENGTH: usize = 2;
+
+const NUMBER: usize = 8;
+
+// What a record takes beside its key and value.
+const BESIDE: usize = BYTE + LENGTH + LENGTH + NUMBER + BYTE;
+
+// The byte that stands for a status.
+fn status_byte(status: Status) -> usize
+    ensures { λ r. ⌜ r ≡ statusByte status ⌝ }
+{
+    match status {
+        Status::Set => 0,
+        Status::Delete => 1,
+        Status::Ttl => 2,
+    }
+}
+
+// Whether a record with a key and a value of these lengths fits into so many bytes. No sum of lengths is made that could wrap.
+fn record_fits(room: usize, keylen: usize, valuelen: usize) -> bool
+    ensures { λ r. ⌜ r ≡ leb (14 + keylen + valuelen) room ⌝ }
+{
+    if room < BESIDE {
+        return false;
+    }
+    let left = room - BESIDE;
+    if left < keylen {
+        return false;
+    }
+    valuelen <= left - keylen
+}
+
+// Stores a text behind its length of two bytes.
+fn write_text(d: &mut [u8], at: usize, text: &[u8])
+    requires { ⌜ at + 2 + length (now text) ≤ length (now d) ⌝ }
+    ensures { λ _. ⌜ now (d .exit) ≡ put at (textBytes (now (text .entry))) (now (d .entry)) ⌝ }
+{
+    fields::write_u16(d, at, text.len());
+    fields::copy_to(d, at + LENGTH, text);
+}
+
+// A Node operation.
+pub fn write_node(d: &mut [u8], number: u64, gc: u64, from: u64) -> Wrote
+    ensures { λ r. ⌜ WritesOp (NodeOp number gc from) (now (d .entry)) r (now (d .exit)) ⌝ }
+{
+    let size = BYTE + 3 * NUMBER;
+    if d.len() < size {
+        return Wrote::NoFit;
+    }
+    fields::write_byte(d, 0, NODE);
+    fields::write_u64(d, BYTE, number);
+    fields::write_u64(d, BYTE + NUMBER, gc);
+    fields::write_u64(d, BYTE + 2 * NUMBER, from);
+    Wrote::Bytes(size)
+}
+
+// A record, where there is room for it. Of the lengths the two lowest bytes are written.
+fn store_key_value(d: &mut [u8], key: &[u8], value: &[u8], version: u64, status: Status)
+    requires { ⌜ 14 + length (now key) + length (now value) ≤ length (now d) ⌝ }
+    ensures { λ _. ⌜ now (d .exit) ≡ put 0 (opBytes (keyValue (now (key .entry)) (now (value .entry)) version status)) (now (d .entry)) ⌝ }
+{
+    let behind_key = BYTE + LENGTH + key.len();
+    let behind_value = behind_key + LENGTH + value.len();
+    fields::write_byte(d, 0, KEY_VALUE);
+    write_text(d, BYTE, key);
+    write_text(d, behind_key, value);
+    fields::write_u64(d, behind_value, version);
+    fields::write_byte(d, behind_value + NUMBER, status_byte(status));
+}
+
+// A KeyValue operation.
+pub fn write_key_value(
+    d: &mut [u8],
+    key: &[u8],
+    value: &[u8],
+    version: u64,
+    status: Status,
+) -> Wrote
+    ensures { λ r. ⌜ WritesOp (keyValue (now (key .entry)) (now (value .entry)) version status) (now (d .entry)) r (now (d .exit)) ⌝ }
+{
+    if record_fits(d.len(), key.len(), value.len()) {
+        let size = BESIDE + key.len() + value.len();
+        store_key_value(d, key, value, version, status);
+        return Wrote::Bytes(size);
+    }
+    Wrote::NoFit
+}
+
+// A SetMaxVersion operation.
+pub fn write_set_max_version(d: &mut [u8], max: u64) -> Wrote
+    ensures { λ r. ⌜ WritesOp (SetMaxVersionOp max) (now (d .entry)) r (now (d .exit)) ⌝ }
+{
+    let size = BYTE + NUMBER;
+    if d.len() < size {
+        return Wrote::NoFit;
+    }
+    fields::write_byte(d, 0, SET_MAX_VERSION);
+    fields::write_u64(d, BYTE, max);
+    Wrote::Bytes(size)
+}

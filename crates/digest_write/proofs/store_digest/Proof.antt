@@ -1,0 +1,51 @@
+-- The entries go behind the count. Assumes nothing.
+use native.Mathlib.Omega.{arith}
+use Rattle.fields.specs.Blocks.{flat}
+use Rattle.fields.proofs.Lent.{lent-rest-put}
+use Rattle.rules.specs.Digest.{digestOf, entryBytes}
+use Rattle.rules.specs.Layout.{decode}
+use Rattle.digest_write.proofs.Outcomes.{stored}
+use borrow.Author.Needs.{needs}
+use Rattle.digest_write.proofs.store_digest.Statement.{statement}
+use Rattle.digest_write.proofs.store_digest.Tie as tie
+
+write-u16-requires : tie.Need-write-u16-requires
+write-u16-requires c κs = search needs
+
+sub-write-entries : tie.Need-sub-write-entries
+sub-write-entries c = search needs
+
+part-write-entries-start : tie.Need-part-write-entries-start
+part-write-entries-start c = search needs
+
+part-write-entries-end : tie.Need-part-write-entries-end
+part-write-entries-end c = search needs
+
+write-entries-requires : tie.Need-write-entries-requires
+write-entries-requires c κs = search needs
+
+same-length : tie.Need-same-length
+same-length c = search needs
+
+returns : tie.Need-returns
+returns c =
+    let s = c .before .before .before .before .before .before .before .before .before .before .before in
+    let ds = digestOf (s .args .excluded .now) (decode (s .args .table .now)) in
+    let x = c .before .before .before .before .before .before .write-u16 .last .0 in
+    let k = c .before .before .before .before .before .before .write-u16 .kept .0 in
+    let r = s .pre .1 in
+    let w = c .before .before .write-entries in
+    stored ds (s .args .count) (s .args .d .now) x _ (s .pre .2) (omega arith) (c .before .before .before .before .before .before .write-u16 .ensures)
+    (lent-rest-put 2 0 (flat entryBytes ds) x (w .last .1 .1 .0) (omega arith) (w .ensures))
+
+pub store-digest-spec : {M : Type 1} → statement M
+store-digest-spec =
+    tie.close
+    (tie.spec
+    write-u16-requires
+    sub-write-entries
+    part-write-entries-start
+    part-write-entries-end
+    write-entries-requires
+    same-length
+    returns)

@@ -1,0 +1,134 @@
+// Writing the digest of a lent table into a lent datagram from a stated place on. Excluded nodes are left out. The bytes before the place and
+// those behind the digest stay as they are. What is written is what the definitions of `rules` say (specs/Digests.antt).
+ghost use mathlib.Core.Path.{_≡_};
+ghost use Prim.Native.Nat.{_+_, _*_, _≤_};
+ghost use lib.ListN.{length};
+ghost use Rattle.fields.specs.Blocks.{flat};
+ghost use Rattle.fields.specs.Parts.{put};
+ghost use Rattle.rules.specs.Digest.{digestBytes, digestOf, digestOfNode, entryBytes};
+ghost use Rattle.rules.specs.Layout.{decode, decodeNode, nodeWidth};
+ghost use Rattle.rules.specs.Sizes.{maxNodes};
+ghost use Rattle.rules.specs.Table.{among};
+ghost use Rattle.table.specs.Fits.{LaidTable};
+ghost use Rattle.digest_read.specs.Held.{back, held};
+ghost use Rattle.digest_write.specs.Digests.{Room, WritesDigest};
+use digest_read::NodeDigest;
+use rules::Refusal;
+use rules::Written;
+use table::layout;
+
+// The widths of the count, of a number and of an entry.
+const COUNT: usize = 2;
+
+const NUMBER: usize = 8;
+
+const ENTRY: usize = 4 * NUMBER;
+
+// Whether a node is one of the excluded; repeats and strangers in the list do not matter.
+pub fn is_excluded(excluded: &[u64], number: u64) -> bool
+    ensures { λ r. ⌜ r ≡ among number (now (excluded .entry)) ⌝ }
+{
+    let mut i = 0;
+    while i < excluded.len() {
+        if number == excluded[i] {
+            return true;
+        }
+        i += 1;
+    }
+    false
+}
+
+// What the digest tells of the node in these bytes.
+fn entry_of(b: &[u8]) -> NodeDigest
+    requires { ⌜ length (now b) ≡ nodeWidth ⌝ }
+    ensures { λ r. ⌜ r ≡ held (digestOfNode (decodeNode (now (b .entry)))) ⌝ }
+{
+    let header = table_read::read_header(b);
+    let heartbeat = header.heartbeat;
+    NodeDigest {
+        number: fields::read_u64(b, layout::NUMBER),
+        heartbeat,
+        last_gc: header.last_gc,
+        max: header.max,
+    }
+}
+
+// How many nodes of the table are not excluded.
+fn count_written(table: &[u8], excluded: &[u64]) -> usize
+    requires { ⌜ LaidTable (now table) ⌝ }
+    ensures { λ r. ⌜ (r ≡ length (digestOf (now (excluded .entry)) (decode (now (table .entry))))) × (r ≤ maxNodes) ⌝ }
+{
+    let nodes = fields::byte_at(table, 0);
+    let mut count = 0;
+    let mut i = 0;
+    while i < nodes {
+        let number = fields::read_u64(table::node_of(table, i), layout::NUMBER);
+        if is_excluded(excluded, number) {
+            i += 1;
+        } else {
+            count += 1;
+            i += 1;
+        }
+    }
+    count
+}
+
+// Stores an entry in its 32 bytes.
+fn write_entry(d: &mut [u8], e: NodeDigest)
+    requires { ⌜ 32 ≤ length (now d) ⌝ }
+    ensures { λ _. ⌜ now (d .exit) ≡ put 0 (entryBytes (back e)) (now (d .entry)) ⌝ }
+{
+    fields::write_u64(d, 0, e.number);
+    fields::write_u64(d, NUMBER, e.heartbeat.0);
+    fields::write_u64(d, 2 * NUMBER, e.last_gc);
+    fields::write_u64(d, 3 * NUMBER, e.max);
+}
+
+// Stores the entries of the nodes that are not excluded, one behind the other.
+fn write_entries(table: &[u8], excluded: &[u64], d: &mut [u8])
+    requires { ⌜ LaidTable (now table) × Room 0 (now excluded) (now table) (now d) ⌝ }
+    ensures { λ _. ⌜ now (d .exit) ≡ put 0 (flat entryBytes (digestOf (now (excluded .entry)) (decode (now (table .entry))))) (now (d .entry)) ⌝ }
+{
+    let nodes = fields::byte_at(table, 0);
+    let mut at = 0;
+    let mut i = 0;
+    while i < nodes {
+        let e = entry_of(table::node_of(table, i));
+        if is_excluded(excluded, e.number) {
+            i += 1;
+        } else {
+            let end = at + ENTRY;
+            write_entry(&mut d[at..end], e);
+            at = end;
+            i += 1;
+        }
+    }
+}
+
+// Stores the count and the entries at the front of what is lent.
+fn store_digest(table: &[u8], excluded: &[u64], d: &mut [u8], count: usize)
+    requires { ⌜ LaidTable (now table) × Room 2 (now excluded) (now table) (now d) × (count ≡ length (digestOf (now excluded) (decode (now table)))) ⌝ }
+    ensures { λ _. ⌜ now (d .exit) ≡ put 0 (digestBytes (digestOf (now (excluded .entry)) (decode (now (table .entry))))) (now (d .entry)) ⌝ }
+{
+    fields::write_u16(d, 0, count);
+    write_entries(table, excluded, &mut d[COUNT..]);
+}
+
+// The digest of the table, from `place` on in the datagram: 14, then 8 where the place is past the end or too few bytes are free from there.
+pub fn write_digest(table: &[u8], excluded: &[u64], datagram: &mut [u8], place: usize) -> Written
+    ensures { λ r. ⌜ WritesDigest (now (excluded .entry)) place (now (datagram .entry)) (now (table .entry)) r (now (datagram .exit)) ⌝ }
+{
+    if table_check::check_table(table) {
+        if datagram.len() < place {
+            return Written::Refused(Refusal::NoPlace);
+        }
+        let count = count_written(table, excluded);
+        let size = COUNT + count * ENTRY;
+        if datagram.len() - place < size {
+            return Written::Refused(Refusal::NoPlace);
+        }
+        store_digest(table, excluded, &mut datagram[place..], count);
+        return Written::Bytes(size);
+    }
+    Written::Refused(Refusal::BadTable)
+}

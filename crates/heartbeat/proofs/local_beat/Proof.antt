@@ -1,0 +1,41 @@
+-- `heartbeat::local_beat` meets its contract: 14, or the rule on a good table. Assumes nothing.
+use mathlib.Core.Path.{_≡_, sym, _∙_}
+use Rattle.rules.specs.Local.{localBeat}
+use Rattle.rules.specs.declared.Answer.the-variants.{Refused}
+use Rattle.rules.specs.declared.Refusal.the-variants.{BadTable}
+use Rattle.table_check.proofs.Entry.{bad-table, good-table}
+use borrow.Author.Needs.{needs}
+use Rattle.heartbeat.proofs.local_beat.Statement.{statement}
+use Rattle.heartbeat.proofs.local_beat.Tie as tie
+use Rattle.heartbeat.proofs.local_beat.Reads as reads
+use Rattle.heartbeat.proofs.local_beat.Lts as lts
+use Rattle.heartbeat.proofs.beat_good.Reads as beat-good-reads
+use Rattle.table_check.proofs.check_table.Reads as check-table-reads
+
+check-table-requires : tie.Need-check-table-requires
+check-table-requires c κs = search needs
+
+beat-good-requires : tie.Need-beat-good-requires
+beat-good-requires c κs = sym ((c .before .before) .check-table .ensures) ∙ (c .before) .if1 .taken
+
+same-length : tie.Need-same-length
+same-length c = search needs
+
+returns : tie.Need-returns
+returns c =
+    let a = (c .before .before .before .before .before .before .before .before) .args in
+    let w = (c .before .before) .beat-good in
+    good-table (Refused BadTable) (localBeat (a .number)) (a .s .now) (sym ((c .before .before .before .before .before) .check-table .ensures) ∙ (c .before .before .before .before) .if1 .taken) (w .result) (w .last .0) (w .ensures)
+
+same-length-2 : tie.Need-same-length-2
+same-length-2 c = search needs
+
+returns-2 : tie.Need-returns-2
+returns-2 c =
+    let a = (c .before .before .before .before) .args in
+    bad-table (Refused BadTable) (localBeat (a .number)) (a .s .now) (sym (c .before .check-table .ensures) ∙ c .if1 .left)
+
+pub local-beat-spec : {M : Type 1} → statement M
+local-beat-spec =
+    tie.close
+    (tie.spec check-table-requires beat-good-requires same-length returns same-length-2 returns-2)

@@ -1,0 +1,113 @@
+// The heartbeat rules on a node's small header: its heartbeat, max and last_gc. Document 01 has two rules. An offer of a heartbeat: if 0
+// is held, it is stored and the answer is no; if the offer is greater, it is stored and the answer is yes; else the answer is no. A local
+// beat raises the heartbeat by one; where it is 2^64-1 it cannot rise, and the header stays as it is.
+//
+// The rules by value come first, for callers that hold a header: `offered` and `raised`. Over them stand the thin functions on a header
+// that is lent, `offer_heartbeat` and `raise_heartbeat`. A heartbeat is a `Heartbeat` throughout, so none is taken for a version.
+ghost use mathlib.Core.Path.{_≡_};
+ghost use Rattle.rules.specs.Node.{offerOf};
+ghost use Rattle.heartbeat_header.specs.Headers.{beating, offeredTo, canRise, risenFrom, raisedOf};
+use rules::Header;
+use rules::Heartbeat;
+
+// The largest heartbeat, 2^64-1: it cannot rise.
+const LARGEST: u64 = 18446744073709551615;
+
+// The header after an offer, and whether the offer was news.
+pub struct OfferedHeader {
+    pub header: Header,
+    pub news: bool,
+}
+
+// The header after a local beat, and whether the heartbeat rose. It does not where it is 2^64-1.
+pub struct RaisedHeader {
+    pub header: Header,
+    pub rose: bool,
+}
+
+// The header with this heartbeat; max and last_gc stay.
+fn with_heartbeat(h: Header, heartbeat: Heartbeat) -> Header
+    ensures { λ r. ⌜ r ≡ beating heartbeat h ⌝ }
+{
+    Header {
+        heartbeat: heartbeat,
+        max: h.max,
+        last_gc: h.last_gc,
+    }
+}
+
+// The heartbeat that stands after an offer.
+fn kept(held: Heartbeat, got: Heartbeat) -> Heartbeat
+    ensures { λ r. ⌜ r ≡ offerOf held got .heartbeat ⌝ }
+{
+    rules::after_offer(held, got).heartbeat
+}
+
+// Whether an offer is news.
+fn told(held: Heartbeat, got: Heartbeat) -> bool
+    ensures { λ r. ⌜ r ≡ offerOf held got .news ⌝ }
+{
+    rules::after_offer(held, got).news
+}
+
+// A heartbeat offer to a header by value: the header afterwards, and whether the offer was news.
+pub fn offered(h: Header, got: Heartbeat) -> OfferedHeader
+    ensures { λ r. ⌜ r ≡ offeredTo h got ⌝ }
+{
+    let held = h.heartbeat;
+    let beat = rules::after_offer(held, got);
+    let stored = beat.heartbeat;
+    let header = with_heartbeat(h, stored);
+    OfferedHeader {
+        header: header,
+        news: beat.news,
+    }
+}
+
+// Whether a heartbeat can rise.
+fn can_rise(held: Heartbeat) -> bool
+    ensures { λ r. ⌜ r ≡ canRise held ⌝ }
+{
+    held.0 < LARGEST
+}
+
+// The heartbeat after a local beat: one more, and where it cannot rise, the same.
+fn risen(held: Heartbeat) -> Heartbeat
+    ensures { λ r. ⌜ r ≡ risenFrom held ⌝ }
+{
+    if can_rise(held) {
+        return Heartbeat(held.0 + 1);
+    }
+    held
+}
+
+// A local beat on a header by value: the header afterwards, and whether the heartbeat rose. A caller answers 6 where it did not.
+pub fn raised(h: Header) -> RaisedHeader
+    ensures { λ r. ⌜ r ≡ raisedOf h ⌝ }
+{
+    let held = h.heartbeat;
+    let next = risen(held);
+    let header = with_heartbeat(h, next);
+    RaisedHeader {
+        header: header,
+        rose: can_rise(held),
+    }
+}
+
+// A heartbeat offer to a header that is lent: whether the offer was news. max and last_gc are untouched.
+pub fn offer_heartbeat(h: &mut Header, got: Heartbeat) -> bool
+    ensures { λ r. ⌜ (r ≡ offeredTo (now (h .entry)) got .news) × (now (h .exit) ≡ offeredTo (now (h .entry)) got .header) ⌝ }
+{
+    let held = h.heartbeat;
+    h.heartbeat = kept(held, got);
+    told(held, got)
+}
+
+// A local beat on a header that is lent: whether the heartbeat rose. Where it did not, the header is untouched.
+pub fn raise_heartbeat(h: &mut Header) -> bool
+    ensures { λ r. ⌜ (r ≡ raisedOf (now (h .entry)) .rose) × (now (h .exit) ≡ raisedOf (now (h .entry)) .header) ⌝ }
+{
+    let held = h.heartbeat;
+    h.heartbeat = risen(held);
+    can_rise(held)
+}

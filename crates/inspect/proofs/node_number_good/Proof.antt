@@ -1,0 +1,53 @@
+-- `inspect::node_number_good` meets its contract. Assumes nothing.
+use Prim.Native.Nat.{ℕ, _<_}
+use mathlib.Core.Path.{ap, sym, _∙_}
+use mathlib.Core.List.{List}
+use native.Mathlib.Omega.{arith}
+use Rattle.table.specs.Tests.{nodesOf}
+use Rattle.table.proofs.Tables.{valid-long, valid-few}
+use Rattle.table.proofs.Places.{number-at}
+use Rattle.inspect.specs.Look.{numberOn}
+use Rattle.inspect.specs.declared.NodeNumber.the-variants as number
+use Rattle.inspect.proofs.Elements.{node-there, no-node-there}
+use Rattle.inspect.proofs.node_number_good.Statement.{statement}
+use Rattle.inspect.proofs.node_number_good.Tie as tie
+use Rattle.inspect.proofs.node_number_good.Reads as reads
+use Rattle.inspect.proofs.node_number_good.Lts as lts
+use Rattle.fields.proofs.byte_at.Reads as byte-at-reads
+use Rattle.fields.proofs.read_u64.Reads as read-u64-reads
+
+byte-at-requires : tie.Need-byte-at-requires
+byte-at-requires c κs = omega (arith, valid-long (c .before .args .table .now) (c .before .pre))
+
+returns : tie.Need-returns
+returns c =
+    let a = c .before .before .before .args in
+    sym (ap numberOn (no-node-there (a .table .now) (a .i) (omega (arith, c .before .byte-at .ensures .0))))
+
+mul-read-u64 : tie.Need-mul-read-u64
+mul-read-u64 c =
+    let s = c .before .before .before in
+    omega (arith, c .before .byte-at .ensures .0, valid-few (s .args .table .now) (s .pre))
+
+add-read-u64 : tie.Need-add-read-u64
+add-read-u64 c =
+    let s = c .before .before .before in
+    omega (arith, c .before .byte-at .ensures .0, valid-few (s .args .table .now) (s .pre))
+
+read-u64-requires : tie.Need-read-u64-requires
+read-u64-requires c κs =
+    let s = c .before .before .before in
+    omega (arith, c .before .byte-at .ensures .0, valid-long (s .args .table .now) (s .pre), valid-few (s .args .table .now) (s .pre))
+
+returns-2 : tie.Need-returns-2
+returns-2 c =
+    let t = c .before in
+    let s = t .before .before .before in
+    let l : List ℕ = s .args .table .now in
+    let h : s .args .i < nodesOf l = omega (arith, t .before .byte-at .ensures .0) in
+    ap number.Is (c .read-u64 .ensures ∙ sym (number-at (s .args .i) l (valid-long l (s .pre)) (omega (arith, valid-few l (s .pre))))) ∙ sym (ap numberOn (node-there l (s .args .i) h))
+
+pub node-number-good-spec : {M : Type 1} → statement M
+node-number-good-spec =
+    tie.close
+    (tie.spec byte-at-requires returns mul-read-u64 add-read-u64 read-u64-requires returns-2)

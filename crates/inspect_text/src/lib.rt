@@ -1,0 +1,87 @@
+// A record's key or value as those very bytes of the lent table, the record being named by its place. `find_text` tells where it stands or why the call
+// is refused, and `text_at` hands it out. Both take any bytes; `find_text_good` and `text_good` do the same on a table known to be good, without the
+// check. A place past the end is refused with 8.
+use lookup::Found;
+use rules::Refusal;
+use table::layout;
+use table_read::Place;
+ghost use mathlib.Core.Path.{_≡_};
+ghost use mathlib.Core.Bool.{true};
+ghost use Prim.Native.Nat.{_+_, _<_};
+ghost use Rattle.rules.specs.Sizes.{maxNodes};
+ghost use Rattle.rules.specs.Layout.{decode, valid};
+ghost use Rattle.table.specs.Tests.{recsOf};
+ghost use Rattle.table.specs.Fits.{LaidNode};
+ghost use Rattle.lookup.specs.Lookup.{startOf};
+ghost use Rattle.inspect.specs.Look.{elementAt};
+ghost use Rattle.inspect_text.specs.Texts.{placeOn, textFound, textBytes, lentTextFound, lentTextBytes};
+
+// One of a record's two texts.
+pub enum Text {
+    Key,
+    Value,
+}
+
+// Where the text of record `j` stands, in the bytes of node `i`: 8.
+fn in_node(b: &[u8], i: usize, j: usize, text: Text) -> Found
+    requires { ⌜ LaidNode (now b) × (i < maxNodes) ⌝ }
+    ensures { λ r. ⌜ r ≡ placeOn text i j (elementAt j (recsOf (now (b .entry)))) ⌝ }
+{
+    let n = fields::byte_at(b, layout::COUNT);
+    if n <= j {
+        return Found::Refused(Refusal::NoPlace);
+    }
+    let r = table_read::read_record(table::record_of(b, j));
+    match text {
+        Text::Key => Found::At {
+            start: layout::NODES
+                + i * layout::NODE
+                + (layout::RECORDS + j * layout::RECORD + layout::KEY),
+            len: r.keylen,
+        },
+        Text::Value => Found::At {
+            start: layout::NODES
+                + i * layout::NODE
+                + (layout::RECORDS + j * layout::RECORD + layout::VALUE),
+            len: r.valuelen,
+        },
+    }
+}
+
+// Where the text of record `j` of a node stands in a good table.
+pub fn find_text_good(table: &[u8], number: u64, j: usize, text: Text) -> Found
+    requires { ⌜ valid (now table) ≡ true ⌝ }
+    ensures { λ r. ⌜ r ≡ textFound text number j (decode (now (table .entry))) ⌝ }
+{
+    match table_read::find_node(table, number) {
+        Place::At(i) => in_node(table::node_of(table, i), i, j, text),
+        Place::Free(_) => Found::Refused(Refusal::NoNode),
+    }
+}
+
+// Where the text of record `j` of a node stands in lent bytes: 14, 2, 8.
+pub fn find_text(table: &[u8], number: u64, j: usize, text: Text) -> Found
+    ensures { λ r. ⌜ r ≡ lentTextFound text number j (now (table .entry)) ⌝ }
+{
+    if table_check::check_table(table) {
+        find_text_good(table, number, j, text)
+    } else {
+        Found::Refused(Refusal::BadTable)
+    }
+}
+
+// The text of record `j` of a node, as those very bytes of a good table; where the call is refused, the empty part at the table's front.
+pub fn text_good(table: &[u8], number: u64, j: usize, text: Text) -> &[u8]
+    requires { ⌜ valid (now table) ≡ true ⌝ }
+    ensures { λ r. ⌜ (now r ≡ textBytes text number j (decode (now (table .entry)))) × (r .ptr .0 ≡ table .entry .ptr .0) × (r .ptr .1 ≡ table .entry .ptr .1 + startOf (textFound text number j (decode (now (table .entry))))) ⌝ }
+{
+    lookup::held(table, find_text_good(table, number, j, text))
+}
+
+// The text of record `j` of a node, as those very bytes of the lent table; where the call is refused, the empty part at the table's front. `find_text`
+// tells an empty text from a refusal.
+pub fn text_at(table: &[u8], number: u64, j: usize, text: Text) -> &[u8]
+    ensures { λ r. ⌜ (now r ≡ lentTextBytes text number j (now (table .entry))) × (r .ptr .0 ≡ table .entry .ptr .0) × (r .ptr .1 ≡ table .entry .ptr .1 + startOf (lentTextFound text number j (now (table .entry)))) ⌝ }
+{
+    lookup::held(table, find_text(table, number, j, text))
+}

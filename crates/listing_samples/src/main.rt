@@ -1,0 +1,29 @@
+// Replays the folder of samples: for each that an argument names, the name and the listing. make.py says how the samples, and what must be
+// written for them, were made.
+use libc::STDOUT_FILENO;
+
+// The sample that argument i names. Answers whether it could be read.
+fn replay(i: usize) -> bool {
+    let mut path = io::buffer();
+    let len = os::arg(i, &mut path);
+    let file = os::open_read(&path[..len]);
+    if file < 0 {
+        os::fail(&path[..len]);
+        return false;
+    }
+    io::write_all(STDOUT_FILENO, &path[..len]);
+    io::write_all(STDOUT_FILENO, b"\n");
+    let mut input = [0u8; 16385];
+    let n = io::read_full(file, &mut input);
+    libc::close(file);
+    listing_show::show(&input[..n]);
+    true
+}
+
+fn main() {
+    let most = os::arg_count();
+    let mut i: usize = 1;
+    while i < most && replay(i) {
+        i += 1;
+    }
+}

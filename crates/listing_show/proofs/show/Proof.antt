@@ -1,0 +1,68 @@
+-- `listing_show::show` is safe and ends: the listing always has room in the buffer, so that a refusal for want of room never comes. Assumes nothing.
+use Prim.Native.Nat.{ℕ, _≤_}
+use mathlib.Core.Path.{_≡_, sym, _∙_}
+use mathlib.Core.List.{List}
+use native.Mathlib.Omega.{arith}
+use native.Mathlib.Nat.{le-of-eq}
+use lib.ListN.{length, take, replicate, length-replicate}
+use lib.Seq.{length-take-le}
+use Rattle.rules.specs.Listing.{listing}
+use Rattle.rules.specs.declared.Written.the-variants.{Bytes, Refused}
+use Rattle.listing.specs.Front.{frontAnswer}
+use Rattle.listing.proofs.Lines.{front-fits, front-within}
+use borrow.Author.Needs.{needs}
+use Rattle.listing_show.proofs.show.Statement.{statement}
+use Rattle.listing_show.proofs.show.Tie as tie
+
+-- the buffer
+room : 81979 ≤ length {A = ℕ} (replicate 81979 0)
+room = le-of-eq (sym (length-replicate {A = ℕ} 81979 0))
+
+within : (l left : List ℕ) (n k : ℕ) → 81979 ≤ n → length left ≡ n → frontAnswer (listing l) n ≡ Bytes k → k ≤ length left
+within l left n k h e f = omega (arith, front-within l n k h f)
+
+slice-aggregate-list-delta : tie.Need-slice-aggregate-list-delta
+slice-aggregate-list-delta c = search needs
+
+list-delta-requires : tie.Need-list-delta-requires
+list-delta-requires c κs = search needs
+
+enum-known-listed : tie.Need-enum-known-listed
+enum-known-listed c = search needs
+
+array-share-prefix-output : tie.Need-array-share-prefix-output
+array-share-prefix-output c = within _ (c .before .before .before .before .list-delta .last .1 .0) _ _ room (c .before .before .before .before .list-delta .kept .1 .0) (sym (c .before .before .before .before .list-delta .ensures .0) ∙ c .before .listed .given .1)
+
+slice-aggregate-write-all : tie.Need-slice-aggregate-write-all
+slice-aggregate-write-all c =
+    sym (length-take-le _ _ (within _ (c .before .before .before .before .before .list-delta .last .1 .0) _ _ room (c .before .before .before .before .before .list-delta .kept .1 .0) (sym (c .before .before .before .before .before .list-delta .ensures .0) ∙ c .before .before .listed .given .1)))
+
+write-all-requires : tie.Need-write-all-requires
+write-all-requires c κs = search needs
+
+enum-told : tie.Need-enum-told
+enum-told c = search needs
+
+expect-requires : tie.Need-expect-requires
+expect-requires c κs = absurd (front-fits _ _ _ room (sym (c .before .before .before .list-delta .ensures .0) ∙ c .enum-told .given .1))
+
+returns : tie.Need-returns
+returns c = search needs
+
+returns-2 : tie.Need-returns-2
+returns-2 c = search needs
+
+pub show-spec : {M : Type 1} → statement M
+show-spec =
+    tie.close
+    (tie.spec
+    slice-aggregate-list-delta
+    list-delta-requires
+    enum-known-listed
+    array-share-prefix-output
+    slice-aggregate-write-all
+    write-all-requires
+    enum-told
+    expect-requires
+    returns
+    returns-2)

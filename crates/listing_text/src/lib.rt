@@ -1,0 +1,112 @@
+// Texts in a lent buffer: decimal numbers, names, the bytes of a key or a value as they are shown. Each is written at a place where the caller
+// knows that there is room, and answers the place behind it.
+ghost use mathlib.Core.Path.{_≡_};
+ghost use mathlib.Core.List.{_++_};
+ghost use Prim.Native.Nat.{_+_, _≤_, _<_};
+ghost use lib.ListN.{length};
+ghost use Rattle.rules.specs.Listing.{decimal, shownByte, shownBytes, statusText};
+ghost use Rattle.listing_text.specs.Wrote.{Wrote, Room, numbered, named};
+use rules::Status;
+
+// How many digits `v` has.
+pub fn decimal_len(v: u64) -> usize
+    ensures { λ r. ⌜ (r ≡ length (decimal v)) × (r ≤ 20) ⌝ }
+{
+    let mut n: usize = 1;
+    let mut left = v;
+    while 10 <= left {
+        left = left / 10;
+        n += 1;
+    }
+    n
+}
+
+// The digit of a number below 10.
+fn digit(v: u64) -> u8
+    requires { ⌜ v < 10 ⌝ }
+    ensures { λ r. ⌜ r ≡ 48 + v ⌝ }
+{
+    48 + v as u8
+}
+
+// `v` in decimal digits, from the last one back.
+pub fn put_decimal(out: &mut [u8], at: usize, v: u64) -> usize
+    requires { ⌜ Room at (decimal v) (now out) ⌝ }
+    ensures { λ r. ⌜ Wrote at (decimal v) (now (out .entry)) (now (out .exit)) r ⌝ }
+{
+    let end = at + decimal_len(v);
+    let mut i = end - 1;
+    let mut left = v;
+    while 10 <= left {
+        out[i] = digit(left % 10);
+        left = left / 10;
+        i -= 1;
+    }
+    out[i] = digit(left);
+    end
+}
+
+// The bytes of `text`.
+pub fn put_text(out: &mut [u8], at: usize, text: &[u8]) -> usize
+    requires { ⌜ Room at (now text) (now out) ⌝ }
+    ensures { λ r. ⌜ Wrote at (now (text .entry)) (now (out .entry)) (now (out .exit)) r ⌝ }
+{
+    fields::copy_to(out, at, text);
+    at + text.len()
+}
+
+// A byte as it is shown: one outside 33 to 126 as `?`.
+fn shown(b: u8) -> u8
+    ensures { λ r. ⌜ r ≡ shownByte b ⌝ }
+{
+    if b < 33 {
+        return b'?';
+    }
+    if 126 < b {
+        return b'?';
+    }
+    b
+}
+
+// The bytes of a key or a value as they are shown.
+pub fn put_shown(out: &mut [u8], at: usize, text: &[u8]) -> usize
+    requires { ⌜ Room at (shownBytes (now text)) (now out) ⌝ }
+    ensures { λ r. ⌜ Wrote at (shownBytes (now (text .entry))) (now (out .entry)) (now (out .exit)) r ⌝ }
+{
+    let mut i = 0;
+    while i < text.len() {
+        out[at + i] = shown(text[i]);
+        i += 1;
+    }
+    at + i
+}
+
+// A name and a number.
+pub fn put_numbered(out: &mut [u8], at: usize, name: &[u8], v: u64) -> usize
+    requires { ⌜ Room at (numbered (now name) v) (now out) ⌝ }
+    ensures { λ r. ⌜ Wrote at (numbered (now (name .entry)) v) (now (out .entry)) (now (out .exit)) r ⌝ }
+{
+    let next = put_text(out, at, name);
+    put_decimal(out, next, v)
+}
+
+// A name and the bytes of a key or a value.
+pub fn put_named(out: &mut [u8], at: usize, name: &[u8], text: &[u8]) -> usize
+    requires { ⌜ Room at (named (now name) (now text)) (now out) ⌝ }
+    ensures { λ r. ⌜ Wrote at (named (now (name .entry)) (now (text .entry))) (now (out .entry)) (now (out .exit)) r ⌝ }
+{
+    let next = put_text(out, at, name);
+    put_shown(out, next, text)
+}
+
+// The name of a status.
+pub fn put_status(out: &mut [u8], at: usize, status: Status) -> usize
+    requires { ⌜ Room at (statusText status) (now out) ⌝ }
+    ensures { λ r. ⌜ Wrote at (statusText status) (now (out .entry)) (now (out .exit)) r ⌝ }
+{
+    match status {
+        Status::Set => put_text(out, at, b"set"),
+        Status::Delete => put_text(out, at, b"delete"),
+        Status::Ttl => put_text(out, at, b"ttl"),
+    }
+}

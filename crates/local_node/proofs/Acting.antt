@@ -1,0 +1,103 @@
+-- What a decision leaves in a node's bytes. A refusal and "nothing to change" leave them as they are; a change that is given raises max first, which
+-- keeps the bytes laid out, and then stores the key's record. Assumes nothing.
+use Prim.Native.Nat.{ℕ, _+_, _≤_, _<_}
+use mathlib.Core.Path.{_≡_, refl, ap, sym, _∙_, subst}
+use mathlib.Core.Bool.{Bool, true, false}
+use mathlib.Core.List.{List}
+use native.Mathlib.Omega.{arith}
+use lib.ListN.{length}
+use lib.Dec.{ltb}
+use borrow.Author.Tests.{ltb-true, ltb-false, lt-ltb, le-ltb}
+use Rattle.fields.proofs.Choice.{pick-true, pick-false}
+use Rattle.rules.specs.Sizes.{numbers, top}
+use Rattle.rules.specs.Node.{Rec, Node, Change, Decision, Refuse, Leave, Give, store, write, act}
+use Rattle.rules.specs.Local.{answerOf}
+use Rattle.rules.specs.Table.{Entry}
+use Rattle.rules.specs.Layout.{encodeNode, decodeNode}
+use Rattle.rules.specs.declared.Status.{Status}
+use Rattle.rules.specs.declared.Refusal.{Refusal}
+use Rattle.rules.specs.declared.Refusal.the-variants.{Exhausted}
+use Rattle.rules.specs.declared.Answer.the-variants as plain
+use Rattle.table.specs.Changes.{withNode, withMax, withRecs, recOf}
+use Rattle.table.specs.Tests.{countOf, recsOf}
+use Rattle.table.specs.Fits.{FitsEntry, LaidNode}
+use Rattle.table.proofs.Nodes.{decode-encode-node, laid-node}
+use Rattle.table.proofs.Places.{length-recs}
+use Rattle.local_node.specs.Writes.{Acted, nodeIn, changeOf, rising}
+
+module _ (k b : List ℕ) (o : LaidNode b) (d : Decision) where
+  pub refused : (r : Refusal) → d ≡ Refuse r → Acted k d b (plain.Refused r) b
+  unfolding act
+  refused r e =
+      record {
+        answer = ap answerOf (sym e);
+        bytes = sym (o .is) ∙ ap (λ (x : Decision). encodeNode (withNode (act k x (nodeIn b)) (decodeNode b))) (sym e);
+      }
+
+  pub left : d ≡ Leave → Acted k d b plain.Done b
+  unfolding act
+  left e =
+      record {
+        answer = ap answerOf (sym e);
+        bytes = sym (o .is) ∙ ap (λ (x : Decision). encodeNode (withNode (act k x (nodeIn b)) (decodeNode b))) (sym e);
+      }
+
+-- ---- a version that can rise
+
+pub room : (x : ℕ) → x < numbers → (x ≡ top → ⊥) → x < top
+room x h g = go (ltb x top) refl
+  where
+    go : (t : Bool) → ltb x top ≡ t → x < top
+    go true q = ltb-true x top q
+    go false q = absurd (g (let p = ltb-false x top q in omega arith))
+
+module _ (c : Change) (n : Node) (x : ℕ) (e : x ≡ n .max) where
+  pub cannot-rise : x ≡ top → rising c n ≡ Refuse Exhausted
+  unfolding rising
+  cannot-rise h = pick-false (ltb (n .max) top) (Give c) (Refuse Exhausted) (le-ltb (n .max) top (omega arith))
+
+  pub can-rise : x < top → rising c n ≡ Give c
+  unfolding rising
+  can-rise h = pick-true (ltb (n .max) top) (Give c) (Refuse Exhausted) (lt-ltb (n .max) top (omega arith))
+
+-- ---- max is raised first
+
+module _ (b : List ℕ) (o : LaidNode b) (m : ℕ) (h : m < numbers) (s : List ℕ) (e : s ≡ encodeNode (withMax m (decodeNode b))) where
+  fits : FitsEntry (withMax m (decodeNode b))
+  fits =
+      record {
+        number-high = o .fits .number-high;
+        beat-high = o .fits .beat-high;
+        max-high = h;
+        gc-high = o .fits .gc-high;
+        few = o .fits .few;
+        each = o .fits .each;
+      }
+
+  pub max-read : decodeNode s ≡ withMax m (decodeNode b)
+  max-read = ap decodeNode e ∙ decode-encode-node (withMax m (decodeNode b)) fits
+
+  pub max-laid : LaidNode s
+  max-laid = subst LaidNode (sym e) (laid-node (withMax m (decodeNode b)) fits)
+
+  pub max-count : countOf s ≡ countOf b
+  max-count = sym (length-recs s) ∙ ap (λ (x : Entry). length (x .node .recs)) max-read ∙ length-recs b
+
+-- ---- and then the record is stored, at its place or before it
+
+module _ (k v : List ℕ) (st : Status) (start : ℕ) (b : List ℕ) (o : LaidNode b) (x : ℕ) (e : x ≡ nodeIn b .max) (h : x + 1 < numbers) (s : List ℕ)
+    (p : s ≡ encodeNode (withMax (x + 1) (decodeNode b))) where
+  pub given : (f : List Rec → Rec → List Rec) → store (recOf k v (x + 1) st start) (recsOf b) ≡ f (recsOf b) (recOf k v (x + 1) st start)
+      → (t : List ℕ) → t ≡ encodeNode (withRecs (f (recsOf s) (recOf k v (x + 1) st start)) (decodeNode s))
+      → (d : Decision) → d ≡ Give (changeOf v st start) → Acted k d b plain.Done t
+  unfolding act write
+  given f q t w d g =
+      record {
+        answer = ap answerOf (sym g);
+        bytes =
+            w
+            ∙ ap (λ (y : Entry). encodeNode (withRecs (f (y .node .recs) (recOf k v (x + 1) st start)) y)) (max-read b o (x + 1) h s p)
+            ∙ ap (λ (l : List Rec). encodeNode (withRecs l (withMax (x + 1) (decodeNode b)))) (sym q)
+            ∙ ap (λ (y : ℕ). encodeNode (withRecs (store (recOf k v (y + 1) st start) (recsOf b)) (withMax (y + 1) (decodeNode b)))) e
+            ∙ ap (λ (y : Decision). encodeNode (withNode (act k y (nodeIn b)) (decodeNode b))) (sym g);
+      }

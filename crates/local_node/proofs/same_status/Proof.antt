@@ -1,0 +1,22 @@
+-- `local_node::same_status` meets its contract: equal codes are those of equal statuses. Assumes nothing.
+use mathlib.Core.Path.{_≡_, ap₂, _∙_}
+use lib.Dec.{eqb}
+use Rattle.local_node.proofs.Deciding.{same-code}
+use borrow.Author.Needs.{needs}
+use Rattle.local_node.proofs.same_status.Statement.{statement}
+use Rattle.local_node.proofs.same_status.Tie as tie
+use Rattle.local_node.proofs.same_status.Reads as reads
+use Rattle.local_node.proofs.same_status.Lts as lts
+use Rattle.table_write.proofs.status_byte.Reads as status-byte-reads
+
+status-byte-requires : tie.Need-status-byte-requires
+status-byte-requires c κs = search needs
+
+status-byte-requires-2 : tie.Need-status-byte-requires-2
+status-byte-requires-2 c κs = search needs
+
+returns : tie.Need-returns
+returns c = ap₂ eqb (c .before .status-byte .ensures) (c .status-byte2 .ensures) ∙ same-code ((c .before .before) .args .a) ((c .before .before) .args .b)
+
+pub same-status-spec : {M : Type 1} → statement M
+same-status-spec = tie.close (tie.spec status-byte-requires status-byte-requires-2 returns)

@@ -1,0 +1,121 @@
+-- `local_node::set_key` meets its contract: what finding the key says decides. Assumes nothing.
+use Prim.Native.Nat.{ℕ, _≤_, _<_}
+use mathlib.Core.Path.{_≡_, ap, sym, _∙_, subst}
+use mathlib.Core.List.{List}
+use native.Mathlib.Omega.{arith}
+use lib.ListN.{length}
+use Rattle.rules.specs.Sizes.{maxKey, maxValue}
+use Rattle.rules.specs.Node.{Change, Decision, Refuse, allowed, unlessSame, find}
+use Rattle.rules.specs.declared.Refusal.the-variants.{TooLong}
+use Rattle.table.specs.Tests.{recsOf}
+use Rattle.table_read.specs.Find.{findKey}
+use Rattle.table_read.specs.declared.Place.the-variants.{At, Free}
+use Rattle.table_read.proofs.Searched.{rec-found, rec-missing}
+use Rattle.local_node.specs.Writes.{Acted, nodeIn, changeOf, setting}
+use Rattle.local_node.proofs.Acting.{refused}
+use Rattle.local_node.proofs.Deciding.{key-long, value-long, set-at as deciding-at, set-new as deciding-new}
+use borrow.Author.Needs.{needs}
+use Rattle.local_node.proofs.set_key.Statement.{statement}
+use Rattle.local_node.proofs.set_key.Tie as tie
+use Rattle.local_node.proofs.set_key.Reads as reads
+use Rattle.local_node.proofs.set_key.Lts as lts
+use Rattle.table_read.proofs.search_key.Reads as search-key-reads
+use Rattle.local_node.proofs.add.Reads as add-reads
+use Rattle.local_node.proofs.set_at.Reads as set-at-reads
+
+long : (k : List ℕ) (ch : Change) (b : List ℕ) → maxKey < length k → setting k ch (nodeIn b) ≡ Refuse TooLong
+unfolding setting
+long k ch b h = key-long k (ch .value) (allowed k (nodeIn b) (unlessSame (find k (recsOf b)) ch)) h
+
+long-value : (k : List ℕ) (ch : Change) (b : List ℕ) → length k ≤ maxKey → maxValue < length (ch .value) → setting k ch (nodeIn b) ≡ Refuse TooLong
+unfolding setting
+long-value k ch b g h = value-long k (ch .value) (allowed k (nodeIn b) (unlessSame (find k (recsOf b)) ch)) g h
+
+key-fits : (c : tie.Else1) → length ((c .before .before .before .before) .args .key .now) ≤ maxKey
+key-fits c = omega arith
+
+value-fits : (c : tie.Else2) → length ((c .before .before .before .before .before) .args .value .now) ≤ maxValue
+value-fits c = omega arith
+
+-- where the key stands, or belongs
+stands : (c : tie.After-j) → findKey ((c .before .before .before .before .before .before .before .before .before) .args .key .now) (recsOf ((c .before .before .before .before .before .before .before .before .before) .args .b .now)) ≡ At (c .j .given .0 .0)
+stands c = sym ((c .before .before) .search-key .ensures) ∙ c .j .given .1
+
+belongs : (c : tie.After-j2) → findKey ((c .before .before .before .before .before .before .before .before .before) .args .key .now) (recsOf ((c .before .before .before .before .before .before .before .before .before) .args .b .now)) ≡ Free (c .j2 .given .0 .0)
+belongs c = sym ((c .before .before) .search-key .ensures) ∙ c .j2 .given .1
+
+returns : tie.Need-returns
+returns c =
+    let st = (c .before .before .before .before) in
+    let a = st .args in
+    let ch : Change = changeOf (a .value .now) (a .status) (a .start) in
+    refused (a .key .now) (a .b .now) (st .pre .0) _ TooLong (long (a .key .now) ch (a .b .now) (omega arith))
+
+returns-2 : tie.Need-returns-2
+returns-2 c =
+    let st = (c .before .before .before .before .before) in
+    let a = st .args in
+    let ch : Change = changeOf (a .value .now) (a .status) (a .start) in
+    refused (a .key .now) (a .b .now) (st .pre .0) _ TooLong (long-value (a .key .now) ch (a .b .now) (key-fits (c .before)) (omega arith))
+
+search-key-requires : tie.Need-search-key-requires
+search-key-requires c κs = search needs
+
+enum-known-j : tie.Need-enum-known-j
+enum-known-j c = search needs
+
+set-at-requires : tie.Need-set-at-requires
+set-at-requires c κs =
+    let st = (c .before .before .before .before .before .before .before .before .before .before .before) in
+    (st .pre .0, stands ((c .before .before)), key-fits ((c .before .before .before .before .before .before .before)), value-fits ((c .before .before .before .before .before .before)))
+
+enum-known-j-2 : tie.Need-enum-known-j-2
+enum-known-j-2 c = search needs
+
+add-requires : tie.Need-add-requires
+add-requires c κs =
+    let st = (c .before .before .before .before .before .before .before .before .before .before .before) in
+    (st .pre .0, belongs ((c .before .before)), key-fits ((c .before .before .before .before .before .before .before)), value-fits ((c .before .before .before .before .before .before)))
+
+same-length : tie.Need-same-length
+same-length c = search needs
+
+returns-3 : tie.Need-returns-3
+returns-3 c =
+    let a = (c .before .before .before .before .before .before .before .before .before .before .before .before .before .before) .args in
+    let r = (c .before .before) .set-at in
+    subst (λ (d : Decision). Acted (a .key .now) d (a .b .now) (r .result) (r .last .0))
+    (sym
+    (deciding-at (a .key .now) (nodeIn (a .b .now)) (changeOf (a .value .now) (a .status) (a .start)) (key-fits ((c .before .before .before .before .before .before .before .before .before .before))) (value-fits ((c .before .before .before .before .before .before .before .before .before)))
+    (rec-found (a .b .now) (a .key .now) _ (stands ((c .before .before .before .before .before))))))
+    (r .ensures)
+
+same-length-2 : tie.Need-same-length-2
+same-length-2 c = search needs
+
+returns-4 : tie.Need-returns-4
+returns-4 c =
+    let st = (c .before .before .before .before .before .before .before .before .before .before .before .before .before .before) in
+    let a = st .args in
+    let r = (c .before .before) .add in
+    subst (λ (d : Decision). Acted (a .key .now) d (a .b .now) (r .result) (r .last .0))
+    (sym
+    (deciding-new (a .key .now) (nodeIn (a .b .now)) (changeOf (a .value .now) (a .status) (a .start)) (key-fits ((c .before .before .before .before .before .before .before .before .before .before))) (value-fits ((c .before .before .before .before .before .before .before .before .before)))
+    (rec-missing (a .b .now) (a .key .now) _ (st .pre .1) (belongs ((c .before .before .before .before .before))))))
+    (r .ensures)
+
+pub set-key-spec : {M : Type 1} → statement M
+set-key-spec =
+    tie.close
+    (tie.spec
+    returns
+    returns-2
+    search-key-requires
+    enum-known-j
+    set-at-requires
+    enum-known-j-2
+    add-requires
+    same-length
+    returns-3
+    same-length-2
+    returns-4)

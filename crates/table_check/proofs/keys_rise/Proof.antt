@@ -1,0 +1,157 @@
+-- `table_check::keys_rise` meets its contract: the keys that are left rise where all do. Assumes nothing.
+use Prim.Native.Nat.{ℕ, suc, _+_, _-_, _≤_, _<_}
+use mathlib.Core.Path.{_≡_, refl, sym, ap, ap₂, _∙_}
+use mathlib.Core.Bool.{Bool, true, _&&_}
+use mathlib.Core.List.{List, [], _∷_}
+use native.Mathlib.Omega.{arith}
+use native.Mathlib.Numerals.{add-one}
+use lib.ListN.{length, drop, take, length-drop}
+use Rattle.fields.specs.Parts.{part}
+use Rattle.fields.specs.Blocks.{allBlocks}
+use Rattle.fields.specs.Order.{lessBytes}
+use Rattle.fields.proofs.Choice.{and-yes, and-no}
+use Rattle.fields.proofs.Lent.{seen}
+use Rattle.rules.specs.Node.{Rec}
+use Rattle.rules.specs.Table.{keysRise}
+use Rattle.rules.specs.Layout.{recWidth, nodeWidth, decodeRec}
+use Rattle.table.specs.Tests.{countOf, recsOf, recGood, keyLength}
+use Rattle.rules.specs.Sizes.{maxKey}
+use Rattle.fields.proofs.Parts.{length-part}
+use Rattle.table.proofs.Records.{good-key}
+use Rattle.table.proofs.Places.{recPlace, recBytes, recAt, recs-drop, length-recs, good-at}
+use borrow.Author.Needs.{needs}
+use Rattle.table_check.proofs.keys_rise.Statement.{statement}
+use Rattle.table_check.proofs.keys_rise.Tie as tie
+
+abbrev Inv-loop : tie.InvT-loop
+Inv-loop b n max i₀ i = (i ≤ n) × (keysRise (drop i (recsOf b)) ≡ keysRise (recsOf b))
+
+abbrev μ-loop : tie.MeasureT-loop
+μ-loop b n max i₀ i = n - i
+
+-- the next record begins where one ends
+after : (i : ℕ) → recPlace i + recWidth ≡ recPlace (i + 1)
+after i = omega arith
+
+module _ (b : List ℕ) (n max i : ℕ) (e : length b ≡ nodeWidth) (h : i + 1 < n) (g : n ≤ 32) (good : allBlocks (recGood max) recWidth n (drop 33 b) ≡ true) where
+  short : (j : ℕ) → j < n → keyLength (recBytes j b) ≤ maxKey
+  short j p = good-key max (recBytes j b) (good-at max j n b good p)
+
+  asked : let x : List ℕ = take (recPlace i + recWidth - recPlace i) (drop (recPlace i) b) in
+      let y : List ℕ = take (recPlace i + recWidth + recWidth - (recPlace i + recWidth)) (drop (recPlace i + recWidth) b) in
+      (length x ≡ recWidth) × (keyLength x ≤ maxKey) × (length y ≡ recWidth) × (keyLength y ≤ maxKey)
+  asked =
+      rw (seen (recPlace i) recWidth b, seen (recPlace i + recWidth) recWidth b, after i)
+      (length-part (recPlace i) recWidth b (omega arith), short i (omega arith), length-part (recPlace (i + 1)) recWidth b (omega arith), short (i + 1) (omega arith))
+
+  turn : (t : Bool)
+      → t ≡ lessBytes (decodeRec (take (recPlace i + recWidth - recPlace i) (drop (recPlace i) b)) .kv .key)
+      (decodeRec (take (recPlace i + recWidth + recWidth - (recPlace i + recWidth)) (drop (recPlace i + recWidth) b)) .kv .key)
+      → n ≡ countOf b
+      → keysRise (drop i (recsOf b)) ≡ (t && keysRise (drop (i + 1) (recsOf b)))
+  unfolding keysRise
+  turn t q m =
+      let s : t ≡ lessBytes (recAt i b .kv .key) (recAt (suc i) b .kv .key) =
+      q
+      ∙ ap₂ (λ (x y : List ℕ). lessBytes (decodeRec x .kv .key) (decodeRec y .kv .key)) (seen (recPlace i) recWidth b)
+      (seen (recPlace i + recWidth) recWidth b ∙ ap (λ (j : ℕ). part j recWidth b) (after i) ∙ ap (λ (j : ℕ). recBytes j b) (add-one i)) in
+      rw (add-one i, recs-drop i b (omega arith), recs-drop (suc i) b (omega arith), s)
+
+few : (l : List Rec) → length l ≤ 1 → keysRise l ≡ true
+unfolding keysRise
+few [] h = refl
+few (a ∷ []) h = refl
+few (a ∷ b ∷ t) h = absurd (omega arith)
+
+loop-holds : tie.Need-loop-holds Inv-loop μ-loop
+loop-holds c = (omega arith, refl)
+
+add-loop : tie.Need-add-loop Inv-loop μ-loop
+add-loop c = search needs
+
+mul-a : tie.Need-mul-a Inv-loop μ-loop
+mul-a c = search needs
+
+add-a : tie.Need-add-a Inv-loop μ-loop
+add-a c = search needs
+
+add-m : tie.Need-add-m Inv-loop μ-loop
+add-m c = search needs
+
+add-e : tie.Need-add-e Inv-loop μ-loop
+add-e c = search needs
+
+sub-key-below : tie.Need-sub-key-below Inv-loop μ-loop
+sub-key-below c = search needs
+
+part-key-below-start : tie.Need-part-key-below-start Inv-loop μ-loop
+part-key-below-start c = search needs
+
+part-key-below-end : tie.Need-part-key-below-end Inv-loop μ-loop
+part-key-below-end c = search needs
+
+sub-key-below-2 : tie.Need-sub-key-below-2 Inv-loop μ-loop
+sub-key-below-2 c = search needs
+
+part-key-below-start-2 : tie.Need-part-key-below-start-2 Inv-loop μ-loop
+part-key-below-start-2 c = search needs
+
+part-key-below-end-2 : tie.Need-part-key-below-end-2 Inv-loop μ-loop
+part-key-below-end-2 c = search needs
+
+key-below-requires : tie.Need-key-below-requires Inv-loop μ-loop
+key-below-requires c κs =
+    let q = c .before .before .before in
+    let a = q .before .before .args in
+    asked (a .b .now) (a .n) (a .max) (q .loop .i) (omega arith) (omega arith) (omega arith) (q .before .before .pre .3)
+
+add-i : tie.Need-add-i Inv-loop μ-loop
+add-i c = search needs
+
+loop-less : tie.Need-loop-less Inv-loop μ-loop
+loop-less c = search needs
+
+loop-again : tie.Need-loop-again Inv-loop μ-loop
+loop-again c =
+    let q = c .before .before .before .before .before in
+    let a = q .before .before .args in
+    let e = turn (a .b .now) (a .n) (a .max) (q .loop .i) (omega arith) (omega arith) (omega arith) (q .before .before .pre .3) (c .before .key-below .result) (c .before .key-below .ensures) (omega arith) in
+    (omega arith, sym (e ∙ and-yes _ _ (c .if1 .taken)) ∙ q .loop .inv .1)
+
+returns : tie.Need-returns Inv-loop μ-loop
+returns c =
+    let q = c .before .before .before .before .before in
+    let a = q .before .before .args in
+    let e = turn (a .b .now) (a .n) (a .max) (q .loop .i) (omega arith) (omega arith) (omega arith) (q .before .before .pre .3) (c .before .key-below .result) (c .before .key-below .ensures) (omega arith) in
+    sym (e ∙ and-no _ _ (c .if1 .left)) ∙ q .loop .inv .1
+
+returns-2 : tie.Need-returns-2 Inv-loop μ-loop
+returns-2 c =
+    let q = c .before in
+    let b : List ℕ = q .before .before .args .b .now in
+    sym (few (drop (q .loop .i) (recsOf b)) (rw (length-drop, length-recs) (omega arith))) ∙ q .loop .inv .1
+
+pub keys-rise-spec : {M : Type 1} → statement M
+keys-rise-spec =
+    tie.close
+    (tie.spec
+    Inv-loop
+    μ-loop
+    loop-holds
+    add-loop
+    mul-a
+    add-a
+    add-m
+    add-e
+    sub-key-below
+    part-key-below-start
+    part-key-below-end
+    sub-key-below-2
+    part-key-below-start-2
+    part-key-below-end-2
+    key-below-requires
+    add-i
+    loop-less
+    loop-again
+    returns
+    returns-2)

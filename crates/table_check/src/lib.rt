@@ -1,0 +1,260 @@
+// The check behind number 14: whether lent bytes are a table that obeys the rules. It makes one pass over them and takes no way out of its long
+// loops, so that these run many bytes at a time.
+use rules::Header;
+use rules::Record;
+use table::layout;
+ghost use mathlib.Core.Path.{_≡_};
+ghost use mathlib.Core.Bool.{true};
+ghost use Prim.Native.Nat.{_+_, _*_, _-_, _%_, _≤_, _<_};
+ghost use lib.ListN.{length, getD, take, drop};
+ghost use Rattle.fields.specs.Blocks.{allBlocks};
+ghost use Rattle.fields.specs.Order.{lessBytes};
+ghost use Rattle.rules.specs.Sizes.{maxKey};
+ghost use Rattle.rules.specs.Table.{keysRise, versions, among, differ, rising, numbersOf};
+ghost use Rattle.rules.specs.Layout.{recWidth, nodeWidth, tableWidth, decodeRec, decode, valid};
+ghost use Rattle.table_check.specs.Mask.{maskBytes};
+ghost use Rattle.table.specs.Tests.{keyLength, clean, recGood, nodeGood, countOf, maxOf, recsOf, nodesOf};
+
+// 64 bytes that drop, and 64 that keep.
+fn mask() -> [u8; 128]
+    ensures { λ r. ⌜ r ≡ maskBytes ⌝ }
+{
+    let mut m = [0u8; 128];
+    let mut i = 64;
+    while i < 128 {
+        m[i] = 255;
+        i += 1;
+    }
+    m
+}
+
+// Whether zeros stand behind a text of `k` bytes in the room for `n` at `at`. It looks at all n bytes and masks those of the text, so that the loop
+// has a fixed length and no branch.
+fn clean_behind(b: &[u8], at: usize, n: usize, k: usize, m: &[u8]) -> bool
+    requires { ⌜ (k ≤ n) × (n ≤ 64) × (at + n ≤ length (now b)) × (now m ≡ maskBytes) ⌝ }
+    ensures { λ r. ⌜ r ≡ clean at n k (now (b .entry)) ⌝ }
+{
+    let mut seen: u8 = 0;
+    let mut i = 0;
+    while i < n {
+        seen = seen | (b[at + i] & m[64 - k + i]);
+        i += 1;
+    }
+    seen == 0
+}
+
+// Whether the bytes are those of a record, in a node with this max.
+fn check_record(b: &[u8], max: u64, m: &[u8]) -> bool
+    requires { ⌜ (length (now b) ≡ recWidth) × (now m ≡ maskBytes) ⌝ }
+    ensures { λ r. ⌜ r ≡ recGood max (now (b .entry)) ⌝ }
+{
+    let k = fields::byte_at(b, layout::KEY_LENGTH);
+    if Record::KEY < k {
+        return false;
+    }
+    let v = fields::byte_at(b, layout::VALUE_LENGTH);
+    if Record::VALUE < v {
+        return false;
+    }
+    let version = fields::read_u64(b, layout::VERSION);
+    if version == 0 {
+        return false;
+    }
+    if max < version {
+        return false;
+    }
+    if 2 < fields::byte_at(b, layout::STATUS) {
+        return false;
+    }
+    if clean_behind(b, layout::KEY, Record::KEY, k, m) {
+        clean_behind(b, layout::VALUE, Record::VALUE, v, m)
+    } else {
+        false
+    }
+}
+
+// Whether the first `n` records of a node's bytes are records.
+fn check_records(b: &[u8], n: usize, max: u64) -> bool
+    requires { ⌜ (length (now b) ≡ nodeWidth) × (n ≤ 32) ⌝ }
+    ensures { λ r. ⌜ r ≡ allBlocks (recGood max) recWidth n (drop 33 (now (b .entry))) ⌝ }
+{
+    let m = mask();
+    let mut i = 0;
+    while i < n {
+        let a = layout::RECORDS + i * layout::RECORD;
+        let e = a + layout::RECORD;
+        if check_record(&b[a..e], max, &m) {
+            i += 1;
+        } else {
+            return false;
+        }
+    }
+    true
+}
+
+// The versions of a node's records, in its first `n` places.
+fn versions_of(b: &[u8], n: usize) -> [u64; 32]
+    requires { ⌜ (length (now b) ≡ nodeWidth) × (n ≤ 32) × (n ≡ countOf (now b)) ⌝ }
+    ensures { λ r. ⌜ (length r ≡ 32) × (take n r ≡ versions (recsOf (now (b .entry)))) ⌝ }
+{
+    let mut vs = [0u64; 32];
+    let mut i = 0;
+    while i < n {
+        vs[i] = fields::read_u64(b, layout::RECORDS + i * layout::RECORD + layout::VERSION);
+        i += 1;
+    }
+    vs
+}
+
+// Whether the number at `i` stands again between it and `n`.
+fn again(vs: &[u64], i: usize, n: usize) -> bool
+    requires { ⌜ (i < n) × (n ≤ length (now vs)) ⌝ }
+    ensures { λ r. ⌜ r ≡ among (getD (now (vs .entry)) i 0) (take (n - (i + 1)) (drop (i + 1) (now (vs .entry)))) ⌝ }
+{
+    let x = vs[i];
+    let mut found = false;
+    let mut j = i + 1;
+    while j < n {
+        if vs[j] == x {
+            found = true;
+        }
+        j += 1;
+    }
+    found
+}
+
+// The place of a version among `seen` places: its low bits.
+fn place_of(version: u64) -> usize
+    ensures { λ r. ⌜ (r ≡ version % 1024) × (r < 1024) ⌝ }
+{
+    (version % 1024) as usize
+}
+
+// Whether the first `n` numbers are all different, from the last on. Only a number whose low bits were seen is looked for among those behind it.
+fn all_differ(vs: &[u64], n: usize) -> bool
+    requires { ⌜ n ≤ length (now vs) ⌝ }
+    ensures { λ r. ⌜ r ≡ differ (take n (now (vs .entry))) ⌝ }
+{
+    let mut seen = [0u8; 1024];
+    let mut i = n;
+    while 0 < i {
+        i -= 1;
+        let k = place_of(vs[i]);
+        if seen[k] == 1 {
+            if again(vs, i, n) {
+                return false;
+            }
+        }
+        seen[k] = 1;
+    }
+    true
+}
+
+// Whether the first record's key is below the second's.
+fn key_below(x: &[u8], y: &[u8]) -> bool
+    requires { ⌜ (length (now x) ≡ recWidth) × (keyLength (now x) ≤ maxKey) × (length (now y) ≡ recWidth) × (keyLength (now y) ≤ maxKey) ⌝ }
+    ensures { λ r. ⌜ r ≡ lessBytes (decodeRec (now (x .entry)) .kv .key) (decodeRec (now (y .entry)) .kv .key) ⌝ }
+{
+    match fields::compare(table::key_of(x), table::key_of(y)) {
+        fields::Order::Less => true,
+        fields::Order::Same => false,
+        fields::Order::More => false,
+    }
+}
+
+// Whether each key of a node's records is below the next.
+fn keys_rise(b: &[u8], n: usize, max: u64) -> bool
+    requires { ⌜ (length (now b) ≡ nodeWidth) × (n ≤ 32) × (n ≡ countOf (now b)) × (allBlocks (recGood max) recWidth n (drop 33 (now b)) ≡ true) ⌝ }
+    ensures { λ r. ⌜ r ≡ keysRise (recsOf (now (b .entry))) ⌝ }
+{
+    let mut i = 0;
+    while i + 1 < n {
+        let a = layout::RECORDS + i * layout::RECORD;
+        let m = a + layout::RECORD;
+        let e = m + layout::RECORD;
+        if key_below(&b[a..m], &b[m..e]) {
+            i += 1;
+        } else {
+            return false;
+        }
+    }
+    true
+}
+
+// Whether the bytes are those of a node.
+fn check_node(b: &[u8]) -> bool
+    requires { ⌜ length (now b) ≡ nodeWidth ⌝ }
+    ensures { λ r. ⌜ r ≡ nodeGood (now (b .entry)) ⌝ }
+{
+    let n = fields::byte_at(b, layout::COUNT);
+    if Header::RECORDS < n {
+        return false;
+    }
+    let max = fields::read_u64(b, layout::MAX);
+    if check_records(b, n, max) {
+        if keys_rise(b, n, max) {
+            let vs = versions_of(b, n);
+            if all_differ(&vs, n) {
+                let a = layout::RECORDS + n * layout::RECORD;
+                return fields::is_zero(&b[a..layout::NODE]);
+            }
+        }
+    }
+    false
+}
+
+// Whether the first `n` nodes are nodes.
+fn check_nodes(s: &[u8], n: usize) -> bool
+    requires { ⌜ (length (now s) ≡ tableWidth) × (n ≤ 8) ⌝ }
+    ensures { λ r. ⌜ r ≡ allBlocks nodeGood nodeWidth n (drop 1 (now (s .entry))) ⌝ }
+{
+    let mut i = 0;
+    while i < n {
+        let a = layout::NODES + i * layout::NODE;
+        let e = a + layout::NODE;
+        if check_node(&s[a..e]) {
+            i += 1;
+        } else {
+            return false;
+        }
+    }
+    true
+}
+
+// Whether each node's number is below the next.
+fn numbers_rise(s: &[u8], n: usize) -> bool
+    requires { ⌜ (length (now s) ≡ tableWidth) × (n ≤ 8) × (n ≡ nodesOf (now s)) ⌝ }
+    ensures { λ r. ⌜ r ≡ rising (numbersOf (decode (now (s .entry)))) ⌝ }
+{
+    let mut i = 0;
+    while i + 1 < n {
+        let x = fields::read_u64(s, layout::NODES + i * layout::NODE);
+        let y = fields::read_u64(s, layout::NODES + (i + 1) * layout::NODE);
+        if x < y {
+            i += 1;
+        } else {
+            return false;
+        }
+    }
+    true
+}
+
+// Whether the bytes are those of a table that obeys the rules: number 14 is refused exactly where they are not.
+pub fn check_table(s: &[u8]) -> bool
+    ensures { λ r. ⌜ r ≡ valid (now (s .entry)) ⌝ }
+{
+    if s.len() != layout::TABLE {
+        return false;
+    }
+    let n = fields::byte_at(s, 0);
+    if layout::MOST_NODES < n {
+        return false;
+    }
+    if check_nodes(s, n) {
+        if numbers_rise(s, n) {
+            let a = layout::NODES + n * layout::NODE;
+            return fields::is_zero(&s[a..layout::TABLE]);
+        }
+    }
+    false
+}

@@ -1,0 +1,55 @@
+-- Where something stands in a list that rises, or the place where it belongs; nodes are sought by their number and records by their key. The
+-- numbers of a node and of a record as the code hands them out.
+use Prim.Native.Nat.{ℕ, _+_}
+use mathlib.Core.List.{List, [], _∷_}
+use lib.ListN.{length}
+use lib.Dec.{eqb, ltb}
+use Rattle.fields.specs.Choice.{pick}
+use Rattle.fields.specs.Order.{orderOf}
+use Rattle.fields.specs.declared.Order.{Order}
+use Rattle.fields.specs.declared.Order.the-variants.{Less, Same, More}
+use Rattle.rules.specs.Node.{Rec, Node}
+use Rattle.rules.specs.Table.{Entry, Table}
+use Rattle.rules.specs.declared.Header.{Header}
+use Rattle.rules.specs.declared.Record.{Record}
+use Rattle.table_read.specs.declared.Place.{Place}
+use Rattle.table_read.specs.declared.Place.the-variants.{At, Free}
+
+-- n places further
+abbrev pub further : ℕ → Place → Place
+further n (At i) = At (n + i)
+further n (Free i) = Free (n + i)
+
+-- by how the sought stands to the first, with the place among the others
+abbrev pub seek : Order → Place → Place
+seek Less p = Free 0
+seek Same p = At 0
+seek More p = further 1 p
+
+-- by how the sought stands to each
+unfoldable pub findBy : {A : Type 0} → (A → Order) → List A → Place
+findBy f [] = Free 0
+findBy f (a ∷ l) = seek (f a) (findBy f l)
+
+-- how the first number stands to the second
+unfoldable pub numberOrder : ℕ → ℕ → Order
+numberOrder i n = pick (eqb i n) Same (pick (ltb i n) Less More)
+
+abbrev pub toNode : ℕ → Entry → Order
+toNode i e = numberOrder i (e .number)
+
+abbrev pub toKey : List ℕ → Rec → Order
+toKey k r = orderOf k (r .kv .key)
+
+abbrev pub findNode : ℕ → Table → Place
+findNode i t = findBy (toNode i) t
+
+abbrev pub findKey : List ℕ → List Rec → Place
+findKey k l = findBy (toKey k) l
+
+abbrev pub headerOf : Node → Header
+headerOf n = record { heartbeat = n .heartbeat; max = n .max; «last_gc» = n .last-gc }
+
+abbrev pub recordOf : Rec → Record
+recordOf r =
+    record { keylen = length (r .kv .key); valuelen = length (r .kv .value); version = r .kv .version; status = r .kv .status; start = r .start }

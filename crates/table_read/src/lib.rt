@@ -1,0 +1,103 @@
+// Finding in a good table: where a node or a record stands, or where it belongs, and what its bytes say.
+use rules::Header;
+use rules::Heartbeat;
+use rules::Record;
+use rules::Status;
+use table::layout;
+ghost use mathlib.Core.Path.{_≡_};
+ghost use mathlib.Core.Bool.{true};
+ghost use Prim.Native.Nat.{_+_, _*_, _≤_, _<_};
+ghost use lib.ListN.{length};
+ghost use Rattle.fields.specs.Numbers.{natOf};
+ghost use Rattle.fields.specs.Parts.{part};
+ghost use Rattle.rules.specs.Sizes.{maxNodes, maxRecords, maxKey, maxValue};
+ghost use Rattle.rules.specs.Table.{keysRise};
+ghost use Rattle.rules.specs.Layout.{recWidth, nodeWidth, tableWidth, decodeRec, decodeNode, decode, statusOfByte};
+ghost use Rattle.table.specs.Tests.{keyLength, valueLength, countOf, nodesOf, recsOf};
+ghost use Rattle.table.specs.Fits.{LaidNode};
+ghost use Rattle.table_read.specs.Find.{findNode, findKey, headerOf, recordOf};
+
+// Where something stands, or the place in the order where it belongs.
+pub enum Place {
+    At(usize),
+    Free(usize),
+}
+
+// The status that a byte stands for.
+fn status_of(n: usize) -> Status
+    ensures { λ r. ⌜ r ≡ statusOfByte n ⌝ }
+{
+    if n == 0 {
+        return Status::Set;
+    }
+    if n == 1 {
+        return Status::Delete;
+    }
+    Status::Ttl
+}
+
+// What a record's bytes say beside its key and value.
+pub fn read_record(b: &[u8]) -> Record
+    requires { ⌜ (length (now b) ≡ recWidth) × (keyLength (now b) ≤ maxKey) × (valueLength (now b) ≤ maxValue) ⌝ }
+    ensures { λ r. ⌜ r ≡ recordOf (decodeRec (now (b .entry))) ⌝ }
+{
+    let status = status_of(fields::byte_at(b, layout::STATUS));
+    Record {
+        keylen: fields::byte_at(b, layout::KEY_LENGTH),
+        valuelen: fields::byte_at(b, layout::VALUE_LENGTH),
+        version: fields::read_u64(b, layout::VERSION),
+        status: status,
+        start: fields::read_u64(b, layout::START),
+    }
+}
+
+// What a node's bytes say beside its number and records.
+pub fn read_header(b: &[u8]) -> Header
+    requires { ⌜ length (now b) ≡ nodeWidth ⌝ }
+    ensures { λ r. ⌜ r ≡ headerOf (decodeNode (now (b .entry)) .node) ⌝ }
+{
+    let heartbeat = Heartbeat(fields::read_u64(b, layout::HEARTBEAT));
+    Header {
+        heartbeat: heartbeat,
+        max: fields::read_u64(b, layout::MAX),
+        last_gc: fields::read_u64(b, layout::LAST_GC),
+    }
+}
+
+// The place of the node with this number.
+pub fn find_node(s: &[u8], number: u64) -> Place
+    requires { ⌜ (length (now s) ≡ tableWidth) × (nodesOf (now s) ≤ maxNodes) ⌝ }
+    ensures { λ r. ⌜ r ≡ findNode number (decode (now (s .entry))) ⌝ }
+{
+    let n = fields::byte_at(s, 0);
+    let mut i = 0;
+    while i < n {
+        let x = fields::read_u64(s, layout::NODES + i * layout::NODE);
+        if number == x {
+            return Place::At(i);
+        }
+        if number < x {
+            return Place::Free(i);
+        }
+        i += 1;
+    }
+    Place::Free(i)
+}
+
+// The place of the record with this key in a node's bytes, whose keys rise. It is sought by halves.
+pub fn search_key(b: &[u8], key: &[u8]) -> Place
+    requires { ⌜ LaidNode (now b) × (keysRise (recsOf (now b)) ≡ true) ⌝ }
+    ensures { λ r. ⌜ r ≡ findKey (now (key .entry)) (recsOf (now (b .entry))) ⌝ }
+{
+    let mut low = 0;
+    let mut high = fields::byte_at(b, layout::COUNT);
+    while low < high {
+        let j = (low + high) / 2;
+        match fields::compare(key, table::key_of(table::record_of(b, j))) {
+            fields::Order::Same => return Place::At(j),
+            fields::Order::Less => high = j,
+            fields::Order::More => low = j + 1,
+        }
+    }
+    Place::Free(low)
+}

@@ -1,0 +1,25 @@
+-- `table_write::set_heartbeat` meets its contract. Assumes nothing.
+use mathlib.Core.Path.{ap, sym, _∙_}
+use Rattle.fields.specs.Numbers.{bytesOf}
+use Rattle.fields.specs.Parts.{put}
+use Rattle.rules.specs.Layout.{decodeNode}
+use Rattle.table.proofs.Changed.{put-beat}
+use borrow.Author.Needs.{needs}
+use Rattle.table_write.proofs.set_heartbeat.Statement.{statement}
+use Rattle.table_write.proofs.set_heartbeat.Tie as tie
+
+write-u64-requires : tie.Need-write-u64-requires
+write-u64-requires c κs = search needs
+
+same-length : tie.Need-same-length
+same-length c = search needs
+
+returns : tie.Need-returns
+returns c =
+    let w = c .before .before in
+    let st = w .before .before .before in
+    let a = st .args in
+    w .write-u64 .ensures ∙ ap (put 8 (bytesOf 8 (a .h .0))) (sym (st .pre .is)) ∙ put-beat (decodeNode (a .b .now)) (a .h .0)
+
+pub set-heartbeat-spec : {M : Type 1} → statement M
+set-heartbeat-spec = tie.close (tie.spec write-u64-requires same-length returns)
