@@ -26,7 +26,7 @@ use Rattle.rules.specs.Node.{Node}
 use Rattle.rules.specs.Table.{Entry, Table, nodeOf, keysRise, obeys}
 use Rattle.rules.specs.Delta as rule
 use Rattle.rules.specs.Apply.{Taken, Stream, takenAs, withRoom, answered, statusOf, deltaStatus, outcome, takeAll, applyNode, onNode, answering, applyEach, codes, apply}
-use Rattle.rules.specs.Layout.{nodeWidth, encodeNode, decodeNode, encode, decode, valid}
+use Rattle.rules.specs.Layout.{nodePlace, nodeWidth, encodeNode, decodeNode, encode, decode, valid}
 use Rattle.rules.specs.Lent.{lentApply}
 use Rattle.rules.specs.declared.DeltaStatus.{DeltaStatus}
 use Rattle.rules.specs.declared.DeltaStatus.the-variants.{Reject, Apply, ApplyAfterReset}
@@ -48,7 +48,7 @@ use Rattle.table.specs.Changes.{withNode, withMax, withGc, withRecs, freshEntry
 use Rattle.table.specs.Tests.{countOf, recsOf}
 use Rattle.table.proofs.Nodes.{length-node, laid-node, decode-encode-node}
 use Rattle.table.proofs.Changed.{fresh-bytes}
-use Rattle.table.proofs.Places.{nodePlace, nodeBytes, nodeAt, length-recs}
+use Rattle.table.proofs.Places.{nodeBytes, nodeAt, length-recs}
 use Rattle.table_read.specs.Find.{findNode, headerOf}
 use Rattle.table_read.specs.declared.Place.the-variants.{At, Free}
 use Rattle.table_read.proofs.Searched.{node-in, node-found, node-missing, node-laid, node-rises}
@@ -354,7 +354,7 @@ module _ (clock : ℕ) (s t₀ l₀ : List ℕ) where
 -- what the call gives, as its three parts
 abbrev pub Gives : List ℕ → ℕ → List ℕ → List ℕ → Applied → List ℕ → List ℕ → Type 0
 Gives delta clock list l r l′ list′ =
-    (r ≡ lentApply delta clock list l .answer) × (l′ ≡ lentApply delta clock list l .bytes) × (list′ ≡ lentApply delta clock list l .list)
+    (r ≡ lentApply delta clock list l .answer) × (l′ ≡ lentApply delta clock list l .lent .table) × (list′ ≡ lentApply delta clock list l .lent .list)
 
 module _ (delta : List ℕ) (clock : ℕ) (list l : List ℕ) where
   pub bad-table : valid l ≡ false → Gives delta clock list l (Refused BadTable 0) l list

@@ -14,9 +14,10 @@ ghost use mathlib.Core.Path.{_≡_};
 ghost use Prim.Native.Nat.{_+_, _≤_};
 ghost use lib.ListN.{length};
 ghost use Rattle.fields.specs.Parts.{put};
+ghost use Rattle.rules.specs.Given.{Gives};
 ghost use Rattle.rules.specs.Apply.{applyNode, applyEach, codes};
 ghost use Rattle.rules.specs.Layout.{encodeNode, encode, decode, decodeNode, valid};
-ghost use Rattle.rules.specs.Lent.{lentApply};
+ghost use Rattle.rules.specs.Lent.{both, lentApply};
 ghost use Rattle.table.specs.Fits.{LaidNode};
 ghost use Rattle.apply_node.specs.Taking.{Rising, recsFrom, partsFrom, deltaOf, partAt};
 ghost use Rattle.apply.specs.Applying.{emptied, begun, grown, Grown, Stored, rejects, resets, answerAs, Answered, Turned, Accepted, Told};
@@ -95,7 +96,7 @@ fn grow_in_place(
     requires { ⌜ Rising (now b) × (at ≤ length (now s)) × (length (recsFrom (now s) at) ≤ count) ⌝ }
     ensures { λ r. ⌜ Stored (grown clock (now (s .entry)) at max (begun afresh gc (decodeNode (now (b .entry))))) (now (b .entry)) r (now (b .exit)) ⌝ }
 {
-    let free = Header::RECORDS - fields::byte_at(b, layout::COUNT);
+    let free = Header::RECORDS - fields::byte_at(b, layout::RECORD_COUNT);
     if count <= free {
         return grow(b, s, at, afresh, gc, max, clock);
     }
@@ -220,7 +221,8 @@ pub fn apply_good(t: &mut [u8], s: &[u8], clock: u64, answers: &mut [u8])
 // Applies the bytes of a delta to a lent table at the receiver's clock, and gives one answer for each node delta. It takes any bytes, and refuses in
 // document 01's order: 14, 13 for the delta's length, the first operation at fault, 8 for the places of the answers.
 pub fn apply(table: &mut [u8], delta: &[u8], clock: u64, answers: &mut [u8]) -> Applied
-    ensures { λ r. ⌜ (r ≡ lentApply (now (delta .entry)) clock (now (answers .entry)) (now (table .entry)) .answer) × (now (table .exit) ≡ lentApply (now (delta .entry)) clock (now (answers .entry)) (now (table .entry)) .bytes) × (now (answers .exit) ≡ lentApply (now (delta .entry)) clock (now (answers .entry)) (now (table .entry)) .list) ⌝ }
+    ensures { λ r. ⌜ Gives (lentApply (now (delta .entry)) clock (now (answers .entry)) (now (table .entry)))
+        r (both (now (table .exit)) (now (answers .exit))) ⌝ }
 {
     if table_check::check_table(table) {
         let heads = apply_node::read_heads(delta);

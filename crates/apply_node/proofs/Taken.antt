@@ -253,17 +253,17 @@ module _ (held gc clock : ℕ) where
         go false e = let z : _≡_ {A = ℕ} 0 1 = cc in absurd (omega arith)
     ends (rule.SetMaxVersionOp m) e = let z : _≡_ {A = ℕ} 0 1 = cc in absurd (omega arith)
 
-    pub fills : (o : rule.Op) → stepOf held gc clock o l ≡ Full → hasRoom (takeAll held gc clock (rule.recsOf (o ∷ ops)) l) ≡ false
+    pub given : (o : rule.Op) → stepOf held gc clock o l ≡ Full → hasRoom (takeAll held gc clock (rule.recsOf (o ∷ ops)) l) ≡ false
     unfolding takeAll takeOne rule.recsOf
-    fills (rule.NodeOp n g f) e = let z : _≡_ {A = ℕ} 0 1 = cc in absurd (omega arith)
-    fills (rule.KeyValueOp r) e = go (hasRoom (takeOne held gc clock r l)) refl e
+    given (rule.NodeOp n g f) e = let z : _≡_ {A = ℕ} 0 1 = cc in absurd (omega arith)
+    given (rule.KeyValueOp r) e = go (hasRoom (takeOne held gc clock r l)) refl e
       where
         go : (t : Bool) → hasRoom (takeOne held gc clock r l) ≡ t → pick t Taken Full ≡ Full → hasRoom (takeAll held gc clock (rule.recsOf ops) (takeOne held gc clock r l)) ≡ false
         go true q e = let z : _≡_ {A = ℕ} 0 1 = cc in absurd (omega arith)
         go false q e =
             let h : maxRecords < length (takeOne held gc clock r l) = leb-false _ _ q in
             lt-leb (length (takeAll held gc clock (rule.recsOf ops) (takeOne held gc clock r l))) maxRecords (omega (arith, grows (rule.recsOf ops) (takeOne held gc clock r l)))
-    fills (rule.SetMaxVersionOp m) e = let z : _≡_ {A = ℕ} 0 1 = cc in absurd (omega arith)
+    given (rule.SetMaxVersionOp m) e = let z : _≡_ {A = ℕ} 0 1 = cc in absurd (omega arith)
 
 -- ---- the loop over the operations
 
@@ -310,7 +310,7 @@ module _ (held gc clock : ℕ) (s : List ℕ) (at : ℕ) (b₀ : List ℕ) where
       unfolding whole
       has-none q =
           record {
-            room = sym (ap hasRoom (sym left) ∙ fills held gc clock (opsFrom s next) (recsOf b) (opOf s o) (sym (t .step) ∙ q));
+            room = sym (ap hasRoom (sym left) ∙ given held gc clock (opsFrom s next) (recsOf b) (opOf s o) (sym (t .step) ∙ q));
             rising = t .rising;
             node = λ f. let z : _≡_ {A = ℕ} 0 1 = cc in absurd (omega arith);
           }

@@ -7,6 +7,7 @@ use rules::DeltaRead;
 use rules::Header;
 use rules::Refusal;
 use rules::Status;
+use rules::sizes;
 use table::layout;
 use table_read::Place;
 ghost use mathlib.Core.Bool.{true};
@@ -38,9 +39,9 @@ pub enum Step {
 // the running max at their end.
 pub struct Heads {
     pub read: DeltaRead,
-    pub at: [usize; 8],
-    pub count: [usize; 8],
-    pub max: [u64; 8],
+    pub at: [usize; sizes::NODES],
+    pub count: [usize; sizes::NODES],
+    pub max: [u64; sizes::NODES],
 }
 
 // ---- one record
@@ -75,7 +76,7 @@ fn comes_last(b: &[u8], key: &[u8]) -> bool
     requires { ⌜ Rising (now b) ⌝ }
     ensures { λ r. ⌜ (r ≡ true → findKey (now (key .entry)) (recsOf (now (b .entry))) ≡ Free (countOf (now (b .entry)))) ⌝ }
 {
-    let n = fields::byte_at(b, layout::COUNT);
+    let n = fields::byte_at(b, layout::RECORD_COUNT);
     if n == 0 {
         return true;
     }
@@ -92,7 +93,7 @@ fn find_key(b: &[u8], key: &[u8]) -> Place
     ensures { λ r. ⌜ r ≡ findKey (now (key .entry)) (recsOf (now (b .entry))) ⌝ }
 {
     if comes_last(b, key) {
-        return Place::Free(fields::byte_at(b, layout::COUNT));
+        return Place::Free(fields::byte_at(b, layout::RECORD_COUNT));
     }
     table_read::search_key(b, key)
 }
@@ -116,7 +117,7 @@ fn store_record(
             true
         }
         Place::Free(j) => {
-            if fields::byte_at(b, layout::COUNT) == Header::RECORDS {
+            if fields::byte_at(b, layout::RECORD_COUNT) == Header::RECORDS {
                 return false;
             }
             table_write::insert_record(b, j, key, value, version, status, start);
@@ -227,9 +228,9 @@ fn refused(why: Refusal, at: usize) -> Heads
 {
     Heads {
         read: DeltaRead::Refused { why, at },
-        at: [0usize; 8],
-        count: [0usize; 8],
-        max: [0u64; 8],
+        at: [0usize; sizes::NODES],
+        count: [0usize; sizes::NODES],
+        max: [0u64; sizes::NODES],
     }
 }
 
@@ -237,13 +238,13 @@ fn refused(why: Refusal, at: usize) -> Heads
 pub fn read_heads(s: &[u8]) -> Heads
     ensures { λ r. ⌜ (r .read ≡ deltaRead (now (s .entry))) × Gathered (now (s .entry)) (r .at) (r .count) (r .max) ⌝ }
 {
-    if delta_read::LONGEST < s.len() {
+    if sizes::LONGEST_DELTA < s.len() {
         return refused(Refusal::TooMany, 0);
     }
-    let mut places = [0usize; 8];
-    let mut counts = [0usize; 8];
-    let mut maxes = [0u64; 8];
-    let mut seen = [0u64; 8];
+    let mut places = [0usize; sizes::NODES];
+    let mut counts = [0usize; sizes::NODES];
+    let mut maxes = [0u64; sizes::NODES];
+    let mut seen = [0u64; sizes::NODES];
     let mut nodes: usize = 0;
     let mut running: u64 = 0;
     let mut under: usize = 0;

@@ -14,10 +14,10 @@ use Rattle.fields.specs.Parts.{put}
 use Rattle.fields.proofs.Choice.{and-left, and-right, pick-true, pick-false}
 use Rattle.fields.proofs.Parts.{length-part}
 use Rattle.fields.proofs.Lent.{seen, lent-put}
+use Rattle.rules.specs.Given.{Given, given}
 use Rattle.rules.specs.Sizes.{leastMtu, maxDelta}
 use Rattle.rules.specs.Table.{Table}
 use Rattle.rules.specs.Digest.{NodeDigest, DigestRead, Entries, Refused, readDigest}
-use Rattle.rules.specs.Local.{Filled, fills}
 use Rattle.rules.specs.Delta.{Op, deltaBytes}
 use Rattle.rules.specs.Compute.{deltaFor, written, onDigest, compute}
 use Rattle.rules.specs.declared.Refusal.{Refusal}
@@ -66,27 +66,27 @@ module _ (excluded ties : List ℕ) (mtu place : ℕ) (digest : List ℕ) (t : T
   abbrev numbers : Asked
   numbers = askedOf mtu place (length l) (length ties) (length t)
 
-  abbrev on : Asked → Filled Computed
+  abbrev on : Asked → Given Computed (List ℕ)
   on asked.Good = onDigest excluded ties mtu place (readDigest digest) t l
-  on (asked.Refused r) = fills (computed.Refused r) l
+  on (asked.Refused r) = given (computed.Refused r) l
 
   by-numbers : on numbers ≡ compute excluded ties mtu place digest t l
   unfolding askedOf compute
   by-numbers = go (mtuFits mtu) (isFree place mtu (length l)) (eqb (length ties) (length t))
     where
       go : (a b c : Bool) → on (pick a (pick b (pick c asked.Good (asked.Refused BadTies)) (asked.Refused NoPlace)) (asked.Refused BadMtu))
-          ≡ pick a (pick b (pick c (onDigest excluded ties mtu place (readDigest digest) t l) (fills (computed.Refused BadTies) l)) (fills (computed.Refused NoPlace) l)) (fills (computed.Refused BadMtu) l)
+          ≡ pick a (pick b (pick c (onDigest excluded ties mtu place (readDigest digest) t l) (given (computed.Refused BadTies) l)) (given (computed.Refused NoPlace) l)) (given (computed.Refused BadMtu) l)
       go true true true = refl
       go true true false = refl
       go true false c = refl
       go false b c = refl
 
   -- 7, 8, 15
-  pub by-refused : (r : Refusal) → numbers ≡ asked.Refused r → fills (computed.Refused r) l ≡ compute excluded ties mtu place digest t l
+  pub by-refused : (r : Refusal) → numbers ≡ asked.Refused r → given (computed.Refused r) l ≡ compute excluded ties mtu place digest t l
   by-refused r e = ap on (sym e) ∙ by-numbers
 
   -- 9, 13, 9
-  pub by-digest : (r : Refusal) → numbers ≡ asked.Good → readDigest digest ≡ Refused r → fills (computed.Refused r) l ≡ compute excluded ties mtu place digest t l
+  pub by-digest : (r : Refusal) → numbers ≡ asked.Good → readDigest digest ≡ Refused r → given (computed.Refused r) l ≡ compute excluded ties mtu place digest t l
   by-digest r e f = ap (λ (d : DigestRead). onDigest excluded ties mtu place d t l) (sym f) ∙ ap on (sym e) ∙ by-numbers
 
   -- the delta is written
@@ -99,7 +99,7 @@ module _ (excluded ties : List ℕ) (mtu place : ℕ) (digest : List ℕ) (t : T
       → let seen : List ℕ = take (place + mtu - place) (drop place l) in
       let d : List Op = deltaFor excluded ties (length seen) ds t in
       r .ops ≡ length d → r .bytes ≡ length (deltaBytes d) → after ≡ put 0 (deltaBytes d) seen → length after ≡ length seen
-      → fills (computed.Delta (r .ops) (r .bytes)) (putMid place (place + mtu - place) l after) ≡ compute excluded ties mtu place digest t l
+      → given (computed.Delta (r .ops) (r .bytes)) (putMid place (place + mtu - place) l after) ≡ compute excluded ties mtu place digest t l
   by-part ds rest r after h e f a b c k =
       let long : length (take (place + mtu - place) (drop place l)) ≡ mtu = ap length (seen place mtu l) ∙ length-part place mtu l h in
       let d : List Op = deltaFor excluded ties mtu ds t in
@@ -108,12 +108,12 @@ module _ (excluded ties : List ℕ) (mtu place : ℕ) (digest : List ℕ) (t : T
       lent-put place mtu 0 (deltaBytes d) l after h (rw zero-add (delta-fits excluded ties mtu ds t))
       (c ∙ ap (λ (os : List Op). put 0 (deltaBytes os) (take (place + mtu - place) (drop place l))) is) k
       ∙ ap (λ (n : ℕ). put n (deltaBytes d) l) (add-zero place) in
-      (λ i. fills (computed.Delta ((a ∙ ap length is) i) ((b ∙ ap (λ (os : List Op). length (deltaBytes os)) is) i)) (back i)) ∙ by-delta ds rest e f
+      (λ i. given (computed.Delta ((a ∙ ap length is) i) ((b ∙ ap (λ (os : List Op). length (deltaBytes os)) is) i)) (back i)) ∙ by-delta ds rest e f
 
 -- ---- 14
 
 pub bad-table : (excluded ties : List ℕ) (mtu place : ℕ) (digest l datagram : List ℕ) → valid l ≡ false
-    → fills (computed.Refused BadTable) datagram ≡ lentCompute excluded ties mtu place digest datagram l
+    → given (computed.Refused BadTable) datagram ≡ lentCompute excluded ties mtu place digest datagram l
 unfolding fromTable
 bad-table excluded ties mtu place digest l datagram e = sym (pick-false (valid l) _ _ e)
 

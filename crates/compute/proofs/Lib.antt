@@ -2,4 +2,3 @@ pub mod Behind
 pub mod Lining
 pub mod Whole
 pub mod Calling
-pub mod Unique

@@ -6,9 +6,9 @@ use native.Mathlib.Nat.{zero-add, sub-zero}
 use lib.ListN.{length, getD}
 use Rattle.fields.specs.Choice.{_∈_, here, later}
 use Rattle.fields.specs.Parts.{put}
+use Rattle.rules.specs.Given.{given}
 use Rattle.rules.specs.Table.{Table}
 use Rattle.rules.specs.Digest.{NodeDigest}
-use Rattle.rules.specs.Local.{Filled, fills}
 use Rattle.rules.specs.Delta.{Op, NodeOp, deltaBytes}
 use Rattle.rules.specs.Compute.{stale, bodyOps, allOps, cut, ordered, staleNodes, deltaFor}
 use Rattle.compute_stale.specs.Arranged.{listed}
@@ -36,11 +36,11 @@ module _ (excluded : List ℕ) (ds : List NodeDigest) (ties : List ℕ) (t : Tab
         ∙ ap allOps (line-nodes excluded ds ties t)
 
     pub delta-is : (l : List ℕ) → let d : List Op = deltaFor excluded ties (length l) ds t in
-        sending 0 0 (opsAt t (r .froms) (listed (r .count) (r .line))) l ≡ fills (counts (length d) (length (deltaBytes d))) (put 0 (deltaBytes d) l)
+        sending 0 0 (opsAt t (r .froms) (listed (r .count) (r .line))) l ≡ given (counts (length d) (length (deltaBytes d))) (put 0 (deltaBytes d) l)
     unfolding sending deltaFor
     delta-is l =
         (λ i. behind 0 0 (cut (sub-zero (length l) i) (planned i)) l)
-        ∙ (λ i. fills (counts (zero-add (length (cut (length l) (allOps (ordered (staleNodes excluded ds ties t))))) i) (zero-add (length (deltaBytes (cut (length l) (allOps (ordered (staleNodes excluded ds ties t)))))) i)) (put 0 (deltaBytes (cut (length l) (allOps (ordered (staleNodes excluded ds ties t))))) l))
+        ∙ (λ i. given (counts (zero-add (length (cut (length l) (allOps (ordered (staleNodes excluded ds ties t))))) i) (zero-add (length (deltaBytes (cut (length l) (allOps (ordered (staleNodes excluded ds ties t)))))) i)) (put 0 (deltaBytes (cut (length l) (allOps (ordered (staleNodes excluded ds ties t))))) l))
 
     pub line-within : (p : ℕ) → p ∈ listed (r .count) (r .line) → p < length t
     line-within p m = line-in excluded ds ties t (subst (λ (l : List ℕ). p ∈ l) (k .in-line) m)

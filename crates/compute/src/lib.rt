@@ -5,11 +5,14 @@ use digest_read::Digest;
 use digest_read::DigestRead;
 use rules::Computed;
 use rules::Refusal;
+use rules::sizes;
+use table::layout;
 ghost use mathlib.Core.Path.{_≡_};
 ghost use mathlib.Core.Bool.{true};
 ghost use Prim.Native.Nat.{ℕ, _+_, _≤_, _<_};
 ghost use lib.ListN.{length};
 ghost use Rattle.fields.specs.Parts.{put};
+ghost use Rattle.rules.specs.Given.{Gives};
 ghost use Rattle.rules.specs.Delta.{deltaBytes};
 ghost use Rattle.rules.specs.Compute.{fromOf, deltaFor, compute};
 ghost use Rattle.rules.specs.Layout.{decode, valid};
@@ -30,8 +33,8 @@ pub enum Staleness {
 
 // The stale nodes by their places in the table, the first of the line last; a from stands at its node's place.
 pub struct Plan {
-    pub line: [usize; 8],
-    pub froms: [u64; 8],
+    pub line: [usize; sizes::NODES],
+    pub froms: [u64; sizes::NODES],
     pub count: usize,
 }
 
@@ -70,11 +73,11 @@ fn line_up(s: &[u8], d: Digest, excluded: &[u64], ties: &[u64]) -> Plan
     requires { ⌜ LaidTable (now s) × (nodesOf (now s) ≤ length (now ties)) ⌝ }
     ensures { λ r. ⌜ Planned (now (excluded .entry)) (entriesIn d) (now (ties .entry)) (decode (now (s .entry))) r ⌝ }
 {
-    let mut line = [0usize; 8];
-    let mut froms = [0u64; 8];
-    let mut counts = [0u64; 8];
+    let mut line = [0usize; sizes::NODES];
+    let mut froms = [0u64; sizes::NODES];
+    let mut counts = [0u64; sizes::NODES];
     let mut n = 0;
-    let mut i = fields::byte_at(s, 0);
+    let mut i = fields::byte_at(s, layout::NODE_COUNT);
     while 0 < i {
         i -= 1;
         if let Staleness::From(from) = stale_from(s, i, d, excluded) {
@@ -111,19 +114,14 @@ pub enum Asked {
     Refused(Refusal),
 }
 
-// The least and the largest MTU.
-const LEAST: usize = 100;
-
-const MOST: usize = 16384;
-
 // Whether the MTU is one.
 fn mtu_fits(mtu: usize) -> bool
     ensures { λ r. ⌜ r ≡ mtuFits mtu ⌝ }
 {
-    if mtu < LEAST {
+    if mtu < sizes::LEAST_MTU {
         return false;
     }
-    mtu <= MOST
+    mtu <= sizes::LONGEST_DELTA
 }
 
 // Whether a whole MTU is free from the place on, in a datagram of so many bytes.
@@ -163,16 +161,15 @@ pub fn compute_good(
     place: usize,
 ) -> Computed
     requires { ⌜ valid (now table) ≡ true ⌝ }
-    ensures { λ r. ⌜ (r ≡ compute (now (excluded .entry)) (now (ties .entry)) mtu place (now (digest .entry)) (decode (now (table .entry))) (now (datagram .entry)) .answer)
-        × (now (datagram .exit)
-        ≡ compute (now (excluded .entry)) (now (ties .entry)) mtu place (now (digest .entry)) (decode (now (table .entry))) (now (datagram .entry)) .list) ⌝ }
+    ensures { λ r. ⌜ Gives (compute (now (excluded .entry)) (now (ties .entry)) mtu place (now (digest .entry)) (decode (now (table .entry))) (now (datagram .entry)))
+        r (now (datagram .exit)) ⌝ }
 {
     let asked = ask(
         mtu,
         place,
         datagram.len(),
         ties.len(),
-        fields::byte_at(table, 0),
+        fields::byte_at(table, layout::NODE_COUNT),
     );
     if let Asked::Refused(why) = asked {
         return Computed::Refused(why);
@@ -203,9 +200,8 @@ pub fn compute(
     datagram: &mut [u8],
     place: usize,
 ) -> Computed
-    ensures { λ r. ⌜ (r ≡ lentCompute (now (excluded .entry)) (now (ties .entry)) mtu place (now (digest .entry)) (now (datagram .entry)) (now (table .entry)) .answer)
-        × (now (datagram .exit)
-        ≡ lentCompute (now (excluded .entry)) (now (ties .entry)) mtu place (now (digest .entry)) (now (datagram .entry)) (now (table .entry)) .list) ⌝ }
+    ensures { λ r. ⌜ Gives (lentCompute (now (excluded .entry)) (now (ties .entry)) mtu place (now (digest .entry)) (now (datagram .entry)) (now (table .entry)))
+        r (now (datagram .exit)) ⌝ }
 {
     if table_check::check_table(table) {
         return compute_good(table, digest, mtu, excluded, ties, datagram, place);

@@ -7,9 +7,9 @@ use lib.ListN.{length, getD}
 use lib.Dec.{leb}
 use Rattle.fields.specs.Choice.{pick}
 use Rattle.fields.specs.Parts.{put}
+use Rattle.rules.specs.Given.{Given, given}
 use Rattle.rules.specs.Node.{KeyValue}
 use Rattle.rules.specs.Table.{Table}
-use Rattle.rules.specs.Local.{Filled, fills}
 use Rattle.rules.specs.Delta.{Op, NodeOp, SetMaxVersionOp, opBytes, sizeOf, deltaBytes}
 use Rattle.rules.specs.Compute.{stale, bodyOps, cut}
 use Rattle.rules.specs.Layout.{decodeRec}
@@ -38,17 +38,17 @@ abbrev pub counts : ℕ → ℕ → Sent
 counts ops bytes = record { ops = ops; bytes = bytes }
 
 -- behind so many operations in the first used bytes these are written
-abbrev pub behind : ℕ → ℕ → List Op → List ℕ → Filled Sent
-behind ops used os l = fills (counts (ops + length os) (used + length (deltaBytes os))) (put used (deltaBytes os) l)
+abbrev pub behind : ℕ → ℕ → List Op → List ℕ → Given Sent (List ℕ)
+behind ops used os l = given (counts (ops + length os) (used + length (deltaBytes os))) (put used (deltaBytes os) l)
 
 -- these are to be written behind, while they fit
-unfoldable pub sending : ℕ → ℕ → List Op → List ℕ → Filled Sent
+unfoldable pub sending : ℕ → ℕ → List Op → List ℕ → Given Sent (List ℕ)
 sending ops used rest l = behind ops used (cut (length l - used) rest) l
 
 -- what is written for a node without stale records, dropped where it does not fit; nothing for another
-abbrev pub closed : ℕ → ℕ → List ℕ → Filled Sent
+abbrev pub closed : ℕ → ℕ → List ℕ → Given Sent (List ℕ)
 closed zero max l =
     pick (leb (sizeOf (SetMaxVersionOp max)) (length l))
-    (fills (counts 1 (sizeOf (SetMaxVersionOp max))) (put 0 (opBytes (SetMaxVersionOp max)) l))
-    (fills (counts 0 0) l)
-closed (suc n) max l = fills (counts 0 0) l
+    (given (counts 1 (sizeOf (SetMaxVersionOp max))) (put 0 (opBytes (SetMaxVersionOp max)) l))
+    (given (counts 0 0) l)
+closed (suc n) max l = given (counts 0 0) l

@@ -5,6 +5,7 @@ ghost use mathlib.Core.Path.{_≡_};
 ghost use Prim.Native.Nat.{ℕ, _≤_, _<_};
 ghost use lib.ListN.{length};
 ghost use Rattle.fields.specs.Choice.{_∈_};
+ghost use Rattle.rules.specs.Given.{Gives};
 ghost use Rattle.rules.specs.Delta.{KeyValueOp};
 ghost use Rattle.rules.specs.Layout.{decode};
 ghost use Rattle.table.specs.Fits.{LaidTable};
@@ -47,8 +48,7 @@ fn send_record(s: &[u8], p: usize, q: usize, d: &mut [u8]) -> Wrote
 // SetMaxVersion, where the node at `p` has no stale records. It is dropped where it does not fit.
 fn send_max(s: &[u8], p: usize, stale: usize, d: &mut [u8]) -> Sent
     requires { ⌜ LaidTable (now s) × (p < nodesOf (now s)) ⌝ }
-    ensures { λ r. ⌜ (r ≡ closed stale (entryAt (decode (now (s .entry))) p .node .max) (now (d .entry)) .answer)
-        × (now (d .exit) ≡ closed stale (entryAt (decode (now (s .entry))) p .node .max) (now (d .entry)) .list) ⌝ }
+    ensures { λ r. ⌜ Gives (closed stale (entryAt (decode (now (s .entry))) p .node .max) (now (d .entry))) r (now (d .exit)) ⌝ }
 {
     if stale != 0 {
         return Sent { ops: 0, bytes: 0 };
@@ -64,8 +64,8 @@ fn send_max(s: &[u8], p: usize, stale: usize, d: &mut [u8]) -> Sent
 pub fn send(s: &[u8], froms: &[u64], line: &[usize], n: usize, d: &mut [u8]) -> Sent
     requires { ⌜ LaidTable (now s) × (length (now froms) ≡ 8) × (length (now line) ≡ 8) × (n ≤ 8)
         × ((p : ℕ) → p ∈ listed n (now line) → p < nodesOf (now s)) ⌝ }
-    ensures { λ r. ⌜ (r ≡ sending 0 0 (opsAt (decode (now (s .entry))) (now (froms .entry)) (listed n (now (line .entry)))) (now (d .entry)) .answer)
-        × (now (d .exit) ≡ sending 0 0 (opsAt (decode (now (s .entry))) (now (froms .entry)) (listed n (now (line .entry)))) (now (d .entry)) .list) ⌝ }
+    ensures { λ r. ⌜ Gives (sending 0 0 (opsAt (decode (now (s .entry))) (now (froms .entry)) (listed n (now (line .entry)))) (now (d .entry)))
+        r (now (d .exit)) ⌝ }
 {
     let mut ops = 0;
     let mut used = 0;

@@ -1,5 +1,6 @@
 // Reading a delta: one operation at a place of the lent bytes, and a whole delta with its verdict. An operation holds its numbers, and where
 // its key and value stand in the caller's bytes; nothing is copied. What is read is what the definitions of `rules` say (specs/Places.antt).
+use rules::sizes;
 ghost use mathlib.Core.Path.{_≡_};
 ghost use Prim.Native.Nat.{_+_, _≤_, _<_};
 ghost use lib.ListN.{length};
@@ -48,11 +49,6 @@ pub enum Followed {
     Under(u64),
     Fault(Refusal),
 }
-
-// The longest delta, and the most nodes in it.
-pub const LONGEST: usize = 16384;
-
-const NODES: usize = 8;
 
 // ---- one operation
 
@@ -192,7 +188,7 @@ pub fn read_op(s: &[u8], at: usize) -> OpRead
 // ---- a whole delta
 
 // Whether the number is one of the first `nodes`, looked through from the newest back.
-fn is_seen(seen: &[u64; 8], nodes: usize, number: u64) -> bool
+fn is_seen(seen: &[u64; sizes::NODES], nodes: usize, number: u64) -> bool
     requires { ⌜ nodes ≤ 8 ⌝ }
     ensures { λ r. ⌜ r ≡ among number (seenOf nodes (now (seen .entry))) ⌝ }
 {
@@ -207,14 +203,14 @@ fn is_seen(seen: &[u64; 8], nodes: usize, number: u64) -> bool
 }
 
 // A Node: not repeated, and not the ninth.
-fn follow_node(seen: &[u64; 8], nodes: usize, number: u64) -> Followed
+fn follow_node(seen: &[u64; sizes::NODES], nodes: usize, number: u64) -> Followed
     requires { ⌜ nodes ≤ 8 ⌝ }
     ensures { λ r. ⌜ r ≡ nodeFollows nodes (now (seen .entry)) number ⌝ }
 {
     if is_seen(seen, nodes, number) {
         return Followed::Fault(Refusal::NodeTwice);
     }
-    if nodes < NODES {
+    if nodes < sizes::NODES {
         return Followed::Entered(number);
     }
     Followed::Fault(Refusal::TooMany)
@@ -247,7 +243,7 @@ fn follow_max(nodes: usize, running: u64, max: u64) -> Followed
 }
 
 // Whether the operation may follow, where `nodes` nodes are seen and the running max is `running`.
-pub fn follow(seen: &[u64; 8], nodes: usize, running: u64, op: Op) -> Followed
+pub fn follow(seen: &[u64; sizes::NODES], nodes: usize, running: u64, op: Op) -> Followed
     requires { ⌜ nodes ≤ 8 ⌝ }
     ensures { λ r. ⌜ r ≡ followAt nodes (now (seen .entry)) running op ⌝ }
 {
@@ -273,13 +269,13 @@ pub fn follow(seen: &[u64; 8], nodes: usize, running: u64, op: Op) -> Followed
 pub fn read_delta(s: &[u8]) -> DeltaRead
     ensures { λ r. ⌜ r ≡ deltaRead (now (s .entry)) ⌝ }
 {
-    if LONGEST < s.len() {
+    if sizes::LONGEST_DELTA < s.len() {
         return DeltaRead::Refused {
             why: Refusal::TooMany,
             at: 0,
         };
     }
-    let mut seen = [0u64; 8];
+    let mut seen = [0u64; sizes::NODES];
     let mut nodes: usize = 0;
     let mut running: u64 = 0;
     let mut ops: usize = 0;

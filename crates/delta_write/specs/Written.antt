@@ -7,18 +7,18 @@ use lib.ListN.{length}
 use lib.Dec.{leb}
 use Rattle.fields.specs.Choice.{pick}
 use Rattle.fields.specs.Parts.{put}
-use Rattle.rules.specs.Local.{Filled, fills}
+use Rattle.rules.specs.Given.{Given, given}
 use Rattle.rules.specs.Delta.{Op, KeyValueOp, opBytes, sizeOf}
 use Rattle.rules.specs.declared.Status.{Status}
 use Rattle.delta_write.specs.declared.Wrote.{Wrote}
 use Rattle.delta_write.specs.declared.Wrote.the-variants.{Bytes, NoFit}
 
-unfoldable pub writeOp : Op → List ℕ → Filled Wrote
-writeOp o l = pick (leb (sizeOf o) (length l)) (fills (Bytes (sizeOf o)) (put 0 (opBytes o) l)) (fills NoFit l)
+unfoldable pub writeOp : Op → List ℕ → Given Wrote (List ℕ)
+writeOp o l = pick (leb (sizeOf o) (length l)) (given (Bytes (sizeOf o)) (put 0 (opBytes o) l)) (given NoFit l)
 
 abbrev pub keyValue : List ℕ → List ℕ → ℕ → Status → Op
 keyValue k v n s = KeyValueOp (record { key = k; value = v; version = n; status = s })
 
 -- what the three functions promise of the answer and of the bytes afterwards
 abbrev pub WritesOp : Op → List ℕ → Wrote → List ℕ → Type 0
-WritesOp o l answer after = (answer ≡ writeOp o l .answer) × (after ≡ writeOp o l .list)
+WritesOp o l answer after = (answer ≡ writeOp o l .answer) × (after ≡ writeOp o l .lent)

@@ -5,7 +5,7 @@ ghost use Prim.Native.Nat.{_+_, _≤_};
 ghost use lib.Dec.{leb};
 ghost use lib.ListN.{length};
 ghost use Rattle.fields.specs.Parts.{put};
-ghost use Rattle.rules.specs.Delta.{NodeOp, SetMaxVersionOp, opBytes, statusByte, textBytes};
+ghost use Rattle.rules.specs.Delta.{NodeOp, SetMaxVersionOp, opBytes, textBytes};
 ghost use Rattle.delta_write.specs.Written.{WritesOp, keyValue};
 use rules::Status;
 
@@ -31,17 +31,6 @@ const NUMBER: usize = 8;
 
 // What a record takes beside its key and value.
 const BESIDE: usize = BYTE + LENGTH + LENGTH + NUMBER + BYTE;
-
-// The byte that stands for a status.
-fn status_byte(status: Status) -> usize
-    ensures { λ r. ⌜ r ≡ statusByte status ⌝ }
-{
-    match status {
-        Status::Set => 0,
-        Status::Delete => 1,
-        Status::Ttl => 2,
-    }
-}
 
 // Whether a record with a key and a value of these lengths fits into so many bytes. No sum of lengths is made that could wrap.
 fn record_fits(room: usize, keylen: usize, valuelen: usize) -> bool
@@ -92,7 +81,7 @@ fn store_key_value(d: &mut [u8], key: &[u8], value: &[u8], version: u64, status:
     write_text(d, BYTE, key);
     write_text(d, behind_key, value);
     fields::write_u64(d, behind_value, version);
-    fields::write_byte(d, behind_value + NUMBER, status_byte(status));
+    fields::write_byte(d, behind_value + NUMBER, status.byte());
 }
 
 // A KeyValue operation.

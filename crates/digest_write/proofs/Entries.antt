@@ -17,12 +17,12 @@ use Rattle.fields.proofs.Blocks.{length-flat}
 use Rattle.fields.proofs.Numbers.{length-bytesOf}
 use Rattle.fields.proofs.Parts.{length-part, length-put, put-behind, put-field, put-nil}
 use Rattle.rules.specs.Digest.{NodeDigest, digestOf, digestOfNode, entryBytes, entryWidth}
-use Rattle.rules.specs.Layout.{decode, decodeNode, nodeWidth, tableWidth}
+use Rattle.rules.specs.Layout.{nodePlace, decode, decodeNode, nodeWidth, tableWidth}
 use Rattle.rules.specs.Sizes.{maxNodes}
 use Rattle.rules.specs.Table.{among}
 use Rattle.rules.proofs.Digests.{entry-long}
 use Rattle.table.specs.Tests.{nodesOf}
-use Rattle.table.proofs.Places.{decode-drop, nodeAt, nodeBytes, nodePlace}
+use Rattle.table.proofs.Places.{decode-drop, nodeAt, nodeBytes}
 use Rattle.table.proofs.Tables.{length-decode}
 
 -- ---- a number among others, of which i are passed

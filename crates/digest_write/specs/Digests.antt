@@ -11,7 +11,7 @@ use Rattle.rules.specs.declared.Written.{Written}
 -- the answer, and the datagram's bytes afterwards
 abbrev pub WritesDigest : List ℕ → ℕ → List ℕ → List ℕ → Written → List ℕ → Type 0
 WritesDigest excluded place datagram table answer after =
-    (answer ≡ lentDigest excluded place datagram table .answer) × (after ≡ lentDigest excluded place datagram table .list)
+    (answer ≡ lentDigest excluded place datagram table .answer) × (after ≡ lentDigest excluded place datagram table .lent)
 
 -- room for n bytes and the entries of the nodes that are not excluded
 abbrev pub Room : ℕ → List ℕ → List ℕ → List ℕ → Type 0

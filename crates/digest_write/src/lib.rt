@@ -58,7 +58,7 @@ fn count_written(table: &[u8], excluded: &[u64]) -> usize
     requires { ⌜ LaidTable (now table) ⌝ }
     ensures { λ r. ⌜ (r ≡ length (digestOf (now (excluded .entry)) (decode (now (table .entry))))) × (r ≤ maxNodes) ⌝ }
 {
-    let nodes = fields::byte_at(table, 0);
+    let nodes = fields::byte_at(table, layout::NODE_COUNT);
     let mut count = 0;
     let mut i = 0;
     while i < nodes {
@@ -89,7 +89,7 @@ fn write_entries(table: &[u8], excluded: &[u64], d: &mut [u8])
     requires { ⌜ LaidTable (now table) × Room 0 (now excluded) (now table) (now d) ⌝ }
     ensures { λ _. ⌜ now (d .exit) ≡ put 0 (flat entryBytes (digestOf (now (excluded .entry)) (decode (now (table .entry))))) (now (d .entry)) ⌝ }
 {
-    let nodes = fields::byte_at(table, 0);
+    let nodes = fields::byte_at(table, layout::NODE_COUNT);
     let mut at = 0;
     let mut i = 0;
     while i < nodes {

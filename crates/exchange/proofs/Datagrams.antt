@@ -10,8 +10,8 @@ use borrow.Author.Tests.{leb-true}
 use Rattle.fields.specs.Choice.{pick}
 use Rattle.fields.specs.Parts.{put}
 use Rattle.fields.proofs.Parts.{length-put}
+use Rattle.rules.specs.Given.{Given, given}
 use Rattle.rules.specs.Table.{Table}
-use Rattle.rules.specs.Local.{Filled, fills}
 use Rattle.rules.specs.Digest.{digestBytes, digestOf, writeBytes, writeDigest}
 use Rattle.rules.specs.Delta.{deltaBytes}
 use Rattle.rules.specs.Compute.{allOps, compute, cut, deltaFor, ordered, staleNodes}
@@ -39,13 +39,13 @@ from-table P bad rule l b r = go (valid l)
     go false = b
 
 -- bytes at the front of a datagram
-bytes-within : (b d : List ℕ) (n : ℕ) → writeBytes b 0 d .answer ≡ written.Bytes n → n ≤ length (writeBytes b 0 d .list)
+bytes-within : (b d : List ℕ) (n : ℕ) → writeBytes b 0 d .answer ≡ written.Bytes n → n ≤ length (writeBytes b 0 d .lent)
 bytes-within b d n = go (leb 0 (length d)) (leb (length b) (length d - 0)) refl
   where
-    Out : Bool → Filled Written
-    Out c = pick c (fills (written.Bytes (length b)) (put 0 b d)) (fills (written.Refused NoPlace) d)
+    Out : Bool → Given Written (List ℕ)
+    Out c = pick c (given (written.Bytes (length b)) (put 0 b d)) (given (written.Refused NoPlace) d)
 
-    go : (p q : Bool) → leb (length b) (length d - 0) ≡ q → Out (p && q) .answer ≡ written.Bytes n → n ≤ length (Out (p && q) .list)
+    go : (p q : Bool) → leb (length b) (length d - 0) ≡ q → Out (p && q) .answer ≡ written.Bytes n → n ≤ length (Out (p && q) .lent)
     go true true h e =
         let k : length b ≡ n = cc in
         let m = leb-true (length b) (length d - 0) h in
@@ -54,21 +54,21 @@ bytes-within b d n = go (leb 0 (length d)) (leb (length b) (length d - 0)) refl
     go true false h e = let z : _≡_ {A = ℕ} 0 1 = cc in absurd (omega arith)
     go false q h e = let z : _≡_ {A = ℕ} 0 1 = cc in absurd (omega arith)
 
-pub digest-within : (excluded d l : List ℕ) (n : ℕ) → lentDigest excluded 0 d l .answer ≡ written.Bytes n → n ≤ length (lentDigest excluded 0 d l .list)
+pub digest-within : (excluded d l : List ℕ) (n : ℕ) → lentDigest excluded 0 d l .answer ≡ written.Bytes n → n ≤ length (lentDigest excluded 0 d l .lent)
 unfolding writeDigest
 digest-within excluded d l n =
-    from-table (λ (o : Filled Written). o .answer ≡ written.Bytes n → n ≤ length (o .list)) (fills (written.Refused BadTable) d) (λ t. writeDigest excluded 0 t d) l (λ e. let z : _≡_ {A = ℕ} 0 1 = cc in absurd (omega arith))
+    from-table (λ (o : Given Written (List ℕ)). o .answer ≡ written.Bytes n → n ≤ length (o .lent)) (given (written.Refused BadTable) d) (λ t. writeDigest excluded 0 t d) l (λ e. let z : _≡_ {A = ℕ} 0 1 = cc in absurd (omega arith))
     (bytes-within (digestBytes (digestOf excluded (decode l))) d n)
 
-pub delta-within : (excluded ties : List ℕ) (mtu : ℕ) (digest d l : List ℕ) (ops bytes : ℕ) → lentCompute excluded ties mtu 0 digest d l .answer ≡ computed.Delta ops bytes → bytes ≤ length (lentCompute excluded ties mtu 0 digest d l .list)
+pub delta-within : (excluded ties : List ℕ) (mtu : ℕ) (digest d l : List ℕ) (ops bytes : ℕ) → lentCompute excluded ties mtu 0 digest d l .answer ≡ computed.Delta ops bytes → bytes ≤ length (lentCompute excluded ties mtu 0 digest d l .lent)
 unfolding deltaFor
 delta-within excluded ties mtu digest d l ops bytes =
-    from-table Out (fills (computed.Refused BadTable) d) (λ t. compute excluded ties mtu 0 digest t d) l (λ e. let z : _≡_ {A = ℕ} 0 1 = cc in absurd (omega arith)) (go _ (comes excluded ties mtu 0 digest (decode l) d))
+    from-table Out (given (computed.Refused BadTable) d) (λ t. compute excluded ties mtu 0 digest t d) l (λ e. let z : _≡_ {A = ℕ} 0 1 = cc in absurd (omega arith)) (go _ (comes excluded ties mtu 0 digest (decode l) d))
   where
-    Out : Filled Computed → Type 0
-    Out o = o .answer ≡ computed.Delta ops bytes → bytes ≤ length (o .list)
+    Out : Given Computed (List ℕ) → Type 0
+    Out o = o .answer ≡ computed.Delta ops bytes → bytes ≤ length (o .lent)
 
-    go : (o : Filled Computed) → Comes excluded ties mtu 0 digest (decode l) d o → Out o
+    go : (o : Given Computed (List ℕ)) → Comes excluded ties mtu 0 digest (decode l) d o → Out o
     go o (refuses r) e = let z : _≡_ {A = ℕ} 0 1 = cc in absurd (omega arith)
     go o (writes ds rest q h g) e =
         let b = deltaBytes (cut mtu (allOps (ordered (staleNodes excluded ds ties (decode l))))) in
@@ -79,10 +79,10 @@ delta-within excluded ties mtu digest d l ops bytes =
 
 -- ---- a refused call leaves its datagram
 
-pub digest-leaves : (excluded d l : List ℕ) (r : Refusal) → lentDigest excluded 0 d l .answer ≡ written.Refused r → lentDigest excluded 0 d l .list ≡ d
+pub digest-leaves : (excluded d l : List ℕ) (r : Refusal) → lentDigest excluded 0 d l .answer ≡ written.Refused r → lentDigest excluded 0 d l .lent ≡ d
 digest-leaves excluded d l r =
-    from-table (λ (o : Filled Written). o .answer ≡ written.Refused r → o .list ≡ d) (fills (written.Refused BadTable) d) (λ t. writeDigest excluded 0 t d) l (λ e. refl) (digest-refused excluded 0 (decode l) d r)
+    from-table (λ (o : Given Written (List ℕ)). o .answer ≡ written.Refused r → o .lent ≡ d) (given (written.Refused BadTable) d) (λ t. writeDigest excluded 0 t d) l (λ e. refl) (digest-refused excluded 0 (decode l) d r)
 
-pub delta-leaves : (excluded ties : List ℕ) (mtu : ℕ) (digest d l : List ℕ) (r : Refusal) → lentCompute excluded ties mtu 0 digest d l .answer ≡ computed.Refused r → lentCompute excluded ties mtu 0 digest d l .list ≡ d
+pub delta-leaves : (excluded ties : List ℕ) (mtu : ℕ) (digest d l : List ℕ) (r : Refusal) → lentCompute excluded ties mtu 0 digest d l .answer ≡ computed.Refused r → lentCompute excluded ties mtu 0 digest d l .lent ≡ d
 delta-leaves excluded ties mtu digest d l r =
-    from-table (λ (o : Filled Computed). o .answer ≡ computed.Refused r → o .list ≡ d) (fills (computed.Refused BadTable) d) (λ t. compute excluded ties mtu 0 digest t d) l (λ e. refl) (compute-refused excluded ties mtu 0 digest (decode l) d r)
+    from-table (λ (o : Given Computed (List ℕ)). o .answer ≡ computed.Refused r → o .lent ≡ d) (given (computed.Refused BadTable) d) (λ t. compute excluded ties mtu 0 digest t d) l (λ e. refl) (compute-refused excluded ties mtu 0 digest (decode l) d r)

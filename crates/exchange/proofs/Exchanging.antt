@@ -5,7 +5,7 @@ use mathlib.Core.List.{List}
 use native.Mathlib.Omega.{arith}
 use lib.ListN.{length, take}
 use Rattle.fields.specs.Parts.{part}
-use Rattle.rules.specs.Local.{Filled}
+use Rattle.rules.specs.Given.{Given}
 use Rattle.rules.specs.Lent.{lentApply, lentCompute, lentDigest}
 use Rattle.rules.specs.declared.Refusal.{Refusal}
 use Rattle.rules.specs.declared.Written.{Written}
@@ -24,53 +24,53 @@ use Rattle.exchange.proofs.Datagrams.{delta-leaves, delta-within, diges
 -- ---- the second step and the third
 
 module _ (unsent ties : List ℕ) (mtu clock : ℕ) (told delta answers publisher follower : List ℕ) where
-  abbrev made : Filled Computed
+  abbrev made : Given Computed (List ℕ)
   made = lentCompute unsent ties mtu 0 told delta publisher
 
   abbrev outcome : LentExchange
   outcome = lentAnswer unsent ties mtu clock told delta answers publisher follower
 
-  pub made-within : (ops bytes : ℕ) (d : List ℕ) → made .answer ≡ computed.Delta ops bytes → d ≡ made .list → bytes ≤ length d
+  pub made-within : (ops bytes : ℕ) (d : List ℕ) → made .answer ≡ computed.Delta ops bytes → d ≡ made .lent → bytes ≤ length d
   made-within ops bytes d e q = let h = delta-within unsent ties mtu told delta publisher ops bytes e in let k = ap length q in omega arith
 
-  pub no-delta : (r : Refusal) (d : List ℕ) → made .answer ≡ computed.Refused r → d ≡ made .list → ComesTo outcome (exchanged.NoDelta r) follower d answers
+  pub no-delta : (r : Refusal) (d : List ℕ) → made .answer ≡ computed.Refused r → d ≡ made .lent → ComesTo outcome (exchanged.NoDelta r) follower d answers
   unfolding lentAnswer
   no-delta r d e q = rw e (record { answer-is = refl; follower-is = refl; delta-is = q; answers-are = refl })
 
   pub delta-taken : (ops bytes : ℕ) (d : List ℕ)
       → made .answer ≡ computed.Delta ops bytes
-      → d ≡ made .list
+      → d ≡ made .lent
       → (a : Applied) (f m : List ℕ)
       → a ≡ lentApply (take bytes d) clock answers follower .answer
-      → f ≡ lentApply (take bytes d) clock answers follower .bytes
-      → m ≡ lentApply (take bytes d) clock answers follower .list
+      → f ≡ lentApply (take bytes d) clock answers follower .lent .table
+      → m ≡ lentApply (take bytes d) clock answers follower .lent .list
       → ComesTo outcome (takenAs ops bytes a) f d m
   unfolding lentAnswer part
   delta-taken ops bytes d e q a f m x y z =
       rw e
       (record {
         answer-is = ap (takenAs ops bytes) x ∙ ap (λ (k : List ℕ). takenAs ops bytes (lentApply (take bytes k) clock answers follower .answer)) q;
-        follower-is = y ∙ ap (λ (k : List ℕ). lentApply (take bytes k) clock answers follower .bytes) q;
+        follower-is = y ∙ ap (λ (k : List ℕ). lentApply (take bytes k) clock answers follower .lent .table) q;
         delta-is = q;
-        answers-are = z ∙ ap (λ (k : List ℕ). lentApply (take bytes k) clock answers follower .list) q;
+        answers-are = z ∙ ap (λ (k : List ℕ). lentApply (take bytes k) clock answers follower .lent .list) q;
       })
 
 -- ---- the whole
 
 module _ (g : Lending) (publisher follower : List ℕ) where
-  abbrev told : Filled Written
+  abbrev told : Given Written (List ℕ)
   told = lentDigest (g .unasked) 0 (g .digest) follower
 
-  pub told-within : (n : ℕ) (d : List ℕ) → told .answer ≡ written.Bytes n → d ≡ told .list → n ≤ length d
+  pub told-within : (n : ℕ) (d : List ℕ) → told .answer ≡ written.Bytes n → d ≡ told .lent → n ≤ length d
   told-within n d e q = let h = digest-within (g .unasked) (g .digest) follower n e in let k = ap length q in omega arith
 
-  pub no-digest : (r : Refusal) (d : List ℕ) → told .answer ≡ written.Refused r → d ≡ told .list → Exchanges g publisher follower (exchanged.NoDigest r) follower d (g .delta) (g .answers)
+  pub no-digest : (r : Refusal) (d : List ℕ) → told .answer ≡ written.Refused r → d ≡ told .lent → Exchanges g publisher follower (exchanged.NoDigest r) follower d (g .delta) (g .answers)
   unfolding lentExchange
   no-digest r d e q = record { comes-to = rw e (record { answer-is = refl; follower-is = refl; delta-is = refl; answers-are = refl }); digest-is = q }
 
   pub answered : (n : ℕ) (d : List ℕ)
       → told .answer ≡ written.Bytes n
-      → d ≡ told .list
+      → d ≡ told .lent
       → (r : Exchanged) (f e m : List ℕ)
       → ComesTo (lentAnswer (g .unsent) (g .ties) (g .mtu) (g .clock) (take n d) (g .delta) (g .answers) publisher follower) r f e m
       → Exchanges g publisher follower r f d e m
@@ -91,14 +91,14 @@ module _ (g : Lending) (publisher follower : List ℕ) where
       taken ops bytes d (applied.Nodes n) e = tt
       taken ops bytes d (applied.Refused r at) e = lent-apply-refused (part 0 bytes d) (g .clock) (g .answers) follower r at e
 
-      made-as : (n : ℕ) → let o = lentCompute (g .unsent) (g .ties) (g .mtu) 0 (part 0 n (told .list)) (g .delta) publisher in (a : Computed) → o .answer ≡ a → let x = afterComputing (g .clock) (g .answers) follower (o .list) a in Leaves g follower x (x .answer)
+      made-as : (n : ℕ) → let o = lentCompute (g .unsent) (g .ties) (g .mtu) 0 (part 0 n (told .lent)) (g .delta) publisher in (a : Computed) → o .answer ≡ a → let x = afterComputing (g .clock) (g .answers) follower (o .lent) a in Leaves g follower x (x .answer)
       made-as n (computed.Delta ops bytes) e =
-          let d = lentCompute (g .unsent) (g .ties) (g .mtu) 0 (part 0 n (told .list)) (g .delta) publisher .list in
+          let d = lentCompute (g .unsent) (g .ties) (g .mtu) 0 (part 0 n (told .lent)) (g .delta) publisher .lent in
           taken ops bytes d (lentApply (part 0 bytes d) (g .clock) (g .answers) follower .answer) refl
-      made-as n (computed.Refused r) e = (refl, refl, delta-leaves (g .unsent) (g .ties) (g .mtu) (part 0 n (told .list)) (g .delta) publisher r e)
+      made-as n (computed.Refused r) e = (refl, refl, delta-leaves (g .unsent) (g .ties) (g .mtu) (part 0 n (told .lent)) (g .delta) publisher r e)
 
-      asked : (a : Written) → told .answer ≡ a → let x = afterDigesting g publisher follower (told .list) a in Leaves g follower x (x .answer)
-      asked (written.Bytes n) e = made-as n (lentCompute (g .unsent) (g .ties) (g .mtu) 0 (part 0 n (told .list)) (g .delta) publisher .answer) refl
+      asked : (a : Written) → told .answer ≡ a → let x = afterDigesting g publisher follower (told .lent) a in Leaves g follower x (x .answer)
+      asked (written.Bytes n) e = made-as n (lentCompute (g .unsent) (g .ties) (g .mtu) 0 (part 0 n (told .lent)) (g .delta) publisher .answer) refl
       asked (written.Refused r) e = (refl, refl, refl, digest-leaves (g .unasked) (g .digest) follower r e)
 
 -- ---- no second outcome

@@ -7,13 +7,12 @@ use mathlib.Core.List.{List, [], _++_, _∷_}
 use mathlib.Core.Option.{some}
 use mathlib.Core.Path.{_∙_, _≡_, ap, refl, subst, subst₂, sym}
 use lib.ListN.{length}
+use Rattle.rules.specs.Given.{Given, given}
 use Rattle.rules.specs.Node.{KeyValue, Node}
 use Rattle.rules.specs.Table.{Table, nodeOf, numbersOf, obeys}
-use Rattle.rules.specs.Local.{Filled, fills}
 use Rattle.rules.specs.Digest.{writeDigest}
 use Rattle.rules.specs.Compute.{compute}
 use Rattle.rules.specs.Layout.{decode, encode}
-use Rattle.rules.specs.Lent.{LentApply}
 use Rattle.rules.specs.World.{Applying, Beating, Computing, DeltaSent, DigestSent, Digesting, Event, Exchange, Idle, Offering, Removing, World, Writing, after, freshTable, happen, possible, start}
 use Rattle.rules.specs.Demand3.{AllRise, Holds, Quiet, SameMax, Sound, Wide, allGranted, exchanges, granted, holdings, isApplied, isComputed, noRoom, wroteDelta, wroteDigest}
 use Rattle.rules.specs.declared.Status.the-variants.{Set}
@@ -40,22 +39,22 @@ module _ (w : World) (p : obeys (w .publisher) ≡ true) (f : obeys (w .follower
   granted-lent (Offering s i h) = refl
   granted-lent (Removing s now grace) = refl
   granted-lent (Digesting excluded place d) =
-      ap (λ (o : Filled Written). wroteDigest (o .answer))
-      (from-encoded (w .follower) f (fills (written.Refused BadTable) d) (λ t. writeDigest excluded place t d))
+      ap (λ (o : Given Written (List ℕ)). wroteDigest (o .answer))
+      (from-encoded (w .follower) f (given (written.Refused BadTable) d) (λ t. writeDigest excluded place t d))
   granted-lent (Computing excluded ties mtu place d) = go (w .exchange)
     where
       go : (x : Exchange) → lentIsComputed excluded ties mtu place d (encode (w .publisher)) x ≡ isComputed excluded ties mtu place d (w .publisher) x
       go Idle = refl
       go (DigestSent b) =
-          ap (λ (o : Filled Computed). wroteDelta (o .answer))
-          (from-encoded (w .publisher) p (fills (computed.Refused BadTable) d) (λ t. compute excluded ties mtu place b t d))
+          ap (λ (o : Given Computed (List ℕ)). wroteDelta (o .answer))
+          (from-encoded (w .publisher) p (given (computed.Refused BadTable) d) (λ t. compute excluded ties mtu place b t d))
       go (DeltaSent b) = refl
   granted-lent (Applying now answers) = ap (λ (b : Bool). possible (Applying now answers) && b) (go (w .exchange))
     where
       go : (x : Exchange) → lentIsApplied now answers (encode (w .follower)) x ≡ isApplied now answers (w .follower) x
       go Idle = refl
       go (DigestSent b) = refl
-      go (DeltaSent b) = ap (λ (o : LentApply). noRoom (o .answer) (o .list)) (apply-encoded (w .follower) f b now answers)
+      go (DeltaSent b) = ap (λ (o : Given Applied TableAndList). noRoom (o .answer) (o .lent .list)) (apply-encoded (w .follower) f b now answers)
 
 all-granted-lent : (is : List ℕ) (es : List Event) (w : World) → InOrder is w → allLentGranted es (lent w) ≡ allGranted es w
 unfolding allLentGranted allGranted

@@ -6,13 +6,14 @@ use mathlib.Core.Bool.{Bool, false, true}
 use mathlib.Core.List.{List, [], _∷_}
 use lib.Dec.{eqb}
 use Rattle.fields.specs.Choice.{pick}
+use Rattle.rules.specs.Given.{Given, given}
 use Rattle.rules.specs.Table.{Table, nodeOf, obeys}
-use Rattle.rules.specs.Local.{Filled, Outcome, call, fills, gc, localBeat, offer}
+use Rattle.rules.specs.Local.{Outcome, call, gc, localBeat, offer}
 use Rattle.rules.specs.Digest.{writeDigest}
 use Rattle.rules.specs.Compute.{compute}
 use Rattle.rules.specs.Apply.{apply}
 use Rattle.rules.specs.Layout.{decode, encode}
-use Rattle.rules.specs.Lent.{LentOutcome, LentApply, fromTable, lentApply, onTable, stored, storedApply}
+use Rattle.rules.specs.Lent.{fromTable, lentApply, onTable, stored, storedApply}
 use Rattle.rules.specs.World.{Applying, Beating, Computing, DeltaSent, DigestSent, Digesting, Event, Exchange, Followers, Idle, Offering, Publishers, Removing, Side, World, Writing, after, afterDelta, afterDigest, calls, computedFor, appliedTo, freshTable, givenIn, happen, onSide, possible, start}
 use Rattle.rules.specs.declared.Answer.{Answer}
 use Rattle.rules.specs.declared.Answer.the-variants as plain
@@ -33,7 +34,7 @@ module _ (t : Table) (o : obeys t ≡ true) where
   pub on-encoded : {A : Type 0} (bad : A) (rule : Table → Outcome A) → onTable bad rule (encode t) ≡ stored (rule t)
   unfolding onTable
   on-encoded {A} bad rule =
-      ap (λ (b : Bool). pick b (stored (rule (decode (encode t)))) (record { answer = bad; bytes = encode t })) (valid-encode t o)
+      ap (λ (b : Bool). pick b (stored (rule (decode (encode t)))) (given bad (encode t))) (valid-encode t o)
       ∙ ap (λ (u : Table). stored (rule u)) (decode-encode t o)
 
   pub from-encoded : {A : Type 0} (bad : A) (rule : Table → A) → fromTable bad rule (encode t) ≡ rule t
@@ -51,13 +52,13 @@ lent w = record { publisher = encode (w .publisher); follower = encode (w .follo
 
 module _ (w : World) (p : obeys (w .publisher) ≡ true) (f : obeys (w .follower) ≡ true) where
   -- a call that changes the table of one side
-  on-side : {A : Type 0} (s : Side) (bad : A) (rule : Table → Outcome A) → onLent s (λ l. onTable bad rule l .bytes) (lent w) ≡ lent (onSide s (λ t. rule t .table) w)
-  on-side {A} Publishers bad rule = ap (λ (o : LentOutcome A). onLent Publishers (λ l. o .bytes) (lent w)) (on-encoded (w .publisher) p bad rule)
-  on-side {A} Followers bad rule = ap (λ (o : LentOutcome A). onLent Followers (λ l. o .bytes) (lent w)) (on-encoded (w .follower) f bad rule)
+  on-side : {A : Type 0} (s : Side) (bad : A) (rule : Table → Outcome A) → onLent s (λ l. onTable bad rule l .lent) (lent w) ≡ lent (onSide s (λ t. rule t .table) w)
+  on-side {A} Publishers bad rule = ap (λ (o : Given A (List ℕ)). onLent Publishers (λ l. o .lent) (lent w)) (on-encoded (w .publisher) p bad rule)
+  on-side {A} Followers bad rule = ap (λ (o : Given A (List ℕ)). onLent Followers (λ l. o .lent) (lent w)) (on-encoded (w .follower) f bad rule)
 
   calls-lent : (e : Event) → lentCalls e (lent w) ≡ lent (calls e w)
   calls-lent (Writing i k c) =
-      let b = ap (λ (o : LentOutcome Answer). o .bytes) (on-encoded (w .publisher) p (plain.Refused BadTable) (call c i k)) in
+      let b = ap (λ (o : Given Answer (List ℕ)). o .lent) (on-encoded (w .publisher) p (plain.Refused BadTable) (call c i k)) in
       let d = decode-encode (w .publisher) p in
       λ z. record {
         publisher = b z;
@@ -69,22 +70,22 @@ module _ (w : World) (p : obeys (w .publisher) ≡ true) (f : obeys (w .follower
   calls-lent (Offering s i h) = on-side s (offered.Refused BadTable) (offer i h)
   calls-lent (Removing s now grace) = on-side s (plain.Refused BadTable) (gc now grace)
   calls-lent (Digesting excluded place d) =
-      ap (λ (o : Filled Written). onWay (afterDigest place (o .list) (o .answer) (w .exchange)) (lent w))
-      (from-encoded (w .follower) f (fills (written.Refused BadTable) d) (λ t. writeDigest excluded place t d))
+      ap (λ (o : Given Written (List ℕ)). onWay (afterDigest place (o .lent) (o .answer) (w .exchange)) (lent w))
+      (from-encoded (w .follower) f (given (written.Refused BadTable) d) (λ t. writeDigest excluded place t d))
   calls-lent (Computing excluded ties mtu place d) = ap (λ (x : Exchange). onWay x (lent w)) (go (w .exchange))
     where
       go : (x : Exchange) → lentComputed excluded ties mtu place d (encode (w .publisher)) x ≡ computedFor excluded ties mtu place d (w .publisher) x
       go Idle = refl
       go (DigestSent b) =
-          ap (λ (o : Filled Computed). afterDelta place (o .list) (o .answer) (DigestSent b))
-          (from-encoded (w .publisher) p (fills (computed.Refused BadTable) d) (λ t. compute excluded ties mtu place b t d))
+          ap (λ (o : Given Computed (List ℕ)). afterDelta place (o .lent) (o .answer) (DigestSent b))
+          (from-encoded (w .publisher) p (given (computed.Refused BadTable) d) (λ t. compute excluded ties mtu place b t d))
       go (DeltaSent b) = refl
   calls-lent (Applying now answers) = ap (λ (l : List ℕ). onLent Followers (λ m. l) (lent w)) (go (w .exchange))
     where
       go : (x : Exchange) → lentApplied now answers x (encode (w .follower)) ≡ encode (appliedTo now answers x (w .follower))
       go Idle = refl
       go (DigestSent b) = refl
-      go (DeltaSent b) = ap (λ (o : LentApply). o .bytes) (apply-encoded (w .follower) f b now answers)
+      go (DeltaSent b) = ap (λ (o : Given Applied TableAndList). o .lent .table) (apply-encoded (w .follower) f b now answers)
 
   pub happen-lent : (e : Event) → lentHappen e (lent w) ≡ lent (happen e w)
   unfolding lentHappen happen

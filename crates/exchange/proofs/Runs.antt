@@ -7,8 +7,8 @@ use lib.Dec.{ltb}
 use borrow.Author.Tests.{lt-ltb}
 use Rattle.fields.specs.Choice.{pick}
 use Rattle.fields.specs.Parts.{part}
+use Rattle.rules.specs.Given.{Given}
 use Rattle.rules.specs.Sizes.{numbers}
-use Rattle.rules.specs.Local.{Filled}
 use Rattle.rules.specs.Lent.{lentApply, lentCompute, lentDigest}
 use Rattle.rules.specs.World.{Applying, Computing, DeltaSent, DigestSent, Digesting, Event, afterDelta, afterDigest}
 use Rattle.rules.specs.Demand3.{noRoom, wroteDelta, wroteDigest}
@@ -28,10 +28,10 @@ and-true true = refl
 and-true false = refl
 
 module _ (g : Lending) (w : LentWorld) (clock : g .clock < numbers) where
-  abbrev told : Filled Written
+  abbrev told : Given Written (List ℕ)
   told = lentDigest (g .unasked) 0 (g .digest) (w .follower)
 
-  abbrev made : List ℕ → Filled Computed
+  abbrev made : List ℕ → Given Computed (List ℕ)
   made b = lentCompute (g .unsent) (g .ties) (g .mtu) 0 b (g .delta) (w .publisher)
 
   abbrev asking : Event
@@ -45,15 +45,15 @@ module _ (g : Lending) (w : LentWorld) (clock : g .clock < numbers) where
 
   -- ---- the three events
 
-  first : (n : ℕ) → told .answer ≡ written.Bytes n → lentHappen asking w ≡ onWay (DigestSent (part 0 n (told .list))) w
+  first : (n : ℕ) → told .answer ≡ written.Bytes n → lentHappen asking w ≡ onWay (DigestSent (part 0 n (told .lent))) w
   unfolding lentHappen
-  first n e = ap (λ (a : Written). onWay (afterDigest 0 (told .list) a (w .exchange)) w) e
+  first n e = ap (λ (a : Written). onWay (afterDigest 0 (told .lent) a (w .exchange)) w) e
 
-  second : (b : List ℕ) (a : Computed) → made b .answer ≡ a → lentHappen answering (onWay (DigestSent b) w) ≡ onWay (afterDelta 0 (made b .list) a (DigestSent b)) w
+  second : (b : List ℕ) (a : Computed) → made b .answer ≡ a → lentHappen answering (onWay (DigestSent b) w) ≡ onWay (afterDelta 0 (made b .lent) a (DigestSent b)) w
   unfolding lentHappen
-  second b a e = ap (λ (x : Computed). onWay (afterDelta 0 (made b .list) x (DigestSent b)) w) e
+  second b a e = ap (λ (x : Computed). onWay (afterDelta 0 (made b .lent) x (DigestSent b)) w) e
 
-  third : (b : List ℕ) → lentHappen taking-in (onWay (DeltaSent b) w) ≡ exchangedTo (lentApply b (g .clock) (g .answers) (w .follower) .bytes) (DeltaSent b) w
+  third : (b : List ℕ) → lentHappen taking-in (onWay (DeltaSent b) w) ≡ exchangedTo (lentApply b (g .clock) (g .answers) (w .follower) .lent .table) (DeltaSent b) w
   unfolding lentHappen
   third b = ap (λ (c : Bool). pick c (lentCalls taking-in (onWay (DeltaSent b) w)) (onWay (DeltaSent b) w)) (lt-ltb (g .clock) numbers clock)
 
@@ -79,15 +79,15 @@ module _ (g : Lending) (w : LentWorld) (clock : g .clock < numbers) where
   unfolding lentExchange lentAnswer lentAfter
   exchange-run = asked (told .answer) refl
     where
-      answered : (n : ℕ) → told .answer ≡ written.Bytes n → let b = part 0 n (told .list) in (a : Computed) → made b .answer ≡ a → IsRun g w (afterComputing (g .clock) (g .answers) (w .follower) (made b .list) a)
+      answered : (n : ℕ) → told .answer ≡ written.Bytes n → let b = part 0 n (told .lent) in (a : Computed) → made b .answer ≡ a → IsRun g w (afterComputing (g .clock) (g .answers) (w .follower) (made b .lent) a)
       answered n e (computed.Delta ops bytes) q =
-          let b = part 0 n (told .list) in
-          let d = part 0 bytes (made b .list) in
+          let b = part 0 n (told .lent) in
+          let d = part 0 bytes (made b .lent) in
           (DeltaSent d, ap (λ (es : List Event). lentAfter es w) (run-taken ops bytes (lentApply d (g .clock) (g .answers) (w .follower) .answer)) ∙ three b _ _ (first n e) (second b _ q) (third d))
-      answered n e (computed.Refused r) q = let b = part 0 n (told .list) in (DigestSent b, three b _ _ (first n e) (second b _ q) (third-none b))
+      answered n e (computed.Refused r) q = let b = part 0 n (told .lent) in (DigestSent b, three b _ _ (first n e) (second b _ q) (third-none b))
 
-      asked : (a : Written) → told .answer ≡ a → IsRun g w (afterDigesting g (w .publisher) (w .follower) (told .list) a)
-      asked (written.Bytes n) e = answered n e (made (part 0 n (told .list)) .answer) refl
+      asked : (a : Written) → told .answer ≡ a → IsRun g w (afterDigesting g (w .publisher) (w .follower) (told .lent) a)
+      asked (written.Bytes n) e = answered n e (made (part 0 n (told .lent)) .answer) refl
       asked (written.Refused r) e = (w .exchange, refl)
 
   -- ---- nothing refused
@@ -111,19 +111,19 @@ module _ (g : Lending) (w : LentWorld) (clock : g .clock < numbers) where
       taken ops bytes (applied.Nodes n) l = and-true _
       taken ops bytes (applied.Refused r at) l = refl
 
-      answered : (b : List ℕ) (a : Computed) → made b .answer ≡ a → rest (onWay (DigestSent b) w) ≡ isGranted (afterComputing (g .clock) (g .answers) (w .follower) (made b .list) a)
+      answered : (b : List ℕ) (a : Computed) → made b .answer ≡ a → rest (onWay (DigestSent b) w) ≡ isGranted (afterComputing (g .clock) (g .answers) (w .follower) (made b .lent) a)
       answered b (computed.Delta ops bytes) q =
-          let d = part 0 bytes (made b .list) in
+          let d = part 0 bytes (made b .lent) in
           let o = lentApply d (g .clock) (g .answers) (w .follower) in
           ap (λ (a : Computed). wroteDelta a && after-made (lentHappen answering (onWay (DigestSent b) w))) q
           ∙ ap after-made (second b _ q)
-          ∙ ap (λ (c : Bool). (c && noRoom (o .answer) (o .list)) && true) clock-is
-          ∙ taken ops bytes (o .answer) (o .list)
+          ∙ ap (λ (c : Bool). (c && noRoom (o .answer) (o .lent)) && true) clock-is
+          ∙ taken ops bytes (o .answer) (o .lent)
       answered b (computed.Refused r) q = ap (λ (a : Computed). wroteDelta a && after-made (lentHappen answering (onWay (DigestSent b) w))) q
 
-      asked : (a : Written) → told .answer ≡ a → (wroteDigest (told .answer) && rest (lentHappen asking w)) ≡ isGranted (afterDigesting g (w .publisher) (w .follower) (told .list) a)
+      asked : (a : Written) → told .answer ≡ a → (wroteDigest (told .answer) && rest (lentHappen asking w)) ≡ isGranted (afterDigesting g (w .publisher) (w .follower) (told .lent) a)
       asked (written.Bytes n) e =
           ap (λ (a : Written). wroteDigest a && rest (lentHappen asking w)) e
           ∙ ap rest (first n e)
-          ∙ answered (part 0 n (told .list)) (made (part 0 n (told .list)) .answer) refl
+          ∙ answered (part 0 n (told .lent)) (made (part 0 n (told .lent)) .answer) refl
       asked (written.Refused r) e = ap (λ (a : Written). wroteDigest a && rest (lentHappen asking w)) e

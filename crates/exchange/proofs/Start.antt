@@ -10,12 +10,13 @@ use lib.ListN.{length, length-append}
 use borrow.Author.Tests.{le-ltb, lt-ltb, ne-eqb}
 use Rattle.fields.proofs.Choice.{in-right}
 use Rattle.fields.specs.Choice.{here}
+use Rattle.rules.specs.Given.{Given}
 use Rattle.rules.specs.Sizes.{maxNodes, numbers}
 use Rattle.rules.specs.Node.{fresh}
 use Rattle.rules.specs.Table.{Entry, Table, addNode, among, numbersOf, obeys}
 use Rattle.rules.specs.Local.{add}
 use Rattle.rules.specs.Layout.{encode}
-use Rattle.rules.specs.Lent.{LentOutcome, lentNew}
+use Rattle.rules.specs.Lent.{lentNew}
 use Rattle.rules.specs.World.{freshTable}
 use Rattle.rules.specs.declared.Answer.{Answer}
 use Rattle.rules.specs.declared.Answer.the-variants as plain
@@ -64,7 +65,7 @@ adds [] t o ok = ap encode (sym (append-nil t))
 adds (i ∷ is) t o ok =
     let e = add-last i t (freshTable is) ok in
     let u = append-assoc t (made i ∷ []) (freshTable is) in
-    ap (λ (x : LentOutcome Answer). lentAdds is (x .bytes)) (on-encoded t o (plain.Refused BadTable) (add i))
+    ap (λ (x : Given Answer (List ℕ)). lentAdds is (x .lent)) (on-encoded t o (plain.Refused BadTable) (add i))
     ∙ ap (λ (x : Table). lentAdds is (encode x)) e
     ∙ adds is (t ++ (made i ∷ [])) (subst (λ (x : Table). obeys x ≡ true) e (add-keeps i t (number-fits i t (freshTable is) ok) o)) (ap obeys u ∙ ok)
     ∙ ap encode u

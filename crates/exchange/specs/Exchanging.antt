@@ -4,8 +4,9 @@ use Prim.Native.Nat.{ℕ}
 use mathlib.Core.Path.{_≡_}
 use mathlib.Core.List.{List, [], _∷_}
 use Rattle.fields.specs.Parts.{part}
+use Rattle.rules.specs.Given.{Given, given}
 use Rattle.rules.specs.Answers.{Told, numberOf}
-use Rattle.rules.specs.Lent.{LentApply, lentDigest, lentCompute, lentApply}
+use Rattle.rules.specs.Lent.{lentDigest, lentCompute, lentApply}
 use Rattle.rules.specs.declared.Written.{Written}
 use Rattle.rules.specs.declared.Written.the-variants as written
 use Rattle.rules.specs.declared.Computed.{Computed}
@@ -29,8 +30,8 @@ abbrev pub takenAs : ℕ → ℕ → Applied → Exchanged
 takenAs ops bytes (applied.Nodes n) = exchanged.Done ops bytes n
 takenAs ops bytes (applied.Refused r at) = exchanged.NotApplied r at
 
-abbrev pub afterApplying : ℕ → ℕ → List ℕ → LentApply → LentExchange
-afterApplying ops bytes delta o = record { answer = takenAs ops bytes (o .answer); follower = o .bytes; delta = delta; answers = o .list }
+abbrev pub afterApplying : ℕ → ℕ → List ℕ → Given Applied TableAndList → LentExchange
+afterApplying ops bytes delta o = record { answer = takenAs ops bytes (o .answer); follower = o .lent; delta = delta; answers = o .lent }
 
 -- the delta is applied, where there is one
 abbrev pub afterComputing : ℕ → List ℕ → List ℕ → List ℕ → Computed → LentExchange
@@ -41,7 +42,7 @@ afterComputing clock answers follower delta (computed.Refused r) = record { answ
 unfoldable pub lentAnswer : List ℕ → List ℕ → ℕ → ℕ → List ℕ → List ℕ → List ℕ → List ℕ → List ℕ → LentExchange
 lentAnswer unsent ties mtu clock told delta answers publisher follower =
     afterComputing clock answers follower
-    (lentCompute unsent ties mtu 0 told delta publisher .list)
+    (lentCompute unsent ties mtu 0 told delta publisher .lent)
     (lentCompute unsent ties mtu 0 told delta publisher .answer)
 
 -- ---- the whole
@@ -70,7 +71,7 @@ afterDigesting g publisher follower digest (written.Refused r) =
 
 -- the digest's datagram afterwards
 abbrev pub lentDigestOf : Lending → List ℕ → List ℕ
-lentDigestOf g follower = lentDigest (g .unasked) 0 (g .digest) follower .list
+lentDigestOf g follower = lentDigest (g .unasked) 0 (g .digest) follower .lent
 
 unfoldable pub lentExchange : Lending → List ℕ → List ℕ → LentExchange
 lentExchange g publisher follower = afterDigesting g publisher follower (lentDigestOf g follower) (lentDigest (g .unasked) 0 (g .digest) follower .answer)

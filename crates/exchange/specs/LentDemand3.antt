@@ -35,7 +35,7 @@ lentIsComputed excluded ties mtu place d l (DeltaSent b) = false
 abbrev pub lentIsApplied : ℕ → List ℕ → List ℕ → Exchange → Bool
 lentIsApplied now answers l Idle = false
 lentIsApplied now answers l (DigestSent b) = false
-lentIsApplied now answers l (DeltaSent b) = noRoom (lentApply b now answers l .answer) (lentApply b now answers l .list)
+lentIsApplied now answers l (DeltaSent b) = noRoom (lentApply b now answers l .answer) (lentApply b now answers l .lent .list)
 
 -- whether a call of an exchange is made and not refused
 abbrev pub lentGranted : Event → LentWorld → Bool

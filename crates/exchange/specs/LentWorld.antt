@@ -27,25 +27,25 @@ lentStart is = record { publisher = encode (freshTable is); follower = encode (f
 -- The bytes that adding these nodes one after the other leaves. So the start is made of the new table (proofs/Start).
 unfoldable pub lentAdds : List ℕ → List ℕ → List ℕ
 lentAdds [] l = l
-lentAdds (i ∷ is) l = lentAdds is (lentAdd i l .bytes)
+lentAdds (i ∷ is) l = lentAdds is (lentAdd i l .lent)
 
 -- ---- what is on its way after a call
 
 abbrev pub lentDigested : List ℕ → ℕ → List ℕ → List ℕ → Exchange → Exchange
-lentDigested excluded place d l x = afterDigest place (lentDigest excluded place d l .list) (lentDigest excluded place d l .answer) x
+lentDigested excluded place d l x = afterDigest place (lentDigest excluded place d l .lent) (lentDigest excluded place d l .answer) x
 
 -- only for a digest that is on its way
 abbrev pub lentComputed : List ℕ → List ℕ → ℕ → ℕ → List ℕ → List ℕ → Exchange → Exchange
 lentComputed excluded ties mtu place d l Idle = Idle
 lentComputed excluded ties mtu place d l (DigestSent b) =
-    afterDelta place (lentCompute excluded ties mtu place b d l .list) (lentCompute excluded ties mtu place b d l .answer) (DigestSent b)
+    afterDelta place (lentCompute excluded ties mtu place b d l .lent) (lentCompute excluded ties mtu place b d l .answer) (DigestSent b)
 lentComputed excluded ties mtu place d l (DeltaSent b) = DeltaSent b
 
 -- only a delta that is on its way
 abbrev pub lentApplied : ℕ → List ℕ → Exchange → List ℕ → List ℕ
 lentApplied now answers Idle l = l
 lentApplied now answers (DigestSent b) l = l
-lentApplied now answers (DeltaSent b) l = lentApply b now answers l .bytes
+lentApplied now answers (DeltaSent b) l = lentApply b now answers l .lent .table
 
 -- ---- a run
 
@@ -61,14 +61,14 @@ onWay x w = record { publisher = w .publisher; follower = w .follower; given = w
 abbrev pub lentCalls : Event → LentWorld → LentWorld
 lentCalls (Writing i k c) w =
     record {
-      publisher = lentCall c i k (w .publisher) .bytes;
+      publisher = lentCall c i k (w .publisher) .lent;
       follower = w .follower;
       given = λ j. pick (eqb j i) (givenIn k c (nodeOf i (decode (w .publisher))) (w .given j)) (w .given j);
       exchange = w .exchange;
     }
-lentCalls (Beating s i) w = onLent s (λ l. lentBeat i l .bytes) w
-lentCalls (Offering s i h) w = onLent s (λ l. lentOffer i h l .bytes) w
-lentCalls (Removing s now grace) w = onLent s (λ l. lentGc now grace l .bytes) w
+lentCalls (Beating s i) w = onLent s (λ l. lentBeat i l .lent) w
+lentCalls (Offering s i h) w = onLent s (λ l. lentOffer i h l .lent) w
+lentCalls (Removing s now grace) w = onLent s (λ l. lentGc now grace l .lent) w
 lentCalls (Digesting excluded place d) w = onWay (lentDigested excluded place d (w .follower) (w .exchange)) w
 lentCalls (Computing excluded ties mtu place d) w = onWay (lentComputed excluded ties mtu place d (w .publisher) (w .exchange)) w
 lentCalls (Applying now answers) w = onLent Followers (lentApplied now answers (w .exchange)) w

@@ -133,7 +133,7 @@ pub extern "C" fn kev_find_good(table: &[u8], number: u64, key: &[u8]) -> usize
 #[no_mangle]
 pub extern "C" fn kev_set(table: &mut [u8], number: u64, key: &[u8], value: &[u8]) -> u64
     ensures { λ r. ⌜ (r ≡ answerTold (lentCall (Setting (now (value .entry))) number (now (key .entry)) (now (table .entry)) .answer) .number)
-        × (now (table .exit) ≡ lentCall (Setting (now (value .entry))) number (now (key .entry)) (now (table .entry)) .bytes) ⌝ }
+        × (now (table .exit) ≡ lentCall (Setting (now (value .entry))) number (now (key .entry)) (now (table .entry)) .lent) ⌝ }
 {
     number_of(local::set(table, number, key, value))
 }
@@ -150,7 +150,7 @@ pub extern "C" fn kev_set_good(table: &mut [u8], number: u64, key: &[u8], value:
 #[no_mangle]
 pub extern "C" fn kev_delete(table: &mut [u8], number: u64, key: &[u8], time: u64) -> u64
     ensures { λ r. ⌜ (r ≡ answerTold (lentCall (Deleting time) number (now (key .entry)) (now (table .entry)) .answer) .number)
-        × (now (table .exit) ≡ lentCall (Deleting time) number (now (key .entry)) (now (table .entry)) .bytes) ⌝ }
+        × (now (table .exit) ≡ lentCall (Deleting time) number (now (key .entry)) (now (table .entry)) .lent) ⌝ }
 {
     number_of(local::delete(table, number, key, time))
 }
@@ -168,7 +168,7 @@ pub extern "C" fn kev_delete_good(table: &mut [u8], number: u64, key: &[u8], tim
 
 #[no_mangle]
 pub extern "C" fn kev_remove(table: &mut [u8], time: u64, grace: u64) -> u64
-    ensures { λ r. ⌜ (r ≡ answerTold (lentGc time grace (now (table .entry)) .answer) .number) × (now (table .exit) ≡ lentGc time grace (now (table .entry)) .bytes) ⌝ }
+    ensures { λ r. ⌜ (r ≡ answerTold (lentGc time grace (now (table .entry)) .answer) .number) × (now (table .exit) ≡ lentGc time grace (now (table .entry)) .lent) ⌝ }
 {
     number_of(removal::remove_scheduled(table, time, grace))
 }
@@ -191,7 +191,7 @@ pub extern "C" fn kev_write_digest(
     place: usize,
 ) -> usize
     ensures { λ r. ⌜ (r ≡ bytesWritten (lentDigest (now (excluded .entry)) place (now (datagram .entry)) (now (table .entry)) .answer))
-        × (now (datagram .exit) ≡ lentDigest (now (excluded .entry)) place (now (datagram .entry)) (now (table .entry)) .list) ⌝ }
+        × (now (datagram .exit) ≡ lentDigest (now (excluded .entry)) place (now (datagram .entry)) (now (table .entry)) .lent) ⌝ }
 {
     bytes_written(digest_write::write_digest(table, excluded, datagram, place))
 }
@@ -226,7 +226,7 @@ pub extern "C" fn kev_compute(
 ) -> usize
     ensures { λ r. ⌜ (r ≡ bytesComputed (lentCompute (now (excluded .entry)) (now (ties .entry)) mtu place (now (digest .entry)) (now (datagram .entry)) (now (table .entry)) .answer))
         × (now (datagram .exit)
-        ≡ lentCompute (now (excluded .entry)) (now (ties .entry)) mtu place (now (digest .entry)) (now (datagram .entry)) (now (table .entry)) .list) ⌝ }
+        ≡ lentCompute (now (excluded .entry)) (now (ties .entry)) mtu place (now (digest .entry)) (now (datagram .entry)) (now (table .entry)) .lent) ⌝ }
 {
     bytes_computed(compute::compute(table, digest, mtu, excluded, ties, datagram, place))
 }
@@ -244,7 +244,7 @@ pub extern "C" fn kev_compute_good(
     requires { ⌜ valid (now table) ≡ true ⌝ }
     ensures { λ r. ⌜ (r ≡ bytesComputed (computing.compute (now (excluded .entry)) (now (ties .entry)) mtu place (now (digest .entry)) (decode (now (table .entry))) (now (datagram .entry)) .answer))
         × (now (datagram .exit)
-        ≡ computing.compute (now (excluded .entry)) (now (ties .entry)) mtu place (now (digest .entry)) (decode (now (table .entry))) (now (datagram .entry)) .list) ⌝ }
+        ≡ computing.compute (now (excluded .entry)) (now (ties .entry)) mtu place (now (digest .entry)) (decode (now (table .entry))) (now (datagram .entry)) .lent) ⌝ }
 {
     bytes_computed(compute::compute_good(table, digest, mtu, excluded, ties, datagram, place))
 }
@@ -252,8 +252,8 @@ pub extern "C" fn kev_compute_good(
 #[no_mangle]
 pub extern "C" fn kev_apply(table: &mut [u8], delta: &[u8], clock: u64, answers: &mut [u8]) -> usize
     ensures { λ r. ⌜ (r ≡ nodesApplied (lentApply (now (delta .entry)) clock (now (answers .entry)) (now (table .entry)) .answer))
-        × (now (table .exit) ≡ lentApply (now (delta .entry)) clock (now (answers .entry)) (now (table .entry)) .bytes)
-        × (now (answers .exit) ≡ lentApply (now (delta .entry)) clock (now (answers .entry)) (now (table .entry)) .list) ⌝ }
+        × (now (table .exit) ≡ lentApply (now (delta .entry)) clock (now (answers .entry)) (now (table .entry)) .lent .table)
+        × (now (answers .exit) ≡ lentApply (now (delta .entry)) clock (now (answers .entry)) (now (table .entry)) .lent .list) ⌝ }
 {
     nodes_applied(apply::apply(table, delta, clock, answers))
 }

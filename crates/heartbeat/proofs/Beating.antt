@@ -9,7 +9,7 @@ use Rattle.fields.specs.Parts.{put}
 use Rattle.rules.specs.Node.{Node, beats, offerOf, withHeartbeat}
 use Rattle.rules.specs.Table.{Entry, Table, setNode}
 use Rattle.rules.specs.Local.{Outcome, gives, yesNo, offerOn, offer, beatOn, localBeat}
-use Rattle.rules.specs.Layout.{encodeNode, decodeNode, encode, decode, valid}
+use Rattle.rules.specs.Layout.{nodePlace, encodeNode, decodeNode, encode, decode, valid}
 use Rattle.rules.proofs.Refusing.{set-same}
 use Rattle.rules.specs.declared.Heartbeat.{Heartbeat}
 use Rattle.rules.specs.declared.Header.{Header}
@@ -21,7 +21,7 @@ use Rattle.rules.specs.declared.Refusal.the-variants.{NoNode, Exhausted}
 use Rattle.table.specs.Changes.{withBeat}
 use Rattle.table.specs.Fits.{LaidNode}
 use Rattle.table.proofs.Tables.{encode-decode}
-use Rattle.table.proofs.Places.{nodePlace, nodeAt}
+use Rattle.table.proofs.Places.{nodeAt}
 use Rattle.table_read.specs.Find.{findNode, headerOf}
 use Rattle.table_read.specs.declared.Place.the-variants.{At, Free}
 use Rattle.table_read.proofs.Searched.{node-found, node-missing}

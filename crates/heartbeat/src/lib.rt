@@ -9,10 +9,11 @@ use table::layout;
 use table_read::Place;
 ghost use mathlib.Core.Path.{_≡_};
 ghost use mathlib.Core.Bool.{true};
+ghost use Rattle.rules.specs.Given.{Gives};
 ghost use Rattle.rules.specs.Node.{offerOf};
 ghost use Rattle.rules.specs.Local.{offer, localBeat, yesNo};
-ghost use Rattle.rules.specs.Lent.{lentOffer, lentBeat};
-ghost use Rattle.rules.specs.Layout.{encodeNode, decodeNode, encode, decode, valid};
+ghost use Rattle.rules.specs.Lent.{stored, lentOffer, lentBeat};
+ghost use Rattle.rules.specs.Layout.{encodeNode, decodeNode, decode, valid};
 ghost use Rattle.table.specs.Changes.{withBeat};
 ghost use Rattle.table.specs.Fits.{LaidNode};
 ghost use Rattle.heartbeat_header.specs.Headers.{risenFrom};
@@ -51,7 +52,7 @@ fn beat_node(b: &mut [u8]) -> Answer
 // A heartbeat offer to a node of a good table: 2.
 pub fn offer_good(s: &mut [u8], number: u64, got: Heartbeat) -> Offered
     requires { ⌜ valid (now s) ≡ true ⌝ }
-    ensures { λ r. ⌜ (r ≡ offer number got (decode (now (s .entry))) .answer) × (now (s .exit) ≡ encode (offer number got (decode (now (s .entry))) .table)) ⌝ }
+    ensures { λ r. ⌜ Gives (stored (offer number got (decode (now (s .entry))))) r (now (s .exit)) ⌝ }
 {
     match table_read::find_node(s, number) {
         Place::At(i) => {
@@ -66,7 +67,7 @@ pub fn offer_good(s: &mut [u8], number: u64, got: Heartbeat) -> Offered
 // A local beat of a node of a good table: 2, 6.
 pub fn beat_good(s: &mut [u8], number: u64) -> Answer
     requires { ⌜ valid (now s) ≡ true ⌝ }
-    ensures { λ r. ⌜ (r ≡ localBeat number (decode (now (s .entry))) .answer) × (now (s .exit) ≡ encode (localBeat number (decode (now (s .entry))) .table)) ⌝ }
+    ensures { λ r. ⌜ Gives (stored (localBeat number (decode (now (s .entry))))) r (now (s .exit)) ⌝ }
 {
     match table_read::find_node(s, number) {
         Place::At(i) => {
@@ -80,7 +81,7 @@ pub fn beat_good(s: &mut [u8], number: u64) -> Answer
 
 // A heartbeat offer: 14, 2.
 pub fn offer_heartbeat(s: &mut [u8], number: u64, got: Heartbeat) -> Offered
-    ensures { λ r. ⌜ (r ≡ lentOffer number got (now (s .entry)) .answer) × (now (s .exit) ≡ lentOffer number got (now (s .entry)) .bytes) ⌝ }
+    ensures { λ r. ⌜ Gives (lentOffer number got (now (s .entry))) r (now (s .exit)) ⌝ }
 {
     if table_check::check_table(s) {
         return offer_good(s, number, got);
@@ -90,7 +91,7 @@ pub fn offer_heartbeat(s: &mut [u8], number: u64, got: Heartbeat) -> Offered
 
 // A local beat: 14, 2, 6.
 pub fn local_beat(s: &mut [u8], number: u64) -> Answer
-    ensures { λ r. ⌜ (r ≡ lentBeat number (now (s .entry)) .answer) × (now (s .exit) ≡ lentBeat number (now (s .entry)) .bytes) ⌝ }
+    ensures { λ r. ⌜ Gives (lentBeat number (now (s .entry))) r (now (s .exit)) ⌝ }
 {
     if table_check::check_table(s) {
         return beat_good(s, number);

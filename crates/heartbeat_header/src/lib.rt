@@ -4,14 +4,12 @@
 //
 // The rules by value come first, for callers that hold a header: `offered` and `raised`. Over them stand the thin functions on a header
 // that is lent, `offer_heartbeat` and `raise_heartbeat`. A heartbeat is a `Heartbeat` throughout, so none is taken for a version.
+use rules::sizes;
 ghost use mathlib.Core.Path.{_≡_};
 ghost use Rattle.rules.specs.Node.{offerOf};
 ghost use Rattle.heartbeat_header.specs.Headers.{beating, offeredTo, canRise, risenFrom, raisedOf};
 use rules::Header;
 use rules::Heartbeat;
-
-// The largest heartbeat, 2^64-1: it cannot rise.
-const LARGEST: u64 = 18446744073709551615;
 
 // The header after an offer, and whether the offer was news.
 pub struct OfferedHeader {
@@ -68,7 +66,7 @@ pub fn offered(h: Header, got: Heartbeat) -> OfferedHeader
 fn can_rise(held: Heartbeat) -> bool
     ensures { λ r. ⌜ r ≡ canRise held ⌝ }
 {
-    held.0 < LARGEST
+    held.0 < sizes::TOP
 }
 
 // The heartbeat after a local beat: one more, and where it cannot rise, the same.

@@ -11,6 +11,7 @@ use rules::Answer;
 use rules::Header;
 use rules::Refusal;
 use rules::Status;
+use rules::sizes;
 use table::layout;
 
 // The numbers of the two meters.
@@ -194,7 +195,7 @@ fn say_exchange(i: u64, e: Exchanged, answers: &[u8]) {
 fn step(i: u64, publisher: &[u8], follower: &mut [u8], clock: u64) {
     let mut digest = [0u8; 258];
     let mut delta = [0u8; MTU];
-    let mut answers = [0u8; 8];
+    let mut answers = [0u8; sizes::NODES];
     let none = [0u64; 0];
     let ties = [0u64; 2];
     let e = exchange::exchange(

@@ -46,7 +46,7 @@ pub fn node_count_good(table: &[u8]) -> Count
     requires { ⌜ valid (now table) ≡ true ⌝ }
     ensures { λ r. ⌜ r ≡ nodeCount (decode (now (table .entry))) ⌝ }
 {
-    Count::Are(fields::byte_at(table, 0))
+    Count::Are(fields::byte_at(table, layout::NODE_COUNT))
 }
 
 // How many nodes are held: 14.
@@ -65,7 +65,7 @@ pub fn node_number_good(table: &[u8], i: usize) -> NodeNumber
     requires { ⌜ valid (now table) ≡ true ⌝ }
     ensures { λ r. ⌜ r ≡ nodeNumber i (decode (now (table .entry))) ⌝ }
 {
-    let n = fields::byte_at(table, 0);
+    let n = fields::byte_at(table, layout::NODE_COUNT);
     if n <= i {
         return NodeNumber::Refused(Refusal::NoPlace);
     }
@@ -111,7 +111,7 @@ pub fn record_count_good(table: &[u8], number: u64) -> Count
     ensures { λ r. ⌜ r ≡ recordCount number (decode (now (table .entry))) ⌝ }
 {
     match table_read::find_node(table, number) {
-        Place::At(i) => Count::Are(fields::byte_at(table::node_of(table, i), layout::COUNT)),
+        Place::At(i) => Count::Are(fields::byte_at(table::node_of(table, i), layout::RECORD_COUNT)),
         Place::Free(_) => Count::Refused(Refusal::NoNode),
     }
 }
@@ -132,7 +132,7 @@ fn record_in(b: &[u8], j: usize) -> RecordRead
     requires { ⌜ LaidNode (now b) ⌝ }
     ensures { λ r. ⌜ r ≡ readAt (elementAt j (recsOf (now (b .entry)))) ⌝ }
 {
-    let n = fields::byte_at(b, layout::COUNT);
+    let n = fields::byte_at(b, layout::RECORD_COUNT);
     if n <= j {
         return RecordRead::Refused(Refusal::NoPlace);
     }

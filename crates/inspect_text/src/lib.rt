@@ -27,7 +27,7 @@ fn in_node(b: &[u8], i: usize, j: usize, text: Text) -> Found
     requires { ⌜ LaidNode (now b) × (i < maxNodes) ⌝ }
     ensures { λ r. ⌜ r ≡ placeOn text i j (elementAt j (recsOf (now (b .entry)))) ⌝ }
 {
-    let n = fields::byte_at(b, layout::COUNT);
+    let n = fields::byte_at(b, layout::RECORD_COUNT);
     if n <= j {
         return Found::Refused(Refusal::NoPlace);
     }

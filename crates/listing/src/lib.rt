@@ -53,7 +53,7 @@ fn line_len(op: Op) -> usize
 
 // How long the lines of all operations are together.
 fn lines_len(s: &[u8]) -> usize
-    requires { ⌜ length (now s) ≤ 16384 ⌝ }
+    requires { ⌜ length (now s) ≤ maxDelta ⌝ }
     ensures { λ r. ⌜ (r ≡ length (linesFrom (now (s .entry)) 0)) × (r ≤ 81920) ⌝ }
 {
     let mut n: usize = 0;
@@ -187,7 +187,7 @@ fn put_last(out: &mut [u8], at: usize, first: &[u8], a: u64, second: &[u8], b: u
 
 // Of a delta that was accepted with so many operations.
 fn list_good(s: &[u8], out: &mut [u8], ops: usize) -> Written
-    requires { ⌜ length (now s) ≤ 16384 ⌝ }
+    requires { ⌜ length (now s) ≤ maxDelta ⌝ }
     ensures { λ r. ⌜ (r ≡ frontAnswer (goodText (now (s .entry)) ops) (length (now (out .entry)))) × (now (out .exit) ≡ frontOut (goodText (now (s .entry)) ops) (now (out .entry))) ⌝ }
 {
     let count = ops as u64;

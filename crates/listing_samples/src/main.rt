@@ -1,6 +1,7 @@
 // Replays the folder of samples: for each that an argument names, the name and the listing. make.py says how the samples, and what must be
 // written for them, were made.
 use libc::STDOUT_FILENO;
+use rules::sizes;
 
 // The sample that argument i names. Answers whether it could be read.
 fn replay(i: usize) -> bool {
@@ -13,7 +14,7 @@ fn replay(i: usize) -> bool {
     }
     io::write_all(STDOUT_FILENO, &path[..len]);
     io::write_all(STDOUT_FILENO, b"\n");
-    let mut input = [0u8; 16385];
+    let mut input = [0u8; sizes::LONGEST_DELTA + 1];
     let n = io::read_full(file, &mut input);
     libc::close(file);
     listing_show::show(&input[..n]);

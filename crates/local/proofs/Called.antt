@@ -7,13 +7,13 @@ use mathlib.Core.Option.{Option, none, some}
 use Rattle.fields.specs.Parts.{put}
 use Rattle.rules.specs.Node.{Node, Call, act, decide}
 use Rattle.rules.specs.Local.{Outcome, callOn, call}
-use Rattle.rules.specs.Layout.{encodeNode, encode, decode, valid}
+use Rattle.rules.specs.Layout.{nodePlace, encodeNode, encode, decode, valid}
 use Rattle.rules.specs.declared.Answer.{Answer}
 use Rattle.rules.specs.declared.Answer.the-variants.{Refused}
 use Rattle.rules.specs.declared.Refusal.the-variants.{NoNode}
 use Rattle.table.specs.Changes.{withNode}
 use Rattle.table.proofs.Tables.{encode-decode}
-use Rattle.table.proofs.Places.{nodePlace, nodeBytes, nodeAt}
+use Rattle.table.proofs.Places.{nodeBytes, nodeAt}
 use Rattle.table_read.specs.Find.{findNode}
 use Rattle.table_read.specs.declared.Place.the-variants.{At, Free}
 use Rattle.table_read.proofs.Searched.{node-found, node-missing}

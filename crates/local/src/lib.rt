@@ -8,10 +8,11 @@ use table::layout;
 use table_read::Place;
 ghost use mathlib.Core.Path.{_≡_};
 ghost use mathlib.Core.Bool.{true};
+ghost use Rattle.rules.specs.Given.{Gives};
 ghost use Rattle.rules.specs.Node.{Setting, SettingTtl, Deleting, DeletingAfterTtl};
 ghost use Rattle.rules.specs.Local.{call};
-ghost use Rattle.rules.specs.Lent.{lentCall};
-ghost use Rattle.rules.specs.Layout.{encode, decode, valid};
+ghost use Rattle.rules.specs.Lent.{stored, lentCall};
+ghost use Rattle.rules.specs.Layout.{decode, valid};
 ghost use Rattle.local_node.specs.Writes.{callOf};
 
 // One of the four calls at a key of a node of a good table: 2, then what the node's rules say.
@@ -24,7 +25,8 @@ pub fn write_good(
     time: u64,
 ) -> Answer
     requires { ⌜ valid (now s) ≡ true ⌝ }
-    ensures { λ r. ⌜ (r ≡ call (callOf kind (now (value .entry)) time) number (now (key .entry)) (decode (now (s .entry))) .answer) × (now (s .exit) ≡ encode (call (callOf kind (now (value .entry)) time) number (now (key .entry)) (decode (now (s .entry))) .table)) ⌝ }
+    ensures { λ r. ⌜ Gives (stored (call (callOf kind (now (value .entry)) time) number (now (key .entry)) (decode (now (s .entry)))))
+        r (now (s .exit)) ⌝ }
 {
     match table_read::find_node(s, number) {
         Place::At(i) => {
@@ -38,7 +40,7 @@ pub fn write_good(
 
 // One of the four calls on any bytes.
 fn write(s: &mut [u8], number: u64, kind: Kind, key: &[u8], value: &[u8], time: u64) -> Answer
-    ensures { λ r. ⌜ (r ≡ lentCall (callOf kind (now (value .entry)) time) number (now (key .entry)) (now (s .entry)) .answer) × (now (s .exit) ≡ lentCall (callOf kind (now (value .entry)) time) number (now (key .entry)) (now (s .entry)) .bytes) ⌝ }
+    ensures { λ r. ⌜ Gives (lentCall (callOf kind (now (value .entry)) time) number (now (key .entry)) (now (s .entry))) r (now (s .exit)) ⌝ }
 {
     if table_check::check_table(s) {
         return write_good(s, number, kind, key, value, time);
@@ -48,28 +50,28 @@ fn write(s: &mut [u8], number: u64, kind: Kind, key: &[u8], value: &[u8], time: 
 
 // Set: the key's record of the node takes this value, and stays as it is where it has it already.
 pub fn set(s: &mut [u8], number: u64, key: &[u8], value: &[u8]) -> Answer
-    ensures { λ r. ⌜ (r ≡ lentCall (Setting (now (value .entry))) number (now (key .entry)) (now (s .entry)) .answer) × (now (s .exit) ≡ lentCall (Setting (now (value .entry))) number (now (key .entry)) (now (s .entry)) .bytes) ⌝ }
+    ensures { λ r. ⌜ Gives (lentCall (Setting (now (value .entry))) number (now (key .entry)) (now (s .entry))) r (now (s .exit)) ⌝ }
 {
     write(s, number, Kind::Setting, key, value, 0)
 }
 
 // Set with TTL: likewise, and a changed record is scheduled from this time on.
 pub fn set_with_ttl(s: &mut [u8], number: u64, key: &[u8], value: &[u8], time: u64) -> Answer
-    ensures { λ r. ⌜ (r ≡ lentCall (SettingTtl (now (value .entry)) time) number (now (key .entry)) (now (s .entry)) .answer) × (now (s .exit) ≡ lentCall (SettingTtl (now (value .entry)) time) number (now (key .entry)) (now (s .entry)) .bytes) ⌝ }
+    ensures { λ r. ⌜ Gives (lentCall (SettingTtl (now (value .entry)) time) number (now (key .entry)) (now (s .entry))) r (now (s .exit)) ⌝ }
 {
     write(s, number, Kind::SettingTtl, key, value, time)
 }
 
 // Delete: the key's record is emptied and hidden, and scheduled from this time on.
 pub fn delete(s: &mut [u8], number: u64, key: &[u8], time: u64) -> Answer
-    ensures { λ r. ⌜ (r ≡ lentCall (Deleting time) number (now (key .entry)) (now (s .entry)) .answer) × (now (s .exit) ≡ lentCall (Deleting time) number (now (key .entry)) (now (s .entry)) .bytes) ⌝ }
+    ensures { λ r. ⌜ Gives (lentCall (Deleting time) number (now (key .entry)) (now (s .entry))) r (now (s .exit)) ⌝ }
 {
     write(s, number, Kind::Deleting, key, b"", time)
 }
 
 // Delete after TTL: the key's record keeps its value, and is scheduled from this time on.
 pub fn delete_after_ttl(s: &mut [u8], number: u64, key: &[u8], time: u64) -> Answer
-    ensures { λ r. ⌜ (r ≡ lentCall (DeletingAfterTtl time) number (now (key .entry)) (now (s .entry)) .answer) × (now (s .exit) ≡ lentCall (DeletingAfterTtl time) number (now (key .entry)) (now (s .entry)) .bytes) ⌝ }
+    ensures { λ r. ⌜ Gives (lentCall (DeletingAfterTtl time) number (now (key .entry)) (now (s .entry))) r (now (s .exit)) ⌝ }
 {
     write(s, number, Kind::DeletingAfterTtl, key, b"", time)
 }

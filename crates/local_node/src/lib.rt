@@ -7,6 +7,7 @@ use rules::Header;
 use rules::Record;
 use rules::Refusal;
 use rules::Status;
+use rules::sizes;
 use table::layout;
 use table_read::Place;
 ghost use mathlib.Core.Path.{_≡_};
@@ -22,9 +23,6 @@ ghost use Rattle.table.proofs.Places.{recAt};
 ghost use Rattle.table_read.specs.Find.{findKey};
 ghost use Rattle.table_read.specs.declared.Place.the-variants.{At, Free};
 ghost use Rattle.local_node.specs.Writes.{Acted, nodeIn, changeOf, alike, rising, adding, expired, changing, setting, callOf};
-
-// The largest version, 2^64-1: a max that has it cannot rise.
-const LARGEST: u64 = 18446744073709551615;
 
 // Which of the four calls.
 pub enum Kind {
@@ -61,7 +59,7 @@ fn rewrite(b: &mut [u8], j: usize, key: &[u8], value: &[u8], status: Status, sta
     ensures { λ r. ⌜ Acted (now (key .entry)) (rising (changeOf (now (value .entry)) status start) (nodeIn (now (b .entry)))) (now (b .entry)) r (now (b .exit)) ⌝ }
 {
     let max = fields::read_u64(b, layout::MAX);
-    if max == LARGEST {
+    if max == sizes::TOP {
         return Answer::Refused(Refusal::Exhausted);
     }
     table_write::set_max(b, max + 1);
@@ -74,11 +72,11 @@ fn add(b: &mut [u8], j: usize, key: &[u8], value: &[u8], status: Status, start: 
     requires { ⌜ LaidNode (now b) × (findKey (now key) (recsOf (now b)) ≡ Free j) × (length (now key) ≤ maxKey) × (length (now value) ≤ maxValue) ⌝ }
     ensures { λ r. ⌜ Acted (now (key .entry)) (adding (changeOf (now (value .entry)) status start) (nodeIn (now (b .entry)))) (now (b .entry)) r (now (b .exit)) ⌝ }
 {
-    if Header::RECORDS <= fields::byte_at(b, layout::COUNT) {
+    if Header::RECORDS <= fields::byte_at(b, layout::RECORD_COUNT) {
         return Answer::Refused(Refusal::NodeFull);
     }
     let max = fields::read_u64(b, layout::MAX);
-    if max == LARGEST {
+    if max == sizes::TOP {
         return Answer::Refused(Refusal::Exhausted);
     }
     table_write::set_max(b, max + 1);

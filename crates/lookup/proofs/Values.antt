@@ -18,13 +18,13 @@ use Rattle.rules.specs.Node.{Rec, Node, hidden, shown, find}
 use Rattle.rules.specs.Table.{Entry, nodeOf, keysRise}
 use Rattle.rules.specs.Local as rule
 use Rattle.rules.specs.Local.{foundOf, lookupOn}
-use Rattle.rules.specs.Layout.{recWidth, decodeRec, decodeNode, decode, valid}
+use Rattle.rules.specs.Layout.{recPlace, nodePlace, recWidth, decodeRec, decodeNode, decode, valid}
 use Rattle.rules.specs.Lent.{fromTable, lentLookup}
 use Rattle.rules.specs.declared.Refusal.the-variants.{TooLong, NoNode, BadTable}
 use Rattle.table.specs.Tests.{valueLength, countOf, nodesOf, recsOf}
 use Rattle.table.specs.Fits.{LaidNode}
 use Rattle.table.proofs.Tables.{valid-long, valid-few}
-use Rattle.table.proofs.Places.{recPlace, recBytes, recAt, recs-at, in-rec, nodePlace, nodeBytes, nodeAt, decode-at, in-node}
+use Rattle.table.proofs.Places.{recBytes, recAt, recs-at, in-rec, nodeBytes, nodeAt, decode-at, in-node}
 use Rattle.table.proofs.Laid.{rec-long, laid-value}
 use Rattle.table_read.specs.Find.{toNode, toKey, findNode, findKey}
 use Rattle.table_read.specs.declared.Place.{Place}

@@ -14,10 +14,11 @@ use Rattle.fields.specs.Widths.{joined}
 use Rattle.fields.proofs.Choice.{pick-true, pick-false}
 use Rattle.fields.proofs.Parts.{put-at}
 use Rattle.fields.proofs.Blocks.{length-zeros, zeros-add, bytes-zero, blocks-is}
+use Rattle.rules.specs.Given.{Given}
 use Rattle.rules.specs.Sizes.{maxNodes}
 use Rattle.rules.specs.Table.{Table, addNode, dropNode, numbersOf, among}
 use Rattle.rules.specs.Local.{Outcome, gives, add, removeNode}
-use Rattle.rules.specs.Lent.{LentOutcome, lentNew}
+use Rattle.rules.specs.Lent.{lentNew}
 use Rattle.rules.specs.Layout.{nodeWidth, tableWidth, encodeNode, encode, decode, valid}
 use Rattle.rules.specs.declared.Answer.{Answer}
 use Rattle.rules.specs.declared.Answer.the-variants.{Done, Refused}
@@ -46,22 +47,22 @@ put-whole : (vs l : List ℕ) → length vs ≡ length l → put 0 vs l ≡ vs
 put-whole vs l e = ap (put 0 vs) (sym (append-nil l)) ∙ put-at 0 vs [] l [] refl e ∙ append-nil vs
 
 module _ (l : List ℕ) where
-  pub made : length l ≡ tableWidth → (s : List ℕ) → s ≡ put 0 (zeros tableWidth) l → (Done ≡ lentMade l .answer) × (s ≡ lentMade l .bytes)
+  pub made : length l ≡ tableWidth → (s : List ℕ) → s ≡ put 0 (zeros tableWidth) l → (Done ≡ lentMade l .answer) × (s ≡ lentMade l .lent)
   unfolding lentMade lentNew
   made e s q =
-      let o : lentMade l ≡ record { answer = Done; bytes = lentNew } =
-      pick-true (eqb (length l) tableWidth) (record { answer = Done; bytes = lentNew }) (record { answer = Refused BadTable; bytes = l }) (eq-eqb (length l) tableWidth e) in (
-        ap (λ (x : LentOutcome Answer). x .answer) (sym o),
-        q ∙ put-whole (zeros tableWidth) l (length-zeros tableWidth ∙ sym e) ∙ sym zero-table ∙ ap (λ (x : LentOutcome Answer). x .bytes) (sym o),
+      let o : lentMade l ≡ record { answer = Done; lent = lentNew } =
+      pick-true (eqb (length l) tableWidth) (record { answer = Done; lent = lentNew }) (record { answer = Refused BadTable; lent = l }) (eq-eqb (length l) tableWidth e) in (
+        ap (λ (x : Given Answer (List ℕ)). x .answer) (sym o),
+        q ∙ put-whole (zeros tableWidth) l (length-zeros tableWidth ∙ sym e) ∙ sym zero-table ∙ ap (λ (x : Given Answer (List ℕ)). x .lent) (sym o),
       )
 
-  pub not-made : (length l ≡ tableWidth → ⊥) → (Refused BadTable ≡ lentMade l .answer) × (l ≡ lentMade l .bytes)
+  pub not-made : (length l ≡ tableWidth → ⊥) → (Refused BadTable ≡ lentMade l .answer) × (l ≡ lentMade l .lent)
   unfolding lentMade
   not-made n =
-      let o : lentMade l ≡ record { answer = Refused BadTable; bytes = l } =
-      pick-false (eqb (length l) tableWidth) (record { answer = Done; bytes = lentNew }) (record { answer = Refused BadTable; bytes = l }) (ne-eqb (length l) tableWidth n) in (
-        ap (λ (x : LentOutcome Answer). x .answer) (sym o),
-        ap (λ (x : LentOutcome Answer). x .bytes) (sym o),
+      let o : lentMade l ≡ record { answer = Refused BadTable; lent = l } =
+      pick-false (eqb (length l) tableWidth) (record { answer = Done; lent = lentNew }) (record { answer = Refused BadTable; lent = l }) (ne-eqb (length l) tableWidth n) in (
+        ap (λ (x : Given Answer (List ℕ)). x .answer) (sym o),
+        ap (λ (x : Given Answer (List ℕ)). x .lent) (sym o),
       )
 
 -- ---- a rule's outcome, and the bytes that are left

@@ -4,11 +4,12 @@ use mathlib.Core.List.{List}
 use lib.ListN.{length}
 use lib.Dec.{eqb}
 use Rattle.fields.specs.Choice.{pick}
-use Rattle.rules.specs.Lent.{LentOutcome, lentNew}
+use Rattle.rules.specs.Given.{Given}
+use Rattle.rules.specs.Lent.{lentNew}
 use Rattle.rules.specs.Layout.{tableWidth}
 use Rattle.rules.specs.declared.Answer.{Answer}
 use Rattle.rules.specs.declared.Answer.the-variants.{Done, Refused}
 use Rattle.rules.specs.declared.Refusal.the-variants.{BadTable}
 
-unfoldable pub lentMade : List ℕ → LentOutcome Answer
-lentMade l = pick (eqb (length l) tableWidth) (record { answer = Done; bytes = lentNew }) (record { answer = Refused BadTable; bytes = l })
+unfoldable pub lentMade : List ℕ → Given Answer (List ℕ)
+lentMade l = pick (eqb (length l) tableWidth) (record { answer = Done; lent = lentNew }) (record { answer = Refused BadTable; lent = l })

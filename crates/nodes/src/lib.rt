@@ -3,18 +3,20 @@
 // table known to be good. A refused call changes no byte.
 use rules::Answer;
 use rules::Refusal;
+use rules::sizes;
 use table::layout;
 use table_read::Place;
 ghost use mathlib.Core.Path.{_≡_};
 ghost use mathlib.Core.Bool.{true};
+ghost use Rattle.rules.specs.Given.{Gives};
 ghost use Rattle.rules.specs.Local.{add, removeNode};
-ghost use Rattle.rules.specs.Lent.{lentAdd, lentRemoveNode};
-ghost use Rattle.rules.specs.Layout.{encode, decode, valid};
+ghost use Rattle.rules.specs.Lent.{stored, lentAdd, lentRemoveNode};
+ghost use Rattle.rules.specs.Layout.{decode, valid};
 ghost use Rattle.nodes.specs.New.{lentMade};
 
 // The slice becomes an empty table, whatever stood there; one of another length is refused with 14.
 pub fn new_table(s: &mut [u8]) -> Answer
-    ensures { λ r. ⌜ (r ≡ lentMade (now (s .entry)) .answer) × (now (s .exit) ≡ lentMade (now (s .entry)) .bytes) ⌝ }
+    ensures { λ r. ⌜ Gives (lentMade (now (s .entry))) r (now (s .exit)) ⌝ }
 {
     if s.len() != layout::TABLE {
         return Answer::Refused(Refusal::BadTable);
@@ -26,12 +28,12 @@ pub fn new_table(s: &mut [u8]) -> Answer
 // A fresh node with this number in a good table; one held already stays. 4 where there is no room.
 pub fn add_good(s: &mut [u8], number: u64) -> Answer
     requires { ⌜ valid (now s) ≡ true ⌝ }
-    ensures { λ r. ⌜ (r ≡ add number (decode (now (s .entry))) .answer) × (now (s .exit) ≡ encode (add number (decode (now (s .entry))) .table)) ⌝ }
+    ensures { λ r. ⌜ Gives (stored (add number (decode (now (s .entry))))) r (now (s .exit)) ⌝ }
 {
     match table_read::find_node(s, number) {
         Place::At(_) => Answer::Done,
         Place::Free(i) => {
-            if layout::MOST_NODES <= fields::byte_at(s, 0) {
+            if sizes::NODES <= fields::byte_at(s, layout::NODE_COUNT) {
                 return Answer::Refused(Refusal::NinthNode);
             }
             table_write::insert_node(s, i, number);
@@ -43,7 +45,7 @@ pub fn add_good(s: &mut [u8], number: u64) -> Answer
 // The node with this number goes from a good table: 2.
 pub fn remove_good(s: &mut [u8], number: u64) -> Answer
     requires { ⌜ valid (now s) ≡ true ⌝ }
-    ensures { λ r. ⌜ (r ≡ removeNode number (decode (now (s .entry))) .answer) × (now (s .exit) ≡ encode (removeNode number (decode (now (s .entry))) .table)) ⌝ }
+    ensures { λ r. ⌜ Gives (stored (removeNode number (decode (now (s .entry))))) r (now (s .exit)) ⌝ }
 {
     match table_read::find_node(s, number) {
         Place::At(i) => {
@@ -56,7 +58,7 @@ pub fn remove_good(s: &mut [u8], number: u64) -> Answer
 
 // Adds a fresh node: 14, 4.
 pub fn add_node(s: &mut [u8], number: u64) -> Answer
-    ensures { λ r. ⌜ (r ≡ lentAdd number (now (s .entry)) .answer) × (now (s .exit) ≡ lentAdd number (now (s .entry)) .bytes) ⌝ }
+    ensures { λ r. ⌜ Gives (lentAdd number (now (s .entry))) r (now (s .exit)) ⌝ }
 {
     if table_check::check_table(s) {
         return add_good(s, number);
@@ -66,7 +68,7 @@ pub fn add_node(s: &mut [u8], number: u64) -> Answer
 
 // Removes a node: 14, 2.
 pub fn remove_node(s: &mut [u8], number: u64) -> Answer
-    ensures { λ r. ⌜ (r ≡ lentRemoveNode number (now (s .entry)) .answer) × (now (s .exit) ≡ lentRemoveNode number (now (s .entry)) .bytes) ⌝ }
+    ensures { λ r. ⌜ Gives (lentRemoveNode number (now (s .entry))) r (now (s .exit)) ⌝ }
 {
     if table_check::check_table(s) {
         return remove_good(s, number);

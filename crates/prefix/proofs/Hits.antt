@@ -13,10 +13,11 @@ use borrow.Author.Tests.{le-leb, lt-leb}
 use Rattle.fields.specs.Choice.{pick}
 use Rattle.fields.specs.Parts.{put}
 use Rattle.fields.proofs.Parts.{put-cons}
+use Rattle.rules.specs.Given.{Given, given}
 use Rattle.rules.specs.Sizes.{maxKey}
 use Rattle.rules.specs.Node.{Node, hits, hitsFrom}
 use Rattle.rules.specs.Table.{Table}
-use Rattle.rules.specs.Local.{Filled, fills, listInto, prefixOn, prefixed}
+use Rattle.rules.specs.Local.{listInto, prefixOn, prefixed}
 use Rattle.rules.specs.Layout.{decode, valid}
 use Rattle.rules.specs.Lent.{lentPrefixed}
 use Rattle.rules.specs.declared.Refusal.the-variants.{TooLong, NoNode, NoPlace, BadTable}
@@ -75,23 +76,23 @@ hit-room k b j found n h e q = omega (arith, ap length (step-hit k b j h e))
 
 -- ---- into the lent list
 
-abbrev Same : Listed → List ℕ → Filled Listed → Type 0
-Same a m x = (a ≡ x .answer) × (m ≡ x .list)
+abbrev Same : Listed → List ℕ → Given Listed (List ℕ) → Type 0
+Same a m x = (a ≡ x .answer) × (m ≡ x .lent)
 
-same-as : {a : Listed} {m : List ℕ} (x y : Filled Listed) → x ≡ y → Same a m x → Same a m y
+same-as : {a : Listed} {m : List ℕ} (x y : Given Listed (List ℕ)) → x ≡ y → Same a m x → Same a m y
 same-as {a} {m} x y e h = subst (Same a m) e h
 
 module _ (found l : List ℕ) (n : ℕ) (e : n ≡ length found) where
   pub no-room : length l < n → Same (listed.Refused NoPlace) l (listInto found l)
   no-room h =
-      same-as (fills (listed.Refused NoPlace) l) (listInto found l)
-      (ap (λ (t : Bool). pick t (fills (listed.Hits (length found)) (put 0 found l)) (fills (listed.Refused NoPlace) l)) (sym (lt-leb (length found) (length l) (omega arith))))
+      same-as (given (listed.Refused NoPlace) l) (listInto found l)
+      (ap (λ (t : Bool). pick t (given (listed.Hits (length found)) (put 0 found l)) (given (listed.Refused NoPlace) l)) (sym (lt-leb (length found) (length l) (omega arith))))
       (refl, refl)
 
   pub all-listed : n ≤ length l → (m : List ℕ) → m ≡ put 0 found l → Same (listed.Hits n) m (listInto found l)
   all-listed h m q =
-      same-as (fills (listed.Hits (length found)) (put 0 found l)) (listInto found l)
-      (ap (λ (t : Bool). pick t (fills (listed.Hits (length found)) (put 0 found l)) (fills (listed.Refused NoPlace) l)) (sym (le-leb (length found) (length l) (omega arith))))
+      same-as (given (listed.Hits (length found)) (put 0 found l)) (listInto found l)
+      (ap (λ (t : Bool). pick t (given (listed.Hits (length found)) (put 0 found l)) (given (listed.Refused NoPlace) l)) (sym (le-leb (length found) (length l) (omega arith))))
       (ap listed.Hits e, q)
 
 -- ---- in a good table
@@ -99,18 +100,18 @@ module _ (found l : List ℕ) (n : ℕ) (e : n ≡ length found) where
 module _ (l : List ℕ) (v : valid l ≡ true) (n : ℕ) (k out : List ℕ) (i : ℕ) where
   pub no-node : findNode n (decode l) ≡ place.Free i → Same (listed.Refused NoNode) out (prefixed n k (decode l) out)
   unfolding prefixed
-  no-node e = same-as (fills (listed.Refused NoNode) out) (prefixed n k (decode l) out) (ap (λ (o : Option Node). prefixOn k o out) (sym (node-missing l v n i e))) (refl, refl)
+  no-node e = same-as (given (listed.Refused NoNode) out) (prefixed n k (decode l) out) (ap (λ (o : Option Node). prefixOn k o out) (sym (node-missing l v n i e))) (refl, refl)
 
   module _ (e : findNode n (decode l) ≡ place.At i) where
     by : (t : Bool) → leb (length k) maxKey ≡ t
-        → pick t (listInto (hitsFrom k 0 (recsOf (nodeBytes i l))) out) (fills (listed.Refused TooLong) out) ≡ prefixed n k (decode l) out
+        → pick t (listInto (hitsFrom k 0 (recsOf (nodeBytes i l))) out) (given (listed.Refused TooLong) out) ≡ prefixed n k (decode l) out
     unfolding prefixed
     by t q =
-        ap (λ (s : Bool). pick s (listInto (hitsFrom k 0 (recsOf (nodeBytes i l))) out) (fills (listed.Refused TooLong) out)) (sym q)
+        ap (λ (s : Bool). pick s (listInto (hitsFrom k 0 (recsOf (nodeBytes i l))) out) (given (listed.Refused TooLong) out)) (sym q)
         ∙ ap (λ (o : Option Node). prefixOn k o out) (sym (node-found l v n i e))
 
     pub too-long : maxKey < length k → Same (listed.Refused TooLong) out (prefixed n k (decode l) out)
-    too-long h = same-as (fills (listed.Refused TooLong) out) (prefixed n k (decode l) out) (by false (lt-leb (length k) maxKey h)) (refl, refl)
+    too-long h = same-as (given (listed.Refused TooLong) out) (prefixed n k (decode l) out) (by false (lt-leb (length k) maxKey h)) (refl, refl)
 
     pub in-place : length k ≤ maxKey → (b : List ℕ) → b ≡ nodeBytes i l → {a : Listed} {m : List ℕ} → Same a m (listInto (hitsFrom k 0 (recsOf b)) out) → Same a m (prefixed n k (decode l) out)
     in-place h b q s =
@@ -123,9 +124,9 @@ module _ (n : ℕ) (k out l : List ℕ) where
   pub good-listed : valid l ≡ true → {a : Listed} {m : List ℕ} → Same a m (prefixed n k (decode l) out) → Same a m (lentPrefixed n k out l)
   good-listed v s =
       same-as (prefixed n k (decode l) out) (lentPrefixed n k out l)
-      (sym (from-good (fills (listed.Refused BadTable) out) (λ (t : Table). prefixed n k t out) l v)) s
+      (sym (from-good (given (listed.Refused BadTable) out) (λ (t : Table). prefixed n k t out) l v)) s
 
   pub bad-listed : valid l ≡ false → Same (listed.Refused BadTable) out (lentPrefixed n k out l)
   bad-listed v =
-      same-as (fills (listed.Refused BadTable) out) (lentPrefixed n k out l)
-      (sym (from-bad (fills (listed.Refused BadTable) out) (λ (t : Table). prefixed n k t out) l v)) (refl, refl)
+      same-as (given (listed.Refused BadTable) out) (lentPrefixed n k out l)
+      (sym (from-bad (given (listed.Refused BadTable) out) (λ (t : Table). prefixed n k t out) l v)) (refl, refl)

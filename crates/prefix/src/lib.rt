@@ -12,6 +12,7 @@ ghost use mathlib.Core.Bool.{true};
 ghost use Prim.Native.Nat.{_+_, _*_, _≤_, _<_};
 ghost use lib.ListN.{length};
 ghost use Rattle.fields.specs.Parts.{part, put};
+ghost use Rattle.rules.specs.Given.{Gives};
 ghost use Rattle.rules.specs.Node.{hits, hitsFrom};
 ghost use Rattle.rules.specs.Local.{listInto, prefixed};
 ghost use Rattle.rules.specs.Layout.{recWidth, decodeRec, decode, valid};
@@ -43,7 +44,7 @@ fn count_hits(b: &[u8], prefix: &[u8]) -> usize
     requires { ⌜ LaidNode (now b) ⌝ }
     ensures { λ r. ⌜ r ≡ length (hitsFrom (now (prefix .entry)) 0 (recsOf (now (b .entry)))) ⌝ }
 {
-    let n = fields::byte_at(b, layout::COUNT);
+    let n = fields::byte_at(b, layout::RECORD_COUNT);
     let mut found = 0;
     let mut j = 0;
     while j < n {
@@ -60,7 +61,7 @@ fn write_hits(b: &[u8], prefix: &[u8], out: &mut [u8])
     requires { ⌜ LaidNode (now b) × (length (hitsFrom (now prefix) 0 (recsOf (now b))) ≤ length (now out)) ⌝ }
     ensures { λ _. ⌜ now (out .exit) ≡ put 0 (hitsFrom (now (prefix .entry)) 0 (recsOf (now (b .entry)))) (now (out .entry)) ⌝ }
 {
-    let n = fields::byte_at(b, layout::COUNT);
+    let n = fields::byte_at(b, layout::RECORD_COUNT);
     let mut next = 0;
     let mut j = 0;
     while j < n {
@@ -75,7 +76,7 @@ fn write_hits(b: &[u8], prefix: &[u8], out: &mut [u8])
 // The listing of one node's bytes: 8.
 fn in_node(b: &[u8], prefix: &[u8], out: &mut [u8]) -> Listed
     requires { ⌜ LaidNode (now b) ⌝ }
-    ensures { λ r. ⌜ (r ≡ listInto (hitsFrom (now (prefix .entry)) 0 (recsOf (now (b .entry)))) (now (out .entry)) .answer) × (now (out .exit) ≡ listInto (hitsFrom (now (prefix .entry)) 0 (recsOf (now (b .entry)))) (now (out .entry)) .list) ⌝ }
+    ensures { λ r. ⌜ Gives (listInto (hitsFrom (now (prefix .entry)) 0 (recsOf (now (b .entry)))) (now (out .entry))) r (now (out .exit)) ⌝ }
 {
     let found = count_hits(b, prefix);
     if out.len() < found {
@@ -88,7 +89,7 @@ fn in_node(b: &[u8], prefix: &[u8], out: &mut [u8]) -> Listed
 // The listing in a good table: 2, 1, 8.
 pub fn list_good(table: &[u8], number: u64, prefix: &[u8], out: &mut [u8]) -> Listed
     requires { ⌜ valid (now table) ≡ true ⌝ }
-    ensures { λ r. ⌜ (r ≡ prefixed number (now (prefix .entry)) (decode (now (table .entry))) (now (out .entry)) .answer) × (now (out .exit) ≡ prefixed number (now (prefix .entry)) (decode (now (table .entry))) (now (out .entry)) .list) ⌝ }
+    ensures { λ r. ⌜ Gives (prefixed number (now (prefix .entry)) (decode (now (table .entry))) (now (out .entry))) r (now (out .exit)) ⌝ }
 {
     match table_read::find_node(table, number) {
         Place::At(i) => {
@@ -103,7 +104,7 @@ pub fn list_good(table: &[u8], number: u64, prefix: &[u8], out: &mut [u8]) -> Li
 
 // The listing in lent bytes: 14, 2, 1, 8.
 pub fn list_prefix(table: &[u8], number: u64, prefix: &[u8], out: &mut [u8]) -> Listed
-    ensures { λ r. ⌜ (r ≡ lentPrefixed number (now (prefix .entry)) (now (out .entry)) (now (table .entry)) .answer) × (now (out .exit) ≡ lentPrefixed number (now (prefix .entry)) (now (out .entry)) (now (table .entry)) .list) ⌝ }
+    ensures { λ r. ⌜ Gives (lentPrefixed number (now (prefix .entry)) (now (out .entry)) (now (table .entry))) r (now (out .exit)) ⌝ }
 {
     if table_check::check_table(table) {
         list_good(table, number, prefix, out)

@@ -16,12 +16,13 @@ use Rattle.fields.specs.Parts.{put}
 use Rattle.fields.specs.Blocks.{removeAt}
 use Rattle.fields.proofs.Choice.{pick-true, pick-false, in-append, in-cons, in-take, in-drop, keep-from}
 use Rattle.fields.proofs.Blocks.{length-remove}
+use Rattle.rules.specs.Given.{Given}
 use Rattle.rules.specs.Sizes.{maxNodes, numbers}
 use Rattle.rules.specs.Node.{Rec, goes, lastGc, remove, due}
 use Rattle.rules.specs.Table.{Entry, Table, removeAll}
 use Rattle.rules.specs.Local.{gc}
-use Rattle.rules.specs.Layout.{encodeNode, decodeNode, encode, decode, valid}
-use Rattle.rules.specs.Lent.{LentOutcome, onTable, stored, lentGc}
+use Rattle.rules.specs.Layout.{nodePlace, encodeNode, decodeNode, encode, decode, valid}
+use Rattle.rules.specs.Lent.{onTable, stored, lentGc}
 use Rattle.rules.specs.declared.Answer.{Answer}
 use Rattle.rules.specs.declared.Answer.the-variants as plain
 use Rattle.rules.specs.declared.Refusal.the-variants.{BadTable}
@@ -32,7 +33,7 @@ use Rattle.table.specs.Fits.{FitsEntry, FitsTable, LaidNode, LaidTable}
 use Rattle.table.specs.Changes.{withNode, withGc, withRecs}
 use Rattle.table.proofs.Nodes.{decode-encode-node, laid-node}
 use Rattle.table.proofs.Tables.{length-decode, read-back, laid-table}
-use Rattle.table.proofs.Places.{recAt, recs-at, length-recs, nodePlace, nodeAt, decode-at}
+use Rattle.table.proofs.Places.{recAt, recs-at, length-recs, nodeAt, decode-at}
 use Rattle.table.proofs.Changed.{table-set}
 use Rattle.table.proofs.Laid.{laid-rec, laid-at}
 use Rattle.removal.specs.Removals.{takenOut, removed}
@@ -287,14 +288,14 @@ module _ (l : List ℕ) (o : LaidTable l) (due : Rec → Bool) where
 
 module _ (time grace : ℕ) (l : List ℕ) where
   pub good-removed : valid l ≡ true → (m : List ℕ) → m ≡ encode (removeAll (λ i. due time grace) (decode l))
-      → (plain.Done ≡ lentGc time grace l .answer) × (m ≡ lentGc time grace l .bytes)
+      → (plain.Done ≡ lentGc time grace l .answer) × (m ≡ lentGc time grace l .lent)
   unfolding onTable gc
   good-removed v m e =
-      subst (λ (x : LentOutcome Answer). (plain.Done ≡ x .answer) × (m ≡ x .bytes))
-      (sym (pick-true (valid l) (stored (gc time grace (decode l))) (record { answer = plain.Refused BadTable; bytes = l }) v)) (refl, e)
+      subst (λ (x : Given Answer (List ℕ)). (plain.Done ≡ x .answer) × (m ≡ x .lent))
+      (sym (pick-true (valid l) (stored (gc time grace (decode l))) (record { answer = plain.Refused BadTable; lent = l }) v)) (refl, e)
 
-  pub bad-removed : valid l ≡ false → (plain.Refused BadTable ≡ lentGc time grace l .answer) × (l ≡ lentGc time grace l .bytes)
+  pub bad-removed : valid l ≡ false → (plain.Refused BadTable ≡ lentGc time grace l .answer) × (l ≡ lentGc time grace l .lent)
   unfolding onTable
   bad-removed v =
-      subst (λ (x : LentOutcome Answer). (plain.Refused BadTable ≡ x .answer) × (l ≡ x .bytes))
-      (sym (pick-false (valid l) (stored (gc time grace (decode l))) (record { answer = plain.Refused BadTable; bytes = l }) v)) (refl, refl)
+      subst (λ (x : Given Answer (List ℕ)). (plain.Refused BadTable ≡ x .answer) × (l ≡ x .lent))
+      (sym (pick-false (valid l) (stored (gc time grace (decode l))) (record { answer = plain.Refused BadTable; lent = l }) v)) (refl, refl)

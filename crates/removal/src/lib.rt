@@ -12,6 +12,7 @@ ghost use mathlib.Core.Path.{_≡_};
 ghost use mathlib.Core.Bool.{true, not};
 ghost use Prim.Native.Nat.{_+_, _<_, max};
 ghost use lib.Dec.{ltb};
+ghost use Rattle.rules.specs.Given.{Gives};
 ghost use Rattle.rules.specs.Node.{goes, due};
 ghost use Rattle.rules.specs.Table.{removeAll};
 ghost use Rattle.rules.specs.Layout.{encodeNode, decodeNode, encode, decode, valid};
@@ -69,7 +70,7 @@ fn remove_due(b: &mut [u8], time: u64, grace: u64)
     requires { ⌜ LaidNode (now b) ⌝ }
     ensures { λ _. ⌜ now (b .exit) ≡ encodeNode (removed (due time grace) (decodeNode (now (b .entry)))) ⌝ }
 {
-    let mut n = fields::byte_at(b, layout::COUNT);
+    let mut n = fields::byte_at(b, layout::RECORD_COUNT);
     let mut j = 0;
     while j < n {
         if must_go(b, j, time, grace) {
@@ -86,7 +87,7 @@ pub fn remove_good(table: &mut [u8], time: u64, grace: u64)
     requires { ⌜ valid (now table) ≡ true ⌝ }
     ensures { λ _. ⌜ now (table .exit) ≡ encode (removeAll (λ i. due time grace) (decode (now (table .entry)))) ⌝ }
 {
-    let n = fields::byte_at(table, 0);
+    let n = fields::byte_at(table, layout::NODE_COUNT);
     let mut i = 0;
     while i < n {
         let a = layout::NODES + i * layout::NODE;
@@ -98,7 +99,7 @@ pub fn remove_good(table: &mut [u8], time: u64, grace: u64)
 
 // The removal in lent bytes: 14.
 pub fn remove_scheduled(table: &mut [u8], time: u64, grace: u64) -> Answer
-    ensures { λ r. ⌜ (r ≡ lentGc time grace (now (table .entry)) .answer) × (now (table .exit) ≡ lentGc time grace (now (table .entry)) .bytes) ⌝ }
+    ensures { λ r. ⌜ Gives (lentGc time grace (now (table .entry))) r (now (table .exit)) ⌝ }
 {
     if table_check::check_table(table) {
         remove_good(table, time, grace);

@@ -13,6 +13,7 @@ use Rattle.fields.proofs.Parts.{part-put}
 use Rattle.fields.specs.Blocks.{flat}
 use Rattle.fields.specs.Choice.{_∈_, here, later, pick}
 use Rattle.fields.specs.Parts.{part, put}
+use Rattle.rules.specs.Given.{given}
 use Rattle.rules.proofs.Deltas.{AllSmall, Chain, follow-max, follow-record, read-delta}
 use Rattle.rules.proofs.Next.{Differ, Strict, strict-stale}
 use Rattle.rules.proofs.Obeys.{OkNode, OkRec, OkTable, table-facts}
@@ -24,7 +25,6 @@ use Rattle.rules.proofs.Taking.{FromOf, from-of, no-reset, reset-due}
 use Rattle.rules.specs.Compute.{StaleNode, allOps, bodyOps, compute, cut, deltaFor, firstTie, fromFor, fromOf, keyValueOps, onDigest, ordered, otherTies, queue, sooner, staleNode, staleNodes, staleOf, toldOf, unlessMax}
 use Rattle.rules.specs.Delta.{Good, KeyValueOp, Next, NodeOp, Op, Reading, SetMaxVersionOp, deltaBytes, follow, nothingRead, readDelta, sizeOf}
 use Rattle.rules.specs.Digest.{DigestRead, Entries, NodeDigest, Refused, readDigest}
-use Rattle.rules.specs.Local.{fills}
 use Rattle.rules.specs.Node.{KeyValue, Rec}
 use Rattle.rules.specs.Sizes.{leastMtu, maxDelta, maxNodes}
 use Rattle.rules.specs.Table.{Table, among, obeys}
@@ -264,7 +264,7 @@ not-computed r ops bytes e = let z : _≡_ {A = ℕ} 0 1 = cc in absurd (omega a
 
 pub computed-read : (excluded ties : List ℕ) (mtu place : ℕ) (digest : List ℕ) (t : Table) (l : List ℕ) (ops bytes : ℕ) → obeys t ≡ true
     → compute excluded ties mtu place digest t l .answer ≡ computed.Delta ops bytes
-    → ComputedAs place ops bytes (compute excluded ties mtu place digest t l .list)
+    → ComputedAs place ops bytes (compute excluded ties mtu place digest t l .lent)
 unfolding compute
 computed-read excluded ties mtu place digest t l ops bytes ob e =
     go (leb leastMtu mtu) (leb mtu maxDelta) refl (leb place (length l)) refl (leb mtu (length l - place)) refl (eqb (length ties) (length t)) (readDigest digest) e
@@ -292,8 +292,8 @@ computed-read excluded ties mtu place digest t l ops bytes ob e =
         → (d : Bool)
         → leb mtu (length l - place) ≡ d
         → (f : Bool) (r : DigestRead)
-        → pick (a && b) (pick (c && d) (pick f (onDigest excluded ties mtu place r t l) (fills (computed.Refused BadTies) l)) (fills (computed.Refused NoPlace) l)) (fills (computed.Refused BadMtu) l) .answer ≡ computed.Delta ops bytes
-        → ComputedAs place ops bytes (pick (a && b) (pick (c && d) (pick f (onDigest excluded ties mtu place r t l) (fills (computed.Refused BadTies) l)) (fills (computed.Refused NoPlace) l)) (fills (computed.Refused BadMtu) l) .list)
+        → pick (a && b) (pick (c && d) (pick f (onDigest excluded ties mtu place r t l) (given (computed.Refused BadTies) l)) (given (computed.Refused NoPlace) l)) (given (computed.Refused BadMtu) l) .answer ≡ computed.Delta ops bytes
+        → ComputedAs place ops bytes (pick (a && b) (pick (c && d) (pick f (onDigest excluded ties mtu place r t l) (given (computed.Refused BadTies) l)) (given (computed.Refused NoPlace) l)) (given (computed.Refused BadMtu) l) .lent)
     go false b p c q d s f r e = not-computed BadMtu ops bytes e
     go true false p c q d s f r e = not-computed BadMtu ops bytes e
     go true true p false q d s f r e = not-computed NoPlace ops bytes e

@@ -181,7 +181,7 @@ module _ (i : ℕ) (w : World) where
   pub seen-digesting : (excluded : List ℕ) (place : ℕ) (l : List ℕ) → Seen (at i w) (at i (calls (Digesting excluded place l) w))
   seen-digesting excluded place l = go (writeDigest excluded place (w .follower) l .answer)
     where
-      go : (a : Written) → Seen (at i w) (at i (onExchange (afterDigest place (writeDigest excluded place (w .follower) l .list) a (w .exchange)) w))
+      go : (a : Written) → Seen (at i w) (at i (onExchange (afterDigest place (writeDigest excluded place (w .follower) l .lent) a (w .exchange)) w))
       go (written.Bytes n) = (_, lost, refl)
       go (written.Refused r) = (_, stays, refl)
 

@@ -11,6 +11,7 @@ use lib.ListN.{length}
 use borrow.Author.Tests.{ltb-true}
 use Rattle.fields.specs.Choice.{here, pick}
 use Rattle.fields.specs.Parts.{put}
+use Rattle.rules.specs.Given.{Given, given}
 use Rattle.rules.proofs.Accepted.{computed-chain, computed-small, read-computed}
 use Rattle.rules.proofs.Calls.{beat-keeps, call-keeps, gc-keeps, offer-keeps, ok-each}
 use Rattle.rules.proofs.Deltas.{AllSmall, Chain, follow-node}
@@ -26,7 +27,7 @@ use Rattle.rules.specs.Compute.{deltaFor}
 use Rattle.rules.specs.Delta.{Good, KeyValueOp, NodeDelta, NodeOp, Op, Ops, Reading, SetMaxVersionOp, deltaBytes, nothingRead, partsOf, readDelta}
 use Rattle.rules.specs.Demand3.{Rises}
 use Rattle.rules.specs.Digest.{writeDigest}
-use Rattle.rules.specs.Local.{Filled, beatOn, call, callOn, gc, gives, localBeat, offer, offerOn}
+use Rattle.rules.specs.Local.{beatOn, call, callOn, gc, gives, localBeat, offer, offerOn}
 use Rattle.rules.specs.Node.{Call, Deleting, DeletingAfterTtl, KeyValue, Node, Setting, SettingTtl, beats, due, fresh, withHeartbeat}
 use Rattle.rules.specs.Sizes.{numbers, top}
 use Rattle.rules.specs.Table.{Table, among, nodeOf, numbersOf, obeys, setNode}
@@ -158,7 +159,7 @@ module _ (is : List ℕ) (w : World) (ok : InOrder is w) where
   stays-so : Next is w w
   stays-so = record { seen = λ i. (_, stays, refl); order = ok }
 
-  next-computing : (excluded ties : List ℕ) (mtu place : ℕ) (l d : List ℕ) → w .exchange ≡ DigestSent d → (o : Filled Computed) → Comes excluded ties mtu place d (w .publisher) l o → Next is w (onExchange (afterDelta place (o .list) (o .answer) (DigestSent d)) w)
+  next-computing : (excluded ties : List ℕ) (mtu place : ℕ) (l d : List ℕ) → w .exchange ≡ DigestSent d → (o : Given Computed (List ℕ)) → Comes excluded ties mtu place d (w .publisher) l o → Next is w (onExchange (afterDelta place (o .lent) (o .answer) (DigestSent d)) w)
   next-computing excluded ties mtu place l d x o (refuses r) = subst (λ (y : Exchange). Next is w (onExchange y w)) x stays-so
   next-computing excluded ties mtu place l d x o (writes ds rest e h g) =
       subst (λ (y : Exchange). Next is w (onExchange y w)) (sym (delta-written excluded ties mtu place d (w .publisher) l ds g (DigestSent d))) sent
@@ -228,7 +229,7 @@ module _ (is : List ℕ) (w : World) (ok : InOrder is w) where
       }
   next-calls (Digesting excluded place l) p = record { seen = λ j. seen-digesting j w excluded place l; order = sent-out _ (go (writeDigest excluded place (w .follower) l .answer)) }
     where
-      go : (a : Written) → Readable (afterDigest place (writeDigest excluded place (w .follower) l .list) a (w .exchange))
+      go : (a : Written) → Readable (afterDigest place (writeDigest excluded place (w .follower) l .lent) a (w .exchange))
       go (written.Bytes n) = tt
       go (written.Refused r) = ok .readable
   next-calls (Computing excluded ties mtu place l) p = go (w .exchange) refl

@@ -10,12 +10,12 @@ use borrow.Author.Tests.{leb-true}
 use Rattle.fields.proofs.Parts.{part-put}
 use Rattle.fields.specs.Choice.{pick}
 use Rattle.fields.specs.Parts.{put}
+use Rattle.rules.specs.Given.{Given, given}
 use Rattle.rules.proofs.Accepted.{cut-bytes}
 use Rattle.rules.specs.Compute.{allOps, compute, cut, deltaFor, onDigest, ordered, staleNodes, written}
 use Rattle.rules.specs.Delta.{deltaBytes}
 use Rattle.rules.specs.Demand3.{wroteDigest}
 use Rattle.rules.specs.Digest.{DigestRead, Entries, NodeDigest, Refused, digestBytes, digestOf, readDigest, writeDigest}
-use Rattle.rules.specs.Local.{Filled, fills}
 use Rattle.rules.specs.Sizes.{leastMtu, maxDelta}
 use Rattle.rules.specs.Table.{Table}
 use Rattle.rules.specs.World.{DeltaSent, DigestSent, Exchange, afterDelta, afterDigest, digested}
@@ -35,10 +35,10 @@ digest-written excluded place l t x e = go (leb place (length l)) refl (leb (len
     b : List ℕ
     b = digestBytes (digestOf excluded t)
 
-    Out : Bool → Filled Written
-    Out c = pick c (fills (written-as.Bytes (length b)) (put place b l)) (fills (written-as.Refused NoPlace) l)
+    Out : Bool → Given Written (List ℕ)
+    Out c = pick c (given (written-as.Bytes (length b)) (put place b l)) (given (written-as.Refused NoPlace) l)
 
-    go : (c : Bool) → leb place (length l) ≡ c → (d : Bool) → leb (length b) (length l - place) ≡ d → wroteDigest (Out (c && d) .answer) ≡ true → afterDigest place (Out (c && d) .list) (Out (c && d) .answer) x ≡ DigestSent b
+    go : (c : Bool) → leb place (length l) ≡ c → (d : Bool) → leb (length b) (length l - place) ≡ d → wroteDigest (Out (c && d) .answer) ≡ true → afterDigest place (Out (c && d) .lent) (Out (c && d) .answer) x ≡ DigestSent b
     go true p true q e = let g = leb-true place (length l) p in let h = leb-true (length b) (length l - place) q in ap DigestSent (part-put place b l (omega arith))
     go true p false q e = absurd (false≢true e)
     go false p d q e = absurd (false≢true e)
@@ -46,8 +46,8 @@ digest-written excluded place l t x e = go (leb place (length l)) refl (leb (len
 -- ---- a delta
 
 -- what computing comes to: a refusal, or the delta for what the digest's bytes tell
-pub data Comes (excluded ties : List ℕ) (mtu place : ℕ) (d : List ℕ) (t : Table) (l : List ℕ) : Filled Computed → Type 0 where
-  refuses : (r : Refusal) → Comes excluded ties mtu place d t l (fills (computed.Refused r) l)
+pub data Comes (excluded ties : List ℕ) (mtu place : ℕ) (d : List ℕ) (t : Table) (l : List ℕ) : Given Computed (List ℕ) → Type 0 where
+  refuses : (r : Refusal) → Comes excluded ties mtu place d t l (given (computed.Refused r) l)
   writes : (ds : List NodeDigest) (rest : List ℕ) → readDigest d ≡ Entries ds rest → mtu ≤ maxDelta → place + mtu ≤ length l → Comes excluded ties mtu place d t l (written (deltaFor excluded ties mtu ds t) place l)
 
 module _ (excluded ties : List ℕ) (mtu place : ℕ) (d : List ℕ) (t : Table) (l : List ℕ) where
@@ -55,8 +55,8 @@ module _ (excluded ties : List ℕ) (mtu place : ℕ) (d : List ℕ) (t : Table)
   unfolding compute
   comes = go (leb leastMtu mtu) (leb mtu maxDelta) refl (leb place (length l)) refl (leb mtu (length l - place)) refl (eqb (length ties) (length t)) (readDigest d) refl
     where
-      no : Refusal → Filled Computed
-      no r = fills (computed.Refused r) l
+      no : Refusal → Given Computed (List ℕ)
+      no r = given (computed.Refused r) l
 
       go : (a b : Bool)
           → leb mtu maxDelta ≡ b
@@ -78,8 +78,8 @@ module _ (excluded ties : List ℕ) (mtu place : ℕ) (d : List ℕ) (t : Table)
           writes ds rest e (leb-true mtu maxDelta b) (omega arith)
       go true true b true p true q true (Refused r) e = refuses r
 
-  abbrev onWay : Filled Computed → Exchange → Exchange
-  onWay o x = afterDelta place (o .list) (o .answer) x
+  abbrev onWay : Given Computed (List ℕ) → Exchange → Exchange
+  onWay o x = afterDelta place (o .lent) (o .answer) x
 
   pub delta-written : (ds : List NodeDigest) → place + mtu ≤ length l → (x : Exchange) → onWay (written (deltaFor excluded ties mtu ds t) place l) x ≡ DeltaSent (deltaBytes (deltaFor excluded ties mtu ds t))
   unfolding deltaFor

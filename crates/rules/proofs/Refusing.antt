@@ -12,13 +12,14 @@ use Rattle.fields.proofs.Ordered.{same-true}
 use Rattle.fields.specs.Choice.{pick}
 use Rattle.fields.specs.Order.{sameBytes}
 use Rattle.fields.specs.Parts.{put}
+use Rattle.rules.specs.Given.{Given, given}
 use Rattle.rules.specs.Apply.{ApplyOutcome, apply, applyEach, applyNode, applyOps, codes}
 use Rattle.rules.specs.Compute.{compute, onDigest, written}
 use Rattle.rules.specs.Delta.{Faulty, Good, Ops, Part, number, partsOf, readDelta}
 use Rattle.rules.specs.Digest.{DigestRead, Entries, Refused, digestBytes, digestOf, fitsAt, readDigest, writeDigest}
 use Rattle.rules.specs.Layout.{decode, encode, valid}
-use Rattle.rules.specs.Lent.{LentApply, LentOutcome, lentApply, onTable, stored, storedApply}
-use Rattle.rules.specs.Local.{Filled, Outcome, add, answerOf, beatOn, call, callOn, fills, gives, listInto, localBeat, offer, offerOn, prefixOn, prefixed, removeNode, yesNo}
+use Rattle.rules.specs.Lent.{TableAndList, both, lentApply, onTable, stored, storedApply}
+use Rattle.rules.specs.Local.{Outcome, add, answerOf, beatOn, call, callOn, gives, listInto, localBeat, offer, offerOn, prefixOn, prefixed, removeNode, yesNo}
 use Rattle.rules.specs.Node.{Call, Decision, Give, Leave, Node, Refuse, act, beats, decide, hitsFrom, offerOf, withHeartbeat}
 use Rattle.rules.specs.Sizes.{leastMtu, maxDelta, maxKey, maxNodes, top}
 use Rattle.rules.specs.Table.{Table, addNode, among, dropNode, nodeOf, numbersOf, obeys, setNode}
@@ -34,6 +35,7 @@ use Rattle.rules.specs.declared.Offered.the-variants as offered
 use Rattle.rules.specs.declared.Listed.the-variants as listed
 use Rattle.rules.specs.declared.Written.the-variants as written
 use Rattle.rules.specs.declared.Computed.the-variants as computed
+use Rattle.rules.specs.declared.Applied.{Applied}
 use Rattle.rules.specs.declared.Applied.the-variants as applied
 
 -- ---- the table
@@ -116,47 +118,47 @@ offer-refused i h t r = go (nodeOf i t)
 
 -- ---- lists and datagrams
 
-pub prefixed-refused : (i : ℕ) (k : List ℕ) (t : Table) (l : List ℕ) (r : Refusal) → prefixed i k t l .answer ≡ listed.Refused r → prefixed i k t l .list ≡ l
+pub prefixed-refused : (i : ℕ) (k : List ℕ) (t : Table) (l : List ℕ) (r : Refusal) → prefixed i k t l .answer ≡ listed.Refused r → prefixed i k t l .lent ≡ l
 unfolding prefixed
 prefixed-refused i k t l r = go (nodeOf i t)
   where
-    into : List ℕ → Bool → Filled Listed
-    into found b = pick b (fills (listed.Hits (length found)) (put 0 found l)) (fills (listed.Refused NoPlace) l)
+    into : List ℕ → Bool → Given Listed (List ℕ)
+    into found b = pick b (given (listed.Hits (length found)) (put 0 found l)) (given (listed.Refused NoPlace) l)
 
-    at : (found : List ℕ) (b : Bool) → into found b .answer ≡ listed.Refused r → into found b .list ≡ l
+    at : (found : List ℕ) (b : Bool) → into found b .answer ≡ listed.Refused r → into found b .lent ≡ l
     at found true e = let z : _≡_ {A = ℕ} 0 1 = cc in absurd (omega arith)
     at found false e = refl
 
-    key : (n : Node) (b : Bool) → pick b (listInto (hitsFrom k 0 (n .recs)) l) (fills (listed.Refused TooLong) l) .answer ≡ listed.Refused r → pick b (listInto (hitsFrom k 0 (n .recs)) l) (fills (listed.Refused TooLong) l) .list ≡ l
+    key : (n : Node) (b : Bool) → pick b (listInto (hitsFrom k 0 (n .recs)) l) (given (listed.Refused TooLong) l) .answer ≡ listed.Refused r → pick b (listInto (hitsFrom k 0 (n .recs)) l) (given (listed.Refused TooLong) l) .lent ≡ l
     key n true e = at (hitsFrom k 0 (n .recs)) (leb (length (hitsFrom k 0 (n .recs))) (length l)) e
     key n false e = refl
 
-    go : (o : Option Node) → prefixOn k o l .answer ≡ listed.Refused r → prefixOn k o l .list ≡ l
+    go : (o : Option Node) → prefixOn k o l .answer ≡ listed.Refused r → prefixOn k o l .lent ≡ l
     go none e = refl
     go (some n) e = key n (leb (length k) maxKey) e
 
-pub digest-refused : (excluded : List ℕ) (place : ℕ) (t : Table) (l : List ℕ) (r : Refusal) → writeDigest excluded place t l .answer ≡ written.Refused r → writeDigest excluded place t l .list ≡ l
+pub digest-refused : (excluded : List ℕ) (place : ℕ) (t : Table) (l : List ℕ) (r : Refusal) → writeDigest excluded place t l .answer ≡ written.Refused r → writeDigest excluded place t l .lent ≡ l
 unfolding writeDigest
 digest-refused excluded place t l r = go (digestBytes (digestOf excluded t)) (fitsAt place (length (digestBytes (digestOf excluded t))) l)
   where
-    out : List ℕ → Bool → Filled Written
-    out b c = pick c (fills (written.Bytes (length b)) (put place b l)) (fills (written.Refused NoPlace) l)
+    out : List ℕ → Bool → Given Written (List ℕ)
+    out b c = pick c (given (written.Bytes (length b)) (put place b l)) (given (written.Refused NoPlace) l)
 
-    go : (b : List ℕ) (c : Bool) → out b c .answer ≡ written.Refused r → out b c .list ≡ l
+    go : (b : List ℕ) (c : Bool) → out b c .answer ≡ written.Refused r → out b c .lent ≡ l
     go b true e = let z : _≡_ {A = ℕ} 0 1 = cc in absurd (omega arith)
     go b false e = refl
 
-pub compute-refused : (excluded ties : List ℕ) (mtu place : ℕ) (digest : List ℕ) (t : Table) (l : List ℕ) (r : Refusal) → compute excluded ties mtu place digest t l .answer ≡ computed.Refused r → compute excluded ties mtu place digest t l .list ≡ l
+pub compute-refused : (excluded ties : List ℕ) (mtu place : ℕ) (digest : List ℕ) (t : Table) (l : List ℕ) (r : Refusal) → compute excluded ties mtu place digest t l .answer ≡ computed.Refused r → compute excluded ties mtu place digest t l .lent ≡ l
 unfolding compute
 compute-refused excluded ties mtu place digest t l r =
     go (leb leastMtu mtu && leb mtu maxDelta) (fitsAt place mtu l) (eqb (length ties) (length t)) (readDigest digest)
   where
-    out : Bool → Bool → Bool → DigestRead → Filled Computed
+    out : Bool → Bool → Bool → DigestRead → Given Computed (List ℕ)
     out a b c d =
-        pick a (pick b (pick c (onDigest excluded ties mtu place d t l) (fills (computed.Refused BadTies) l)) (fills (computed.Refused NoPlace) l))
-        (fills (computed.Refused BadMtu) l)
+        pick a (pick b (pick c (onDigest excluded ties mtu place d t l) (given (computed.Refused BadTies) l)) (given (computed.Refused NoPlace) l))
+        (given (computed.Refused BadMtu) l)
 
-    go : (a b c : Bool) (d : DigestRead) → out a b c d .answer ≡ computed.Refused r → out a b c d .list ≡ l
+    go : (a b c : Bool) (d : DigestRead) → out a b c d .answer ≡ computed.Refused r → out a b c d .lent ≡ l
     go false b c d e = refl
     go true false c d e = refl
     go true true false d e = refl
@@ -195,24 +197,24 @@ pub lent-refused : {A : Type 0} (bad : A) (rule : Table → Outcome A) (refuses 
     → ((t : Table) → refuses (rule t .answer) → rule t .table ≡ t)
     → (l : List ℕ)
     → refuses (onTable bad rule l .answer)
-    → onTable bad rule l .bytes ≡ l
+    → onTable bad rule l .lent ≡ l
 unfolding onTable
 lent-refused {A} bad rule refuses f l = go (valid l) refl
   where
-    out : Bool → LentOutcome A
-    out b = pick b (stored (rule (decode l))) (record { answer = bad; bytes = l })
+    out : Bool → Given A (List ℕ)
+    out b = pick b (stored (rule (decode l))) (given bad l)
 
-    go : (b : Bool) → valid l ≡ b → refuses (out b .answer) → out b .bytes ≡ l
+    go : (b : Bool) → valid l ≡ b → refuses (out b .answer) → out b .lent ≡ l
     go true q e = ap encode (f (decode l) e) ∙ valid-bytes l q
     go false q e = refl
 
-pub lent-apply-refused : (delta : List ℕ) (now : ℕ) (list l : List ℕ) (r : Refusal) (at : ℕ) → lentApply delta now list l .answer ≡ applied.Refused r at → (lentApply delta now list l .bytes ≡ l) × (lentApply delta now list l .list ≡ list)
+pub lent-apply-refused : (delta : List ℕ) (now : ℕ) (list l : List ℕ) (r : Refusal) (at : ℕ) → lentApply delta now list l .answer ≡ applied.Refused r at → (lentApply delta now list l .lent .table ≡ l) × (lentApply delta now list l .lent .list ≡ list)
 unfolding lentApply
 lent-apply-refused delta now list l r at = go (valid l) refl
   where
-    out : Bool → LentApply
-    out b = pick b (storedApply (apply delta now (decode l) list)) (record { answer = applied.Refused BadTable 0; bytes = l; list = list })
+    out : Bool → Given Applied TableAndList
+    out b = pick b (storedApply (apply delta now (decode l) list)) (given (applied.Refused BadTable 0) (both l list))
 
-    go : (b : Bool) → valid l ≡ b → out b .answer ≡ applied.Refused r at → (out b .bytes ≡ l) × (out b .list ≡ list)
+    go : (b : Bool) → valid l ≡ b → out b .answer ≡ applied.Refused r at → (out b .lent .table ≡ l) × (out b .lent .list ≡ list)
     go true q e = let x = apply-refused delta now (decode l) list r at e in (ap encode (x .0) ∙ valid-bytes l q, x .1)
     go false q e = (refl, refl)

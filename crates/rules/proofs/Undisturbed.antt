@@ -13,6 +13,7 @@ use Rattle.fields.proofs.Choice.{and-left, and-right}
 use Rattle.fields.proofs.Parts.{part-put}
 use Rattle.fields.specs.Choice.{_∈_, here, later, pick}
 use Rattle.fields.specs.Parts.{part, put}
+use Rattle.rules.specs.Given.{Given, given}
 use Rattle.rules.proofs.Accepted.{read-computed}
 use Rattle.rules.proofs.Digests.{read-digest}
 use Rattle.rules.proofs.Moments.{InOrder}
@@ -25,7 +26,6 @@ use Rattle.rules.specs.Compute.{deltaFor, ordered, staleNodes}
 use Rattle.rules.specs.Delta.{Good, Op, Ops, Part, deltaBytes, partsOf, readDelta}
 use Rattle.rules.specs.Demand3.{Quiet, allGranted, exchangeOf, granted, noRoom, wroteDelta}
 use Rattle.rules.specs.Digest.{Entries, NodeDigest, digestBytes, digestOf, readDigest}
-use Rattle.rules.specs.Local.{Filled}
 use Rattle.rules.specs.Node.{Node}
 use Rattle.rules.specs.Sizes.{maxDelta, numbers}
 use Rattle.rules.specs.Table.{Table, among, nodeOf}
@@ -103,7 +103,7 @@ module _ (is : List ℕ) (q : Quiet) (w : World) (ok : InOrder is w) where
   unfolding happen
   second g = go _ (comes [] (q .ties) (q .mtu) (q .delta-place) (digestBytes told) (w .publisher) (q .delta-datagram)) g
     where
-      go : (o : Filled Computed) → Comes [] (q .ties) (q .mtu) (q .delta-place) (digestBytes told) (w .publisher) (q .delta-datagram) o → wroteDelta (o .answer) ≡ true → (onExchange (afterDelta (q .delta-place) (o .list) (o .answer) (DigestSent (digestBytes told))) asked ≡ answered) × (q .mtu ≤ maxDelta)
+      go : (o : Given Computed (List ℕ)) → Comes [] (q .ties) (q .mtu) (q .delta-place) (digestBytes told) (w .publisher) (q .delta-datagram) o → wroteDelta (o .answer) ≡ true → (onExchange (afterDelta (q .delta-place) (o .lent) (o .answer) (DigestSent (digestBytes told))) asked ≡ answered) × (q .mtu ≤ maxDelta)
       go o (refuses r) g = absurd (false≢true g)
       go o (writes ds rest e h k) g =
           let same : Entries ds rest ≡ Entries told [] = sym e ∙ read-back in

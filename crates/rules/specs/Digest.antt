@@ -9,10 +9,10 @@ use Rattle.fields.specs.Choice.{pick}
 use Rattle.fields.specs.Numbers.{natOf, bytesOf}
 use Rattle.fields.specs.Parts.{part, put}
 use Rattle.fields.specs.Blocks.{flat, unblock}
+use Rattle.rules.specs.Given.{Given, given}
 use Rattle.rules.specs.Sizes.{maxNodes}
 use Rattle.rules.specs.Node.{Node, beats}
 use Rattle.rules.specs.Table.{Entry, Table, among}
-use Rattle.rules.specs.Local.{Filled, fills}
 use Rattle.rules.specs.declared.Heartbeat.{Heartbeat}
 use Rattle.rules.specs.declared.Refusal.{Refusal}
 use Rattle.rules.specs.declared.Refusal.the-variants.{NoPlace, Cut, TooMany}
@@ -101,9 +101,9 @@ readDigest l = gathered (readEntries l)
 abbrev pub fitsAt : ℕ → ℕ → List ℕ → Bool
 fitsAt place n l = leb place (length l) && leb n (length l - place)
 
-abbrev pub writeBytes : List ℕ → ℕ → List ℕ → Filled Written
-writeBytes b place l = pick (fitsAt place (length b) l) (fills (written.Bytes (length b)) (put place b l)) (fills (written.Refused NoPlace) l)
+abbrev pub writeBytes : List ℕ → ℕ → List ℕ → Given Written (List ℕ)
+writeBytes b place l = pick (fitsAt place (length b) l) (given (written.Bytes (length b)) (put place b l)) (given (written.Refused NoPlace) l)
 
 -- a digest written into a datagram from its place: 8
-unfoldable pub writeDigest : List ℕ → ℕ → Table → List ℕ → Filled Written
+unfoldable pub writeDigest : List ℕ → ℕ → Table → List ℕ → Given Written (List ℕ)
 writeDigest excluded place t l = writeBytes (digestBytes (digestOf excluded t)) place l

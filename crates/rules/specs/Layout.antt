@@ -64,6 +64,10 @@ nodeWidths = 8 ∷ 8 ∷ 8 ∷ 8 ∷ 1 ∷ maxRecords * recWidth ∷ []
 abbrev pub nodeWidth : ℕ
 nodeWidth = total nodeWidths
 
+-- where record j begins in a node's bytes
+abbrev pub recPlace : (j : ℕ) → ℕ
+recPlace j = offset nodeWidths 5 + j * recWidth
+
 abbrev pub nodeFields : Entry → List (List ℕ)
 nodeFields e =
     bytesOf 8 (e .number)
@@ -98,6 +102,10 @@ tableWidths = 1 ∷ maxNodes * nodeWidth ∷ []
 -- how long the lent slice is
 abbrev pub tableWidth : ℕ
 tableWidth = total tableWidths
+
+-- where node i begins in a table's bytes
+abbrev pub nodePlace : (i : ℕ) → ℕ
+nodePlace i = offset tableWidths 1 + i * nodeWidth
 
 abbrev pub tableFields : Table → List (List ℕ)
 tableFields t = bytesOf 1 (length t) ∷ blocks maxNodes nodeWidth encodeNode t ∷ []

@@ -1,5 +1,6 @@
 pub mod Sizes
 pub mod Answers
+pub mod Given
 pub mod Node
 pub mod Table
 pub mod Local

@@ -10,6 +10,7 @@ use lib.Dec.{leb, ltb, eqb}
 use Rattle.fields.specs.Choice.{pick}
 use Rattle.fields.specs.Parts.{put}
 use Rattle.rules.specs.Sizes.{maxNodes, maxKey, top}
+use Rattle.rules.specs.Given.{Given, given}
 use Rattle.rules.specs.Node.{Rec, Node, Call, Decision, Refuse, Leave, Give, decide, act, find, shown, hitsFrom, due, offerOf, beats, withHeartbeat}
 use Rattle.rules.specs.Table.{Table, nodeOf, setNode, addNode, dropNode, removeAll, numbersOf, among}
 use Rattle.rules.specs.declared.Heartbeat.{Heartbeat}
@@ -104,22 +105,14 @@ lookupOn k (some n) = pick (leb (length k) maxKey) (foundOf (shown (find k (n .r
 unfoldable pub lookup : ℕ → List ℕ → Table → Found
 lookup i k t = lookupOn k (nodeOf i t)
 
--- an answer, and a lent list after the call
-pub record Filled (A : Type 0) : Type 0 where
-  pub answer : A
-  pub list : List ℕ
-
-abbrev pub fills : {A : Type 0} → A → List ℕ → Filled A
-fills a l = record { answer = a; list = l }
-
 -- the places of the hits go to the front of the lent list, where it has room for them (8)
-abbrev pub listInto : List ℕ → List ℕ → Filled Listed
-listInto found l = pick (leb (length found) (length l)) (fills (listed.Hits (length found)) (put 0 found l)) (fills (listed.Refused NoPlace) l)
+abbrev pub listInto : List ℕ → List ℕ → Given Listed (List ℕ)
+listInto found l = pick (leb (length found) (length l)) (given (listed.Hits (length found)) (put 0 found l)) (given (listed.Refused NoPlace) l)
 
-abbrev pub prefixOn : List ℕ → Option Node → List ℕ → Filled Listed
-prefixOn k none l = fills (listed.Refused NoNode) l
-prefixOn k (some n) l = pick (leb (length k) maxKey) (listInto (hitsFrom k 0 (n .recs)) l) (fills (listed.Refused TooLong) l)
+abbrev pub prefixOn : List ℕ → Option Node → List ℕ → Given Listed (List ℕ)
+prefixOn k none l = given (listed.Refused NoNode) l
+prefixOn k (some n) l = pick (leb (length k) maxKey) (listInto (hitsFrom k 0 (n .recs)) l) (given (listed.Refused TooLong) l)
 
 -- a prefix listing: 2, 1, 8
-unfoldable pub prefixed : ℕ → List ℕ → Table → List ℕ → Filled Listed
+unfoldable pub prefixed : ℕ → List ℕ → Table → List ℕ → Given Listed (List ℕ)
 prefixed i k t l = prefixOn k (nodeOf i t) l

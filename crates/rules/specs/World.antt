@@ -112,13 +112,13 @@ afterDelta place l (computed.Delta ops bytes) x = DeltaSent (part place bytes l)
 afterDelta place l (computed.Refused r) x = x
 
 abbrev pub digested : List ℕ → ℕ → List ℕ → Table → Exchange → Exchange
-digested excluded place l t x = afterDigest place (writeDigest excluded place t l .list) (writeDigest excluded place t l .answer) x
+digested excluded place l t x = afterDigest place (writeDigest excluded place t l .lent) (writeDigest excluded place t l .answer) x
 
 -- only for a digest that is on its way
 abbrev pub computedFor : List ℕ → List ℕ → ℕ → ℕ → List ℕ → Table → Exchange → Exchange
 computedFor excluded ties mtu place l t Idle = Idle
 computedFor excluded ties mtu place l t (DigestSent d) =
-    afterDelta place (compute excluded ties mtu place d t l .list) (compute excluded ties mtu place d t l .answer) (DigestSent d)
+    afterDelta place (compute excluded ties mtu place d t l .lent) (compute excluded ties mtu place d t l .answer) (DigestSent d)
 computedFor excluded ties mtu place l t (DeltaSent b) = DeltaSent b
 
 -- only a delta that is on its way

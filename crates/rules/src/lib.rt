@@ -3,12 +3,43 @@ ghost use mathlib.Core.Path.{_≡_};
 ghost use Rattle.rules.specs.Answers.{numberOf, codeOf};
 ghost use Rattle.rules.specs.Node.{freshHeader, offerOf, emptyRecord};
 ghost use Rattle.rules.specs.Apply.{statusOf, newerOf};
+ghost use Rattle.rules.specs.Delta.{statusByte};
+ghost use Rattle.rules.specs.Layout.{statusOfByte};
+
+pub mod sizes;
+pub mod wire;
 
 // How a record stands to deletion. Delete and Ttl are scheduled: a removal takes them after the grace. Only Delete hides.
 pub enum Status {
     Set,
     Delete,
     Ttl,
+}
+
+impl Status {
+    // The byte that stands for it, in a table and in a delta.
+    pub fn byte(self) -> usize
+        ensures { λ r. ⌜ r ≡ statusByte self ⌝ }
+    {
+        match self {
+            Status::Set => 0,
+            Status::Delete => 1,
+            Status::Ttl => 2,
+        }
+    }
+
+    // The status that a byte stands for; one above 2 is read as TTL, and who can meet it looks at it first.
+    pub fn of_byte(n: usize) -> Self
+        ensures { λ r. ⌜ r ≡ statusOfByte n ⌝ }
+    {
+        if n == 0 {
+            return Status::Set;
+        }
+        if n == 1 {
+            return Status::Delete;
+        }
+        Status::Ttl
+    }
 }
 
 // A count of beats. It is a type of its own, so that no one takes it for a version.

@@ -17,12 +17,11 @@ use Rattle.fields.proofs.Widths.{field-set, field-put, widths-set}
 use Rattle.rules.specs.Sizes.{maxNodes, maxRecords}
 use Rattle.rules.specs.Node.{Rec, beats}
 use Rattle.rules.specs.Table.{Entry, Table}
-use Rattle.rules.specs.Layout.{recWidth, nodeWidths, nodeWidth, tableWidths, nodeFields, tableFields, encodeRec, encodeNode, encode}
+use Rattle.rules.specs.Layout.{recPlace, nodePlace, recWidth, nodeWidths, nodeWidth, tableWidths, nodeFields, tableFields, encodeRec, encodeNode, encode}
 use Rattle.table.specs.Changes.{withBeat, withMax, withGc, withRecs, freshEntry}
 use Rattle.table.proofs.Records.{length-rec}
 use Rattle.table.proofs.Nodes.{node-widths, length-node}
 use Rattle.table.proofs.Tables.{table-widths}
-use Rattle.table.proofs.Places.{recPlace, nodePlace}
 use Rattle.table.proofs.Areas.{part-in, move-put}
 
 -- ---- the numbers of a node's header

@@ -12,12 +12,12 @@ use Rattle.fields.proofs.Parts.{length-part}
 use Rattle.rules.specs.Sizes.{maxKey, maxValue}
 use Rattle.rules.specs.Node.{Rec}
 use Rattle.rules.specs.Table.{Entry}
-use Rattle.rules.specs.Layout.{recWidth, nodeWidth, decodeRec, decodeNode, encodeNode, decode}
+use Rattle.rules.specs.Layout.{recPlace, nodePlace, recWidth, nodeWidth, decodeRec, decodeNode, encodeNode, decode}
 use Rattle.table.specs.Fits.{FitsRec, LaidNode, LaidTable}
 use Rattle.table.specs.Tests.{keyLength, valueLength, countOf, nodesOf, recsOf}
 use Rattle.table.proofs.Nodes.{laid-node}
 use Rattle.table.proofs.Tables.{length-decode}
-use Rattle.table.proofs.Places.{recPlace, recBytes, recAt, recs-at, length-recs, nodePlace, nodeBytes}
+use Rattle.table.proofs.Places.{recBytes, recAt, recs-at, length-recs, nodeBytes}
 use Rattle.table.proofs.Changed.{table-node}
 
 -- a length of a text that was read within the sizes is within them itself

@@ -16,16 +16,12 @@ use Rattle.fields.proofs.Blocks.{unblock-drop, unblock-at, length-unblock, all-
 use Rattle.rules.specs.Sizes.{maxNodes, maxRecords}
 use Rattle.rules.specs.Node.{Rec}
 use Rattle.rules.specs.Table.{Entry}
-use Rattle.rules.specs.Layout.{recWidths, recWidth, nodeWidths, nodeWidth, tableWidths, tableWidth, decodeRec, decodeNode, decode}
+use Rattle.rules.specs.Layout.{nodePlace, recPlace, recWidths, recWidth, nodeWidths, nodeWidth, tableWidths, tableWidth, decodeRec, decodeNode, decode}
 use Rattle.table.specs.Tests.{countOf, nodesOf, recsOf, recGood}
 
 -- ---- in a node's bytes
 
--- where record i begins
-abbrev pub recPlace : ℕ → ℕ
-recPlace i = offset nodeWidths 5 + i * recWidth
-
--- its bytes
+-- the bytes of record i
 abbrev pub recBytes : ℕ → List ℕ → List ℕ
 recBytes i b = part (recPlace i) recWidth b
 
@@ -57,11 +53,7 @@ good-at max i n b t h =
 
 -- ---- in a table's bytes
 
--- where node i begins
-abbrev pub nodePlace : ℕ → ℕ
-nodePlace i = offset tableWidths 1 + i * nodeWidth
-
--- its bytes
+-- the bytes of node i
 abbrev pub nodeBytes : ℕ → List ℕ → List ℕ
 nodeBytes i l = part (nodePlace i) nodeWidth l
 

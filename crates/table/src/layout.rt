@@ -1,9 +1,7 @@
 // Where everything stands in the bytes of a lent table: a structure is its fields, one behind the other.
 use rules::Header;
 use rules::Record;
-
-// The most nodes of a table.
-pub const MOST_NODES: usize = 8;
+use rules::sizes;
 
 // A record, from its first byte: key length, key, value length, value, version, status, start.
 pub const KEY_LENGTH: usize = 0;
@@ -31,13 +29,15 @@ pub const MAX: usize = HEARTBEAT + 8;
 
 pub const LAST_GC: usize = MAX + 8;
 
-pub const COUNT: usize = LAST_GC + 8;
+pub const RECORD_COUNT: usize = LAST_GC + 8;
 
-pub const RECORDS: usize = COUNT + 1;
+pub const RECORDS: usize = RECORD_COUNT + 1;
 
 pub const NODE: usize = RECORDS + Header::RECORDS * RECORD;
 
 // A table: count of nodes, room for 8 of them.
-pub const NODES: usize = 1;
+pub const NODE_COUNT: usize = 0;
 
-pub const TABLE: usize = NODES + MOST_NODES * NODE;
+pub const NODES: usize = NODE_COUNT + 1;
+
+pub const TABLE: usize = NODES + sizes::NODES * NODE;

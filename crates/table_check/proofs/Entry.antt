@@ -6,21 +6,22 @@ use mathlib.Core.Bool.{Bool, true, false}
 use mathlib.Core.List.{List}
 use Rattle.fields.specs.Choice.{pick}
 use Rattle.fields.proofs.Choice.{pick-true, pick-false}
+use Rattle.rules.specs.Given.{Given}
 use Rattle.rules.specs.Table.{Table}
 use Rattle.rules.specs.Local.{Outcome}
-use Rattle.rules.specs.Lent.{LentOutcome, stored, onTable}
+use Rattle.rules.specs.Lent.{stored, onTable}
 use Rattle.rules.specs.Layout.{encode, decode, valid}
 
 module _ {A : Type 0} (bad : A) (rule : Table → Outcome A) (l : List ℕ) where
-  pub bad-table : valid l ≡ false → (bad ≡ onTable bad rule l .answer) × (l ≡ onTable bad rule l .bytes)
+  pub bad-table : valid l ≡ false → (bad ≡ onTable bad rule l .answer) × (l ≡ onTable bad rule l .lent)
   unfolding onTable
   bad-table v =
-      let e : onTable bad rule l ≡ record { answer = bad; bytes = l } = pick-false (valid l) (stored (rule (decode l))) (record { answer = bad; bytes = l }) v in
-      (ap (λ (o : LentOutcome A). o .answer) (sym e), ap (λ (o : LentOutcome A). o .bytes) (sym e))
+      let e : onTable bad rule l ≡ record { answer = bad; lent = l } = pick-false (valid l) (stored (rule (decode l))) (record { answer = bad; lent = l }) v in
+      (ap (λ (o : Given A (List ℕ)). o .answer) (sym e), ap (λ (o : Given A (List ℕ)). o .lent) (sym e))
 
   pub good-table : valid l ≡ true → (r : A) (s : List ℕ) → (r ≡ rule (decode l) .answer) × (s ≡ encode (rule (decode l) .table))
-      → (r ≡ onTable bad rule l .answer) × (s ≡ onTable bad rule l .bytes)
+      → (r ≡ onTable bad rule l .answer) × (s ≡ onTable bad rule l .lent)
   unfolding onTable
   good-table v r s h =
-      let e : onTable bad rule l ≡ stored (rule (decode l)) = pick-true (valid l) (stored (rule (decode l))) (record { answer = bad; bytes = l }) v in
-      (h .0 ∙ ap (λ (o : LentOutcome A). o .answer) (sym e), h .1 ∙ ap (λ (o : LentOutcome A). o .bytes) (sym e))
+      let e : onTable bad rule l ≡ stored (rule (decode l)) = pick-true (valid l) (stored (rule (decode l))) (record { answer = bad; lent = l }) v in
+      (h .0 ∙ ap (λ (o : Given A (List ℕ)). o .answer) (sym e), h .1 ∙ ap (λ (o : Given A (List ℕ)). o .lent) (sym e))

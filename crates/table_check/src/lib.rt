@@ -2,6 +2,7 @@
 // loops, so that these run many bytes at a time.
 use rules::Header;
 use rules::Record;
+use rules::sizes;
 use table::layout;
 ghost use mathlib.Core.Path.{_≡_};
 ghost use mathlib.Core.Bool.{true};
@@ -93,11 +94,11 @@ fn check_records(b: &[u8], n: usize, max: u64) -> bool
 }
 
 // The versions of a node's records, in its first `n` places.
-fn versions_of(b: &[u8], n: usize) -> [u64; 32]
+fn versions_of(b: &[u8], n: usize) -> [u64; Header::RECORDS]
     requires { ⌜ (length (now b) ≡ nodeWidth) × (n ≤ 32) × (n ≡ countOf (now b)) ⌝ }
     ensures { λ r. ⌜ (length r ≡ 32) × (take n r ≡ versions (recsOf (now (b .entry)))) ⌝ }
 {
-    let mut vs = [0u64; 32];
+    let mut vs = [0u64; Header::RECORDS];
     let mut i = 0;
     while i < n {
         vs[i] = fields::read_u64(b, layout::RECORDS + i * layout::RECORD + layout::VERSION);
@@ -186,7 +187,7 @@ fn check_node(b: &[u8]) -> bool
     requires { ⌜ length (now b) ≡ nodeWidth ⌝ }
     ensures { λ r. ⌜ r ≡ nodeGood (now (b .entry)) ⌝ }
 {
-    let n = fields::byte_at(b, layout::COUNT);
+    let n = fields::byte_at(b, layout::RECORD_COUNT);
     if Header::RECORDS < n {
         return false;
     }
@@ -246,8 +247,8 @@ pub fn check_table(s: &[u8]) -> bool
     if s.len() != layout::TABLE {
         return false;
     }
-    let n = fields::byte_at(s, 0);
-    if layout::MOST_NODES < n {
+    let n = fields::byte_at(s, layout::NODE_COUNT);
+    if sizes::NODES < n {
         return false;
     }
     if check_nodes(s, n) {

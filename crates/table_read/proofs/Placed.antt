@@ -18,11 +18,11 @@ use Rattle.fields.proofs.Ordered.{order-same, order-less, order-more, less-same
 use Rattle.rules.specs.Node.{Rec, Node, store}
 use Rattle.rules.proofs.Records.{keyOf}
 use Rattle.rules.specs.Table.{Entry, Table, setNode, addNode, dropNode, numbersOf, among}
-use Rattle.rules.specs.Layout.{encodeNode, decodeNode, decode, encode, valid}
+use Rattle.rules.specs.Layout.{nodePlace, encodeNode, decodeNode, decode, encode, valid}
 use Rattle.table.specs.Changes.{withNode, freshEntry}
 use Rattle.table.specs.Tests.{nodesOf}
 use Rattle.table.proofs.Tables.{valid-laid, length-decode}
-use Rattle.table.proofs.Places.{nodePlace, nodeAt, decode-at}
+use Rattle.table.proofs.Places.{nodeAt, decode-at}
 use Rattle.table.proofs.Changed.{table-set}
 use Rattle.table_read.specs.Find.{further, seek, findBy, numberOrder, toNode, toKey, findNode, findKey}
 use Rattle.table_read.specs.declared.Place.{Place}

@@ -12,7 +12,7 @@ ghost use Rattle.fields.specs.Numbers.{natOf};
 ghost use Rattle.fields.specs.Parts.{part};
 ghost use Rattle.rules.specs.Sizes.{maxNodes, maxRecords, maxKey, maxValue};
 ghost use Rattle.rules.specs.Table.{keysRise};
-ghost use Rattle.rules.specs.Layout.{recWidth, nodeWidth, tableWidth, decodeRec, decodeNode, decode, statusOfByte};
+ghost use Rattle.rules.specs.Layout.{recWidth, nodeWidth, tableWidth, decodeRec, decodeNode, decode};
 ghost use Rattle.table.specs.Tests.{keyLength, valueLength, countOf, nodesOf, recsOf};
 ghost use Rattle.table.specs.Fits.{LaidNode};
 ghost use Rattle.table_read.specs.Find.{findNode, findKey, headerOf, recordOf};
@@ -23,25 +23,12 @@ pub enum Place {
     Free(usize),
 }
 
-// The status that a byte stands for.
-fn status_of(n: usize) -> Status
-    ensures { λ r. ⌜ r ≡ statusOfByte n ⌝ }
-{
-    if n == 0 {
-        return Status::Set;
-    }
-    if n == 1 {
-        return Status::Delete;
-    }
-    Status::Ttl
-}
-
 // What a record's bytes say beside its key and value.
 pub fn read_record(b: &[u8]) -> Record
     requires { ⌜ (length (now b) ≡ recWidth) × (keyLength (now b) ≤ maxKey) × (valueLength (now b) ≤ maxValue) ⌝ }
     ensures { λ r. ⌜ r ≡ recordOf (decodeRec (now (b .entry))) ⌝ }
 {
-    let status = status_of(fields::byte_at(b, layout::STATUS));
+    let status = Status::of_byte(fields::byte_at(b, layout::STATUS));
     Record {
         keylen: fields::byte_at(b, layout::KEY_LENGTH),
         valuelen: fields::byte_at(b, layout::VALUE_LENGTH),
@@ -69,7 +56,7 @@ pub fn find_node(s: &[u8], number: u64) -> Place
     requires { ⌜ (length (now s) ≡ tableWidth) × (nodesOf (now s) ≤ maxNodes) ⌝ }
     ensures { λ r. ⌜ r ≡ findNode number (decode (now (s .entry))) ⌝ }
 {
-    let n = fields::byte_at(s, 0);
+    let n = fields::byte_at(s, layout::NODE_COUNT);
     let mut i = 0;
     while i < n {
         let x = fields::read_u64(s, layout::NODES + i * layout::NODE);
@@ -90,7 +77,7 @@ pub fn search_key(b: &[u8], key: &[u8]) -> Place
     ensures { λ r. ⌜ r ≡ findKey (now (key .entry)) (recsOf (now (b .entry))) ⌝ }
 {
     let mut low = 0;
-    let mut high = fields::byte_at(b, layout::COUNT);
+    let mut high = fields::byte_at(b, layout::RECORD_COUNT);
     while low < high {
         let j = (low + high) / 2;
         match fields::compare(key, table::key_of(table::record_of(b, j))) {

@@ -17,13 +17,13 @@ use Rattle.fields.proofs.Blocks.{length-zeros, zeros-add, length-fit, fit-pad}
 use Rattle.rules.specs.Sizes.{maxNodes, maxRecords}
 use Rattle.rules.specs.Node.{Rec}
 use Rattle.rules.specs.Delta.{statusByte}
-use Rattle.rules.specs.Layout.{recWidth, nodeWidth, encodeRec, encodeNode, decodeNode, decodeRec, encode, decode}
+use Rattle.rules.specs.Layout.{recPlace, nodePlace, recWidth, nodeWidth, encodeRec, encodeNode, decodeNode, decodeRec, encode, decode}
 use Rattle.rules.specs.declared.Status.{Status}
 use Rattle.table.specs.Tests.{countOf, nodesOf, recsOf}
 use Rattle.table.specs.Fits.{LaidNode, LaidTable}
 use Rattle.table.specs.Changes.{withRecs, freshEntry, recOf}
 use Rattle.table.proofs.Tables.{length-decode}
-use Rattle.table.proofs.Places.{recPlace, nodePlace, length-recs}
+use Rattle.table.proofs.Places.{length-recs}
 use Rattle.table.proofs.Changed.{node-rec-set, node-rec-insert, node-rec-remove, table-insert, table-remove, fresh-bytes}
 
 -- ---- a text in its room

@@ -12,22 +12,10 @@ ghost use Rattle.fields.specs.Numbers.{bytesOf};
 ghost use Rattle.fields.specs.Parts.{put};
 ghost use Rattle.fields.specs.Blocks.{fit, insertAt, removeAt};
 ghost use Rattle.rules.specs.Sizes.{maxNodes, maxRecords, maxKey, maxValue};
-ghost use Rattle.rules.specs.Delta.{statusByte};
 ghost use Rattle.rules.specs.Layout.{recWidth, nodeWidth, encodeRec, encodeNode, decodeNode, encode, decode};
 ghost use Rattle.table.specs.Tests.{countOf, nodesOf, recsOf};
 ghost use Rattle.table.specs.Fits.{LaidNode, LaidTable};
 ghost use Rattle.table.specs.Changes.{withBeat, withMax, withGc, withRecs, freshEntry, recOf};
-
-// The byte of a status.
-pub fn status_byte(s: Status) -> usize
-    ensures { λ r. ⌜ r ≡ statusByte s ⌝ }
-{
-    match s {
-        Status::Set => 0,
-        Status::Delete => 1,
-        Status::Ttl => 2,
-    }
-}
 
 // Stores the length of a text at `at`, and behind it the text in room for `room` bytes, the others zero.
 fn write_text(b: &mut [u8], at: usize, room: usize, text: &[u8])
@@ -44,7 +32,7 @@ fn write_record(b: &mut [u8], key: &[u8], value: &[u8], version: u64, status: St
     requires { ⌜ (length (now b) ≡ recWidth) × (length (now key) ≤ maxKey) × (length (now value) ≤ maxValue) ⌝ }
     ensures { λ _. ⌜ now (b .exit) ≡ encodeRec (recOf (now (key .entry)) (now (value .entry)) version status start) ⌝ }
 {
-    let code = status_byte(status);
+    let code = status.byte();
     write_text(b, layout::KEY_LENGTH, Record::KEY, key);
     write_text(b, layout::VALUE_LENGTH, Record::VALUE, value);
     fields::write_u64(b, layout::VERSION, version);
@@ -83,12 +71,12 @@ pub fn insert_record(
     requires { ⌜ LaidNode (now b) × (j ≤ countOf (now b)) × (countOf (now b) < maxRecords) × (length (now key) ≤ maxKey) × (length (now value) ≤ maxValue) ⌝ }
     ensures { λ _. ⌜ now (b .exit) ≡ encodeNode (withRecs (insertAt j (recOf (now (key .entry)) (now (value .entry)) version status start) (recsOf (now (b .entry)))) (decodeNode (now (b .entry)))) ⌝ }
 {
-    let n = fields::byte_at(b, layout::COUNT);
+    let n = fields::byte_at(b, layout::RECORD_COUNT);
     let a = layout::RECORDS + j * layout::RECORD;
     let e = a + layout::RECORD;
     fields::move_up(b, a, e, (n - j) * layout::RECORD);
     write_record(&mut b[a..e], key, value, version, status, start);
-    fields::write_byte(b, layout::COUNT, n + 1);
+    fields::write_byte(b, layout::RECORD_COUNT, n + 1);
 }
 
 // Record `j` of a node goes.
@@ -96,12 +84,12 @@ pub fn remove_record(b: &mut [u8], j: usize)
     requires { ⌜ LaidNode (now b) × (j < countOf (now b)) ⌝ }
     ensures { λ _. ⌜ now (b .exit) ≡ encodeNode (withRecs (removeAt j (recsOf (now (b .entry)))) (decodeNode (now (b .entry)))) ⌝ }
 {
-    let n = fields::byte_at(b, layout::COUNT);
+    let n = fields::byte_at(b, layout::RECORD_COUNT);
     let a = layout::RECORDS + j * layout::RECORD;
     let m = (n - (j + 1)) * layout::RECORD;
     fields::move_down(b, a + layout::RECORD, a, m);
     fields::clear(b, a + m, layout::RECORD);
-    fields::write_byte(b, layout::COUNT, n - 1);
+    fields::write_byte(b, layout::RECORD_COUNT, n - 1);
 }
 
 // A node's heartbeat becomes this one.
@@ -133,12 +121,12 @@ pub fn insert_node(s: &mut [u8], i: usize, number: u64)
     requires { ⌜ LaidTable (now s) × (i ≤ nodesOf (now s)) × (nodesOf (now s) < maxNodes) ⌝ }
     ensures { λ _. ⌜ now (s .exit) ≡ encode (insertAt i (freshEntry number) (decode (now (s .entry)))) ⌝ }
 {
-    let n = fields::byte_at(s, 0);
+    let n = fields::byte_at(s, layout::NODE_COUNT);
     let a = layout::NODES + i * layout::NODE;
     fields::move_up(s, a, a + layout::NODE, (n - i) * layout::NODE);
     fields::clear(s, a, layout::NODE);
     fields::write_u64(s, a, number);
-    fields::write_byte(s, 0, n + 1);
+    fields::write_byte(s, layout::NODE_COUNT, n + 1);
 }
 
 // Node `i` of a table goes.
@@ -146,10 +134,10 @@ pub fn remove_node(s: &mut [u8], i: usize)
     requires { ⌜ LaidTable (now s) × (i < nodesOf (now s)) ⌝ }
     ensures { λ _. ⌜ now (s .exit) ≡ encode (removeAt i (decode (now (s .entry)))) ⌝ }
 {
-    let n = fields::byte_at(s, 0);
+    let n = fields::byte_at(s, layout::NODE_COUNT);
     let a = layout::NODES + i * layout::NODE;
     let m = (n - (i + 1)) * layout::NODE;
     fields::move_down(s, a + layout::NODE, a, m);
     fields::clear(s, a + m, layout::NODE);
-    fields::write_byte(s, 0, n - 1);
+    fields::write_byte(s, layout::NODE_COUNT, n - 1);
 }

@@ -4,7 +4,7 @@ use mathlib.Core.Path.{_≡_, refl, sym, ap, _∙_}
 use mathlib.Core.List.{List}
 use native.Mathlib.Omega.{arith}
 use lib.ListN.{length}
-use Rattle.rules.specs.Local.{Filled}
+use Rattle.rules.specs.Given.{Given, given}
 use Rattle.rules.specs.Digest.{DigestRead, Entries, Refused, readDigest}
 use Rattle.rules.specs.Layout.{decode}
 use Rattle.rules.specs.declared.Computed.{Computed}
@@ -53,7 +53,7 @@ returns : tie.Need-returns
 returns c =
     let a = c .before .before .before .before .before .before .before .before .before .before .args in
     let e = by-refused (a .excluded .now) (a .ties .now) (a .mtu) (a .place) (a .digest .now) (decode (a .table .now)) (a .datagram .now) _ (asked-is (c .before .before .before) ∙ c .before .asked .given .1) in
-    (ap (λ (x : Filled Computed). x .answer) e, ap (λ (x : Filled Computed). x .list) e)
+    (ap (λ (x : Given Computed (List ℕ)). x .answer) e, ap (λ (x : Given Computed (List ℕ)). x .lent) e)
 
 enum-told : tie.Need-enum-told
 enum-told c = search needs
@@ -100,7 +100,7 @@ returns-2 c =
     let read = read-nodes (a .digest .now) _ _ (sym (ap (λ (x : Digest). x .read) (r .ensures)) ∙ c .before .before .before .before .enum-told2 .given .1) ∙ ap (λ (x : Digest). Entries (entriesIn x) (restOf (readDigest (a .digest .now)))) (sym (r .ensures)) in
     let e = by-part (a .excluded .now) (a .ties .now) (a .mtu) (a .place) (a .digest .now) (decode (a .table .now)) (a .datagram .now) (entriesIn (r .result)) _ (call .result) (call .last .1 .1 .1 .1 .0)
     (omega arith) (asked-is (c .before .before .before .before .before .before .before .before .before) ∙ c .before .before .before .before .before .before .before .enum-told .given .1) read (call .ensures .0) (call .ensures .1) (call .ensures .2) (call .kept .1 .1 .1 .1 .0) in
-    (ap (λ (x : Filled Computed). x .answer) e, ap (λ (x : Filled Computed). x .list) e)
+    (ap (λ (x : Given Computed (List ℕ)). x .answer) e, ap (λ (x : Given Computed (List ℕ)). x .lent) e)
 
 returns-3 : tie.Need-returns-3
 returns-3 c =
@@ -108,7 +108,7 @@ returns-3 c =
     let r = c .before .before .before .read-digest in
     let read = read-refused (a .digest .now) _ (sym (ap (λ (x : Digest). x .read) (r .ensures)) ∙ c .before .read .given .1) in
     let e = by-digest (a .excluded .now) (a .ties .now) (a .mtu) (a .place) (a .digest .now) (decode (a .table .now)) (a .datagram .now) _ (asked-is (c .before .before .before .before .before .before) ∙ c .before .before .before .before .enum-told .given .1) read in
-    (ap (λ (x : Filled Computed). x .answer) e, ap (λ (x : Filled Computed). x .list) e)
+    (ap (λ (x : Given Computed (List ℕ)). x .answer) e, ap (λ (x : Given Computed (List ℕ)). x .lent) e)
 
 pub compute-good-spec : {M : Type 1} → statement M
 compute-good-spec =

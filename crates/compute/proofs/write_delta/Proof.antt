@@ -2,7 +2,7 @@
 use mathlib.Core.Path.{_≡_, ap, _∙_}
 use mathlib.Core.List.{List}
 use lib.ListN.{length}
-use Rattle.rules.specs.Local.{Filled}
+use Rattle.rules.specs.Given.{Given}
 use Rattle.rules.specs.Layout.{decode}
 use Rattle.table.proofs.Tables.{length-decode}
 use Rattle.digest_read.specs.Held.{entriesIn}
@@ -46,8 +46,8 @@ returns c =
     let k = c .before .before .before .before .before .before .before .before .line-up .ensures in
     let call = c .before .before .send .ensures in
     let e = delta-is (a .excluded .now) (entriesIn (a .d)) (a .ties .now) (decode (a .s .now)) _ k (a .part .now) in
-    let f = call .0 ∙ ap (λ (x : Filled Sent). x .answer) e in
-    (ap (λ (x : Sent). x .ops) f, ap (λ (x : Sent). x .bytes) f, call .1 ∙ ap (λ (x : Filled Sent). x .list) e)
+    let f = call .0 ∙ ap (λ (x : Given Sent (List ℕ)). x .answer) e in
+    (ap (λ (x : Sent). x .ops) f, ap (λ (x : Sent). x .bytes) f, call .1 ∙ ap (λ (x : Given Sent (List ℕ)). x .lent) e)
 
 pub write-delta-spec : {M : Type 1} → statement M
 write-delta-spec =

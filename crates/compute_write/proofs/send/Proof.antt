@@ -6,8 +6,8 @@ use native.Mathlib.Omega.{arith}
 use lib.ListN.{length, getD}
 use borrow.Author.Needs.{needs}
 use Rattle.fields.specs.Choice.{_∈_}
+use Rattle.rules.specs.Given.{Given, given}
 use Rattle.rules.specs.Node.{KeyValue}
-use Rattle.rules.specs.Local.{Filled, fills}
 use Rattle.rules.specs.Delta.{Op, KeyValueOp}
 use Rattle.rules.specs.Compute.{stale, bodyOps}
 use Rattle.rules.specs.Layout.{decode}
@@ -154,7 +154,7 @@ after-max c =
     (own-count k ∙ sym (ap length (own-stale k))) (c .before .before .before .send-max .ensures .0) (c .before .before .before .send-max .ensures .1) body
 
 -- the outcome where the records begin, and at the function's entry
-abbrev begun : (m : tie.After-struct-known2 Inv-loop μ-loop Inv-nodes μ-nodes) → Filled Sent
+abbrev begun : (m : tie.After-struct-known2 Inv-loop μ-loop Inv-nodes μ-nodes) → Given Sent (List ℕ)
 begun m =
     let q = m .before .before .before .before .before .before .before .before .before .before .before .before .before .before .before .before .before .before .before in
     let a = q .before .before .before .before .before .args in
@@ -163,7 +163,7 @@ begun m =
     (recordOps t (own (m .before .before .before .before .before .before .before)) (found (m .before .before .before .before .before .before .before)) ++ opsAt t (a .froms .now) (listed (q .nodes .j - 1) (a .line .now)))
     (whole (node-used (m .before .before .before .before .before .before .before .before .before)) (node-written (m .before .before .before .before .before .before .before .before .before)) (room (m .before .before .before .before .before .before .before .before .before)) (m .before .before .before .before .send-max .last .1 .1 .1 .0))
 
-abbrev at-entry : (q : tie.At-nodes Inv-loop μ-loop Inv-nodes μ-nodes) → Filled Sent
+abbrev at-entry : (q : tie.At-nodes Inv-loop μ-loop Inv-nodes μ-nodes) → Given Sent (List ℕ)
 at-entry q =
     let a = q .before .before .before .before .before .args in
     sending 0 0 (opsAt (decode (a .s .now)) (a .froms .now) (listed (a .n) (a .line .now))) (a .d .now)
@@ -376,11 +376,11 @@ returns : tie.Need-returns Inv-loop μ-loop Inv-nodes μ-nodes
 returns c =
     let q = c .before in
     let a = q .before .before .before .before .before .args in
-    let e : fills (record { ops = q .nodes .ops; bytes = q .nodes .used }) (q .nodes .d) ≡ at-entry q =
+    let e : given (record { ops = q .nodes .ops; bytes = q .nodes .used }) (q .nodes .d) ≡ at-entry q =
     sym (none-left (q .nodes .ops) (q .nodes .used) (q .nodes .d))
     ∙ ap (λ (os : List Op). sending (q .nodes .ops) (q .nodes .used) os (q .nodes .d)) (sym (no-node (decode (a .s .now)) (a .froms .now) (a .line .now) (q .nodes .j) (omega arith)))
     ∙ q .nodes .inv .5 in
-    (ap (λ (x : Filled Sent). x .answer) e, ap (λ (x : Filled Sent). x .list) e)
+    (ap (λ (x : Given Sent (List ℕ)). x .answer) e, ap (λ (x : Given Sent (List ℕ)). x .lent) e)
 
 same-length-2 : tie.Need-same-length-2 Inv-loop μ-loop Inv-nodes μ-nodes
 same-length-2 c = search needs
@@ -390,8 +390,8 @@ returns-2 c =
     let i = c .before .before .before .before .before .before .before .before in
     let q = i .before in
     let u = unchanged (q .nodes .used) (q .nodes .d) (q .nodes .inv .1) _ _ _ (c .before .before .before .before .send-node .ensures) (c .enum-told .given .1) in
-    let e : fills (record { ops = q .nodes .ops; bytes = q .nodes .used }) (q .nodes .d) ≡ at-entry q = sym (node-ends _ _ _ _ _ _ _ (u .0)) ∙ node-first i in
-    (ap (λ (x : Filled Sent). x .answer) e, u .1 ∙ ap (λ (x : Filled Sent). x .list) e)
+    let e : given (record { ops = q .nodes .ops; bytes = q .nodes .used }) (q .nodes .d) ≡ at-entry q = sym (node-ends _ _ _ _ _ _ _ (u .0)) ∙ node-first i in
+    (ap (λ (x : Given Sent (List ℕ)). x .answer) e, u .1 ∙ ap (λ (x : Given Sent (List ℕ)). x .lent) e)
 
 same-length-3 : tie.Need-same-length-3 Inv-loop μ-loop Inv-nodes μ-nodes
 same-length-3 c =
@@ -404,9 +404,9 @@ returns-3 c =
     let q = i .before in
     let m = q .before in
     let u = unchanged (q .loop .used) (q .loop .d) (q .loop .inv .1) _ _ _ (c .before .before .before .before .send-record .ensures) (c .enum-told2 .given .1) in
-    let e : fills (record { ops = q .loop .ops; bytes = q .loop .used }) (q .loop .d) ≡ at-entry (m .before .before .before .before .before .before .before .before .before .before .before .before .before .before .before .before .before .before .before) =
+    let e : given (record { ops = q .loop .ops; bytes = q .loop .used }) (q .loop .d) ≡ at-entry (m .before .before .before .before .before .before .before .before .before .before .before .before .before .before .before .before .before .before .before) =
     sym (record-ends _ _ _ _ _ (u .0)) ∙ record-first i ∙ after-max (m .before) .same in
-    (ap (λ (x : Filled Sent). x .answer) e, u .1 ∙ ap (λ (x : Filled Sent). x .list) e)
+    (ap (λ (x : Given Sent (List ℕ)). x .answer) e, u .1 ∙ ap (λ (x : Given Sent (List ℕ)). x .lent) e)
 
 pub send-spec : {M : Type 1} → statement M
 send-spec =

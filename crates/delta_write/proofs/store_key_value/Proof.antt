@@ -36,8 +36,8 @@ write-u64-requires c κs = search needs
 add-write-byte : tie.Need-add-write-byte
 add-write-byte c = search needs
 
-status-byte-requires : tie.Need-status-byte-requires
-status-byte-requires c κs = search needs
+byte-requires : tie.Need-byte-requires
+byte-requires c κs = search needs
 
 write-byte-requires-2 : tie.Need-write-byte-requires-2
 write-byte-requires-2 c κs = search needs
@@ -50,7 +50,7 @@ returns c =
     let a = c .before .before .before .before .before .before .before .before .before .before .before .before .before .before .before .before .before .before .before .before .before .before .before .before .args in
     key-value-fields (a .key .now) (a .value .now) (a .version) (a .status) (a .d .now) _ _ _ _ _ (c .before .before .before .before .before .before .before .before .before .before .before .before .before .before .before .before .before .before .before .before .before .before .before .before .pre)
     (c .before .before .before .before .before .before .before .before .before .before .before .before .before .before .before .before .before .before .before .write-byte .ensures) (c .before .before .before .before .before .before .before .before .before .before .before .before .before .before .before .write-text .ensures) (c .before .before .before .before .before .before .before .before .before .before .before .write-text2 .ensures) (c .before .before .before .before .before .before .before .write-u64 .ensures)
-    (c .before .before .write-byte2 .ensures ∙ ap (λ (v : ℕ). put (1 + 2 + length (a .key .now) + 2 + length (a .value .now) + 8) (bytesOf 1 v) (c .before .before .before .before .before .before .before .write-u64 .last .0)) (c .before .before .before .status-byte .ensures))
+    (c .before .before .write-byte2 .ensures ∙ ap (λ (v : ℕ). put (1 + 2 + length (a .key .now) + 2 + length (a .value .now) + 8) (bytesOf 1 v) (c .before .before .before .before .before .before .before .write-u64 .last .0)) (c .before .before .before .byte .ensures))
 
 pub store-key-value-spec : {M : Type 1} → statement M
 store-key-value-spec =
@@ -65,7 +65,7 @@ store-key-value-spec =
     write-text-requires-2
     write-u64-requires
     add-write-byte
-    status-byte-requires
+    byte-requires
     write-byte-requires-2
     same-length
     returns)

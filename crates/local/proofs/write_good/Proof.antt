@@ -8,14 +8,14 @@ use lib.ListN.{length}
 use Rattle.fields.proofs.Lent.{seen, lent}
 use Rattle.rules.specs.Node.{Call, act, decide}
 use Rattle.rules.specs.Table.{keysRise}
-use Rattle.rules.specs.Layout.{encodeNode, decode}
+use Rattle.rules.specs.Layout.{nodePlace, encodeNode, decode}
 use Rattle.rules.specs.Sizes.{maxNodes}
 use Rattle.table.specs.Changes.{withNode}
 use Rattle.table.specs.Fits.{LaidNode}
 use Rattle.table.specs.Tests.{recsOf, nodesOf}
 use Rattle.table.proofs.Nodes.{length-node}
 use Rattle.table.proofs.Tables.{valid-long, valid-few}
-use Rattle.table.proofs.Places.{nodeBytes, nodeAt, nodePlace}
+use Rattle.table.proofs.Places.{nodeBytes, nodeAt}
 use Rattle.table_read.specs.Find.{findNode}
 use Rattle.table_read.specs.declared.Place.the-variants.{At}
 use Rattle.table_read.proofs.Searched.{node-in, node-laid, node-rises}

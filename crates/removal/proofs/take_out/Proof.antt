@@ -5,10 +5,10 @@ use mathlib.Core.List.{List}
 use native.Mathlib.Omega.{arith}
 use Rattle.fields.specs.Numbers.{natOf}
 use Rattle.fields.specs.Parts.{part}
-use Rattle.rules.specs.Layout.{decodeNode}
+use Rattle.rules.specs.Layout.{recPlace, decodeNode}
 use Rattle.table.specs.Tests.{countOf}
 use Rattle.table.specs.Fits.{LaidNode}
-use Rattle.table.proofs.Places.{recPlace, recAt, version-at}
+use Rattle.table.proofs.Places.{recAt, version-at}
 use Rattle.removal.proofs.Removing.{less-laid, taken-steps}
 use borrow.Author.Needs.{needs}
 use Rattle.removal.proofs.take_out.Statement.{statement}

@@ -13,12 +13,12 @@ use Rattle.fields.proofs.Choice.{and-yes, and-no}
 use Rattle.fields.proofs.Lent.{seen}
 use Rattle.rules.specs.Node.{Rec}
 use Rattle.rules.specs.Table.{keysRise}
-use Rattle.rules.specs.Layout.{recWidth, nodeWidth, decodeRec}
+use Rattle.rules.specs.Layout.{recPlace, recWidth, nodeWidth, decodeRec}
 use Rattle.table.specs.Tests.{countOf, recsOf, recGood, keyLength}
 use Rattle.rules.specs.Sizes.{maxKey}
 use Rattle.fields.proofs.Parts.{length-part}
 use Rattle.table.proofs.Records.{good-key}
-use Rattle.table.proofs.Places.{recPlace, recBytes, recAt, recs-drop, length-recs, good-at}
+use Rattle.table.proofs.Places.{recBytes, recAt, recs-drop, length-recs, good-at}
 use borrow.Author.Needs.{needs}
 use Rattle.table_check.proofs.keys_rise.Statement.{statement}
 use Rattle.table_check.proofs.keys_rise.Tie as tie

@@ -12,9 +12,9 @@ use Rattle.fields.specs.Numbers.{natOf}
 use Rattle.fields.specs.Parts.{part}
 use Rattle.fields.proofs.Choice.{and-yes, and-no}
 use Rattle.rules.specs.Table.{Table, rising, numbersOf}
-use Rattle.rules.specs.Layout.{decode, tableWidth}
+use Rattle.rules.specs.Layout.{nodePlace, decode, tableWidth}
 use Rattle.table.specs.Tests.{nodesOf}
-use Rattle.table.proofs.Places.{decode-drop, number-at, nodeAt, nodePlace}
+use Rattle.table.proofs.Places.{decode-drop, number-at, nodeAt}
 use Rattle.table.proofs.Tables.{length-decode}
 use borrow.Author.Needs.{needs}
 use Rattle.table_check.proofs.numbers_rise.Statement.{statement}

@@ -10,9 +10,9 @@ use Rattle.fields.specs.Numbers.{natOf}
 use Rattle.fields.specs.Parts.{part}
 use Rattle.rules.specs.Node.{Rec}
 use Rattle.rules.specs.Table.{versions}
-use Rattle.rules.specs.Layout.{nodeWidth}
+use Rattle.rules.specs.Layout.{recPlace, nodeWidth}
 use Rattle.table.specs.Tests.{countOf, recsOf}
-use Rattle.table.proofs.Places.{recs-drop, version-at, recAt, recPlace, length-recs}
+use Rattle.table.proofs.Places.{recs-drop, version-at, recAt, length-recs}
 use borrow.Author.Needs.{needs}
 use Rattle.table_check.proofs.versions_of.Statement.{statement}
 use Rattle.table_check.proofs.versions_of.Tie as tie

@@ -7,10 +7,10 @@ use lib.ListN.{length, drop}
 use Rattle.fields.specs.Numbers.{natOf}
 use Rattle.fields.specs.Parts.{part}
 use Rattle.rules.specs.Table.{Table}
-use Rattle.rules.specs.Layout.{decode, tableWidth}
+use Rattle.rules.specs.Layout.{nodePlace, decode, tableWidth}
 use Rattle.table.specs.Tests.{nodesOf}
 use Rattle.table.proofs.Tables.{length-decode}
-use Rattle.table.proofs.Places.{decode-drop, number-at, nodeAt, nodePlace}
+use Rattle.table.proofs.Places.{decode-drop, number-at, nodeAt}
 use Rattle.table_read.specs.Find.{further, toNode, findNode}
 use Rattle.table_read.specs.declared.Place.the-variants.{At, Free}
 use Rattle.table_read.proofs.Found.{start, end, step-same, step-less, step-more, number-same, number-less, number-more}

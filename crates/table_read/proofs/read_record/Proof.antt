@@ -19,8 +19,8 @@ use Rattle.table_read.proofs.read_record.Tie as tie
 byte-at-requires : tie.Need-byte-at-requires
 byte-at-requires c κs = search needs
 
-status-of-requires : tie.Need-status-of-requires
-status-of-requires c κs = search needs
+of-byte-requires : tie.Need-of-byte-requires
+of-byte-requires c κs = search needs
 
 byte-at-requires-2 : tie.Need-byte-at-requires-2
 byte-at-requires-2 c κs = search needs
@@ -51,15 +51,15 @@ returns c =
     let k = v .before in
     let s = k .before in
     let a = s .before .before .before in
-    record-is (a .args .b .now) (k .byte-at2 .result) (v .byte-at3 .result) (n .read-u64 .result) (c .read-u642 .result) (s .before .byte-at .result) (s .status-of .result)
-    (a .pre .0) (a .pre .1) (a .pre .2) (k .byte-at2 .ensures .0) (v .byte-at3 .ensures .0) (n .read-u64 .ensures) (s .status-of .ensures) (s .before .byte-at .ensures .0) (c .read-u642 .ensures)
+    record-is (a .args .b .now) (k .byte-at2 .result) (v .byte-at3 .result) (n .read-u64 .result) (c .read-u642 .result) (s .before .byte-at .result) (s .of-byte .result)
+    (a .pre .0) (a .pre .1) (a .pre .2) (k .byte-at2 .ensures .0) (v .byte-at3 .ensures .0) (n .read-u64 .ensures) (s .of-byte .ensures) (s .before .byte-at .ensures .0) (c .read-u642 .ensures)
 
 pub read-record-spec : {M : Type 1} → statement M
 read-record-spec =
     tie.close
     (tie.spec
     byte-at-requires
-    status-of-requires
+    of-byte-requires
     byte-at-requires-2
     byte-at-requires-3
     read-u64-requires

@@ -4,8 +4,8 @@ use borrow.Author.Needs.{needs}
 use Rattle.table_write.proofs.write_record.Statement.{statement}
 use Rattle.table_write.proofs.write_record.Tie as tie
 
-status-byte-requires : tie.Need-status-byte-requires
-status-byte-requires c κs = search needs
+byte-requires : tie.Need-byte-requires
+byte-requires c κs = search needs
 
 write-text-requires : tie.Need-write-text-requires
 write-text-requires c κs = search needs
@@ -34,14 +34,14 @@ returns c =
     let keyed = valued .before .before .before .before in
     let code = keyed .before .before in
     let st = code .before .before .before .before in
-    record-steps (st .args .b .now) _ _ _ _ _ (st .args .key .now) (st .args .value .now) (st .args .version) (code .status-byte .result) (st .args .start) (st .args .status) (st .pre .0)
-    (code .status-byte .ensures) (keyed .write-text .ensures) (valued .write-text2 .ensures) (numbered .write-u64 .ensures) (coded .write-byte .ensures) (started .write-u642 .ensures)
+    record-steps (st .args .b .now) _ _ _ _ _ (st .args .key .now) (st .args .value .now) (st .args .version) (code .byte .result) (st .args .start) (st .args .status) (st .pre .0)
+    (code .byte .ensures) (keyed .write-text .ensures) (valued .write-text2 .ensures) (numbered .write-u64 .ensures) (coded .write-byte .ensures) (started .write-u642 .ensures)
 
 pub write-record-spec : {M : Type 1} → statement M
 write-record-spec =
     tie.close
     (tie.spec
-    status-byte-requires
+    byte-requires
     write-text-requires
     write-text-requires-2
     write-u64-requires

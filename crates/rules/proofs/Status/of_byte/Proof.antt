@@ -1,11 +1,11 @@
--- `table_read::status_of` meets its contract. Assumes nothing.
+-- `rules::Status::of_byte` meets its contract. Assumes nothing.
 use Prim.Native.Nat.{ℕ, zero, suc}
 use mathlib.Core.Path.{_≡_, refl}
 use Rattle.rules.specs.Layout.{statusOfByte}
 use Rattle.rules.specs.declared.Status.the-variants.{Ttl}
 use borrow.Author.Needs.{needs}
-use Rattle.table_read.proofs.status_of.Statement.{statement}
-use Rattle.table_read.proofs.status_of.Tie as tie
+use Rattle.rules.proofs.Status.of_byte.Statement.{statement}
+use Rattle.rules.proofs.Status.of_byte.Tie as tie
 
 returns : tie.Need-returns
 returns c = search needs
@@ -21,5 +21,5 @@ other (suc (suc n)) h g = refl
 returns-3 : tie.Need-returns-3
 returns-3 c = other (c .before .before .args .n) (c .before .if1 .left) (c .if2 .left)
 
-pub status-of-spec : {M : Type 1} → statement M
-status-of-spec = tie.close (tie.spec returns returns-2 returns-3)
+pub of-byte-spec : {M : Type 1} → statement M
+of-byte-spec = tie.close (tie.spec returns returns-2 returns-3)

@@ -1,0 +1,47 @@
+// Where everything stands in the bytes of a delta and of a digest. Numbers are little-endian.
+
+// The widths of a tag or a status, of the length of a text, and of a number.
+pub const BYTE: usize = 1;
+
+pub const LENGTH: usize = 2;
+
+pub const NUMBER: usize = 8;
+
+// The tags of the three operations. What follows a tag is told from the tag on.
+pub const NODE: usize = 0;
+
+pub const KEY_VALUE: usize = 1;
+
+pub const SET_MAX_VERSION: usize = 2;
+
+// A Node: its number, last_gc and from, and its whole width.
+pub const NODE_NUMBER: usize = BYTE;
+
+pub const NODE_LAST_GC: usize = NODE_NUMBER + NUMBER;
+
+pub const NODE_FROM: usize = NODE_LAST_GC + NUMBER;
+
+pub const NODE_WIDTH: usize = NODE_FROM + NUMBER;
+
+// A KeyValue begins with the length of its key. What it takes beside the bytes of key and value: the tag, two lengths, the version and the status.
+pub const KEY_LENGTH: usize = BYTE;
+
+pub const BESIDE_TEXTS: usize = BYTE + LENGTH + LENGTH + NUMBER + BYTE;
+
+// A SetMaxVersion: the max, and its whole width.
+pub const MAX: usize = BYTE;
+
+pub const MAX_WIDTH: usize = MAX + NUMBER;
+
+// A digest: the count of its entries, then an entry behind the other, each a number, a heartbeat, last_gc and max.
+pub const COUNT_WIDTH: usize = 2;
+
+pub const ENTRY_NUMBER: usize = 0;
+
+pub const ENTRY_HEARTBEAT: usize = ENTRY_NUMBER + NUMBER;
+
+pub const ENTRY_LAST_GC: usize = ENTRY_HEARTBEAT + NUMBER;
+
+pub const ENTRY_MAX: usize = ENTRY_LAST_GC + NUMBER;
+
+pub const ENTRY_WIDTH: usize = ENTRY_MAX + NUMBER;
