@@ -12,7 +12,7 @@ use lib.Seq.{drop-cons}
 use lib.Dec.{leb}
 use borrow.Author.Tests.{le-leb, lt-leb}
 use Rattle.fields.specs.Choice.{pick, _∈_, here, later}
-use Rattle.fields.specs.Numbers.{natOf, bytesOf, Bytes}
+use Rattle.fields.specs.Numbers.{natOf, bytesOf, AreBytes}
 use Rattle.fields.specs.Blocks.{zeros}
 use Rattle.fields.specs.Parts.{part, put}
 use Rattle.fields.proofs.Lent.{seen, lent}
@@ -282,7 +282,7 @@ module _ (s : List ℕ) (a : Accepted s) where
   unfolding rule.deltaRead
   not-refused why at e = let z : read.Good (length (a .0)) (length (rule.partsOf (a .0))) ≡ read.Refused why at = ap rule.readAnswer (sym (a .1)) ∙ e in let y : _≡_ {A = ℕ} 0 1 = cc in absurd (omega arith)
 
-  module _ (h : Bytes s) where
+  module _ (h : AreBytes s) where
     pub all-ok : AllOk (partsFrom s 0)
     all-ok =
         let d = delta-is s (a .0) h (a .1) .0 in
@@ -322,7 +322,7 @@ module _ (clock : ℕ) (s t₀ l₀ : List ℕ) where
       unfolding x
       left = drop-cons (partsFrom s 0) i noPart h ∙ ap (λ (j : ℕ). getD (partsFrom s 0) i noPart ∷ drop j (partsFrom s 0)) (sym (add-one i))
 
-      pub stands-next : clock < numbers → Accepted s → Bytes s → (r : NodeAnswer) (t′ l′ : List ℕ) → Turned clock (getD (partsFrom s 0) i noPart) (decode t) r t′ → l′ ≡ set l i (codeOf r)
+      pub stands-next : clock < numbers → Accepted s → AreBytes s → (r : NodeAnswer) (t′ l′ : List ℕ) → Turned clock (getD (partsFrom s 0) i noPart) (decode t) r t′ → l′ ≡ set l i (codeOf r)
           → Stands clock s t₀ l₀ (i + 1) t′ l′
       unfolding x u codes
       stands-next k acc bytes r t′ l′ w q =

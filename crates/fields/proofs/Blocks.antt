@@ -13,7 +13,7 @@ use lib.ListN.{length, take, drop, getD, set, length-append, length-take, length
 use lib.Seq.{take-at, drop-at, length-take-le, drop-drop, take-append-add, take-add, take-all, split-at, set-split}
 use borrow.Author.Tests.{eqb-true}
 use Rattle.fields.specs.Choice.{_∈_, here, later}
-use Rattle.fields.specs.Numbers.{natOf, bytesOf, Bytes}
+use Rattle.fields.specs.Numbers.{natOf, bytesOf, AreBytes}
 use Rattle.fields.specs.Parts.{part, put}
 use Rattle.fields.specs.Blocks.{zeros, allZero, fit, flat, blocks, unblock, allBlocks, insertAt, removeAt}
 use Rattle.fields.proofs.Choice.{and-left, and-right, and-intro}
@@ -61,14 +61,14 @@ unfolding natOf zeros
 nat-zero zero = refl
 nat-zero (suc n) = omega (arith, nat-zero n)
 
-pub bytes-zeros : (n : ℕ) → Bytes (zeros n)
+pub bytes-zeros : (n : ℕ) → AreBytes (zeros n)
 unfolding zeros
 bytes-zeros zero = bytes-none
 bytes-zeros (suc n) = bytes-cons 0 (zeros n) (lit< tt) (bytes-zeros n)
 
 -- ---- a list in n places, the others zero
 
-pub bytes-fit : (n : ℕ) (xs : List ℕ) → Bytes xs → Bytes (fit n xs)
+pub bytes-fit : (n : ℕ) (xs : List ℕ) → AreBytes xs → AreBytes (fit n xs)
 unfolding fit
 bytes-fit n xs h = bytes-take n (xs ++ zeros n) (bytes-append xs (zeros n) h (bytes-zeros n))
 
@@ -192,12 +192,12 @@ module _ {A : Type 0} (enc : A → List ℕ) (w : ℕ) (wide : (a : A) → lengt
   unfolding blocks
   length-blocks n es = length-fit (n * w) (flat enc es)
 
-  pub bytes-flat : (es : List A) → ((a : A) → a ∈ es → Bytes (enc a)) → Bytes (flat enc es)
+  pub bytes-flat : (es : List A) → ((a : A) → a ∈ es → AreBytes (enc a)) → AreBytes (flat enc es)
   unfolding flat
   bytes-flat [] h = bytes-none
   bytes-flat (a ∷ es) h = bytes-append (enc a) (flat enc es) (h a (here refl)) (bytes-flat es (λ x m. h x (later m)))
 
-  pub bytes-blocks : (n : ℕ) (es : List A) → ((a : A) → a ∈ es → Bytes (enc a)) → Bytes (blocks n w enc es)
+  pub bytes-blocks : (n : ℕ) (es : List A) → ((a : A) → a ∈ es → AreBytes (enc a)) → AreBytes (blocks n w enc es)
   unfolding blocks
   bytes-blocks n es h = bytes-fit (n * w) (flat enc es) (bytes-flat es h)
 

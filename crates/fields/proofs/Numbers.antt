@@ -1,5 +1,5 @@
 -- Laws of numbers as bytes, over the count of bytes: a number of n bytes is written and read back, some bytes are read and written back, and
--- the bounds of both. A list of bytes (`Bytes`) stays one when it is cut, joined or put together. Assumes nothing.
+-- the bounds of both. A list of bytes (`AreBytes`) stays one when it is cut, joined or put together. Assumes nothing.
 use Prim.Native.Nat.{ℕ, zero, suc, _+_, _*_, _/_, _%_, _^_, _≤_, _<_}
 use mathlib.Core.Path.{_≡_, refl, ap, ap₂, sym, _∙_, subst}
 use mathlib.Core.Logic.{_⊎_, inl, inr}
@@ -10,7 +10,7 @@ use native.Mathlib.Decide.{decLt}
 use lib.Dec.{lit<}
 use lib.ListN.{length, take, drop, getD, List·getD-eq-default}
 use Rattle.fields.specs.Choice.{_∈_, here, later}
-use Rattle.fields.specs.Numbers.{natOf, bytesOf, Bytes}
+use Rattle.fields.specs.Numbers.{natOf, bytesOf, AreBytes}
 use Rattle.fields.specs.Parts.{part, put}
 use Rattle.fields.proofs.Choice.{in-none, in-cons, in-append, in-take, in-drop, in-at, at-in}
 use Rattle.fields.proofs.Parts.{part-cons, part-add, part-put, put-behind, length-part}
@@ -18,44 +18,44 @@ use Rattle.fields.proofs.Parts.{part-cons, part-add, part-put, put-behi
 -- ---- a list of bytes
 
 -- by places, as what is known of a slice of `u8` says it
-pub bytes-at : (l : List ℕ) → Bytes l → (i : ℕ) → getD l i 0 < 256
+pub bytes-at : (l : List ℕ) → AreBytes l → (i : ℕ) → getD l i 0 < 256
 bytes-at l h i =
     elim (decLt i (length l)) [
       | yes p ↦ h (getD l i 0) (in-at l i 0 p)
       | no p ↦ rw (List·getD-eq-default l 0 {n = i} (omega arith)) (lit< tt)
     ]
 
-pub at-bytes : (l : List ℕ) → ((i : ℕ) → getD l i 0 < 256) → Bytes l
+pub at-bytes : (l : List ℕ) → ((i : ℕ) → getD l i 0 < 256) → AreBytes l
 at-bytes l h = at-in (λ b. b < 256) l 0 (λ i g. h i)
 
-pub bytes-none : Bytes []
+pub bytes-none : AreBytes []
 bytes-none b m = absurd (in-none m)
 
-pub bytes-cons : (x : ℕ) (l : List ℕ) → x < 256 → Bytes l → Bytes (x ∷ l)
+pub bytes-cons : (x : ℕ) (l : List ℕ) → x < 256 → AreBytes l → AreBytes (x ∷ l)
 bytes-cons x l h g b m = go (in-cons m)
   where
     go : (b ≡ x) ⊎ (b ∈ l) → b < 256
     go (inl e) = omega arith
     go (inr k) = g b k
 
-pub bytes-append : (xs ys : List ℕ) → Bytes xs → Bytes ys → Bytes (xs ++ ys)
+pub bytes-append : (xs ys : List ℕ) → AreBytes xs → AreBytes ys → AreBytes (xs ++ ys)
 bytes-append xs ys h g b m = go (in-append xs ys m)
   where
     go : (b ∈ xs) ⊎ (b ∈ ys) → b < 256
     go (inl k) = h b k
     go (inr k) = g b k
 
-pub bytes-take : (n : ℕ) (l : List ℕ) → Bytes l → Bytes (take n l)
+pub bytes-take : (n : ℕ) (l : List ℕ) → AreBytes l → AreBytes (take n l)
 bytes-take n l h b m = h b (in-take n l m)
 
-pub bytes-drop : (n : ℕ) (l : List ℕ) → Bytes l → Bytes (drop n l)
+pub bytes-drop : (n : ℕ) (l : List ℕ) → AreBytes l → AreBytes (drop n l)
 bytes-drop n l h b m = h b (in-drop n l m)
 
-pub bytes-part : (at n : ℕ) (l : List ℕ) → Bytes l → Bytes (part at n l)
+pub bytes-part : (at n : ℕ) (l : List ℕ) → AreBytes l → AreBytes (part at n l)
 unfolding part
 bytes-part at n l h = bytes-take n (drop at l) (bytes-drop at l h)
 
-pub bytes-put : (at : ℕ) (vs l : List ℕ) → Bytes vs → Bytes l → Bytes (put at vs l)
+pub bytes-put : (at : ℕ) (vs l : List ℕ) → AreBytes vs → AreBytes l → AreBytes (put at vs l)
 unfolding put
 bytes-put at vs l h g =
     bytes-append (take at l) (vs ++ drop (at + length vs) l) (bytes-take at l g)
@@ -69,7 +69,7 @@ length-bytesOf zero v = refl
 length-bytesOf (suc n) v = ap suc (length-bytesOf n (v / 256))
 
 -- each of them is a byte
-pub bytes-below : (n v : ℕ) → Bytes (bytesOf n v)
+pub bytes-below : (n v : ℕ) → AreBytes (bytesOf n v)
 unfolding bytesOf
 bytes-below zero v = bytes-none
 bytes-below (suc n) v = bytes-cons (v % 256) (bytesOf n (v / 256)) (omega arith) (bytes-below n (v / 256))
@@ -82,7 +82,7 @@ nat-bytes (suc n) v h =
     rw (nat-bytes n (v / 256) (div-lt-iff-lt-mul (lit< tt) .1 (rw (pow-suc 256 n) at h))) (div-add-mod' v 256)
 
 -- some bytes, read and written
-pub bytes-nat : (bs : List ℕ) → Bytes bs → bytesOf (length bs) (natOf bs) ≡ bs
+pub bytes-nat : (bs : List ℕ) → AreBytes bs → bytesOf (length bs) (natOf bs) ≡ bs
 unfolding bytesOf natOf
 bytes-nat [] h = refl
 bytes-nat (b ∷ bs) h =
@@ -92,14 +92,14 @@ bytes-nat (b ∷ bs) h =
     rw (low, high, bytes-nat bs (λ x m. h x (later m)))
 
 -- the same of n bytes
-pub bytes-back : (n : ℕ) (bs : List ℕ) → length bs ≡ n → Bytes bs → bytesOf n (natOf bs) ≡ bs
+pub bytes-back : (n : ℕ) (bs : List ℕ) → length bs ≡ n → AreBytes bs → bytesOf n (natOf bs) ≡ bs
 bytes-back n bs e h = subst (λ (k : ℕ). bytesOf k (natOf bs) ≡ bs) e (bytes-nat bs h)
 
 -- one byte more
 pub nat-grow : (k v b : ℕ) → v < 256 ^ k → b < 256 → v * 256 + b < 256 ^ suc k
 nat-grow k v b h g = rw (pow-suc 256 k) (omega arith)
 
-pub nat-below : (bs : List ℕ) → Bytes bs → natOf bs < 256 ^ length bs
+pub nat-below : (bs : List ℕ) → AreBytes bs → natOf bs < 256 ^ length bs
 unfolding natOf
 nat-below [] h = lit< tt
 nat-below (b ∷ bs) h = nat-grow (length bs) (natOf bs) b (nat-below bs (λ x m. h x (later m))) (h b (here refl))
@@ -143,12 +143,12 @@ put-bytes at n m v l h =
     ∙ ap (λ (r : List ℕ). put at r l) (sym (bytes-add n m v))
 
 -- the number of n bytes from `at` is below 256 ^ n
-pub nat-part : (at n : ℕ) (l : List ℕ) → Bytes l → at + n ≤ length l → natOf (part at n l) < 256 ^ n
+pub nat-part : (at n : ℕ) (l : List ℕ) → AreBytes l → at + n ≤ length l → natOf (part at n l) < 256 ^ n
 nat-part at n l h g =
     subst (λ (k : ℕ). natOf (part at n l) < 256 ^ k) (length-part at n l g) (nat-below (part at n l) (bytes-part at n l h))
 
 -- read and written: the part itself
-pub part-back : (at n : ℕ) (l : List ℕ) → Bytes l → at + n ≤ length l → bytesOf n (natOf (part at n l)) ≡ part at n l
+pub part-back : (at n : ℕ) (l : List ℕ) → AreBytes l → at + n ≤ length l → bytesOf n (natOf (part at n l)) ≡ part at n l
 part-back at n l h g = bytes-back n (part at n l) (length-part at n l g) (bytes-part at n l h)
 
 -- the lowest byte, and the others

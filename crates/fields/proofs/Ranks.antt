@@ -11,7 +11,7 @@ use lib.Dec.{lit<}
 use lib.ListN.{length, getD, take, drop, length-append, take-append-drop}
 use lib.Seq.{drop-drop}
 use Rattle.fields.specs.Choice.{_∈_, here, later}
-use Rattle.fields.specs.Numbers.{Bytes}
+use Rattle.fields.specs.Numbers.{AreBytes}
 use Rattle.fields.specs.Order.{orderOf, rankOf}
 use Rattle.fields.specs.Parts.{part}
 use Rattle.fields.specs.declared.Order.the-variants.{Less, Same, More}
@@ -41,7 +41,7 @@ rank-append (x ∷ xs) ys =
     ∙ sym (mul-assoc x (256 ^ length xs) (256 ^ length ys)) in
     rw (rank-append xs ys, e, add-mul (x * 256 ^ length xs) (rankOf xs) (256 ^ length ys)) (omega arith)
 
-pub rank-below : (bs : List ℕ) → Bytes bs → rankOf bs < 256 ^ length bs
+pub rank-below : (bs : List ℕ) → AreBytes bs → rankOf bs < 256 ^ length bs
 unfolding rankOf
 rank-below [] h = lit< tt
 rank-below (b ∷ bs) h =
@@ -62,16 +62,16 @@ rank-one s at h = ap rankOf (part-cons s at 0 h) ∙ omega arith
 
 -- ---- the smaller rank comes first
 
-tail-bytes : (x : ℕ) (xs : List ℕ) → Bytes (x ∷ xs) → Bytes xs
+tail-bytes : (x : ℕ) (xs : List ℕ) → AreBytes (x ∷ xs) → AreBytes xs
 tail-bytes x xs h b m = h b (later m)
 
 module _ (x y : ℕ) (xs ys : List ℕ) where
   -- a first byte that is above the other's is above all that can follow that one
-  above-all : length xs ≡ length ys → Bytes ys → y < x → y * 256 ^ length ys + rankOf ys < x * 256 ^ length xs + rankOf xs
+  above-all : length xs ≡ length ys → AreBytes ys → y < x → y * 256 ^ length ys + rankOf ys < x * 256 ^ length xs + rankOf xs
   above-all e q g =
       rw e (omega (arith, one-more y x (256 ^ length ys) g, rank-below ys q))
 
-  first-same : length xs ≡ length ys → Bytes ys → y ≤ x → x * 256 ^ length xs + rankOf xs < y * 256 ^ length ys + rankOf ys → x ≡ y
+  first-same : length xs ≡ length ys → AreBytes ys → y ≤ x → x * 256 ^ length xs + rankOf xs < y * 256 ^ length ys + rankOf ys → x ≡ y
   first-same e q g h =
       elim (decLt y x) [
         | yes p ↦ absurd (omega (arith, above-all e q p, h))
@@ -84,7 +84,7 @@ module _ (x y : ℕ) (xs ys : List ℕ) where
   rest-same : x ≡ y → length xs ≡ length ys → x * 256 ^ length xs + rankOf xs ≡ y * 256 ^ length ys + rankOf ys → rankOf xs ≡ rankOf ys
   rest-same e d h = let f : x * 256 ^ length xs ≡ y * 256 ^ length ys = ap₂ (λ (a b : ℕ). a * 256 ^ b) e d in omega (arith, f, h)
 
-one-first : (x y : ℕ) (xs ys : List ℕ) → length xs ≡ length ys → Bytes xs → Bytes ys
+one-first : (x y : ℕ) (xs ys : List ℕ) → length xs ≡ length ys → AreBytes xs → AreBytes ys
     → x * 256 ^ length xs + rankOf xs ≡ y * 256 ^ length ys + rankOf ys → x ≡ y
 one-first x y xs ys d p q h =
     elim (decLt y x) [
@@ -96,7 +96,7 @@ one-first x y xs ys d p q h =
     ]
 
 module _ (j k : List ℕ) where
-  pub rank-less : (xs ys : List ℕ) → length xs ≡ length ys → Bytes xs → Bytes ys → rankOf xs < rankOf ys → orderOf (xs ++ j) (ys ++ k) ≡ Less
+  pub rank-less : (xs ys : List ℕ) → length xs ≡ length ys → AreBytes xs → AreBytes ys → rankOf xs < rankOf ys → orderOf (xs ++ j) (ys ++ k) ≡ Less
   unfolding rankOf
   rank-less [] [] e p q h = absurd (omega arith)
   rank-less [] (y ∷ ys) e p q h = absurd (omega arith)
@@ -109,7 +109,7 @@ module _ (j k : List ℕ) where
             ∙ rank-less xs ys d (tail-bytes x xs p) (tail-bytes y ys q) (rest-less x y xs ys s d h)
       ]
 
-  pub rank-same : (xs ys : List ℕ) → length xs ≡ length ys → Bytes xs → Bytes ys → rankOf xs ≡ rankOf ys → orderOf (xs ++ j) (ys ++ k) ≡ orderOf j k
+  pub rank-same : (xs ys : List ℕ) → length xs ≡ length ys → AreBytes xs → AreBytes ys → rankOf xs ≡ rankOf ys → orderOf (xs ++ j) (ys ++ k) ≡ orderOf j k
   unfolding rankOf
   rank-same [] [] e p q h = refl
   rank-same [] (y ∷ ys) e p q h = absurd (omega arith)
@@ -124,7 +124,7 @@ pub part-rest : (i n : ℕ) (l : List ℕ) → part i n l ++ drop (i + n) l ≡ 
 unfolding part
 part-rest i n l = ap (λ (r : List ℕ). take n (drop i l) ++ r) (sym (drop-drop n i l)) ∙ take-append-drop n (drop i l)
 
-module _ (i n : ℕ) (j k : List ℕ) (b : Bytes j) (d : Bytes k) (h : i + n ≤ length j) (g : i + n ≤ length k) where
+module _ (i n : ℕ) (j k : List ℕ) (b : AreBytes j) (d : AreBytes k) (h : i + n ≤ length j) (g : i + n ≤ length k) where
   ranked-apart : orderOf (drop i j) (drop i k) ≡ orderOf (part i n j ++ drop (i + n) j) (part i n k ++ drop (i + n) k)
   ranked-apart = ap₂ orderOf (sym (part-rest i n j)) (sym (part-rest i n k))
 

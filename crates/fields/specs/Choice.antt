@@ -20,11 +20,11 @@ pub data _∈_ {A : Type 0} (x : A) : List A → Type 0 where
   later : {a : A} {l : List A} → x ∈ l → x ∈ a ∷ l
 
 -- those that pass the test
-unfoldable pub keep : {A : Type 0} → (A → Bool) → List A → List A
+unfoldable pub keep : {A : Type 0} (p : A → Bool) (list : List A) → List A
 keep p [] = []
 keep p (a ∷ l) = pick (p a) (a ∷ keep p l) (keep p l)
 
 -- all of them pass the test
-unfoldable pub all : {A : Type 0} → (A → Bool) → List A → Bool
+unfoldable pub all : {A : Type 0} (p : A → Bool) (list : List A) → Bool
 all p [] = true
 all p (a ∷ l) = p a && all p l

@@ -4,6 +4,7 @@ use mathlib.Core.Bool.{Bool, true, false, _&&_}
 use mathlib.Core.List.{List, [], _∷_}
 use lib.Dec.{eqb, ltb}
 use lib.ListN.{length}
+use Rattle.fields.specs.Numbers.{Bytes}
 use Rattle.fields.specs.Choice.{pick}
 use Rattle.fields.specs.declared.Order.{Order}
 use Rattle.fields.specs.declared.Order.the-variants.{Less, Same, More}
@@ -21,11 +22,11 @@ lessBytes [] (b ∷ k) = true
 lessBytes (a ∷ j) [] = false
 lessBytes (a ∷ j) (b ∷ k) = pick (ltb a b) true (pick (eqb a b) (lessBytes j k) false)
 
-unfoldable pub orderOf : List ℕ → List ℕ → Order
+unfoldable pub orderOf : (j key : Bytes) → Order
 orderOf j k = pick (sameBytes j k) Same (pick (lessBytes j k) Less More)
 
 -- the second begins with the first
-unfoldable pub startsWith : List ℕ → List ℕ → Bool
+unfoldable pub startsWith : (prefix key : Bytes) → Bool
 startsWith [] k = true
 startsWith (a ∷ j) [] = false
 startsWith (a ∷ j) (b ∷ k) = pick (eqb a b) (startsWith j k) false

@@ -3,6 +3,7 @@ use Prim.Native.Nat.{ℕ, zero, suc, _+_}
 use mathlib.Core.Path.{_≡_}
 use mathlib.Core.List.{List, [], _∷_, _++_}
 use lib.ListN.{length}
+use Rattle.fields.specs.Numbers.{Bytes}
 use Rattle.fields.specs.Parts.{part}
 
 -- the fields, one behind the other
@@ -11,7 +12,7 @@ joined [] = []
 joined (f ∷ fs) = f ++ joined fs
 
 -- where field k begins
-abbrev pub offset : List ℕ → ℕ → ℕ
+abbrev pub offset : (ws : List ℕ) (i : ℕ) → ℕ
 offset ws zero = 0
 offset [] (suc k) = 0
 offset (w ∷ ws) (suc k) = w + offset ws k
@@ -29,6 +30,6 @@ Widths (w ∷ ws) [] = ⊥
 Widths (w ∷ ws) (f ∷ fs) = (length f ≡ w) × Widths ws fs
 
 -- the parts of l of these widths, from `at` on
-abbrev pub cutAt : ℕ → List ℕ → List ℕ → List (List ℕ)
+abbrev pub cutAt : (at : ℕ) (widths : List ℕ) (l : Bytes) → List (List ℕ)
 cutAt at [] l = []
 cutAt at (w ∷ ws) l = part at w l ∷ cutAt (at + w) ws l

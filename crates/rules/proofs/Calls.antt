@@ -12,7 +12,7 @@ use lib.ListN.{length}
 use borrow.Author.Tests.{eqb-false, eqb-true, ltb-false, ltb-true}
 use Rattle.fields.proofs.Choice.{in-cons, in-none}
 use Rattle.fields.specs.Choice.{_∈_, all, here, later, pick}
-use Rattle.fields.specs.Numbers.{Bytes}
+use Rattle.fields.specs.Numbers.{AreBytes}
 use Rattle.fields.specs.Parts.{put}
 use Rattle.rules.proofs.Deltas.{delta-is}
 use Rattle.rules.proofs.Keeps.{ClockFits, offer-fits, ok-act, ok-fresh, ok-heartbeat, ok-remove, ok-taken}
@@ -321,7 +321,7 @@ beat-keeps i t e = go (nodeOf i t) refl
     go (some n) q = rise n q (ltb (n .heartbeat .0) top) refl
 
 -- an accepted delta of any origin
-pub apply-keeps : (bytes : List ℕ) (now : ℕ) (t : Table) (l : List ℕ) → Bytes bytes → now < numbers → obeys t ≡ true → obeys (apply bytes now t l .table) ≡ true
+pub apply-keeps : (bytes : List ℕ) (now : ℕ) (t : Table) (l : List ℕ) → AreBytes bytes → now < numbers → obeys t ≡ true → obeys (apply bytes now t l .table) ≡ true
 unfolding apply
 apply-keeps bytes now t l b h e = go (readDelta bytes) refl
   where

@@ -12,7 +12,7 @@ use borrow.Author.Tests.{le-leb, leb-true, ltb-true}
 use Rattle.fields.proofs.Lent.{seen}
 use Rattle.fields.specs.Blocks.{flat}
 use Rattle.fields.specs.Choice.{pick}
-use Rattle.fields.specs.Numbers.{Bytes}
+use Rattle.fields.specs.Numbers.{AreBytes}
 use Rattle.rules.proofs.Ops.{ReadAs, SmallOp, read-is, read-written}
 use Rattle.rules.specs.Delta.{Bad, Fault, Faulty, Followed, Good, Got, KeyValueOp, Next, NodeOp, Op, OpRead, Ops, Reading, SetMaxVersionOp, andThen, deltaBytes, follow, nothingRead, onFollowed, onRead, opBytes, readDelta, readOp, readOps, underNode, unlessEnd}
 use Rattle.rules.specs.Node.{KeyValue}
@@ -147,7 +147,7 @@ one-more s t l rest o ops x e d =
       small = (x .small, d .small);
     }
 
-ops-is : (n at : ℕ) (s : Reading) (l : List ℕ) (ops : List Op) → Bytes l → length l ≤ n → readOps n at s l ≡ Good ops → DeltaIs s l ops
+ops-is : (n at : ℕ) (s : Reading) (l : List ℕ) (ops : List Op) → AreBytes l → length l ≤ n → readOps n at s l ≡ Good ops → DeltaIs s l ops
 unfolding readOps
 ops-is zero at s [] ops b h e = as-ops s [] [] ops (none-is s) e
 ops-is zero at s (x ∷ l) ops b h e = absurd (omega arith)
@@ -158,7 +158,7 @@ ops-is (suc n) at s (x ∷ l) ops b h e = by-read (readOp (x ∷ l)) refl e (λ 
     next rest t = readOps n (at + (suc (length l) - length rest)) t rest
 
     Before : Type 0
-    Before = (p : ℕ) (t : Reading) (rest : List ℕ) (more : List Op) → Bytes rest → length rest ≤ n → readOps n p t rest ≡ Good more → DeltaIs t rest more
+    Before = (p : ℕ) (t : Reading) (rest : List ℕ) (more : List Op) → AreBytes rest → length rest ≤ n → readOps n p t rest ≡ Good more → DeltaIs t rest more
 
     by-rest : (o : Op) (rest : List ℕ) → ReadAs (x ∷ l) o rest → (t : Reading) → follow s o ≡ Next t → (y : Ops) → next rest t ≡ y → andThen o y ≡ Good ops → Before → DeltaIs s (x ∷ l) ops
     by-rest o rest a t f (Good more) q e ih =
@@ -175,7 +175,7 @@ ops-is (suc n) at s (x ∷ l) ops b h e = by-read (readOp (x ∷ l)) refl e (λ 
     by-read (Got o rest) q e ih = by-follow o rest (read-is o rest (x ∷ l) b q) (follow s o) refl e ih
     by-read (Bad r) q e ih = faulty r at ops e
 
-pub delta-is : (l : List ℕ) (ops : List Op) → Bytes l → readDelta l ≡ Good ops → DeltaIs nothingRead l ops × (length l ≤ maxDelta)
+pub delta-is : (l : List ℕ) (ops : List Op) → AreBytes l → readDelta l ≡ Good ops → DeltaIs nothingRead l ops × (length l ≤ maxDelta)
 unfolding readDelta
 delta-is l ops b e = go (leb (length l) maxDelta) refl e
   where

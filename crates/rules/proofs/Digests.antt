@@ -17,7 +17,7 @@ use Rattle.fields.proofs.Numbers.{bytes-back, bytes-drop, bytes-take, length-by
 use Rattle.fields.proofs.Parts.{part-add, part-left, part-right, part-whole}
 use Rattle.fields.specs.Blocks.{flat, unblock}
 use Rattle.fields.specs.Choice.{_∈_, here, later, pick}
-use Rattle.fields.specs.Numbers.{Bytes, bytesOf, natOf}
+use Rattle.fields.specs.Numbers.{AreBytes, bytesOf, natOf}
 use Rattle.fields.specs.Parts.{part}
 use Rattle.rules.proofs.Obeys.{Ascending, OkEntry, OkTable, number-in, table-facts}
 use Rattle.rules.proofs.Ops.{Number}
@@ -63,7 +63,7 @@ entry-back d s =
     let m = ap natOf (x .3) ∙ nat-bytes 8 (d .max) (s .max-fits) in
     λ i. record { number = n i; heartbeat = beats (h i); last-gc = g i; max = m i }
 
-pub back-entry : (b : List ℕ) → Bytes b → length b ≡ entryWidth → entryBytes (entryOf b) ≡ b
+pub back-entry : (b : List ℕ) → AreBytes b → length b ≡ entryWidth → entryBytes (entryOf b) ≡ b
 unfolding entryOf entryBytes
 back-entry b h e =
     let p : (at : ℕ) → at + 8 ≤ 32 → bytesOf 8 (natOf (part at 8 b)) ≡ part at 8 b = λ at g. part-back at 8 b h (omega arith) in
@@ -74,7 +74,7 @@ back-entry b h e =
     ∙ sym (part-add 0 8 24 b)
     ∙ part-whole 32 b e
 
-pub entry-small : (b : List ℕ) → Bytes b → length b ≡ entryWidth → SmallEntry (entryOf b)
+pub entry-small : (b : List ℕ) → AreBytes b → length b ≡ entryWidth → SmallEntry (entryOf b)
 unfolding entryOf
 entry-small b h e =
     record {
@@ -102,7 +102,7 @@ entries-back (d ∷ ds) rest a =
     let u : drop entryWidth ((entryBytes d ++ flat entryBytes ds) ++ rest) ≡ flat entryBytes ds ++ rest = ap (drop entryWidth) e ∙ drop-at (entryBytes d) (flat entryBytes ds ++ rest) entryWidth (entry-long d) in
     λ i. (ap entryOf t ∙ entry-back d (a .0)) i ∷ (ap (unblock entryWidth entryOf (length ds)) u ∙ entries-back ds rest (a .1)) i
 
-back-entries : (n : ℕ) (l : List ℕ) → Bytes l → n * entryWidth ≤ length l → flat entryBytes (unblock entryWidth entryOf n l) ++ drop (n * entryWidth) l ≡ l
+back-entries : (n : ℕ) (l : List ℕ) → AreBytes l → n * entryWidth ≤ length l → flat entryBytes (unblock entryWidth entryOf n l) ++ drop (n * entryWidth) l ≡ l
 unfolding unblock flat
 back-entries zero l b h = refl
 back-entries (suc n) l b h =
@@ -115,7 +115,7 @@ back-entries (suc n) l b h =
     ∙ back-entries n (drop entryWidth l) (bytes-drop entryWidth l b) (simp length-drop (omega arith)))
     ∙ take-append-drop entryWidth l
 
-entries-small : (n : ℕ) (l : List ℕ) → Bytes l → n * entryWidth ≤ length l → AllEntries (unblock entryWidth entryOf n l)
+entries-small : (n : ℕ) (l : List ℕ) → AreBytes l → n * entryWidth ≤ length l → AllEntries (unblock entryWidth entryOf n l)
 unfolding unblock AllEntries
 entries-small zero l b h = tt
 entries-small (suc n) l b h = (
@@ -152,7 +152,7 @@ not-entries : {A : Type 0} (r : Refusal) (ds : List NodeDigest) (rest : List ℕ
 not-entries r ds rest e = let z : _≡_ {A = ℕ} 0 1 = cc in absurd (omega arith)
 
 -- what was read writes its bytes
-pub entries-are : (l : List ℕ) (ds : List NodeDigest) (rest : List ℕ) → Bytes l → readEntries l ≡ Entries ds rest → EntriesAre l ds rest
+pub entries-are : (l : List ℕ) (ds : List NodeDigest) (rest : List ℕ) → AreBytes l → readEntries l ≡ Entries ds rest → EntriesAre l ds rest
 unfolding readEntries digestBytes
 entries-are l ds rest b e = count (leb countWidth (length l)) refl e
   where

@@ -12,7 +12,7 @@ use lib.Seq.{drop-at, length-take-le, take-at}
 use borrow.Author.Tests.{le-leb, leb-true}
 use Rattle.fields.proofs.Numbers.{bytes-back, bytes-drop, bytes-take, length-bytesOf, nat-below, nat-bytes}
 use Rattle.fields.specs.Choice.{pick}
-use Rattle.fields.specs.Numbers.{Bytes, bytesOf, natOf}
+use Rattle.fields.specs.Numbers.{AreBytes, bytesOf, natOf}
 use Rattle.rules.specs.Delta.{Bad, Got, KeyValueOp, NodeOp, Op, OpRead, SetMaxVersionOp, field, number, opBytes, readKeyValue, readNode, readOp, readSetMaxVersion, readTagged, statusByte, statusOr, text, textBytes}
 use Rattle.rules.specs.Node.{KeyValue}
 use Rattle.rules.specs.Sizes.{maxKey, maxValue}
@@ -136,7 +136,7 @@ pub record GotNumber (w : ℕ) (next : ℕ → List ℕ → OpRead) (l : List �
   pub fits : value < 256 ^ w
   pub left : List ℕ
   pub is : bytesOf w value ++ left ≡ l
-  pub bytes : Bytes left
+  pub bytes : AreBytes left
   pub went : next value left ≡ Got o rest
 
 pub record GotText (most : ℕ) (next : List ℕ → List ℕ → OpRead) (l : List ℕ) (o : Op) (rest : List ℕ) : Type 0 where
@@ -144,13 +144,13 @@ pub record GotText (most : ℕ) (next : List ℕ → List ℕ → OpRead) (l : L
   pub fits : length value ≤ most
   pub left : List ℕ
   pub is : textBytes value ++ left ≡ l
-  pub bytes : Bytes left
+  pub bytes : AreBytes left
   pub went : next value left ≡ Got o rest
 
 not-got : {A : Type 0} (r : Refusal) (o : Op) (rest : List ℕ) → Bad r ≡ Got o rest → A
 not-got r o rest e = let z : _≡_ {A = ℕ} 0 1 = cc in absurd (omega arith)
 
-pub number-got : (w : ℕ) (next : ℕ → List ℕ → OpRead) (l : List ℕ) (o : Op) (rest : List ℕ) → Bytes l → number w next l ≡ Got o rest → GotNumber w next l o rest
+pub number-got : (w : ℕ) (next : ℕ → List ℕ → OpRead) (l : List ℕ) (o : Op) (rest : List ℕ) → AreBytes l → number w next l ≡ Got o rest → GotNumber w next l o rest
 number-got w next l o rest b e = go (leb w (length l)) refl e
   where
     go : (t : Bool) → leb w (length l) ≡ t → pick t (next (natOf (take w l)) (drop w l)) (Bad Cut) ≡ Got o rest → GotNumber w next l o rest
@@ -167,7 +167,7 @@ number-got w next l o rest b e = go (leb w (length l)) refl e
         }
     go false q e = not-got Cut o rest e
 
-pub text-got : (most : ℕ) (next : List ℕ → List ℕ → OpRead) (l : List ℕ) (o : Op) (rest : List ℕ) → Bytes l → text most next l ≡ Got o rest → GotText most next l o rest
+pub text-got : (most : ℕ) (next : List ℕ → List ℕ → OpRead) (l : List ℕ) (o : Op) (rest : List ℕ) → AreBytes l → text most next l ≡ Got o rest → GotText most next l o rest
 unfolding textBytes
 text-got most next l o rest b e = first (number-got 2 (λ n r. pick (leb n most) (field n next r) (Bad TooLong)) l o rest b e)
   where
@@ -227,7 +227,7 @@ byte-front b n x l h e q = ap (λ (r : List ℕ). r ++ x) (sym (one-byte b h) �
 pub record ReadAs (l : List ℕ) (o : Op) (rest : List ℕ) : Type 0 where
   pub is : opBytes o ++ rest ≡ l
   pub small : SmallOp o
-  pub bytes : Bytes rest
+  pub bytes : AreBytes rest
 
 -- the operation that a reader made
 as-read : (l : List ℕ) (p : Op) (r : List ℕ) (o : Op) (rest : List ℕ) → ReadAs l p r → Got p r ≡ Got o rest → ReadAs l o rest
@@ -237,7 +237,7 @@ as-read l p r o rest x e =
     subst₂ (λ (q : Op) (s : List ℕ). ReadAs l q s) a b x
 
 module _ (o : Op) (rest : List ℕ) where
-  node-is : (l : List ℕ) → Bytes l → readNode l ≡ Got o rest → ReadAs (0 ∷ l) o rest
+  node-is : (l : List ℕ) → AreBytes l → readNode l ≡ Got o rest → ReadAs (0 ∷ l) o rest
   unfolding readNode opBytes
   node-is l b e =
       let x = number-got 8 afterTag l o rest b e in
@@ -254,7 +254,7 @@ module _ (o : Op) (rest : List ℕ) where
       })
       (z .went)
 
-  max-is : (l : List ℕ) → Bytes l → readSetMaxVersion l ≡ Got o rest → ReadAs (2 ∷ l) o rest
+  max-is : (l : List ℕ) → AreBytes l → readSetMaxVersion l ≡ Got o rest → ReadAs (2 ∷ l) o rest
   unfolding readSetMaxVersion opBytes
   max-is l b e =
       let x = number-got 8 (λ m r. Got (SetMaxVersionOp m) r) l o rest b e in
@@ -262,7 +262,7 @@ module _ (o : Op) (rest : List ℕ) where
       (record { is = ap (λ (r : List ℕ). 2 ∷ r) (x .is); small = x .fits; bytes = x .bytes })
       (x .went)
 
-  key-value-is : (l : List ℕ) → Bytes l → readKeyValue l ≡ Got o rest → ReadAs (1 ∷ l) o rest
+  key-value-is : (l : List ℕ) → AreBytes l → readKeyValue l ≡ Got o rest → ReadAs (1 ∷ l) o rest
   unfolding readKeyValue opBytes
   key-value-is l b e =
       let x = text-got maxKey afterKeyTag l o rest b e in
@@ -283,13 +283,13 @@ module _ (o : Op) (rest : List ℕ) where
       })
       (s .went)
 
-  tagged-is : (tag : ℕ) (l : List ℕ) → Bytes l → readTagged tag l ≡ Got o rest → ReadAs (tag ∷ l) o rest
+  tagged-is : (tag : ℕ) (l : List ℕ) → AreBytes l → readTagged tag l ≡ Got o rest → ReadAs (tag ∷ l) o rest
   tagged-is zero l b e = node-is l b e
   tagged-is (suc zero) l b e = key-value-is l b e
   tagged-is (suc (suc zero)) l b e = max-is l b e
   tagged-is (suc (suc (suc n))) l b e = not-got BadTag o rest e
 
-  pub read-is : (l : List ℕ) → Bytes l → readOp l ≡ Got o rest → ReadAs l o rest
+  pub read-is : (l : List ℕ) → AreBytes l → readOp l ≡ Got o rest → ReadAs l o rest
   unfolding readOp
   read-is l b e =
       let x = number-got 1 readTagged l o rest b e in

@@ -52,10 +52,10 @@ pub record Told : Type 0 where
   pub number : ℕ
   pub values : List ℕ
 
-abbrev accepted : List ℕ → Told
+abbrev accepted : (vs : List ℕ) → Told
 accepted vs = record { number = 0; values = vs }
 
-abbrev refused : Refusal → List ℕ → Told
+abbrev refused : (why : Refusal) (vs : List ℕ) → Told
 refused r vs = record { number = numberOf r; values = vs }
 
 abbrev pub answerTold : Answer → Told

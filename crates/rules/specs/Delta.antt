@@ -5,7 +5,7 @@ use mathlib.Core.List.{List, [], _∷_, _++_}
 use lib.ListN.{length, take, drop}
 use lib.Dec.{leb, ltb, eqb}
 use Rattle.fields.specs.Choice.{pick}
-use Rattle.fields.specs.Numbers.{natOf, bytesOf}
+use Rattle.fields.specs.Numbers.{Bytes, natOf, bytesOf}
 use Rattle.fields.specs.Blocks.{flat}
 use Rattle.rules.specs.Sizes.{maxNodes, maxKey, maxValue, maxDelta}
 use Rattle.rules.specs.Node.{KeyValue}
@@ -31,7 +31,7 @@ statusByte Delete = 1
 statusByte Ttl = 2
 
 -- a length of two bytes, then the text
-unfoldable pub textBytes : List ℕ → List ℕ
+unfoldable pub textBytes : (s : Bytes) → Bytes
 textBytes s = bytesOf 2 (length s) ++ s
 
 unfoldable pub opBytes : Op → List ℕ
@@ -39,10 +39,10 @@ opBytes (NodeOp n g f) = 0 ∷ (bytesOf 8 n ++ (bytesOf 8 g ++ bytesOf 8 f))
 opBytes (KeyValueOp r) = 1 ∷ (textBytes (r .key) ++ (textBytes (r .value) ++ (bytesOf 8 (r .version) ++ (statusByte (r .status) ∷ []))))
 opBytes (SetMaxVersionOp m) = 2 ∷ bytesOf 8 m
 
-unfoldable pub sizeOf : Op → ℕ
+unfoldable pub sizeOf : (op : Op) → ℕ
 sizeOf o = length (opBytes o)
 
-unfoldable pub deltaBytes : List Op → List ℕ
+unfoldable pub deltaBytes : (ops : List Op) → Bytes
 deltaBytes ops = flat opBytes ops
 
 -- ---- reading one operation: fields from left to right
@@ -53,27 +53,27 @@ pub data OpRead : Type 0 where
   Bad : Refusal → OpRead
 
 -- a field of w bytes, else 9
-abbrev pub field : ℕ → (List ℕ → List ℕ → OpRead) → List ℕ → OpRead
+abbrev pub field : (width : ℕ) (next : List ℕ → List ℕ → OpRead) (bytes : Bytes) → OpRead
 field w next l = pick (leb w (length l)) (next (take w l) (drop w l)) (Bad Cut)
 
-abbrev pub number : ℕ → (ℕ → List ℕ → OpRead) → List ℕ → OpRead
+abbrev pub number : (width : ℕ) (next : ℕ → List ℕ → OpRead) (bytes : Bytes) → OpRead
 number w next l = field w (λ b. next (natOf b)) l
 
 -- a length of two bytes, then so many bytes; an overlong length is 1 before its bytes are looked at
-abbrev pub text : ℕ → (List ℕ → List ℕ → OpRead) → List ℕ → OpRead
+abbrev pub text : (most : ℕ) (next : List ℕ → List ℕ → OpRead) (bytes : Bytes) → OpRead
 text most next l = number 2 (λ n rest. pick (leb n most) (field n next rest) (Bad TooLong)) l
 
 -- a status above 2 is 10
-abbrev pub statusOr : (Status → OpRead) → ℕ → OpRead
+abbrev pub statusOr : (next : Status → OpRead) (byte : ℕ) → OpRead
 statusOr next zero = next Set
 statusOr next (suc zero) = next Delete
 statusOr next (suc (suc zero)) = next Ttl
 statusOr next (suc (suc (suc n))) = Bad BadTag
 
-unfoldable pub readNode : List ℕ → OpRead
+unfoldable pub readNode : (bytes : Bytes) → OpRead
 readNode l = number 8 (λ n. number 8 (λ g. number 8 (λ f rest. Got (NodeOp n g f) rest))) l
 
-unfoldable pub readKeyValue : List ℕ → OpRead
+unfoldable pub readKeyValue : (bytes : Bytes) → OpRead
 readKeyValue l =
     text maxKey
     (λ k.
@@ -81,17 +81,17 @@ readKeyValue l =
     (λ v. number 8 (λ ver. number 1 (λ st rest. statusOr (λ s. Got (KeyValueOp (record { key = k; value = v; version = ver; status = s })) rest) st))))
     l
 
-unfoldable pub readSetMaxVersion : List ℕ → OpRead
+unfoldable pub readSetMaxVersion : (bytes : Bytes) → OpRead
 readSetMaxVersion l = number 8 (λ m rest. Got (SetMaxVersionOp m) rest) l
 
 -- a tag above 2 is 10
-abbrev pub readTagged : ℕ → List ℕ → OpRead
+abbrev pub readTagged : (tag : ℕ) (bytes : Bytes) → OpRead
 readTagged zero l = readNode l
 readTagged (suc zero) l = readKeyValue l
 readTagged (suc (suc zero)) l = readSetMaxVersion l
 readTagged (suc (suc (suc n))) l = Bad BadTag
 
-unfoldable pub readOp : List ℕ → OpRead
+unfoldable pub readOp : (bytes : Bytes) → OpRead
 readOp l = number 1 readTagged l
 
 -- ---- reading a whole delta
@@ -110,12 +110,12 @@ pub data Followed : Type 0 where
   Fault : Refusal → Followed
 
 -- before any Node: 11
-abbrev pub underNode : List ℕ → Followed → Followed
+abbrev pub underNode : (seen : List ℕ) (followed : Followed) → Followed
 underNode [] f = Fault OutOfOrder
 underNode (n ∷ ns) f = f
 
 -- 11, 12, 13. Max starts at 0 with each Node; a record's version must exceed it and becomes it; a SetMaxVersion not below it becomes it.
-unfoldable pub follow : Reading → Op → Followed
+unfoldable pub follow : (reading : Reading) (op : Op) → Followed
 follow s (NodeOp n g f) =
     pick (among n (s .seen)) (Fault NodeTwice)
     (pick (ltb (length (s .seen)) maxNodes) (Next (record { seen = n ∷ s .seen; running = 0 })) (Fault TooMany))
@@ -129,30 +129,30 @@ pub data Ops : Type 0 where
   Good : List Op → Ops
   Faulty : Refusal → ℕ → Ops
 
-abbrev pub andThen : Op → Ops → Ops
+abbrev pub andThen : (op : Op) (read : Ops) → Ops
 andThen o (Good ops) = Good (o ∷ ops)
 andThen o (Faulty r at) = Faulty r at
 
-abbrev pub onFollowed : ℕ → Op → (Reading → Ops) → Followed → Ops
+abbrev pub onFollowed : (at : ℕ) (op : Op) (next : Reading → Ops) (followed : Followed) → Ops
 onFollowed at o next (Next s) = andThen o (next s)
 onFollowed at o next (Fault r) = Faulty r at
 
-abbrev pub onRead : ℕ → Reading → (Reading → List ℕ → Ops) → OpRead → Ops
+abbrev pub onRead : (at : ℕ) (reading : Reading) (next : Reading → List ℕ → Ops) (read : OpRead) → Ops
 onRead at s next (Got o rest) = onFollowed at o (λ s′. next s′ rest) (follow s o)
 onRead at s next (Bad r) = Faulty r at
 
-abbrev pub unlessEnd : List ℕ → Ops → Ops
+abbrev pub unlessEnd : (bytes : Bytes) (read : Ops) → Ops
 unlessEnd [] o = Good []
 unlessEnd (b ∷ l) o = o
 
 -- One operation after the other to the end; `at` is the place in the delta. The first number only bounds the operations: each takes a byte
 -- at least, so that the length of the bytes is enough.
-unfoldable pub readOps : ℕ → ℕ → Reading → List ℕ → Ops
+unfoldable pub readOps : (bound at : ℕ) (reading : Reading) (bytes : Bytes) → Ops
 readOps zero at s l = Good []
 readOps (suc n) at s l = unlessEnd l (onRead at s (λ s′ rest. readOps n (at + (length l - length rest)) s′ rest) (readOp l))
 
 -- 13 for its length, then the first operation at fault
-unfoldable pub readDelta : List ℕ → Ops
+unfoldable pub readDelta : (bytes : Bytes) → Ops
 readDelta l = pick (leb (length l) maxDelta) (readOps (length l) 0 nothingRead l) (Faulty TooMany 0)
 
 -- ---- the node deltas of a list of operations
@@ -174,7 +174,7 @@ recsOf (NodeOp n g f ∷ ops) = []
 recsOf (KeyValueOp r ∷ ops) = r ∷ recsOf ops
 recsOf (SetMaxVersionOp m ∷ ops) = recsOf ops
 
-unfoldable pub maxOf : ℕ → List Op → ℕ
+unfoldable pub maxOf : (m : ℕ) (ops : List Op) → ℕ
 maxOf m [] = m
 maxOf m (NodeOp n g f ∷ ops) = m
 maxOf m (KeyValueOp r ∷ ops) = maxOf (r .version) ops
@@ -194,5 +194,5 @@ abbrev pub readAnswer : Ops → DeltaRead
 readAnswer (Good ops) = read.Good (length ops) (length (partsOf ops))
 readAnswer (Faulty r at) = read.Refused r at
 
-unfoldable pub deltaRead : List ℕ → DeltaRead
+unfoldable pub deltaRead : (bytes : Bytes) → DeltaRead
 deltaRead l = readAnswer (readDelta l)

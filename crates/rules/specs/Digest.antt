@@ -6,7 +6,7 @@ use mathlib.Core.List.{List, [], _∷_, _++_}
 use lib.ListN.{length, take, drop}
 use lib.Dec.{leb, ltb, eqb}
 use Rattle.fields.specs.Choice.{pick}
-use Rattle.fields.specs.Numbers.{natOf, bytesOf}
+use Rattle.fields.specs.Numbers.{Bytes, natOf, bytesOf}
 use Rattle.fields.specs.Parts.{part, put}
 use Rattle.fields.specs.Blocks.{flat, unblock}
 use Rattle.rules.specs.Given.{Given, given}
@@ -26,11 +26,11 @@ pub record NodeDigest : Type 0 where
   pub last-gc : ℕ
   pub max : ℕ
 
-abbrev pub digestOfNode : Entry → NodeDigest
+abbrev pub digestOfNode : (entry : Entry) → NodeDigest
 digestOfNode e = record { number = e .number; heartbeat = e .node .heartbeat; last-gc = e .node .last-gc; max = e .node .max }
 
 -- excluded nodes are left out
-unfoldable pub digestOf : List ℕ → Table → List NodeDigest
+unfoldable pub digestOf : (excluded : List ℕ) (table : Table) → List NodeDigest
 digestOf excluded [] = []
 digestOf excluded (e ∷ t) = pick (among (e .number) excluded) (digestOf excluded t) (digestOfNode e ∷ digestOf excluded t)
 
@@ -43,14 +43,14 @@ entryWidth = 32
 abbrev pub countWidth : ℕ
 countWidth = 2
 
-unfoldable pub entryBytes : NodeDigest → List ℕ
+unfoldable pub entryBytes : (entry : NodeDigest) → Bytes
 entryBytes d = bytesOf 8 (d .number) ++ (bytesOf 8 (d .heartbeat .0) ++ (bytesOf 8 (d .last-gc) ++ bytesOf 8 (d .max)))
 
-unfoldable pub digestBytes : List NodeDigest → List ℕ
+unfoldable pub digestBytes : (ds : List NodeDigest) → Bytes
 digestBytes ds = bytesOf countWidth (length ds) ++ flat entryBytes ds
 
 -- an entry out of its 32 bytes
-unfoldable pub entryOf : List ℕ → NodeDigest
+unfoldable pub entryOf : (bytes : Bytes) → NodeDigest
 entryOf b =
     record {
       number = natOf (part 0 8 b);
@@ -67,23 +67,23 @@ pub data DigestRead : Type 0 where
   Refused : Refusal → DigestRead
 
 -- so many entries: 13 over eight, 9 where they are not all there
-abbrev pub readCount : ℕ → List ℕ → DigestRead
+abbrev pub readCount : (n : ℕ) (bytes : Bytes) → DigestRead
 readCount n l =
     pick (leb n maxNodes)
     (pick (leb (n * entryWidth) (length l)) (Entries (unblock entryWidth entryOf n l) (drop (n * entryWidth) l)) (Refused Cut))
     (Refused TooMany)
 
 -- 9 for the count, 13, 9
-unfoldable pub readEntries : List ℕ → DigestRead
+unfoldable pub readEntries : (bytes : Bytes) → DigestRead
 readEntries l = pick (leb countWidth (length l)) (readCount (natOf (take countWidth l)) (drop countWidth l)) (Refused Cut)
 
 -- an entry takes the place of its node's, or its own in the order of the numbers
-unfoldable pub tell : NodeDigest → List NodeDigest → List NodeDigest
+unfoldable pub tell : (entry : NodeDigest) (entries : List NodeDigest) → List NodeDigest
 tell d [] = d ∷ []
 tell d (a ∷ l) = pick (eqb (d .number) (a .number)) (d ∷ l) (pick (ltb (d .number) (a .number)) (d ∷ a ∷ l) (a ∷ tell d l))
 
 -- the entries one after the other: a repeated node's last entry counts
-unfoldable pub tellAll : List NodeDigest → List NodeDigest → List NodeDigest
+unfoldable pub tellAll : (entries l : List NodeDigest) → List NodeDigest
 tellAll [] l = l
 tellAll (d ∷ ds) l = tellAll ds (tell d l)
 
@@ -92,18 +92,18 @@ gathered (Entries ds rest) = Entries (tellAll ds []) rest
 gathered (Refused r) = Refused r
 
 -- the digest that the bytes are: ascending, each node once
-unfoldable pub readDigest : List ℕ → DigestRead
+unfoldable pub readDigest : (bytes : Bytes) → DigestRead
 readDigest l = gathered (readEntries l)
 
 -- ---- writing
 
 -- the place is not past the end of the list, and n elements are free from there on
-abbrev pub fitsAt : ℕ → ℕ → List ℕ → Bool
+abbrev pub fitsAt : (place n : ℕ) (bytes : Bytes) → Bool
 fitsAt place n l = leb place (length l) && leb n (length l - place)
 
-abbrev pub writeBytes : List ℕ → ℕ → List ℕ → Given Written (List ℕ)
+abbrev pub writeBytes : (bytes : Bytes) (place : ℕ) (datagram : Bytes) → Given Written Bytes
 writeBytes b place l = pick (fitsAt place (length b) l) (given (written.Bytes (length b)) (put place b l)) (given (written.Refused NoPlace) l)
 
 -- a digest written into a datagram from its place: 8
-unfoldable pub writeDigest : List ℕ → ℕ → Table → List ℕ → Given Written (List ℕ)
+unfoldable pub writeDigest : (excluded : List ℕ) (place : ℕ) (table : Table) (datagram : Bytes) → Given Written Bytes
 writeDigest excluded place t l = writeBytes (digestBytes (digestOf excluded t)) place l

@@ -4,7 +4,7 @@ use Prim.Native.Nat.{ℕ, zero, suc, _+_, _*_}
 use mathlib.Core.Bool.{Bool, true, false, _&&_}
 use mathlib.Core.List.{List, [], _∷_, _++_}
 use lib.ListN.{length, drop}
-use Rattle.fields.specs.Numbers.{natOf, bytesOf}
+use Rattle.fields.specs.Numbers.{Bytes, natOf, bytesOf}
 use Rattle.fields.specs.Parts.{part}
 use Rattle.fields.specs.Blocks.{fit, blocks, unblock}
 use Rattle.fields.specs.Widths.{joined, offset, total}
@@ -24,7 +24,7 @@ recWidths = 1 ∷ maxKey ∷ 1 ∷ maxValue ∷ 8 ∷ 1 ∷ 8 ∷ []
 abbrev pub recWidth : ℕ
 recWidth = total recWidths
 
-abbrev pub recFields : Rec → List (List ℕ)
+abbrev pub recFields : (rec : Rec) → List (List ℕ)
 recFields r =
     bytesOf 1 (length (r .kv .key))
     ∷ fit maxKey (r .kv .key)
@@ -35,7 +35,7 @@ recFields r =
     ∷ bytesOf 8 (r .start)
     ∷ []
 
-unfoldable pub encodeRec : Rec → List ℕ
+unfoldable pub encodeRec : (rec : Rec) → Bytes
 encodeRec r = joined (recFields r)
 
 abbrev pub statusOfByte : ℕ → Status
@@ -43,7 +43,7 @@ statusOfByte zero = Set
 statusOfByte (suc zero) = Delete
 statusOfByte (suc (suc n)) = Ttl
 
-unfoldable pub decodeRec : List ℕ → Rec
+unfoldable pub decodeRec : (bytes : Bytes) → Rec
 decodeRec b =
     record {
       kv =
@@ -68,7 +68,7 @@ nodeWidth = total nodeWidths
 abbrev pub recPlace : (j : ℕ) → ℕ
 recPlace j = offset nodeWidths 5 + j * recWidth
 
-abbrev pub nodeFields : Entry → List (List ℕ)
+abbrev pub nodeFields : (entry : Entry) → List (List ℕ)
 nodeFields e =
     bytesOf 8 (e .number)
     ∷ bytesOf 8 (e .node .heartbeat .0)
@@ -78,10 +78,10 @@ nodeFields e =
     ∷ blocks maxRecords recWidth encodeRec (e .node .recs)
     ∷ []
 
-unfoldable pub encodeNode : Entry → List ℕ
+unfoldable pub encodeNode : (entry : Entry) → Bytes
 encodeNode e = joined (nodeFields e)
 
-unfoldable pub decodeNode : List ℕ → Entry
+unfoldable pub decodeNode : (bytes : Bytes) → Entry
 decodeNode b =
     record {
       number = natOf (part (offset nodeWidths 0) 8 b);
@@ -107,15 +107,15 @@ tableWidth = total tableWidths
 abbrev pub nodePlace : (i : ℕ) → ℕ
 nodePlace i = offset tableWidths 1 + i * nodeWidth
 
-abbrev pub tableFields : Table → List (List ℕ)
+abbrev pub tableFields : (table : Table) → List (List ℕ)
 tableFields t = bytesOf 1 (length t) ∷ blocks maxNodes nodeWidth encodeNode t ∷ []
 
-unfoldable pub encode : Table → List ℕ
+unfoldable pub encode : (table : Table) → Bytes
 encode t = joined (tableFields t)
 
-unfoldable pub decode : List ℕ → Table
+unfoldable pub decode : (bytes : Bytes) → Table
 decode l = unblock nodeWidth decodeNode (natOf (part (offset tableWidths 0) 1 l)) (drop (offset tableWidths 1) l)
 
 -- number 14 is refused exactly where this is false: the bytes are those of a table that obeys the rules
-unfoldable pub valid : List ℕ → Bool
+unfoldable pub valid : (bytes : Bytes) → Bool
 valid l = obeys (decode l) && sameBytes (encode (decode l)) l

@@ -3,6 +3,7 @@
 use Prim.Native.Nat.{ℕ}
 use mathlib.Core.Bool.{Bool, true, false}
 use mathlib.Core.List.{List, []}
+use Rattle.fields.specs.Numbers.{Bytes}
 use Rattle.fields.specs.Choice.{pick}
 use Rattle.rules.specs.Given.{Given, given}
 use Rattle.rules.specs.Node.{Call}
@@ -28,67 +29,67 @@ use Rattle.rules.specs.declared.Computed.the-variants as computed
 use Rattle.rules.specs.declared.Applied.{Applied}
 use Rattle.rules.specs.declared.Applied.the-variants as applied
 
-abbrev pub stored : {A : Type 0} → Outcome A → Given A (List ℕ)
+abbrev pub stored : {A : Type 0} (outcome : Outcome A) → Given A Bytes
 stored o = given (o .answer) (encode (o .table))
 
 -- 14, or the rule on the table that the bytes are
-unfoldable pub onTable : {A : Type 0} → A → (Table → Outcome A) → List ℕ → Given A (List ℕ)
-onTable bad rule l = pick (valid l) (stored (rule (decode l))) (given bad l)
+unfoldable pub onTable : {A : Type 0} (bad : A) (rule : Table → Outcome A) (table : Bytes) → Given A Bytes
+onTable bad rule table = pick (valid table) (stored (rule (decode table))) (given bad table)
 
 -- the same for a call that leaves the table and given another lent list
-unfoldable pub fromTable : {A : Type 0} → A → (Table → A) → List ℕ → A
-fromTable bad rule l = pick (valid l) (rule (decode l)) bad
+unfoldable pub fromTable : {A : Type 0} (bad : A) (rule : Table → A) (table : Bytes) → A
+fromTable bad rule table = pick (valid table) (rule (decode table)) bad
 
 -- ---- calls that change the table
 
-abbrev pub lentAdd : ℕ → List ℕ → Given Answer (List ℕ)
-lentAdd i l = onTable (plain.Refused BadTable) (add i) l
+abbrev pub lentAdd : (number : ℕ) (table : Bytes) → Given Answer Bytes
+lentAdd number table = onTable (plain.Refused BadTable) (add number) table
 
-abbrev pub lentRemoveNode : ℕ → List ℕ → Given Answer (List ℕ)
-lentRemoveNode i l = onTable (plain.Refused BadTable) (removeNode i) l
+abbrev pub lentRemoveNode : (number : ℕ) (table : Bytes) → Given Answer Bytes
+lentRemoveNode number table = onTable (plain.Refused BadTable) (removeNode number) table
 
-abbrev pub lentCall : Call → ℕ → List ℕ → List ℕ → Given Answer (List ℕ)
-lentCall c i k l = onTable (plain.Refused BadTable) (call c i k) l
+abbrev pub lentCall : (call : Call) (number : ℕ) (key table : Bytes) → Given Answer Bytes
+lentCall c number k table = onTable (plain.Refused BadTable) (call c number k) table
 
-abbrev pub lentGc : ℕ → ℕ → List ℕ → Given Answer (List ℕ)
-lentGc now grace l = onTable (plain.Refused BadTable) (gc now grace) l
+abbrev pub lentGc : (now grace : ℕ) (table : Bytes) → Given Answer Bytes
+lentGc now grace table = onTable (plain.Refused BadTable) (gc now grace) table
 
-abbrev pub lentOffer : ℕ → Heartbeat → List ℕ → Given Offered (List ℕ)
-lentOffer i h l = onTable (offered.Refused BadTable) (offer i h) l
+abbrev pub lentOffer : (number : ℕ) (heartbeat : Heartbeat) (table : Bytes) → Given Offered Bytes
+lentOffer number h table = onTable (offered.Refused BadTable) (offer number h) table
 
-abbrev pub lentBeat : ℕ → List ℕ → Given Answer (List ℕ)
-lentBeat i l = onTable (plain.Refused BadTable) (localBeat i) l
+abbrev pub lentBeat : (number : ℕ) (table : Bytes) → Given Answer Bytes
+lentBeat number table = onTable (plain.Refused BadTable) (localBeat number) table
 
 -- ---- calls that read the table
 
-abbrev pub lentLookup : ℕ → List ℕ → List ℕ → Found
-lentLookup i k l = fromTable (NotFound BadTable) (lookup i k) l
+abbrev pub lentLookup : (number : ℕ) (key table : Bytes) → Found
+lentLookup number k table = fromTable (NotFound BadTable) (lookup number k) table
 
-abbrev pub lentPrefixed : ℕ → List ℕ → List ℕ → List ℕ → Given Listed (List ℕ)
-lentPrefixed i k list l = fromTable (given (listed.Refused BadTable) list) (λ t. prefixed i k t list) l
+abbrev pub lentPrefixed : (number : ℕ) (key list table : Bytes) → Given Listed Bytes
+lentPrefixed number k list table = fromTable (given (listed.Refused BadTable) list) (λ t. prefixed number k t list) table
 
-abbrev pub lentDigest : List ℕ → ℕ → List ℕ → List ℕ → Given Written (List ℕ)
-lentDigest excluded place datagram l = fromTable (given (written.Refused BadTable) datagram) (λ t. writeDigest excluded place t datagram) l
+abbrev pub lentDigest : (excluded : List ℕ) (place : ℕ) (datagram table : Bytes) → Given Written Bytes
+lentDigest excluded place datagram table = fromTable (given (written.Refused BadTable) datagram) (λ t. writeDigest excluded place t datagram) table
 
-abbrev pub lentCompute : List ℕ → List ℕ → ℕ → ℕ → List ℕ → List ℕ → List ℕ → Given Computed (List ℕ)
-lentCompute excluded ties mtu place digest datagram l =
-    fromTable (given (computed.Refused BadTable) datagram) (λ t. compute excluded ties mtu place digest t datagram) l
+abbrev pub lentCompute : (excluded ties : List ℕ) (mtu place : ℕ) (digest datagram table : Bytes) → Given Computed Bytes
+lentCompute excluded ties mtu place digest datagram table =
+    fromTable (given (computed.Refused BadTable) datagram) (λ t. compute excluded ties mtu place digest t datagram) table
 
 -- ---- applying changes the table and the list of answers
 
 pub record TableAndList : Type 0 where
-  pub table : List ℕ
-  pub list : List ℕ
+  pub table : Bytes
+  pub list : Bytes
 
-abbrev pub both : (table list : List ℕ) → TableAndList
-both t l = record { table = t; list = l }
+abbrev pub both : (table list : Bytes) → TableAndList
+both table list = record { table = table; list = list }
 
-abbrev pub storedApply : ApplyOutcome → Given Applied TableAndList
+abbrev pub storedApply : (o : ApplyOutcome) → Given Applied TableAndList
 storedApply o = given (o .answer) (both (encode (o .table)) (o .list))
 
-unfoldable pub lentApply : List ℕ → ℕ → List ℕ → List ℕ → Given Applied TableAndList
-lentApply delta now list l =
-    pick (valid l) (storedApply (apply delta now (decode l) list)) (given (applied.Refused BadTable 0) (both l list))
+unfoldable pub lentApply : (delta : Bytes) (now : ℕ) (list table : Bytes) → Given Applied TableAndList
+lentApply delta now list table =
+    pick (valid table) (storedApply (apply delta now (decode table) list)) (given (applied.Refused BadTable 0) (both table list))
 
 -- an empty table
 unfoldable pub lentNew : List ℕ

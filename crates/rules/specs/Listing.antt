@@ -7,6 +7,7 @@ use mathlib.Core.Bool.{Bool, true, false, _&&_}
 use mathlib.Core.List.{List, [], _∷_, _++_}
 use lib.ListN.{length}
 use lib.Dec.{leb, ltb}
+use Rattle.fields.specs.Numbers.{Bytes}
 use Rattle.fields.specs.Choice.{pick}
 use Rattle.fields.specs.Blocks.{flat}
 use Rattle.rules.specs.Answers.{numberOf}
@@ -20,15 +21,15 @@ ascii str.[] = []
 ascii (str._∷_ c s) = code c ∷ ascii s
 
 -- decimal digits, highest first and without leading zeros; the first number bounds them, and 20 are enough for eight bytes
-unfoldable pub digits : ℕ → ℕ → List ℕ → List ℕ
+unfoldable pub digits : (most n : ℕ) (behind : Bytes) → Bytes
 digits zero n behind = behind
 digits (suc most) n behind = pick (ltb n 10) ((48 + n) ∷ behind) (digits most (n / 10) ((48 + n % 10) ∷ behind))
 
-unfoldable pub decimal : ℕ → List ℕ
+unfoldable pub decimal : (n : ℕ) → Bytes
 decimal n = digits 20 n []
 
 -- a byte outside 33 to 126 prints as `?`
-abbrev pub shownByte : ℕ → ℕ
+abbrev pub shownByte : (b : ℕ) → ℕ
 shownByte b = pick (leb 33 b && leb b 126) b 63
 
 unfoldable pub shownBytes : List ℕ → List ℕ
@@ -54,9 +55,9 @@ opLine (KeyValueOp r) =
 opLine (SetMaxVersionOp m) = ascii "op=max version=" ++ (decimal m ++ lineFeed)
 
 -- a refused delta prints one line; `n` is the length of the delta's bytes
-unfoldable pub listingOf : Ops → ℕ → List ℕ
+unfoldable pub listingOf : (read : Ops) (n : ℕ) → Bytes
 listingOf (Good ops) n = flat opLine ops ++ (ascii "end=ok ops=" ++ (decimal (length ops) ++ (ascii " bytes=" ++ (decimal n ++ lineFeed))))
 listingOf (Faulty r at) n = ascii "end=refused code=" ++ (decimal (numberOf r) ++ (ascii " at=" ++ (decimal at ++ lineFeed)))
 
-unfoldable pub listing : List ℕ → List ℕ
+unfoldable pub listing : (delta : Bytes) → Bytes
 listing l = listingOf (readDelta l) (length l)

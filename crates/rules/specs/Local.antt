@@ -7,6 +7,7 @@ use mathlib.Core.List.{List, [], _∷_}
 use mathlib.Core.Option.{Option, none, some}
 use lib.ListN.{length}
 use lib.Dec.{leb, ltb, eqb}
+use Rattle.fields.specs.Numbers.{Bytes}
 use Rattle.fields.specs.Choice.{pick}
 use Rattle.fields.specs.Parts.{put}
 use Rattle.rules.specs.Sizes.{maxNodes, maxKey, top}
@@ -29,18 +30,18 @@ pub record Outcome (A : Type 0) : Type 0 where
   pub answer : A
   pub table : Table
 
-abbrev pub gives : {A : Type 0} → A → Table → Outcome A
+abbrev pub gives : {A : Type 0} (answer : A) (table : Table) → Outcome A
 gives a t = record { answer = a; table = t }
 
 -- ---- nodes
 
 -- a node held already changes nothing, else 4
-unfoldable pub add : ℕ → Table → Outcome Answer
+unfoldable pub add : (number : ℕ) (table : Table) → Outcome Answer
 add i t =
     pick (among i (numbersOf t)) (gives Done t)
     (pick (ltb (length t) maxNodes) (gives Done (addNode i t)) (gives (Refused NinthNode) t))
 
-unfoldable pub removeNode : ℕ → Table → Outcome Answer
+unfoldable pub removeNode : (number : ℕ) (table : Table) → Outcome Answer
 removeNode i t = pick (among i (numbersOf t)) (gives Done (dropNode i t)) (gives (Refused NoNode) t)
 
 -- ---- records
@@ -51,16 +52,16 @@ answerOf Leave = Done
 answerOf (Give c) = Done
 
 -- a local call at a key of the node: 2, then what the node rules say
-abbrev pub callOn : Call → ℕ → List ℕ → Option Node → Table → Outcome Answer
+abbrev pub callOn : (call : Call) (number : ℕ) (key : Bytes) (held : Option Node) (table : Table) → Outcome Answer
 callOn c i k none t = gives (Refused NoNode) t
 callOn c i k (some n) t = gives (answerOf (decide c k n)) (setNode i (act k (decide c k n) n) t)
 
 -- set, set with TTL, delete, delete after TTL
-unfoldable pub call : Call → ℕ → List ℕ → Table → Outcome Answer
+unfoldable pub call : (call : Call) (number : ℕ) (key : Bytes) (table : Table) → Outcome Answer
 call c i k t = callOn c i k (nodeOf i t) t
 
 -- removal over all nodes by the clock
-unfoldable pub gc : ℕ → ℕ → Table → Outcome Answer
+unfoldable pub gc : (now grace : ℕ) (table : Table) → Outcome Answer
 gc now grace t = gives Done (removeAll (λ i. due now grace) t)
 
 -- ---- heartbeats
@@ -69,20 +70,20 @@ abbrev pub yesNo : Bool → Offered
 yesNo true = offered.Yes
 yesNo false = offered.No
 
-abbrev pub offerOn : ℕ → Heartbeat → Option Node → Table → Outcome Offered
+abbrev pub offerOn : (number : ℕ) (heartbeat : Heartbeat) (held : Option Node) (table : Table) → Outcome Offered
 offerOn i h none t = gives (offered.Refused NoNode) t
 offerOn i h (some n) t = gives (yesNo (offerOf (n .heartbeat) h .news)) (setNode i (withHeartbeat (offerOf (n .heartbeat) h .heartbeat) n) t)
 
-unfoldable pub offer : ℕ → Heartbeat → Table → Outcome Offered
+unfoldable pub offer : (number : ℕ) (heartbeat : Heartbeat) (table : Table) → Outcome Offered
 offer i h t = offerOn i h (nodeOf i t) t
 
 -- a local beat raises it by one: 2, 6
-abbrev pub beatOn : ℕ → Option Node → Table → Outcome Answer
+abbrev pub beatOn : (number : ℕ) (held : Option Node) (table : Table) → Outcome Answer
 beatOn i none t = gives (Refused NoNode) t
 beatOn i (some n) t =
     pick (ltb (n .heartbeat .0) top) (gives Done (setNode i (withHeartbeat (beats (n .heartbeat .0 + 1)) n) t)) (gives (Refused Exhausted) t)
 
-unfoldable pub localBeat : ℕ → Table → Outcome Answer
+unfoldable pub localBeat : (number : ℕ) (table : Table) → Outcome Answer
 localBeat i t = beatOn i (nodeOf i t) t
 
 -- ---- reading: the table stays
@@ -97,22 +98,22 @@ abbrev pub foundOf : Option (List ℕ) → Found
 foundOf none = Nothing
 foundOf (some v) = Value v
 
-abbrev pub lookupOn : List ℕ → Option Node → Found
+abbrev pub lookupOn : (key : Bytes) (held : Option Node) → Found
 lookupOn k none = NotFound NoNode
 lookupOn k (some n) = pick (leb (length k) maxKey) (foundOf (shown (find k (n .recs)))) (NotFound TooLong)
 
 -- 2, 1
-unfoldable pub lookup : ℕ → List ℕ → Table → Found
+unfoldable pub lookup : (number : ℕ) (key : Bytes) (table : Table) → Found
 lookup i k t = lookupOn k (nodeOf i t)
 
 -- the places of the hits go to the front of the lent list, where it has room for them (8)
-abbrev pub listInto : List ℕ → List ℕ → Given Listed (List ℕ)
+abbrev pub listInto : (found list : Bytes) → Given Listed Bytes
 listInto found l = pick (leb (length found) (length l)) (given (listed.Hits (length found)) (put 0 found l)) (given (listed.Refused NoPlace) l)
 
-abbrev pub prefixOn : List ℕ → Option Node → List ℕ → Given Listed (List ℕ)
+abbrev pub prefixOn : (key : Bytes) (held : Option Node) (list : Bytes) → Given Listed Bytes
 prefixOn k none l = given (listed.Refused NoNode) l
 prefixOn k (some n) l = pick (leb (length k) maxKey) (listInto (hitsFrom k 0 (n .recs)) l) (given (listed.Refused TooLong) l)
 
 -- a prefix listing: 2, 1, 8
-unfoldable pub prefixed : ℕ → List ℕ → Table → List ℕ → Given Listed (List ℕ)
+unfoldable pub prefixed : (number : ℕ) (key : Bytes) (table : Table) (list : Bytes) → Given Listed Bytes
 prefixed i k t l = prefixOn k (nodeOf i t) l

@@ -6,6 +6,7 @@ use mathlib.Core.List.{List, [], _∷_}
 use mathlib.Core.Option.{Option, none, some}
 use lib.ListN.{length}
 use lib.Dec.{leb, ltb, eqb}
+use Rattle.fields.specs.Numbers.{Bytes}
 use Rattle.fields.specs.Choice.{pick, keep}
 use Rattle.fields.specs.Order.{sameBytes, lessBytes, startsWith}
 use Rattle.rules.specs.Sizes.{maxRecords, maxKey, maxValue, top}
@@ -43,8 +44,8 @@ sameStatus Ttl Ttl = true
 
 -- what a version gives to a key; a record as a delta carries it
 pub record KeyValue : Type 0 where
-  pub key : List ℕ
-  pub value : List ℕ
+  pub key : Bytes
+  pub value : Bytes
   pub version : ℕ
   pub status : Status
 
@@ -60,7 +61,7 @@ pub record Node : Type 0 where
   pub last-gc : ℕ
   pub recs : List Rec
 
-abbrev pub beats : ℕ → Heartbeat
+abbrev pub beats : (n : ℕ) → Heartbeat
 beats n = record { 0 = n }
 
 -- a fresh node: heartbeat 0, max 0, last_gc 0, no records
@@ -74,12 +75,12 @@ abbrev pub emptyRecord : Record
 emptyRecord = record { keylen = 0; valuelen = 0; version = 0; status = Set; start = 0 }
 
 -- the record of a key
-unfoldable pub find : List ℕ → List Rec → Option Rec
+unfoldable pub find : (key : Bytes) (recs : List Rec) → Option Rec
 find k [] = none
 find k (a ∷ l) = pick (sameBytes k (a .kv .key)) (some a) (find k l)
 
 -- the record takes the place of its key's, or its own in the order of the keys
-unfoldable pub store : Rec → List Rec → List Rec
+unfoldable pub store : (rec : Rec) (recs : List Rec) → List Rec
 store r [] = r ∷ []
 store r (a ∷ l) =
     pick (sameBytes (r .kv .key) (a .kv .key)) (r ∷ l) (pick (lessBytes (r .kv .key) (a .kv .key)) (r ∷ a ∷ l) (a ∷ store r l))
@@ -88,12 +89,12 @@ store r (a ∷ l) =
 
 -- what the record at the key becomes, but for its version
 pub record Change : Type 0 where
-  pub value : List ℕ
+  pub value : Bytes
   pub status : Status
   pub start : ℕ
 
 -- max rises by one, and the key's record takes that version
-unfoldable pub write : List ℕ → Change → Node → Node
+unfoldable pub write : (key : Bytes) (change : Change) (node : Node) → Node
 write k c n =
     record {
       heartbeat = n .heartbeat;
@@ -123,40 +124,40 @@ pub data Decision : Type 0 where
   Give : Change → Decision
 
 -- same value and status already there: nothing changes
-abbrev pub unlessSame : Option Rec → Change → Decision
+abbrev pub unlessSame : (found : Option Rec) (change : Change) → Decision
 unlessSame none c = Give c
 unlessSame (some r) c = pick (sameStatus (r .kv .status) (c .status) && sameBytes (r .kv .value) (c .value)) Leave (Give c)
 
 -- no such key, for the two deletes
-abbrev pub ifThere : Option Rec → (Rec → Change) → Decision
+abbrev pub ifThere : (found : Option Rec) (f : Rec → Change) → Decision
 ifThere none f = Refuse NoKey
 ifThere (some r) f = Give (f r)
 
 -- what document 01 wants, given the key's record: a set changes what differs, a delete empties the value, a delete after TTL keeps it
-unfoldable pub wish : Call → Option Rec → Decision
+unfoldable pub wish : (call : Call) (found : Option Rec) → Decision
 wish (Setting v) o = unlessSame o (record { value = v; status = Set; start = 0 })
 wish (SettingTtl v now) o = unlessSame o (record { value = v; status = Ttl; start = now })
 wish (Deleting now) o = ifThere o (λ r. record { value = []; status = Delete; start = now })
 wish (DeletingAfterTtl now) o = ifThere o (λ r. record { value = r .kv .value; status = Ttl; start = now })
 
 -- the key would be the 33rd
-abbrev pub fullFor : Option Rec → Node → Bool
+abbrev pub fullFor : (found : Option Rec) (node : Node) → Bool
 fullFor none n = leb maxRecords (length (n .recs))
 fullFor (some r) n = false
 
 -- a change wants room for its key (5) and a version that can rise (6)
-abbrev pub allowed : List ℕ → Node → Decision → Decision
+abbrev pub allowed : (key : Bytes) (node : Node) (decision : Decision) → Decision
 allowed k n (Refuse r) = Refuse r
 allowed k n Leave = Leave
 allowed k n (Give c) = pick (fullFor (find k (n .recs)) n) (Refuse NodeFull) (pick (ltb (n .max) top) (Give c) (Refuse Exhausted))
 
 -- in document 01's order: 1, 3, nothing to change, 5, 6
-unfoldable pub decide : Call → List ℕ → Node → Decision
+unfoldable pub decide : (call : Call) (key : Bytes) (node : Node) → Decision
 decide c k n =
     pick (leb (length k) maxKey && leb (length (brought c)) maxValue) (allowed k n (wish c (find k (n .recs)))) (Refuse TooLong)
 
 -- the node afterwards
-unfoldable pub act : List ℕ → Decision → Node → Node
+unfoldable pub act : (key : Bytes) (decision : Decision) (node : Node) → Node
 act k (Refuse r) n = n
 act k Leave n = n
 act k (Give c) n = write k c n
@@ -164,32 +165,32 @@ act k (Give c) n = write k c n
 -- ---- removal
 
 -- a removal takes those scheduled records that are due
-abbrev pub goes : (Rec → Bool) → Rec → Bool
+abbrev pub goes : (due : Rec → Bool) (rec : Rec) → Bool
 goes due r = scheduled (r .kv .status) && due r
 
 -- last_gc becomes the larger of itself and the removed versions
-unfoldable pub lastGc : (Rec → Bool) → ℕ → List Rec → ℕ
+unfoldable pub lastGc : (due : Rec → Bool) (g : ℕ) (recs : List Rec) → ℕ
 lastGc due g [] = g
 lastGc due g (a ∷ l) = lastGc due (pick (goes due a) (max g (a .kv .version)) g) l
 
-unfoldable pub remove : (Rec → Bool) → Node → Node
+unfoldable pub remove : (due : Rec → Bool) (node : Node) → Node
 remove due n =
     record { heartbeat = n .heartbeat; max = n .max; last-gc = lastGc due (n .last-gc) (n .recs); recs = keep (λ r. not (goes due r)) (n .recs) }
 
 -- document 01's clock: a scheduled record stays while now < start + grace
-abbrev pub due : ℕ → ℕ → Rec → Bool
+abbrev pub due : (now grace : ℕ) (rec : Rec) → Bool
 due now grace r = not (ltb now (r .start + grace))
 
 -- ---- heartbeats
 
-abbrev pub beat : Heartbeat → Bool → Beat
+abbrev pub beat : (heartbeat : Heartbeat) (b : Bool) → Beat
 beat h b = record { heartbeat = h; news = b }
 
 -- if 0 is held, store and say no; if greater, store and say yes; else no
-unfoldable pub offerOf : Heartbeat → Heartbeat → Beat
+unfoldable pub offerOf : (held got : Heartbeat) → Beat
 offerOf held got = pick (eqb (held .0) 0) (beat got false) (pick (ltb (held .0) (got .0)) (beat got true) (beat held false))
 
-abbrev pub withHeartbeat : Heartbeat → Node → Node
+abbrev pub withHeartbeat : (heartbeat : Heartbeat) (node : Node) → Node
 withHeartbeat h n = record { heartbeat = h; max = n .max; last-gc = n .last-gc; recs = n .recs }
 
 -- ---- reading
@@ -200,10 +201,10 @@ shown none = none
 shown (some r) = pick (hidden (r .kv .status)) none (some (r .kv .value))
 
 -- a listing's hit: the key begins with the prefix, and the record is not hidden
-abbrev pub hits : List ℕ → Rec → Bool
+abbrev pub hits : (prefix : Bytes) (rec : Rec) → Bool
 hits prefix r = startsWith prefix (r .kv .key) && not (hidden (r .kv .status))
 
 -- the places of the hits in key order, the first record's place being i
-unfoldable pub hitsFrom : List ℕ → ℕ → List Rec → List ℕ
+unfoldable pub hitsFrom : (prefix : Bytes) (i : ℕ) (recs : List Rec) → Bytes
 hitsFrom prefix i [] = []
 hitsFrom prefix i (r ∷ l) = pick (hits prefix r) (i ∷ hitsFrom prefix (suc i) l) (hitsFrom prefix (suc i) l)

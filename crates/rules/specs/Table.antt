@@ -18,27 +18,27 @@ pub record Entry : Type 0 where
 abbrev pub Table : Type 0
 Table = List Entry
 
-unfoldable pub nodeOf : ℕ → Table → Option Node
+unfoldable pub nodeOf : (number : ℕ) (table : Table) → Option Node
 nodeOf i [] = none
 nodeOf i (e ∷ t) = pick (eqb i (e .number)) (some (e .node)) (nodeOf i t)
 
 -- the node that is held under the number becomes n
-unfoldable pub setNode : ℕ → Node → Table → Table
+unfoldable pub setNode : (number : ℕ) (node : Node) (table : Table) → Table
 setNode i n [] = []
 setNode i n (e ∷ t) = pick (eqb i (e .number)) (record { number = e .number; node = n } ∷ t) (e ∷ setNode i n t)
 
 -- a fresh node in the order of the numbers; a node held already stays
-unfoldable pub addNode : ℕ → Table → Table
+unfoldable pub addNode : (number : ℕ) (table : Table) → Table
 addNode i [] = record { number = i; node = fresh } ∷ []
 addNode i (e ∷ t) =
     pick (eqb i (e .number)) (e ∷ t) (pick (ltb i (e .number)) (record { number = i; node = fresh } ∷ e ∷ t) (e ∷ addNode i t))
 
-unfoldable pub dropNode : ℕ → Table → Table
+unfoldable pub dropNode : (number : ℕ) (table : Table) → Table
 dropNode i [] = []
 dropNode i (e ∷ t) = pick (eqb i (e .number)) t (e ∷ dropNode i t)
 
 -- a removal goes over all nodes
-unfoldable pub removeAll : (ℕ → Rec → Bool) → Table → Table
+unfoldable pub removeAll : (due : ℕ → Rec → Bool) (table : Table) → Table
 removeAll due [] = []
 removeAll due (e ∷ t) = record { number = e .number; node = remove (due (e .number)) (e .node) } ∷ removeAll due t
 
@@ -47,7 +47,7 @@ numbersOf [] = []
 numbersOf (e ∷ t) = e .number ∷ numbersOf t
 
 -- the number stands in the list
-unfoldable pub among : ℕ → List ℕ → Bool
+unfoldable pub among : (number : ℕ) (numbers : List ℕ) → Bool
 among i [] = false
 among i (n ∷ ns) = pick (eqb i n) true (among i ns)
 
@@ -74,7 +74,7 @@ differ [] = true
 differ (n ∷ ns) = not (among n ns) && differ ns
 
 -- lengths within the sizes, a version from 1 on and not above max, a time of eight bytes
-unfoldable pub recObeys : ℕ → Rec → Bool
+unfoldable pub recObeys : (max : ℕ) (rec : Rec) → Bool
 recObeys max r =
     every
     (leb (length (r .kv .key)) maxKey
@@ -84,7 +84,7 @@ recObeys max r =
     ∷ ltb (r .start) numbers
     ∷ [])
 
-unfoldable pub nodeObeys : Node → Bool
+unfoldable pub nodeObeys : (node : Node) → Bool
 nodeObeys n =
     every
     (leb (length (n .recs)) maxRecords
@@ -96,9 +96,9 @@ nodeObeys n =
     ∷ ltb (n .heartbeat .0) numbers
     ∷ [])
 
-unfoldable pub entryObeys : Entry → Bool
+unfoldable pub entryObeys : (entry : Entry) → Bool
 entryObeys e = ltb (e .number) numbers && nodeObeys (e .node)
 
 -- last_gc may exceed max, and no rule ties them
-unfoldable pub obeys : Table → Bool
+unfoldable pub obeys : (table : Table) → Bool
 obeys t = every (leb (length t) maxNodes ∷ rising (numbersOf t) ∷ all entryObeys t ∷ [])

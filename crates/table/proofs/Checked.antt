@@ -8,7 +8,7 @@ use lib.ListN.{length, drop, getD, length-drop}
 use lib.Dec.{eqb}
 use borrow.Author.Tests.{leb-true, le-leb, eqb-true, eq-eqb}
 use Rattle.fields.specs.Choice.{every}
-use Rattle.fields.specs.Numbers.{Bytes}
+use Rattle.fields.specs.Numbers.{AreBytes}
 use Rattle.fields.specs.Parts.{part}
 use Rattle.fields.specs.Blocks.{flat, blocks, unblock, allZero, allBlocks}
 use Rattle.fields.proofs.Choice.{every-at, same-test, and-left, and-right, and-last, all-in, at-in, in-at}
@@ -44,7 +44,7 @@ table-good t o =
 
 -- ---- bytes that pass the tests
 
-module _ (l : List ℕ) (h : Bytes l) (good : tableGood l ≡ true) where
+module _ (l : List ℕ) (h : AreBytes l) (good : tableGood l ≡ true) where
   long : length l ≡ tableWidth
   unfolding tableGood
   long = eqb-true (length l) tableWidth (and-left _ (every (tableTests l)) good)
@@ -59,7 +59,7 @@ module _ (l : List ℕ) (h : Bytes l) (good : tableGood l ≡ true) where
   room-long : length (drop 1 l) ≡ maxNodes * nodeWidth
   room-long = rw (length-drop, long) refl
 
-  room-bytes : (i : ℕ) → Bytes (part (i * nodeWidth) nodeWidth (drop 1 l))
+  room-bytes : (i : ℕ) → AreBytes (part (i * nodeWidth) nodeWidth (drop 1 l))
   room-bytes i = bytes-part (i * nodeWidth) nodeWidth (drop 1 l) (bytes-drop 1 l h)
 
   block-long : (i : ℕ) → i < nodesOf l → length (part (i * nodeWidth) nodeWidth (drop 1 l)) ≡ nodeWidth
@@ -93,7 +93,7 @@ module _ (l : List ℕ) (h : Bytes l) (good : tableGood l ≡ true) where
       obeys-table t (record { few = rw tl few-nodes; rise = at 2; each = all-in entryObeys t (at-in (λ e. entryObeys e ≡ true) t d one) })
 
 -- the check of number 14 as plain tests
-pub valid-is : (l : List ℕ) → Bytes l → valid l ≡ tableGood l
+pub valid-is : (l : List ℕ) → AreBytes l → valid l ≡ tableGood l
 valid-is l h =
     same-test (valid l) (tableGood l) (λ v. ap tableGood (sym (encode-decode l v)) ∙ table-good (decode l) (valid-obeys l v))
     (λ g. valid-by l (good-obeys l h g) (good-back l h g))
@@ -109,7 +109,7 @@ length-stop l h = go (valid l) refl
     go false e = refl
 
 -- no test may fail
-pub table-stop : (l : List ℕ) → Bytes l → (k : ℕ) → getD (tableTests l) k true ≡ false → false ≡ valid l
+pub table-stop : (l : List ℕ) → AreBytes l → (k : ℕ) → getD (tableTests l) k true ≡ false → false ≡ valid l
 unfolding tableGood
 table-stop l h k e = sym (valid-is l h ∙ ap (λ (t : Bool). eqb (length l) tableWidth && t) (every-no (tableTests l) k e) ∙ never (eqb (length l) tableWidth))
   where
@@ -118,7 +118,7 @@ table-stop l h k e = sym (valid-is l h ∙ ap (λ (t : Bool). eqb (length l) tab
     never false = refl
 
 -- where all others hold, the last decides
-pub table-pass : (l : List ℕ) → Bytes l → (t : Bool) → length l ≡ tableWidth → getD (tableTests l) 0 true ≡ true → getD (tableTests l) 1 true ≡ true
+pub table-pass : (l : List ℕ) → AreBytes l → (t : Bool) → length l ≡ tableWidth → getD (tableTests l) 0 true ≡ true → getD (tableTests l) 1 true ≡ true
     → getD (tableTests l) 2 true ≡ true → getD (tableTests l) 3 true ≡ t → t ≡ valid l
 unfolding tableGood
 table-pass l h t e h0 h1 h2 h3 = sym (valid-is l h ∙ rw (tableGood, eq-eqb (length l) tableWidth e, h0, h1, h2, h3) (and-last t))

@@ -10,7 +10,7 @@ use lib.Seq.{take-all}
 use lib.Dec.{leb, ltb}
 use borrow.Author.Tests.{leb-true, ltb-true, le-leb, lt-ltb}
 use Rattle.fields.specs.Choice.{every, all, _∈_}
-use Rattle.fields.specs.Numbers.{natOf, bytesOf, Bytes}
+use Rattle.fields.specs.Numbers.{natOf, bytesOf, AreBytes}
 use Rattle.fields.specs.Parts.{part}
 use Rattle.fields.specs.Blocks.{flat, blocks, unblock, allZero, allBlocks}
 use Rattle.fields.specs.Widths.{Widths, offset}
@@ -172,7 +172,7 @@ pub node-stop : (b : List ℕ) (k : ℕ) → getD (nodeTests b) k true ≡ false
 unfolding nodeGood
 node-stop b k e = sym (every-no (nodeTests b) k e)
 
-module _ (b : List ℕ) (long : length b ≡ nodeWidth) (h : Bytes b) (good : nodeGood b ≡ true) where
+module _ (b : List ℕ) (long : length b ≡ nodeWidth) (h : AreBytes b) (good : nodeGood b ≡ true) where
   at : (k : ℕ) → getD (nodeTests b) k true ≡ true
   unfolding nodeGood
   at k = every-at (nodeTests b) good k
@@ -183,7 +183,7 @@ module _ (b : List ℕ) (long : length b ≡ nodeWidth) (h : Bytes b) (good : no
   room-long : length (drop 33 b) ≡ maxRecords * recWidth
   room-long = rw (length-drop, long) refl
 
-  room-bytes : (i : ℕ) → Bytes (part (i * recWidth) recWidth (drop 33 b))
+  room-bytes : (i : ℕ) → AreBytes (part (i * recWidth) recWidth (drop 33 b))
   room-bytes i = bytes-part (i * recWidth) recWidth (drop 33 b) (bytes-drop 33 b h)
 
   block-long : (i : ℕ) → i < countOf b → length (part (i * recWidth) recWidth (drop 33 b)) ≡ recWidth

@@ -9,7 +9,7 @@ use lib.ListN.{length, getD}
 use lib.Dec.{leb, ltb}
 use borrow.Author.Tests.{leb-true, ltb-true, le-leb, lt-ltb}
 use Rattle.fields.specs.Choice.{every}
-use Rattle.fields.specs.Numbers.{natOf, bytesOf, Bytes}
+use Rattle.fields.specs.Numbers.{natOf, bytesOf, AreBytes}
 use Rattle.fields.specs.Parts.{part}
 use Rattle.fields.specs.Widths.{Widths, offset}
 use Rattle.fields.proofs.Choice.{every-at, and-no}
@@ -192,7 +192,7 @@ good-key max b t = tests max b t .key-fits
 pub good-value : (max : ℕ) (b : List ℕ) → recGood max b ≡ true → valueLength b ≤ maxValue
 good-value max b t = tests max b t .value-fits
 
-module _ (max : ℕ) (b : List ℕ) (long : length b ≡ recWidth) (h : Bytes b) (good : recGood max b ≡ true) where
+module _ (max : ℕ) (b : List ℕ) (long : length b ≡ recWidth) (h : AreBytes b) (good : recGood max b ≡ true) where
   -- they are those of the record that is read in them
   pub encode-decode-rec : encodeRec (decodeRec b) ≡ b
   unfolding encodeRec decodeRec

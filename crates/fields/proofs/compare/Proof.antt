@@ -3,7 +3,7 @@ use Prim.Native.Nat.{ℕ, _+_, _-_, _≤_}
 use mathlib.Core.Path.{_≡_, refl, sym, ap₂, _∙_}
 use native.Mathlib.Omega.{arith}
 use lib.ListN.{length, drop}
-use Rattle.fields.specs.Numbers.{Bytes}
+use Rattle.fields.specs.Numbers.{AreBytes}
 use Rattle.fields.specs.Order.{orderOf}
 use Rattle.fields.proofs.Lent.{seen-rest}
 use Rattle.fields.proofs.Numbers.{at-bytes}
@@ -18,10 +18,10 @@ Inv-loop a b i₀ i = (i ≤ length a) × (i ≤ length b) × (orderOf (drop i a
 abbrev μ-loop : tie.MeasureT-loop
 μ-loop a b i₀ i = length a - i
 
-first-bytes : (c : tie.At-loop Inv-loop μ-loop) → Bytes (c .before .before .before .args .a .now)
+first-bytes : (c : tie.At-loop Inv-loop μ-loop) → AreBytes (c .before .before .before .args .a .now)
 first-bytes c = at-bytes _ (λ i. c .before .before .shared-slice-known .given i .fits)
 
-second-bytes : (c : tie.At-loop Inv-loop μ-loop) → Bytes (c .before .before .before .args .b .now)
+second-bytes : (c : tie.At-loop Inv-loop μ-loop) → AreBytes (c .before .before .before .args .b .now)
 second-bytes c = at-bytes _ (λ i. c .before .shared-slice-known2 .given i .fits)
 
 loop-holds : tie.Need-loop-holds Inv-loop μ-loop

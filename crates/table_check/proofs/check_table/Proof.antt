@@ -7,7 +7,7 @@ use mathlib.Core.List.{List}
 use native.Mathlib.Omega.{arith}
 use lib.ListN.{getD, take, drop}
 use borrow.Author.Tests.{le-leb, lt-leb}
-use Rattle.fields.specs.Numbers.{Bytes}
+use Rattle.fields.specs.Numbers.{AreBytes}
 use Rattle.fields.specs.Parts.{part}
 use Rattle.fields.specs.Blocks.{allZero, allBlocks}
 use Rattle.fields.proofs.Numbers.{at-bytes}
@@ -19,7 +19,7 @@ use Rattle.table_check.proofs.check_table.Statement.{statement}
 use Rattle.table_check.proofs.check_table.Tie as tie
 
 -- what is known of a slice
-bytes : (c : tie.After-shared-slice-known) → Bytes (c .before .args .s .now)
+bytes : (c : tie.After-shared-slice-known) → AreBytes (c .before .args .s .now)
 bytes c = at-bytes (c .before .args .s .now) (λ i. c .shared-slice-known .given i .fits)
 
 nodes-test : (l : List ℕ) (n : ℕ) (t : Bool) → n ≡ nodesOf l → t ≡ allBlocks nodeGood nodeWidth n (drop 1 l) → getD (tableTests l) 1 true ≡ t
