@@ -1,15 +1,18 @@
 -- Heartbeats on one node's bytes, and on the table that the node stands in. Assumes nothing.
-use Prim.Native.Nat.{ℕ, _+_}
+use Prim.Native.Nat.{ℕ, _+_, _-_}
 use mathlib.Core.Path.{_≡_, refl, ap, sym, _∙_}
 use mathlib.Core.Bool.{Bool, true, false}
 use mathlib.Core.List.{List}
 use mathlib.Core.Option.{Option, none, some}
 use Rattle.fields.specs.Choice.{pick}
-use Rattle.fields.specs.Parts.{put}
+use borrow.Rule.Slice.PartMut.{putMid}
+use Rattle.fields.specs.Parts.{part}
+use Rattle.rules.specs.Given.{Gives}
+use Rattle.rules.specs.Lent.{stored}
 use Rattle.rules.specs.Node.{Node, beats, offerOf, withHeartbeat}
-use Rattle.rules.specs.Table.{Entry, Table, setNode}
-use Rattle.rules.specs.Local.{Outcome, gives, yesNo, offerOn, offer, beatOn, localBeat}
-use Rattle.rules.specs.Layout.{nodePlace, encodeNode, decodeNode, encode, decode, valid}
+use Rattle.rules.specs.Table.{setNode}
+use Rattle.rules.specs.Local.{gives, yesNo, offerOn, offer, beatOn, localBeat}
+use Rattle.rules.specs.Layout.{nodeWidth, encodeNode, decodeNode, decode, valid}
 use Rattle.rules.proofs.Refusing.{set-same}
 use Rattle.rules.specs.declared.Heartbeat.{Heartbeat}
 use Rattle.rules.specs.declared.Header.{Header}
@@ -20,16 +23,13 @@ use Rattle.rules.specs.declared.Offered.the-variants as offered
 use Rattle.rules.specs.declared.Refusal.the-variants.{NoNode, Exhausted}
 use Rattle.table.specs.Changes.{withBeat}
 use Rattle.table.specs.Fits.{LaidNode}
-use Rattle.table.proofs.Tables.{encode-decode}
-use Rattle.table.proofs.Places.{nodeAt}
-use Rattle.table_read.specs.Find.{findNode, headerOf}
-use Rattle.table_read.specs.declared.Place.the-variants.{At, Free}
-use Rattle.table_read.proofs.Searched.{node-found, node-missing}
-use Rattle.table_read.proofs.Placed.{node-changed}
+use Rattle.table_read.specs.Find.{spanIn, headerOf}
+use Rattle.table_read.specs.declared.Span.the-variants.{Held, Missing}
+use Rattle.table_read.proofs.Held.{held-node, held-gives, missing-node, stays-gives}
 use Rattle.heartbeat_header.specs.Headers.{offeredTo, canRise, risenFrom, raisedOf}
 use Rattle.heartbeat_header.specs.declared.OfferedHeader.{OfferedHeader}
 use Rattle.heartbeat_header.specs.declared.RaisedHeader.{RaisedHeader}
-use Rattle.heartbeat.specs.Beats.{beatTold}
+use Rattle.heartbeat.specs.Beats.{heartbeatIn, nodeOffered, beatTold, nodeBeaten}
 
 -- ---- on a node's bytes
 
@@ -76,51 +76,40 @@ module _ (b : List ℕ) where
 
 -- ---- on the table
 
-module _ (n : ℕ) (l : List ℕ) (v : valid l ≡ true) (i : ℕ) where
-  pub offered-at : (got : Heartbeat) → findNode n (decode l) ≡ At i → (r : Offered) (s : List ℕ) → r ≡ yesNo (offerOf (nodeAt i l .node .heartbeat) got .news)
-      → s ≡ put (nodePlace i) (encodeNode (withBeat (offerOf (nodeAt i l .node .heartbeat) got .heartbeat) (nodeAt i l))) l
-      → (r ≡ offer n got (decode l) .answer) × (s ≡ encode (offer n got (decode l) .table))
-  unfolding offer
-  offered-at got e r s p q =
-      let o : offer n got (decode l) ≡ offerOn n got (some (nodeAt i l .node)) (decode l) = ap (λ (x : Option Node). offerOn n got x (decode l)) (node-found l v n i e) in (
-        p ∙ ap (λ (x : Outcome Offered). x .answer) (sym o),
-        node-changed l v n i e (withHeartbeat (offerOf (nodeAt i l .node .heartbeat) got .heartbeat) (nodeAt i l .node)) s q ∙ ap (λ (x : Outcome Offered). encode (x .table)) (sym o),
-      )
+module _ (n : ℕ) (l : List ℕ) (v : valid l ≡ true) where
+  module _ {start end : ℕ} (e : spanIn n l ≡ Held start end) where
+    abbrev bytes : List ℕ
+    bytes = part start nodeWidth l
 
-  pub offered-none : (got : Heartbeat) → findNode n (decode l) ≡ Free i → (offered.Refused NoNode ≡ offer n got (decode l) .answer) × (l ≡ encode (offer n got (decode l) .table))
-  unfolding offer
-  offered-none got e =
-      let o : offer n got (decode l) ≡ offerOn n got none (decode l) = ap (λ (x : Option Node). offerOn n got x (decode l)) (node-missing l v n i e) in (
-        ap (λ (x : Outcome Offered). x .answer) (sym o),
-        sym (encode-decode l v) ∙ ap (λ (x : Outcome Offered). encode (x .table)) (sym o),
-      )
+    pub offered-held : (got : Heartbeat) (r : Offered) (ys : List ℕ) → Gives (nodeOffered got bytes) r ys
+        → Gives (stored (offer n got (decode l))) r (putMid start (end - start) l ys)
+    unfolding offer
+    offered-held got r ys g =
+        let m : Node = withHeartbeat (offerOf (heartbeatIn bytes) got .heartbeat) (decodeNode bytes .node) in
+        held-gives n l v e (offer n got (decode l)) r m ys
+        (ap (λ (x : Option Node). offerOn n got x (decode l)) (held-node n l v e) ∙ ap (λ (a : Offered). gives a (setNode n m (decode l))) (sym (g .0))) (g .1)
 
-  pub beat-at : findNode n (decode l) ≡ At i → (r : Answer) (s : List ℕ) → r ≡ beatTold (nodeAt i l .node .heartbeat)
-      → s ≡ put (nodePlace i) (encodeNode (withBeat (risenFrom (nodeAt i l .node .heartbeat)) (nodeAt i l))) l
-      → (r ≡ localBeat n (decode l) .answer) × (s ≡ encode (localBeat n (decode l) .table))
-  unfolding localBeat canRise
-  beat-at e r s p q =
-      let o : localBeat n (decode l) ≡ beatOn n (some (nodeAt i l .node)) (decode l) = ap (λ (x : Option Node). beatOn n x (decode l)) (node-found l v n i e) in
-      let g = go (canRise h) in (
-        p ∙ g .0 ∙ ap (λ (x : Outcome Answer). x .answer) (sym o),
-        node-changed l v n i e (withHeartbeat (risenFrom h) (nodeAt i l .node)) s q ∙ ap encode (g .1) ∙ ap (λ (x : Outcome Answer). encode (x .table)) (sym o),
-      )
-    where
-      h : Heartbeat
-      h = nodeAt i l .node .heartbeat
+    pub beat-held : (r : Answer) (ys : List ℕ) → Gives (nodeBeaten bytes) r ys → Gives (stored (localBeat n (decode l))) r (putMid start (end - start) l ys)
+    unfolding localBeat canRise
+    beat-held r ys g =
+        let m : Node = withHeartbeat (risenFrom h) (decodeNode bytes .node) in
+        held-gives n l v e (localBeat n (decode l)) r m ys
+        (ap (λ (x : Option Node). beatOn n x (decode l)) (held-node n l v e) ∙ go (canRise h) ∙ ap (λ (a : Answer). gives a (setNode n m (decode l))) (sym (g .0))) (g .1)
+      where
+        h : Heartbeat
+        h = heartbeatIn bytes
 
-      out : Bool → Outcome Answer
-      out t = pick t (gives plain.Done (setNode n (withHeartbeat (beats (h .0 + 1)) (nodeAt i l .node)) (decode l))) (gives (plain.Refused Exhausted) (decode l))
+        -- where it cannot rise, the node that is set is the one that is held
+        go : (t : Bool) → pick t (gives plain.Done (setNode n (withHeartbeat (beats (h .0 + 1)) (decodeNode bytes .node)) (decode l))) (gives (plain.Refused Exhausted) (decode l))
+            ≡ gives (pick t plain.Done (plain.Refused Exhausted)) (setNode n (withHeartbeat (pick t (beats (h .0 + 1)) h) (decodeNode bytes .node)) (decode l))
+        go true = refl
+        go false = ap (gives (plain.Refused Exhausted)) (sym (set-same n (decodeNode bytes .node) (decode l) (held-node n l v e)))
 
-      go : (t : Bool) → (pick t plain.Done (plain.Refused Exhausted) ≡ out t .answer)
-          × (setNode n (withHeartbeat (pick t (beats (h .0 + 1)) h) (nodeAt i l .node)) (decode l) ≡ out t .table)
-      go true = (refl, refl)
-      go false = (refl, set-same n (nodeAt i l .node) (decode l) (node-found l v n i e))
+  module _ (e : spanIn n l ≡ Missing) where
+    pub offered-missing : (got : Heartbeat) → Gives (stored (offer n got (decode l))) (offered.Refused NoNode) l
+    unfolding offer
+    offered-missing got = stays-gives n l v (offer n got (decode l)) (offered.Refused NoNode) (ap (λ (x : Option Node). offerOn n got x (decode l)) (missing-node n l v e))
 
-  pub beat-none : findNode n (decode l) ≡ Free i → (plain.Refused NoNode ≡ localBeat n (decode l) .answer) × (l ≡ encode (localBeat n (decode l) .table))
-  unfolding localBeat
-  beat-none e =
-      let o : localBeat n (decode l) ≡ beatOn n none (decode l) = ap (λ (x : Option Node). beatOn n x (decode l)) (node-missing l v n i e) in (
-        ap (λ (x : Outcome Answer). x .answer) (sym o),
-        sym (encode-decode l v) ∙ ap (λ (x : Outcome Answer). encode (x .table)) (sym o),
-      )
+    pub beat-missing : Gives (stored (localBeat n (decode l))) (plain.Refused NoNode) l
+    unfolding localBeat
+    beat-missing = stays-gives n l v (localBeat n (decode l)) (plain.Refused NoNode) (ap (λ (x : Option Node). beatOn n x (decode l)) (missing-node n l v e))

@@ -5,29 +5,25 @@ use rules::Answer;
 use rules::Heartbeat;
 use rules::Offered;
 use rules::Refusal;
-use table::layout;
-use table_read::Place;
+use table_read::Span;
 ghost use mathlib.Core.Path.{_≡_};
 ghost use mathlib.Core.Bool.{true};
 ghost use Rattle.rules.specs.Given.{Gives};
-ghost use Rattle.rules.specs.Node.{offerOf};
-ghost use Rattle.rules.specs.Local.{offer, localBeat, yesNo};
+ghost use Rattle.rules.specs.Local.{offer, localBeat};
 ghost use Rattle.rules.specs.Lent.{stored, lentOffer, lentBeat};
-ghost use Rattle.rules.specs.Layout.{encodeNode, decodeNode, decode, valid};
-ghost use Rattle.table.specs.Changes.{withBeat};
+ghost use Rattle.rules.specs.Layout.{decode, valid};
 ghost use Rattle.table.specs.Fits.{LaidNode};
-ghost use Rattle.heartbeat_header.specs.Headers.{risenFrom};
-ghost use Rattle.heartbeat.specs.Beats.{beatTold};
+ghost use Rattle.heartbeat.specs.Beats.{nodeOffered, nodeBeaten};
 
 // A heartbeat offer to a node.
-fn offer_node(b: &mut [u8], got: Heartbeat) -> Offered
-    requires { ⌜ LaidNode (now b) ⌝ }
-    ensures { λ r. ⌜ (r ≡ yesNo (offerOf (decodeNode (now (b .entry)) .node .heartbeat) got .news)) × (now (b .exit) ≡ encodeNode (withBeat (offerOf (decodeNode (now (b .entry)) .node .heartbeat) got .heartbeat) (decodeNode (now (b .entry))))) ⌝ }
+fn offer_node(node: &mut [u8], got: Heartbeat) -> Offered
+    requires { ⌜ LaidNode (now node) ⌝ }
+    ensures { λ r. ⌜ Gives (nodeOffered got (now (node .entry))) r (now (node .exit)) ⌝ }
 {
-    let after = heartbeat_header::offered(table_read::read_header(b), got);
+    let after = heartbeat_header::offered(table_read::read_header(node), got);
     let header = after.header;
     let stored = header.heartbeat;
-    table_write::set_heartbeat(b, stored);
+    table_write::set_heartbeat(node, stored);
     if after.news {
         return Offered::Yes;
     }
@@ -35,66 +31,58 @@ fn offer_node(b: &mut [u8], got: Heartbeat) -> Offered
 }
 
 // A local beat of a node: 6.
-fn beat_node(b: &mut [u8]) -> Answer
-    requires { ⌜ LaidNode (now b) ⌝ }
-    ensures { λ r. ⌜ (r ≡ beatTold (decodeNode (now (b .entry)) .node .heartbeat)) × (now (b .exit) ≡ encodeNode (withBeat (risenFrom (decodeNode (now (b .entry)) .node .heartbeat)) (decodeNode (now (b .entry))))) ⌝ }
+fn beat_node(node: &mut [u8]) -> Answer
+    requires { ⌜ LaidNode (now node) ⌝ }
+    ensures { λ r. ⌜ Gives (nodeBeaten (now (node .entry))) r (now (node .exit)) ⌝ }
 {
-    let after = heartbeat_header::raised(table_read::read_header(b));
+    let after = heartbeat_header::raised(table_read::read_header(node));
     if after.rose {
         let header = after.header;
         let stored = header.heartbeat;
-        table_write::set_heartbeat(b, stored);
+        table_write::set_heartbeat(node, stored);
         return Answer::Done;
     }
     Answer::Refused(Refusal::Exhausted)
 }
 
 // A heartbeat offer to a node of a good table: 2.
-pub fn offer_good(s: &mut [u8], number: u64, got: Heartbeat) -> Offered
-    requires { ⌜ valid (now s) ≡ true ⌝ }
-    ensures { λ r. ⌜ Gives (stored (offer number got (decode (now (s .entry))))) r (now (s .exit)) ⌝ }
+pub fn offer_good(table: &mut [u8], number: u64, got: Heartbeat) -> Offered
+    requires { ⌜ valid (now table) ≡ true ⌝ }
+    ensures { λ r. ⌜ Gives (stored (offer number got (decode (now (table .entry))))) r (now (table .exit)) ⌝ }
 {
-    match table_read::find_node(s, number) {
-        Place::At(i) => {
-            let a = layout::NODES + i * layout::NODE;
-            let e = a + layout::NODE;
-            offer_node(&mut s[a..e], got)
-        }
-        Place::Free(_) => Offered::Refused(Refusal::NoNode),
+    match table_read::node_span(table, number) {
+        Span::Held { start, end } => offer_node(&mut table[start..end], got),
+        Span::Missing => Offered::Refused(Refusal::NoNode),
     }
 }
 
 // A local beat of a node of a good table: 2, 6.
-pub fn beat_good(s: &mut [u8], number: u64) -> Answer
-    requires { ⌜ valid (now s) ≡ true ⌝ }
-    ensures { λ r. ⌜ Gives (stored (localBeat number (decode (now (s .entry))))) r (now (s .exit)) ⌝ }
+pub fn beat_good(table: &mut [u8], number: u64) -> Answer
+    requires { ⌜ valid (now table) ≡ true ⌝ }
+    ensures { λ r. ⌜ Gives (stored (localBeat number (decode (now (table .entry))))) r (now (table .exit)) ⌝ }
 {
-    match table_read::find_node(s, number) {
-        Place::At(i) => {
-            let a = layout::NODES + i * layout::NODE;
-            let e = a + layout::NODE;
-            beat_node(&mut s[a..e])
-        }
-        Place::Free(_) => Answer::Refused(Refusal::NoNode),
+    match table_read::node_span(table, number) {
+        Span::Held { start, end } => beat_node(&mut table[start..end]),
+        Span::Missing => Answer::Refused(Refusal::NoNode),
     }
 }
 
 // A heartbeat offer: 14, 2.
-pub fn offer_heartbeat(s: &mut [u8], number: u64, got: Heartbeat) -> Offered
-    ensures { λ r. ⌜ Gives (lentOffer number got (now (s .entry))) r (now (s .exit)) ⌝ }
+pub fn offer_heartbeat(table: &mut [u8], number: u64, got: Heartbeat) -> Offered
+    ensures { λ r. ⌜ Gives (lentOffer number got (now (table .entry))) r (now (table .exit)) ⌝ }
 {
-    if table_check::check_table(s) {
-        return offer_good(s, number, got);
+    if table_check::check_table(table) {
+        return offer_good(table, number, got);
     }
     Offered::Refused(Refusal::BadTable)
 }
 
 // A local beat: 14, 2, 6.
-pub fn local_beat(s: &mut [u8], number: u64) -> Answer
-    ensures { λ r. ⌜ Gives (lentBeat number (now (s .entry))) r (now (s .exit)) ⌝ }
+pub fn local_beat(table: &mut [u8], number: u64) -> Answer
+    ensures { λ r. ⌜ Gives (lentBeat number (now (table .entry))) r (now (table .exit)) ⌝ }
 {
-    if table_check::check_table(s) {
-        return beat_good(s, number);
+    if table_check::check_table(table) {
+        return beat_good(table, number);
     }
     Answer::Refused(Refusal::BadTable)
 }

@@ -3,6 +3,7 @@
 ghost use mathlib.Core.Path.{_≡_};
 ghost use Prim.Native.Nat.{_+_, _*_, _≤_};
 ghost use lib.ListN.{length};
+ghost use Rattle.rules.specs.Sizes.{maxDelta};
 ghost use Rattle.rules.specs.Delta.{NodeOp, KeyValueOp, SetMaxVersionOp};
 ghost use Rattle.rules.specs.Listing.{statusText, opLine, listing};
 ghost use Rattle.delta_read.specs.Places.{opOf, Inside, widthOf};

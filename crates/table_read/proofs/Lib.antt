@@ -3,3 +3,4 @@ pub mod Searched
 pub mod Entry
 pub mod Placed
 pub mod Halves
+pub mod Held

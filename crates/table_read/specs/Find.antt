@@ -4,6 +4,7 @@ use Prim.Native.Nat.{ℕ, _+_}
 use mathlib.Core.List.{List, [], _∷_}
 use lib.ListN.{length}
 use lib.Dec.{eqb, ltb}
+use Rattle.fields.specs.Numbers.{Bytes}
 use Rattle.fields.specs.Choice.{pick}
 use Rattle.fields.specs.Order.{orderOf}
 use Rattle.fields.specs.declared.Order.{Order}
@@ -12,6 +13,9 @@ use Rattle.rules.specs.Node.{Rec, Node}
 use Rattle.rules.specs.Table.{Entry, Table}
 use Rattle.rules.specs.declared.Header.{Header}
 use Rattle.rules.specs.declared.Record.{Record}
+use Rattle.rules.specs.Layout.{nodeWidth, nodePlace, decode}
+use Rattle.table_read.specs.declared.Span.{Span}
+use Rattle.table_read.specs.declared.Span.the-variants.{Held, Missing}
 use Rattle.table_read.specs.declared.Place.{Place}
 use Rattle.table_read.specs.declared.Place.the-variants.{At, Free}
 
@@ -46,6 +50,15 @@ findNode i t = findBy (toNode i) t
 
 abbrev pub findKey : List ℕ → List Rec → Place
 findKey k l = findBy (toKey k) l
+
+-- where the bytes of the node at a place stand in a table's
+abbrev pub spanOf : (place : Place) → Span
+spanOf (At i) = Held (nodePlace i) (nodePlace i + nodeWidth)
+spanOf (Free i) = Missing
+
+-- where those of the node with this number stand
+abbrev pub spanIn : (number : ℕ) (table : Bytes) → Span
+spanIn number table = spanOf (findNode number (decode table))
 
 abbrev pub headerOf : Node → Header
 headerOf n = record { heartbeat = n .heartbeat; max = n .max; «last_gc» = n .last-gc }

@@ -12,15 +12,21 @@ ghost use Rattle.fields.specs.Numbers.{natOf};
 ghost use Rattle.fields.specs.Parts.{part};
 ghost use Rattle.rules.specs.Sizes.{maxNodes, maxRecords, maxKey, maxValue};
 ghost use Rattle.rules.specs.Table.{keysRise};
-ghost use Rattle.rules.specs.Layout.{recWidth, nodeWidth, tableWidth, decodeRec, decodeNode, decode};
+ghost use Rattle.rules.specs.Layout.{recWidth, nodeWidth, tableWidth, decodeRec, decodeNode, decode, valid};
 ghost use Rattle.table.specs.Tests.{keyLength, valueLength, countOf, nodesOf, recsOf};
 ghost use Rattle.table.specs.Fits.{LaidNode};
-ghost use Rattle.table_read.specs.Find.{findNode, findKey, headerOf, recordOf};
+ghost use Rattle.table_read.specs.Find.{findNode, findKey, spanIn, headerOf, recordOf};
 
 // Where something stands, or the place in the order where it belongs.
 pub enum Place {
     At(usize),
     Free(usize),
+}
+
+// Where the bytes of a node stand in a table's, from `start` up to `end`, or that the table has no such node.
+pub enum Span {
+    Held { start: usize, end: usize },
+    Missing,
 }
 
 // What a record's bytes say beside its key and value.
@@ -69,6 +75,23 @@ pub fn find_node(s: &[u8], number: u64) -> Place
         i += 1;
     }
     Place::Free(i)
+}
+
+// Where the bytes of the node with this number stand in a good table.
+pub fn node_span(table: &[u8], number: u64) -> Span
+    requires { ⌜ valid (now table) ≡ true ⌝ }
+    ensures { λ r. ⌜ r ≡ spanIn number (now (table .entry)) ⌝ }
+{
+    match find_node(table, number) {
+        Place::At(i) => {
+            let start = layout::NODES + i * layout::NODE;
+            Span::Held {
+                start,
+                end: start + layout::NODE,
+            }
+        }
+        Place::Free(_) => Span::Missing,
+    }
 }
 
 // The place of the record with this key in a node's bytes, whose keys rise. It is sought by halves.

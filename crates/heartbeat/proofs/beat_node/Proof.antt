@@ -27,7 +27,7 @@ returns c =
     let h = (c .before .before .before .before .before .before .before .before) .read-header in
     let o = (c .before .before .before .before .before .before .before) .raised in
     let w = (c .before .before) .set-heartbeat in
-    beat-rose (a .b .now) (h .result) (o .result) (h .ensures) (o .ensures) ((c .before .before .before .before .before .before) .if1 .taken) (w .last .0) (w .ensures)
+    beat-rose (a .node .now) (h .result) (o .result) (h .ensures) (o .ensures) ((c .before .before .before .before .before .before) .if1 .taken) (w .last .0) (w .ensures)
 
 same-length-2 : tie.Need-same-length-2
 same-length-2 c = search needs
@@ -37,7 +37,7 @@ returns-2 c =
     let st = (c .before .before .before .before .before) in
     let h = (c .before .before) .read-header in
     let o = (c .before) .raised in
-    beat-stayed (st .args .b .now) (h .result) (o .result) (h .ensures) (o .ensures) (st .pre) (c .if1 .left)
+    beat-stayed (st .args .node .now) (h .result) (o .result) (h .ensures) (o .ensures) (st .pre) (c .if1 .left)
 
 pub beat-node-spec : {M : Type 1} → statement M
 beat-node-spec =

@@ -30,7 +30,7 @@ returns c =
     let h = (c .before .before .before .before .before .before .before .before) .read-header in
     let o = (c .before .before .before .before .before .before .before) .offered in
     let w = (c .before .before .before) .set-heartbeat in
-    (ap yesNo (sym (c .if1 .taken)) ∙ offer-told (a .b .now) (a .got) (h .result) (o .result) (h .ensures) (o .ensures), offer-stored (a .b .now) (a .got) (h .result) (o .result) (h .ensures) (o .ensures) (w .last .0) (w .ensures))
+    (ap yesNo (sym (c .if1 .taken)) ∙ offer-told (a .node .now) (a .got) (h .result) (o .result) (h .ensures) (o .ensures), offer-stored (a .node .now) (a .got) (h .result) (o .result) (h .ensures) (o .ensures) (w .last .0) (w .ensures))
 
 same-length-2 : tie.Need-same-length-2
 same-length-2 c = search needs
@@ -41,7 +41,7 @@ returns-2 c =
     let h = (c .before .before .before .before .before .before .before .before) .read-header in
     let o = (c .before .before .before .before .before .before .before) .offered in
     let w = (c .before .before .before) .set-heartbeat in
-    (ap yesNo (sym (c .if1 .left)) ∙ offer-told (a .b .now) (a .got) (h .result) (o .result) (h .ensures) (o .ensures), offer-stored (a .b .now) (a .got) (h .result) (o .result) (h .ensures) (o .ensures) (w .last .0) (w .ensures))
+    (ap yesNo (sym (c .if1 .left)) ∙ offer-told (a .node .now) (a .got) (h .result) (o .result) (h .ensures) (o .ensures), offer-stored (a .node .now) (a .got) (h .result) (o .result) (h .ensures) (o .ensures) (w .last .0) (w .ensures))
 
 pub offer-node-spec : {M : Type 1} → statement M
 offer-node-spec =
