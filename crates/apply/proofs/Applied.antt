@@ -1,7 +1,7 @@
 -- Applying, level by level: the outcome of each status on a node's bytes, one node delta on a table's bytes, the stream of them, and the whole call.
 -- Assumes nothing.
 use Prim.Native.Nat.{ℕ, _+_, _-_, _≤_, _<_}
-use mathlib.Core.Path.{_≡_, refl, ap, sym, _∙_, subst}
+use mathlib.Core.Path.{_≡_, refl, ap, sym, _∙_, subst, ap₂}
 use mathlib.Core.Bool.{Bool, true, false}
 use mathlib.Core.List.{List, [], _∷_, _++_, append-nil}
 use mathlib.Core.Option.{Option, none, some}
@@ -27,7 +27,8 @@ use Rattle.rules.specs.Table.{Entry, Table, nodeOf, keysRise, obeys}
 use Rattle.rules.specs.Delta as rule
 use Rattle.rules.specs.Apply.{Taken, Stream, takenAs, withRoom, answered, statusOf, deltaStatus, outcome, takeAll, applyNode, onNode, answering, applyEach, codes, apply}
 use Rattle.rules.specs.Layout.{nodePlace, nodeWidth, encodeNode, decodeNode, encode, decode, valid}
-use Rattle.rules.specs.Lent.{lentApply}
+use Rattle.rules.specs.Given.{Gives}
+use Rattle.rules.specs.Lent.{both, lentApply}
 use Rattle.rules.specs.declared.DeltaStatus.{DeltaStatus}
 use Rattle.rules.specs.declared.DeltaStatus.the-variants.{Reject, Apply, ApplyAfterReset}
 use Rattle.rules.specs.declared.NodeAnswer.{NodeAnswer}
@@ -351,27 +352,31 @@ module _ (clock : ℕ) (s t₀ l₀ : List ℕ) where
 
 -- ---- the call
 
--- what the call gives, as its three parts
-abbrev pub Gives : List ℕ → ℕ → List ℕ → List ℕ → Applied → List ℕ → List ℕ → Type 0
-Gives delta clock list l r l′ list′ =
-    (r ≡ lentApply delta clock list l .answer) × (l′ ≡ lentApply delta clock list l .lent .table) × (list′ ≡ lentApply delta clock list l .lent .list)
-
 module _ (delta : List ℕ) (clock : ℕ) (list l : List ℕ) where
-  pub bad-table : valid l ≡ false → Gives delta clock list l (Refused BadTable 0) l list
+  -- what the call gives
+  abbrev Outcome : Applied → List ℕ → List ℕ → Type 0
+  Outcome r l′ list′ = Gives (lentApply delta clock list l) r (both l′ list′)
+
+  -- from its three parts
+  parts : {r : Applied} {l′ list′ : List ℕ} → r ≡ lentApply delta clock list l .answer → l′ ≡ lentApply delta clock list l .lent .table
+      → list′ ≡ lentApply delta clock list l .lent .list → Outcome r l′ list′
+  parts p q s = (p, ap₂ both q s)
+
+  pub bad-table : valid l ≡ false → Outcome (Refused BadTable 0) l list
   unfolding lentApply
-  bad-table e = (rw (lentApply, e), rw (lentApply, e), rw (lentApply, e))
+  bad-table e = parts (rw (lentApply, e)) (rw (lentApply, e)) (rw (lentApply, e))
 
   module _ (v : valid l ≡ true) where
-    pub at-fault : (why : Refusal) (at : ℕ) → rule.deltaRead delta ≡ read.Refused why at → Gives delta clock list l (Refused why at) l list
+    pub at-fault : (why : Refusal) (at : ℕ) → rule.deltaRead delta ≡ read.Refused why at → Outcome (Refused why at) l list
     unfolding lentApply apply rule.deltaRead
     at-fault why at e = go (rule.readDelta delta) refl e
       where
-        go : (o : rule.Ops) → rule.readDelta delta ≡ o → rule.readAnswer o ≡ read.Refused why at → Gives delta clock list l (Refused why at) l list
+        go : (o : rule.Ops) → rule.readDelta delta ≡ o → rule.readAnswer o ≡ read.Refused why at → Outcome (Refused why at) l list
         go (rule.Good ops) q a = let z : _≡_ {A = ℕ} 0 1 = cc in absurd (omega arith)
         go (rule.Faulty y b) q a =
             let p : y ≡ why = cc in
             let k : b ≡ at = cc in
-            (rw (lentApply, v, apply, q, p, k), rw (lentApply, v, apply, q) (sym (encode-decode l v)), rw (lentApply, v, apply, q))
+            parts (rw (lentApply, v, apply, q, p, k)) (rw (lentApply, v, apply, q) (sym (encode-decode l v))) (rw (lentApply, v, apply, q))
 
     module _ (ops nodes : ℕ) (e : rule.deltaRead delta ≡ read.Good ops nodes) where
       pub accepted : (a : Accepted delta) × (nodes ≡ length (rule.partsOf (a .0)))
@@ -393,18 +398,18 @@ module _ (delta : List ℕ) (clock : ℕ) (list l : List ℕ) where
             heads = g .heads ops nodes (sym e);
           }
 
-      pub no-places : length list < nodes → Gives delta clock list l (Refused NoPlace 0) l list
+      pub no-places : length list < nodes → Outcome (Refused NoPlace 0) l list
       unfolding lentApply apply
       no-places h =
           let q = accepted .0 .1 in
           let n : leb (length (rule.partsOf (accepted .0 .0))) (length list) ≡ false = lt-leb (length (rule.partsOf (accepted .0 .0))) (length list) (omega (arith, accepted .1)) in
-          (rw (lentApply, v, apply, q, n), rw (lentApply, v, apply, q, n) (sym (encode-decode l v)), rw (lentApply, v, apply, q, n))
+          parts (rw (lentApply, v, apply, q, n)) (rw (lentApply, v, apply, q, n) (sym (encode-decode l v))) (rw (lentApply, v, apply, q, n))
 
       pub gives : nodes ≤ length list → (l′ list′ : List ℕ) → l′ ≡ encode (applyEach (applyNode clock) (partsFrom delta 0) (decode l) .table)
-          → list′ ≡ put 0 (codes (applyEach (applyNode clock) (partsFrom delta 0) (decode l) .answers)) list → Gives delta clock list l (Nodes nodes) l′ list′
+          → list′ ≡ put 0 (codes (applyEach (applyNode clock) (partsFrom delta 0) (decode l) .answers)) list → Outcome (Nodes nodes) l′ list′
       unfolding lentApply apply
       gives h l′ list′ p s =
           let q = accepted .0 .1 in
           let n : leb (length (rule.partsOf (accepted .0 .0))) (length list) ≡ true = le-leb (length (rule.partsOf (accepted .0 .0))) (length list) (omega (arith, accepted .1)) in
           let same : partsFrom delta 0 ≡ rule.partsOf (accepted .0 .0) = accepted-parts delta (accepted .0) in
-          (rw (lentApply, v, apply, q, n) (ap Nodes (accepted .1)), rw (lentApply, v, apply, q, n) (rw same at p), rw (lentApply, v, apply, q, n) (rw same at s))
+          parts (rw (lentApply, v, apply, q, n) (ap Nodes (accepted .1))) (rw (lentApply, v, apply, q, n) (rw same at p)) (rw (lentApply, v, apply, q, n) (rw same at s))

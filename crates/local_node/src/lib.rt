@@ -36,7 +36,7 @@ pub enum Kind {
 fn same_status(a: Status, b: Status) -> bool
     ensures { λ r. ⌜ r ≡ sameStatus a b ⌝ }
 {
-    table_write::status_byte(a) == table_write::status_byte(b)
+    a.byte() == b.byte()
 }
 
 // Whether record `j` of a node has this value and status already.

@@ -7,16 +7,16 @@ use Rattle.local_node.proofs.same_status.Statement.{statement}
 use Rattle.local_node.proofs.same_status.Tie as tie
 use Rattle.local_node.proofs.same_status.Reads as reads
 use Rattle.local_node.proofs.same_status.Lts as lts
-use Rattle.table_write.proofs.status_byte.Reads as status-byte-reads
+use Rattle.rules.proofs.Status.byte.Reads as byte-reads
 
-status-byte-requires : tie.Need-status-byte-requires
-status-byte-requires c κs = search needs
+byte-requires : tie.Need-byte-requires
+byte-requires c κs = search needs
 
-status-byte-requires-2 : tie.Need-status-byte-requires-2
-status-byte-requires-2 c κs = search needs
+byte-requires-2 : tie.Need-byte-requires-2
+byte-requires-2 c κs = search needs
 
 returns : tie.Need-returns
-returns c = ap₂ eqb (c .before .status-byte .ensures) (c .status-byte2 .ensures) ∙ same-code ((c .before .before) .args .a) ((c .before .before) .args .b)
+returns c = ap₂ eqb (c .before .byte .ensures) (c .byte2 .ensures) ∙ same-code ((c .before .before) .args .a) ((c .before .before) .args .b)
 
 pub same-status-spec : {M : Type 1} → statement M
-same-status-spec = tie.close (tie.spec status-byte-requires status-byte-requires-2 returns)
+same-status-spec = tie.close (tie.spec byte-requires byte-requires-2 returns)
