@@ -25,36 +25,44 @@ ghost use Rattle.apply.specs.Applying.{emptied, begun, grown, Grown, Sto
 // ---- one node
 
 // A reset: a fresh node under the same number with the delta's last_gc.
-fn reset(b: &mut [u8], gc: u64)
-    requires { ⌜ LaidNode (now b) ⌝ }
-    ensures { λ _. ⌜ now (b .exit) ≡ encodeNode (emptied gc (decodeNode (now (b .entry)))) ⌝ }
+fn reset(node: &mut [u8], last_gc: u64)
+    requires { ⌜ LaidNode (now node) ⌝ }
+    ensures { λ _. ⌜ now (node .exit) ≡ encodeNode (emptied «last_gc» (decodeNode (now (node .entry)))) ⌝ }
 {
-    let number = fields::read_u64(b, layout::NUMBER);
-    fields::clear(b, 0, layout::NODE);
-    fields::write_u64(b, layout::NUMBER, number);
-    table_write::set_last_gc(b, gc);
+    let number = fields::read_u64(node, layout::NUMBER);
+    fields::clear(node, 0, layout::NODE);
+    fields::write_u64(node, layout::NUMBER, number);
+    table_write::set_last_gc(node, last_gc);
 }
 
 // The node before the first record is taken: as it is, or after a reset.
-fn begin(b: &mut [u8], afresh: bool, gc: u64)
-    requires { ⌜ LaidNode (now b) ⌝ }
-    ensures { λ _. ⌜ now (b .exit) ≡ encodeNode (begun afresh gc (decodeNode (now (b .entry)))) ⌝ }
+fn begin(node: &mut [u8], afresh: bool, last_gc: u64)
+    requires { ⌜ LaidNode (now node) ⌝ }
+    ensures { λ _. ⌜ now (node .exit) ≡ encodeNode (begun afresh «last_gc» (decodeNode (now (node .entry)))) ⌝ }
 {
     if afresh {
-        reset(b, gc);
+        reset(node, last_gc);
         return;
     }
 }
 
 // The node with the records from `at` taken and max the delta's, and whether there was room. Without room its bytes are of no further use.
-fn grow(b: &mut [u8], s: &[u8], at: usize, afresh: bool, gc: u64, max: u64, clock: u64) -> bool
-    requires { ⌜ Rising (now b) × (at ≤ length (now s)) ⌝ }
-    ensures { λ r. ⌜ Grown (grown clock (now (s .entry)) at max (begun afresh gc (decodeNode (now (b .entry))))) r (now (b .exit)) ⌝ }
+fn grow(
+    node: &mut [u8],
+    delta: &[u8],
+    at: usize,
+    afresh: bool,
+    last_gc: u64,
+    max: u64,
+    clock: u64,
+) -> bool
+    requires { ⌜ Rising (now node) × (at ≤ length (now delta)) ⌝ }
+    ensures { λ r. ⌜ Grown (grown clock (now (delta .entry)) at max (begun afresh «last_gc» (decodeNode (now (node .entry))))) r (now (node .exit)) ⌝ }
 {
-    begin(b, afresh, gc);
-    let own = table_read::read_header(b);
-    if apply_node::take_records(b, s, at, own.max, own.last_gc, clock) {
-        table_write::set_max(b, max);
+    begin(node, afresh, last_gc);
+    let own = table_read::read_header(node);
+    if apply_node::take_records(node, delta, at, own.max, own.last_gc, clock) {
+        table_write::set_max(node, max);
         return true;
     }
     false
@@ -62,45 +70,45 @@ fn grow(b: &mut [u8], s: &[u8], at: usize, afresh: bool, gc: u64, max: u64, cloc
 
 // The same, but without room the node is as it was.
 fn grow_or_keep(
-    b: &mut [u8],
-    s: &[u8],
+    node: &mut [u8],
+    delta: &[u8],
     at: usize,
     afresh: bool,
-    gc: u64,
+    last_gc: u64,
     max: u64,
     clock: u64,
 ) -> bool
-    requires { ⌜ Rising (now b) × (at ≤ length (now s)) ⌝ }
-    ensures { λ r. ⌜ Stored (grown clock (now (s .entry)) at max (begun afresh gc (decodeNode (now (b .entry))))) (now (b .entry)) r (now (b .exit)) ⌝ }
+    requires { ⌜ Rising (now node) × (at ≤ length (now delta)) ⌝ }
+    ensures { λ r. ⌜ Stored (grown clock (now (delta .entry)) at max (begun afresh «last_gc» (decodeNode (now (node .entry))))) (now (node .entry)) r (now (node .exit)) ⌝ }
 {
     let mut saved = [0u8; layout::NODE];
-    fields::copy_to(&mut saved, 0, b);
-    if grow(b, s, at, afresh, gc, max, clock) {
+    fields::copy_to(&mut saved, 0, node);
+    if grow(node, delta, at, afresh, last_gc, max, clock) {
         return true;
     }
-    fields::copy_to(b, 0, &saved);
+    fields::copy_to(node, 0, &saved);
     false
 }
 
 // The same, where no more than `count` records come: if there is room for so many, nothing need be saved.
 fn grow_in_place(
-    b: &mut [u8],
-    s: &[u8],
+    node: &mut [u8],
+    delta: &[u8],
     at: usize,
     count: usize,
     afresh: bool,
-    gc: u64,
+    last_gc: u64,
     max: u64,
     clock: u64,
 ) -> bool
-    requires { ⌜ Rising (now b) × (at ≤ length (now s)) × (length (recsFrom (now s) at) ≤ count) ⌝ }
-    ensures { λ r. ⌜ Stored (grown clock (now (s .entry)) at max (begun afresh gc (decodeNode (now (b .entry))))) (now (b .entry)) r (now (b .exit)) ⌝ }
+    requires { ⌜ Rising (now node) × (at ≤ length (now delta)) × (length (recsFrom (now delta) at) ≤ count) ⌝ }
+    ensures { λ r. ⌜ Stored (grown clock (now (delta .entry)) at max (begun afresh «last_gc» (decodeNode (now (node .entry))))) (now (node .entry)) r (now (node .exit)) ⌝ }
 {
-    let free = Header::RECORDS - fields::byte_at(b, layout::RECORD_COUNT);
+    let free = Header::RECORDS - fields::byte_at(node, layout::RECORD_COUNT);
     if count <= free {
-        return grow(b, s, at, afresh, gc, max, clock);
+        return grow(node, delta, at, afresh, last_gc, max, clock);
     }
-    grow_or_keep(b, s, at, afresh, gc, max, clock)
+    grow_or_keep(node, delta, at, afresh, last_gc, max, clock)
 }
 
 // Whether the status is Reject.
@@ -148,74 +156,106 @@ fn answer_as(status: DeltaStatus, room: bool) -> NodeAnswer
 
 // Applies the node delta with these numbers, whose records begin at `at` and are no more than `count`, to a node.
 fn apply_node(
-    b: &mut [u8],
-    s: &[u8],
+    node: &mut [u8],
+    delta: &[u8],
     at: usize,
     count: usize,
-    gc: u64,
+    last_gc: u64,
     from: u64,
     max: u64,
     clock: u64,
 ) -> NodeAnswer
-    requires { ⌜ Rising (now b) × (at ≤ length (now s)) × (length (recsFrom (now s) at) ≤ count) ⌝ }
-    ensures { λ r. ⌜ Answered (applyNode clock (deltaOf (now (s .entry)) gc from max at) (decodeNode (now (b .entry)) .node)) (now (b .entry)) r (now (b .exit)) ⌝ }
+    requires { ⌜ Rising (now node) × (at ≤ length (now delta)) × (length (recsFrom (now delta) at) ≤ count) ⌝ }
+    ensures { λ r. ⌜ Answered (applyNode clock (deltaOf (now (delta .entry)) «last_gc» from max at) (decodeNode (now (node .entry)) .node)) (now (node .entry)) r (now (node .exit)) ⌝ }
 {
-    let own = table_read::read_header(b);
-    let status = rules::check_delta_status(own.last_gc, own.max, from, gc, max);
+    let own = table_read::read_header(node);
+    let status = rules::check_delta_status(own.last_gc, own.max, from, last_gc, max);
     if is_reject(status) {
         return NodeAnswer::Reject;
     }
-    let room = grow_in_place(b, s, at, count, is_reset(status), gc, max, clock);
+    let room = grow_in_place(
+        node,
+        delta,
+        at,
+        count,
+        is_reset(status),
+        last_gc,
+        max,
+        clock,
+    );
     answer_as(status, room)
 }
 
 // ---- a table
 
 // Applies the node delta whose Node stands at `at` to the node with its number, or answers Unknown.
-fn apply_part(t: &mut [u8], s: &[u8], at: usize, count: usize, max: u64, clock: u64) -> NodeAnswer
-    requires { ⌜ (valid (now t) ≡ true) × (at + 25 ≤ length (now s)) × (length (recsFrom (now s) (at + 25)) ≤ count) ⌝ }
-    ensures { λ r. ⌜ Turned clock (partAt (now (s .entry)) at max) (decode (now (t .entry))) r (now (t .exit)) ⌝ }
+fn apply_part(
+    table: &mut [u8],
+    delta: &[u8],
+    at: usize,
+    count: usize,
+    max: u64,
+    clock: u64,
+) -> NodeAnswer
+    requires { ⌜ (valid (now table) ≡ true) × (at + 25 ≤ length (now delta)) × (length (recsFrom (now delta) (at + 25)) ≤ count) ⌝ }
+    ensures { λ r. ⌜ Turned clock (partAt (now (delta .entry)) at max) (decode (now (table .entry))) r (now (table .exit)) ⌝ }
 {
-    let number = fields::read_u64(s, at + 1);
-    let gc = fields::read_u64(s, at + 9);
-    let from = fields::read_u64(s, at + 17);
-    match table_read::find_node(t, number) {
+    let number = fields::read_u64(delta, at + 1);
+    let gc = fields::read_u64(delta, at + 9);
+    let from = fields::read_u64(delta, at + 17);
+    match table_read::find_node(table, number) {
         Place::At(i) => {
             let a = layout::NODES + i * layout::NODE;
             let e = a + layout::NODE;
-            apply_node(&mut t[a..e], s, at + 25, count, gc, from, max, clock)
+            apply_node(
+                &mut table[a..e],
+                delta,
+                at + 25,
+                count,
+                gc,
+                from,
+                max,
+                clock,
+            )
         }
         Place::Free(_) => NodeAnswer::Unknown,
     }
 }
 
 // Applies the node deltas that were found in an accepted delta to a good table, one answer for each.
-fn apply_each(t: &mut [u8], s: &[u8], heads: Heads, nodes: usize, clock: u64, answers: &mut [u8])
-    requires { ⌜ (valid (now t) ≡ true) × Accepted (now s) × Told (now s) nodes heads × (nodes ≤ length (now answers)) ⌝ }
-    ensures { λ _. ⌜ (now (t .exit) ≡ encode (applyEach (applyNode clock) (partsFrom (now (s .entry)) 0) (decode (now (t .entry))) .table)) × (now (answers .exit) ≡ put 0 (codes (applyEach (applyNode clock) (partsFrom (now (s .entry)) 0) (decode (now (t .entry))) .answers)) (now (answers .entry))) ⌝ }
+fn apply_each(
+    table: &mut [u8],
+    delta: &[u8],
+    heads: Heads,
+    nodes: usize,
+    clock: u64,
+    answers: &mut [u8],
+)
+    requires { ⌜ (valid (now table) ≡ true) × Accepted (now delta) × Told (now delta) nodes heads × (nodes ≤ length (now answers)) ⌝ }
+    ensures { λ _. ⌜ (now (table .exit) ≡ encode (applyEach (applyNode clock) (partsFrom (now (delta .entry)) 0) (decode (now (table .entry))) .table)) × (now (answers .exit) ≡ put 0 (codes (applyEach (applyNode clock) (partsFrom (now (delta .entry)) 0) (decode (now (table .entry))) .answers)) (now (answers .entry))) ⌝ }
 {
     let places = heads.at;
     let counts = heads.count;
     let maxes = heads.max;
     let mut i = 0;
     while i < nodes {
-        let answer = apply_part(t, s, places[i], counts[i], maxes[i], clock);
+        let answer = apply_part(table, delta, places[i], counts[i], maxes[i], clock);
         answers[i] = answer.code();
         i += 1;
     }
 }
 
 // Applies an accepted delta to a good table, one answer for each node delta.
-pub fn apply_good(t: &mut [u8], s: &[u8], clock: u64, answers: &mut [u8])
-    requires { ⌜ (valid (now t) ≡ true) × Accepted (now s) × (length (partsFrom (now s) 0) ≤ length (now answers)) ⌝ }
-    ensures { λ _. ⌜ (now (t .exit) ≡ encode (applyEach (applyNode clock) (partsFrom (now (s .entry)) 0) (decode (now (t .entry))) .table)) × (now (answers .exit) ≡ put 0 (codes (applyEach (applyNode clock) (partsFrom (now (s .entry)) 0) (decode (now (t .entry))) .answers)) (now (answers .entry))) ⌝ }
+pub fn apply_good(table: &mut [u8], delta: &[u8], clock: u64, answers: &mut [u8])
+    requires { ⌜ (valid (now table) ≡ true) × Accepted (now delta) × (length (partsFrom (now delta) 0) ≤ length (now answers)) ⌝ }
+    ensures { λ _. ⌜ (now (table .exit) ≡ encode (applyEach (applyNode clock) (partsFrom (now (delta .entry)) 0) (decode (now (table .entry))) .table)) × (now (answers .exit) ≡ put 0 (codes (applyEach (applyNode clock) (partsFrom (now (delta .entry)) 0) (decode (now (table .entry))) .answers)) (now (answers .entry))) ⌝ }
 {
-    let heads = apply_node::read_heads(s);
+    let heads = apply_node::read_heads(delta);
     let read = heads.read;
     let DeltaRead::Good { ops: _, nodes } = read else {
         return;
     };
-    apply_each(t, s, heads, nodes, clock, answers);
+    apply_each(table, delta, heads, nodes, clock, answers);
 }
 
 // Applies the bytes of a delta to a lent table at the receiver's clock, and gives one answer for each node delta. It takes any bytes, and refuses in

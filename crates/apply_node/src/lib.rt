@@ -58,29 +58,29 @@ fn start_of(status: Status, clock: u64) -> u64
 }
 
 // Whether a record is taken, where `held` is the max held before the first of them.
-fn takes(held: u64, gc: u64, version: u64, status: Status) -> bool
-    ensures { λ r. ⌜ r ≡ takesAs held gc version status ⌝ }
+fn takes(held: u64, last_gc: u64, version: u64, status: Status) -> bool
+    ensures { λ r. ⌜ r ≡ takesAs held «last_gc» version status ⌝ }
 {
     if version <= held {
         return false;
     }
     match status {
         Status::Set => true,
-        Status::Delete => gc < version,
-        Status::Ttl => gc < version,
+        Status::Delete => last_gc < version,
+        Status::Ttl => last_gc < version,
     }
 }
 
 // Whether the key comes behind all keys of the node.
-fn comes_last(b: &[u8], key: &[u8]) -> bool
-    requires { ⌜ Rising (now b) ⌝ }
-    ensures { λ r. ⌜ (r ≡ true → findKey (now (key .entry)) (recsOf (now (b .entry))) ≡ Free (countOf (now (b .entry)))) ⌝ }
+fn comes_last(node: &[u8], key: &[u8]) -> bool
+    requires { ⌜ Rising (now node) ⌝ }
+    ensures { λ r. ⌜ (r ≡ true → findKey (now (key .entry)) (recsOf (now (node .entry))) ≡ Free (countOf (now (node .entry)))) ⌝ }
 {
-    let n = fields::byte_at(b, layout::RECORD_COUNT);
+    let n = fields::byte_at(node, layout::RECORD_COUNT);
     if n == 0 {
         return true;
     }
-    match fields::compare(key, table::key_of(table::record_of(b, n - 1))) {
+    match fields::compare(key, table::key_of(table::record_of(node, n - 1))) {
         fields::Order::Less => false,
         fields::Order::Same => false,
         fields::Order::More => true,
@@ -88,39 +88,39 @@ fn comes_last(b: &[u8], key: &[u8]) -> bool
 }
 
 // The place of the record with this key. Records often come in the order of their keys, so the last key is looked at first.
-fn find_key(b: &[u8], key: &[u8]) -> Place
-    requires { ⌜ Rising (now b) ⌝ }
-    ensures { λ r. ⌜ r ≡ findKey (now (key .entry)) (recsOf (now (b .entry))) ⌝ }
+fn find_key(node: &[u8], key: &[u8]) -> Place
+    requires { ⌜ Rising (now node) ⌝ }
+    ensures { λ r. ⌜ r ≡ findKey (now (key .entry)) (recsOf (now (node .entry))) ⌝ }
 {
-    if comes_last(b, key) {
-        return Place::Free(fields::byte_at(b, layout::RECORD_COUNT));
+    if comes_last(node, key) {
+        return Place::Free(fields::byte_at(node, layout::RECORD_COUNT));
     }
-    table_read::search_key(b, key)
+    table_read::search_key(node, key)
 }
 
 // Stores a record in a node, and says whether there was room for it.
 fn store_record(
-    b: &mut [u8],
+    node: &mut [u8],
     key: &[u8],
     value: &[u8],
     version: u64,
     status: Status,
     start: u64,
 ) -> bool
-    requires { ⌜ Rising (now b) × (length (now key) ≤ maxKey) × (length (now value) ≤ maxValue) ⌝ }
-    ensures { λ r. ⌜ Tried (store (recOf (now (key .entry)) (now (value .entry)) version status start) (recsOf (now (b .entry)))) (now (b .entry)) r (now (b .exit)) ⌝ }
+    requires { ⌜ Rising (now node) × (length (now key) ≤ maxKey) × (length (now value) ≤ maxValue) ⌝ }
+    ensures { λ r. ⌜ Tried (store (recOf (now (key .entry)) (now (value .entry)) version status start) (recsOf (now (node .entry)))) (now (node .entry)) r (now (node .exit)) ⌝ }
 {
-    let found = find_key(b, key);
+    let found = find_key(node, key);
     match found {
         Place::At(j) => {
-            table_write::put_record(b, j, key, value, version, status, start);
+            table_write::put_record(node, j, key, value, version, status, start);
             true
         }
         Place::Free(j) => {
-            if fields::byte_at(b, layout::RECORD_COUNT) == Header::RECORDS {
+            if fields::byte_at(node, layout::RECORD_COUNT) == Header::RECORDS {
                 return false;
             }
-            table_write::insert_record(b, j, key, value, version, status, start);
+            table_write::insert_record(node, j, key, value, version, status, start);
             true
         }
     }
@@ -128,8 +128,8 @@ fn store_record(
 
 // Takes or skips the record whose key and value stand at these places of `s`.
 fn take_record(
-    b: &mut [u8],
-    s: &[u8],
+    node: &mut [u8],
+    delta: &[u8],
     keyat: usize,
     keylen: usize,
     valueat: usize,
@@ -137,20 +137,20 @@ fn take_record(
     version: u64,
     status: Status,
     held: u64,
-    gc: u64,
+    last_gc: u64,
     clock: u64,
 ) -> bool
-    requires { ⌜ Rising (now b) × (keyat + keylen ≤ length (now s)) × (valueat + valuelen ≤ length (now s)) × (keylen ≤ maxKey) × (valuelen ≤ maxValue) ⌝ }
-    ensures { λ r. ⌜ Tried (takeOne held gc clock (carried (now (s .entry)) keyat keylen valueat valuelen version status) (recsOf (now (b .entry)))) (now (b .entry)) r (now (b .exit)) ⌝ }
+    requires { ⌜ Rising (now node) × (keyat + keylen ≤ length (now delta)) × (valueat + valuelen ≤ length (now delta)) × (keylen ≤ maxKey) × (valuelen ≤ maxValue) ⌝ }
+    ensures { λ r. ⌜ Tried (takeOne held «last_gc» clock (carried (now (delta .entry)) keyat keylen valueat valuelen version status) (recsOf (now (node .entry)))) (now (node .entry)) r (now (node .exit)) ⌝ }
 {
-    if takes(held, gc, version, status) {
+    if takes(held, last_gc, version, status) {
         let keyend = keyat + keylen;
         let valueend = valueat + valuelen;
         let start = start_of(status, clock);
         return store_record(
-            b,
-            &s[keyat..keyend],
-            &s[valueat..valueend],
+            node,
+            &delta[keyat..keyend],
+            &delta[valueat..valueend],
             version,
             status,
             start,
@@ -160,14 +160,14 @@ fn take_record(
 }
 
 // Goes over one operation.
-fn take_op(b: &mut [u8], s: &[u8], op: Op, held: u64, gc: u64, clock: u64) -> Step
-    requires { ⌜ Rising (now b) × Inside (length (now s)) op ⌝ }
-    ensures { λ r. ⌜ Stepped held gc clock (opOf (now (s .entry)) op) (now (b .entry)) r (now (b .exit)) ⌝ }
+fn take_op(node: &mut [u8], delta: &[u8], op: Op, held: u64, last_gc: u64, clock: u64) -> Step
+    requires { ⌜ Rising (now node) × Inside (length (now delta)) op ⌝ }
+    ensures { λ r. ⌜ Stepped held «last_gc» clock (opOf (now (delta .entry)) op) (now (node .entry)) r (now (node .exit)) ⌝ }
 {
     match op {
         Op::Node {
             number: _,
-            gc: _,
+            last_gc: _,
             from: _,
         } => Step::Over,
         Op::KeyValue {
@@ -179,8 +179,8 @@ fn take_op(b: &mut [u8], s: &[u8], op: Op, held: u64, gc: u64, clock: u64) -> St
             status,
         } => {
             if take_record(
-                b,
-                s,
+                node,
+                delta,
                 keyat,
                 keylen,
                 valueat,
@@ -188,7 +188,7 @@ fn take_op(b: &mut [u8], s: &[u8], op: Op, held: u64, gc: u64, clock: u64) -> St
                 version,
                 status,
                 held,
-                gc,
+                last_gc,
                 clock,
             ) {
                 return Step::Taken;
@@ -200,17 +200,24 @@ fn take_op(b: &mut [u8], s: &[u8], op: Op, held: u64, gc: u64, clock: u64) -> St
 }
 
 // Takes the records from `at` up to the next Node, and says whether there was room for all of them.
-pub fn take_records(b: &mut [u8], s: &[u8], at: usize, held: u64, gc: u64, clock: u64) -> bool
-    requires { ⌜ Rising (now b) × (at ≤ length (now s)) ⌝ }
-    ensures { λ r. ⌜ Tried (takeAll held gc clock (recsFrom (now (s .entry)) at) (recsOf (now (b .entry)))) (now (b .entry)) r (now (b .exit)) ⌝ }
+pub fn take_records(
+    node: &mut [u8],
+    delta: &[u8],
+    at: usize,
+    held: u64,
+    last_gc: u64,
+    clock: u64,
+) -> bool
+    requires { ⌜ Rising (now node) × (at ≤ length (now delta)) ⌝ }
+    ensures { λ r. ⌜ Tried (takeAll held «last_gc» clock (recsFrom (now (delta .entry)) at) (recsOf (now (node .entry)))) (now (node .entry)) r (now (node .exit)) ⌝ }
 {
     let mut i = at;
-    while i < s.len() {
-        let read = delta_read::read_op(s, i);
+    while i < delta.len() {
+        let read = delta_read::read_op(delta, i);
         let OpRead::Got { op, next } = read else {
             return true;
         };
-        let step = take_op(b, s, op, held, gc, clock);
+        let step = take_op(node, delta, op, held, last_gc, clock);
         match step {
             Step::Over => return true,
             Step::Full => return false,
@@ -235,10 +242,10 @@ fn refused(why: Refusal, at: usize) -> Heads
 }
 
 // The verdict on a delta, and its node deltas. One pass: who applies the delta need not look for its node deltas again.
-pub fn read_heads(s: &[u8]) -> Heads
-    ensures { λ r. ⌜ (r .read ≡ deltaRead (now (s .entry))) × Gathered (now (s .entry)) (r .at) (r .count) (r .max) ⌝ }
+pub fn read_heads(delta: &[u8]) -> Heads
+    ensures { λ r. ⌜ (r .read ≡ deltaRead (now (delta .entry))) × Gathered (now (delta .entry)) (r .at) (r .count) (r .max) ⌝ }
 {
-    if sizes::LONGEST_DELTA < s.len() {
+    if sizes::LONGEST_DELTA < delta.len() {
         return refused(Refusal::TooMany, 0);
     }
     let mut places = [0usize; sizes::NODES];
@@ -250,8 +257,8 @@ pub fn read_heads(s: &[u8]) -> Heads
     let mut under: usize = 0;
     let mut ops: usize = 0;
     let mut at: usize = 0;
-    while at < s.len() {
-        let read = delta_read::read_op(s, at);
+    while at < delta.len() {
+        let read = delta_read::read_op(delta, at);
         match read {
             OpRead::Bad(why) => return refused(why, at),
             OpRead::Got { op, next } => {

@@ -39,51 +39,51 @@ pub struct Plan {
 }
 
 // From is 0 where own last_gc exceeds both digest numbers, else the digest max.
-fn from_of(owngc: u64, gc: u64, max: u64) -> u64
-    ensures { λ r. ⌜ r ≡ fromOf owngc gc max ⌝ }
+fn from_of(own_last_gc: u64, last_gc: u64, max: u64) -> u64
+    ensures { λ r. ⌜ r ≡ fromOf «own_last_gc» «last_gc» max ⌝ }
 {
-    if owngc <= gc {
+    if own_last_gc <= last_gc {
         return max;
     }
-    if owngc <= max {
+    if own_last_gc <= max {
         return max;
     }
     0
 }
 
 // How the digest stands to the node at a place.
-fn stale_from(s: &[u8], p: usize, d: Digest, excluded: &[u64]) -> Staleness
-    requires { ⌜ LaidTable (now s) × (p < nodesOf (now s)) ⌝ }
-    ensures { λ r. ⌜ r ≡ stalenessOf (now (excluded .entry)) (entriesIn d) (decode (now (s .entry))) p ⌝ }
+fn stale_from(table: &[u8], p: usize, digest: Digest, excluded: &[u64]) -> Staleness
+    requires { ⌜ LaidTable (now table) × (p < nodesOf (now table)) ⌝ }
+    ensures { λ r. ⌜ r ≡ stalenessOf (now (excluded .entry)) (entriesIn digest) (decode (now (table .entry))) p ⌝ }
 {
-    let number = compute_order::number_at(s, p);
+    let number = compute_order::number_at(table, p);
     if digest_write::is_excluded(excluded, number) {
         return Staleness::UpToDate;
     }
-    let told = digest_read::told(d, number);
+    let told = digest_read::told(digest, number);
     let max = told.max;
-    if compute_order::max_at(s, p) <= max {
+    if compute_order::max_at(table, p) <= max {
         return Staleness::UpToDate;
     }
-    Staleness::From(from_of(compute_order::last_gc_at(s, p), told.last_gc, max))
+    Staleness::From(from_of(compute_order::last_gc_at(table, p), told.last_gc, max))
 }
 
 // The line of the stale nodes.
-fn line_up(s: &[u8], d: Digest, excluded: &[u64], ties: &[u64]) -> Plan
-    requires { ⌜ LaidTable (now s) × (nodesOf (now s) ≤ length (now ties)) ⌝ }
-    ensures { λ r. ⌜ Planned (now (excluded .entry)) (entriesIn d) (now (ties .entry)) (decode (now (s .entry))) r ⌝ }
+fn line_up(table: &[u8], digest: Digest, excluded: &[u64], ties: &[u64]) -> Plan
+    requires { ⌜ LaidTable (now table) × (nodesOf (now table) ≤ length (now ties)) ⌝ }
+    ensures { λ r. ⌜ Planned (now (excluded .entry)) (entriesIn digest) (now (ties .entry)) (decode (now (table .entry))) r ⌝ }
 {
     let mut line = [0usize; sizes::NODES];
     let mut froms = [0u64; sizes::NODES];
     let mut counts = [0u64; sizes::NODES];
     let mut n = 0;
-    let mut i = fields::byte_at(s, layout::NODE_COUNT);
+    let mut i = fields::byte_at(table, layout::NODE_COUNT);
     while 0 < i {
         i -= 1;
-        if let Staleness::From(from) = stale_from(s, i, d, excluded) {
+        if let Staleness::From(from) = stale_from(table, i, digest, excluded) {
             froms[i] = from;
-            counts[i] = compute_stale::count_stale(table::node_of(s, i), from) as u64;
-            compute_order::queue(s, &froms, &counts, ties, &mut line, n, i);
+            counts[i] = compute_stale::count_stale(table::node_of(table, i), from) as u64;
+            compute_order::queue(table, &froms, &counts, ties, &mut line, n, i);
             n += 1;
         }
     }
@@ -95,17 +95,23 @@ fn line_up(s: &[u8], d: Digest, excluded: &[u64], ties: &[u64]) -> Plan
 }
 
 // The delta for a digest that was read, written into a part of the datagram that is as long as the MTU.
-pub fn write_delta(s: &[u8], d: Digest, excluded: &[u64], ties: &[u64], part: &mut [u8]) -> Sent
-    requires { ⌜ LaidTable (now s) × (nodesOf (now s) ≤ length (now ties)) ⌝ }
-    ensures { λ r. ⌜ (r .ops ≡ length (deltaFor (now (excluded .entry)) (now (ties .entry)) (length (now (part .entry))) (entriesIn d) (decode (now (s .entry)))))
-        × (r .bytes ≡ length (deltaBytes (deltaFor (now (excluded .entry)) (now (ties .entry)) (length (now (part .entry))) (entriesIn d) (decode (now (s .entry))))))
+pub fn write_delta(
+    table: &[u8],
+    digest: Digest,
+    excluded: &[u64],
+    ties: &[u64],
+    part: &mut [u8],
+) -> Sent
+    requires { ⌜ LaidTable (now table) × (nodesOf (now table) ≤ length (now ties)) ⌝ }
+    ensures { λ r. ⌜ (r .ops ≡ length (deltaFor (now (excluded .entry)) (now (ties .entry)) (length (now (part .entry))) (entriesIn digest) (decode (now (table .entry)))))
+        × (r .bytes ≡ length (deltaBytes (deltaFor (now (excluded .entry)) (now (ties .entry)) (length (now (part .entry))) (entriesIn digest) (decode (now (table .entry))))))
         × (now (part .exit)
-        ≡ put 0 (deltaBytes (deltaFor (now (excluded .entry)) (now (ties .entry)) (length (now (part .entry))) (entriesIn d) (decode (now (s .entry))))) (now (part .entry))) ⌝ }
+        ≡ put 0 (deltaBytes (deltaFor (now (excluded .entry)) (now (ties .entry)) (length (now (part .entry))) (entriesIn digest) (decode (now (table .entry))))) (now (part .entry))) ⌝ }
 {
-    let p = line_up(s, d, excluded, ties);
+    let p = line_up(table, digest, excluded, ties);
     let line = p.line;
     let froms = p.froms;
-    compute_write::send(s, &froms, &line, p.count, part)
+    compute_write::send(table, &froms, &line, p.count, part)
 }
 
 // Whether a call can go ahead, by its numbers alone.

@@ -22,38 +22,44 @@ pub struct Sent {
 }
 
 // The Node operation of the node at `p`.
-fn send_node(s: &[u8], p: usize, from: u64, d: &mut [u8]) -> Wrote
-    requires { ⌜ LaidTable (now s) × (p < nodesOf (now s)) ⌝ }
-    ensures { λ r. ⌜ WritesOp (nodeOpAt (decode (now (s .entry))) p from) (now (d .entry)) r (now (d .exit)) ⌝ }
+fn send_node(table: &[u8], p: usize, from: u64, datagram: &mut [u8]) -> Wrote
+    requires { ⌜ LaidTable (now table) × (p < nodesOf (now table)) ⌝ }
+    ensures { λ r. ⌜ WritesOp (nodeOpAt (decode (now (table .entry))) p from) (now (datagram .entry)) r (now (datagram .exit)) ⌝ }
 {
     delta_write::write_node(
-        d,
-        compute_order::number_at(s, p),
-        compute_order::last_gc_at(s, p),
+        datagram,
+        compute_order::number_at(table, p),
+        compute_order::last_gc_at(table, p),
         from,
     )
 }
 
 // Record `q` of the node at `p`.
-fn send_record(s: &[u8], p: usize, q: usize, d: &mut [u8]) -> Wrote
-    requires { ⌜ LaidTable (now s) × (p < nodesOf (now s)) × (q < length (entryAt (decode (now s)) p .node .recs)) ⌝ }
-    ensures { λ r. ⌜ WritesOp (KeyValueOp (recordAt (decode (now (s .entry))) p q)) (now (d .entry)) r (now (d .exit)) ⌝ }
+fn send_record(table: &[u8], p: usize, q: usize, datagram: &mut [u8]) -> Wrote
+    requires { ⌜ LaidTable (now table) × (p < nodesOf (now table)) × (q < length (entryAt (decode (now table)) p .node .recs)) ⌝ }
+    ensures { λ r. ⌜ WritesOp (KeyValueOp (recordAt (decode (now (table .entry))) p q)) (now (datagram .entry)) r (now (datagram .exit)) ⌝ }
 {
-    let b = table::record_of(table::node_of(s, p), q);
+    let b = table::record_of(table::node_of(table, p), q);
     let r = table_read::read_record(b);
     let status = r.status;
-    delta_write::write_key_value(d, table::key_of(b), table::value_of(b), r.version, status)
+    delta_write::write_key_value(
+        datagram,
+        table::key_of(b),
+        table::value_of(b),
+        r.version,
+        status,
+    )
 }
 
 // SetMaxVersion, where the node at `p` has no stale records. It is dropped where it does not fit.
-fn send_max(s: &[u8], p: usize, stale: usize, d: &mut [u8]) -> Sent
-    requires { ⌜ LaidTable (now s) × (p < nodesOf (now s)) ⌝ }
-    ensures { λ r. ⌜ Gives (closed stale (entryAt (decode (now (s .entry))) p .node .max) (now (d .entry))) r (now (d .exit)) ⌝ }
+fn send_max(table: &[u8], p: usize, stale: usize, datagram: &mut [u8]) -> Sent
+    requires { ⌜ LaidTable (now table) × (p < nodesOf (now table)) ⌝ }
+    ensures { λ r. ⌜ Gives (closed stale (entryAt (decode (now (table .entry))) p .node .max) (now (datagram .entry))) r (now (datagram .exit)) ⌝ }
 {
     if stale != 0 {
         return Sent { ops: 0, bytes: 0 };
     }
-    match delta_write::write_set_max_version(d, compute_order::max_at(s, p)) {
+    match delta_write::write_set_max_version(datagram, compute_order::max_at(table, p)) {
         Wrote::Bytes(bytes) => Sent { ops: 1, bytes },
         Wrote::NoFit => Sent { ops: 0, bytes: 0 },
     }
@@ -61,11 +67,11 @@ fn send_max(s: &[u8], p: usize, stale: usize, d: &mut [u8]) -> Sent
 
 // Writes the operations of the `n` nodes in line, first to last, while they fit. The first record that does not fit ends the whole delta, and so
 // does a Node.
-pub fn send(s: &[u8], froms: &[u64], line: &[usize], n: usize, d: &mut [u8]) -> Sent
-    requires { ⌜ LaidTable (now s) × (length (now froms) ≡ 8) × (length (now line) ≡ 8) × (n ≤ 8)
-        × ((p : ℕ) → p ∈ listed n (now line) → p < nodesOf (now s)) ⌝ }
-    ensures { λ r. ⌜ Gives (sending 0 0 (opsAt (decode (now (s .entry))) (now (froms .entry)) (listed n (now (line .entry)))) (now (d .entry)))
-        r (now (d .exit)) ⌝ }
+pub fn send(table: &[u8], froms: &[u64], line: &[usize], n: usize, datagram: &mut [u8]) -> Sent
+    requires { ⌜ LaidTable (now table) × (length (now froms) ≡ 8) × (length (now line) ≡ 8) × (n ≤ 8)
+        × ((p : ℕ) → p ∈ listed n (now line) → p < nodesOf (now table)) ⌝ }
+    ensures { λ r. ⌜ Gives (sending 0 0 (opsAt (decode (now (table .entry))) (now (froms .entry)) (listed n (now (line .entry)))) (now (datagram .entry)))
+        r (now (datagram .exit)) ⌝ }
 {
     let mut ops = 0;
     let mut used = 0;
@@ -74,21 +80,21 @@ pub fn send(s: &[u8], froms: &[u64], line: &[usize], n: usize, d: &mut [u8]) -> 
         j -= 1;
         let p = line[j];
         let from = froms[p];
-        let Wrote::Bytes(size) = send_node(s, p, from, &mut d[used..]) else {
+        let Wrote::Bytes(size) = send_node(table, p, from, &mut datagram[used..]) else {
             break 'nodes;
         };
         ops += 1;
         used += size;
-        let stale = compute_stale::stale_places(table::node_of(s, p), from);
+        let stale = compute_stale::stale_places(table::node_of(table, p), from);
         let at = stale.at;
         let mut k = stale.count;
-        let sent = send_max(s, p, k, &mut d[used..]);
+        let sent = send_max(table, p, k, &mut datagram[used..]);
         ops += sent.ops;
         used += sent.bytes;
         while 0 < k {
             k -= 1;
             let q = at[k];
-            let Wrote::Bytes(size) = send_record(s, p, q, &mut d[used..]) else {
+            let Wrote::Bytes(size) = send_record(table, p, q, &mut datagram[used..]) else {
                 break 'nodes;
             };
             ops += 1;

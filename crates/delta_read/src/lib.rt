@@ -15,7 +15,7 @@ use rules::Status;
 pub enum Op {
     Node {
         number: u64,
-        gc: u64,
+        last_gc: u64,
         from: u64,
     },
     KeyValue {
@@ -53,65 +53,71 @@ pub enum Followed {
 // ---- one operation
 
 // The text whose length stands at `at`. An overlong length is refused before its bytes are looked at.
-fn read_text(s: &[u8], at: usize, most: usize) -> TextRead
-    requires { ⌜ at ≤ length (now s) ⌝ }
-    ensures { λ r. ⌜ r ≡ textAt most (now (s .entry)) at ⌝ }
+fn read_text(delta: &[u8], at: usize, most: usize) -> TextRead
+    requires { ⌜ at ≤ length (now delta) ⌝ }
+    ensures { λ r. ⌜ r ≡ textAt most (now (delta .entry)) at ⌝ }
 {
-    if s.len() - at < 2 {
+    if delta.len() - at < 2 {
         return TextRead::Bad(Refusal::Cut);
     }
-    let len = fields::read_u16(s, at);
+    let len = fields::read_u16(delta, at);
     if most < len {
         return TextRead::Bad(Refusal::TooLong);
     }
-    if s.len() - (at + 2) < len {
+    if delta.len() - (at + 2) < len {
         return TextRead::Bad(Refusal::Cut);
     }
     TextRead::Held { start: at + 2, len }
 }
 
 // Node, last_gc and from, behind the tag.
-fn read_node(s: &[u8], at: usize) -> OpRead
-    requires { ⌜ at ≤ length (now s) ⌝ }
-    ensures { λ r. ⌜ r ≡ nodeAt (now (s .entry)) at ⌝ }
+fn read_node(delta: &[u8], at: usize) -> OpRead
+    requires { ⌜ at ≤ length (now delta) ⌝ }
+    ensures { λ r. ⌜ r ≡ nodeAt (now (delta .entry)) at ⌝ }
 {
-    if s.len() - at < 24 {
+    if delta.len() - at < 24 {
         return OpRead::Bad(Refusal::Cut);
     }
     OpRead::Got {
         op: Op::Node {
-            number: fields::read_u64(s, at),
-            gc: fields::read_u64(s, at + 8),
-            from: fields::read_u64(s, at + 16),
+            number: fields::read_u64(delta, at),
+            last_gc: fields::read_u64(delta, at + 8),
+            from: fields::read_u64(delta, at + 16),
         },
         next: at + 24,
     }
 }
 
 // The status that a byte up to 2 stands for.
-fn status(b: usize) -> Status
-    requires { ⌜ b ≤ 2 ⌝ }
-    ensures { λ r. ⌜ r ≡ statusOf b ⌝ }
+fn status(byte: usize) -> Status
+    requires { ⌜ byte ≤ 2 ⌝ }
+    ensures { λ r. ⌜ r ≡ statusOf byte ⌝ }
 {
-    if b == 0 {
+    if byte == 0 {
         return Status::Set;
     }
-    if b == 1 {
+    if byte == 1 {
         return Status::Delete;
     }
     Status::Ttl
 }
 
 // Version and status, behind the value.
-fn read_version(s: &[u8], keyat: usize, keylen: usize, valueat: usize, valuelen: usize) -> OpRead
-    requires { ⌜ valueat + valuelen ≤ length (now s) ⌝ }
-    ensures { λ r. ⌜ r ≡ versionAt (now (s .entry)) keyat keylen valueat valuelen ⌝ }
+fn read_version(
+    delta: &[u8],
+    keyat: usize,
+    keylen: usize,
+    valueat: usize,
+    valuelen: usize,
+) -> OpRead
+    requires { ⌜ valueat + valuelen ≤ length (now delta) ⌝ }
+    ensures { λ r. ⌜ r ≡ versionAt (now (delta .entry)) keyat keylen valueat valuelen ⌝ }
 {
     let at = valueat + valuelen;
-    if s.len() - at < 9 {
+    if delta.len() - at < 9 {
         return OpRead::Bad(Refusal::Cut);
     }
-    let b = fields::byte_at(s, at + 8);
+    let b = fields::byte_at(delta, at + 8);
     if 2 < b {
         return OpRead::Bad(Refusal::BadTag);
     }
@@ -121,7 +127,7 @@ fn read_version(s: &[u8], keyat: usize, keylen: usize, valueat: usize, valuelen:
             keylen,
             valueat,
             valuelen,
-            version: fields::read_u64(s, at),
+            version: fields::read_u64(delta, at),
             status: status(b),
         },
         next: at + 9,
@@ -129,58 +135,58 @@ fn read_version(s: &[u8], keyat: usize, keylen: usize, valueat: usize, valuelen:
 }
 
 // Value, version and status, behind the key.
-fn read_value(s: &[u8], keyat: usize, keylen: usize) -> OpRead
-    requires { ⌜ keyat + keylen ≤ length (now s) ⌝ }
-    ensures { λ r. ⌜ r ≡ valueAt (now (s .entry)) keyat keylen ⌝ }
+fn read_value(delta: &[u8], keyat: usize, keylen: usize) -> OpRead
+    requires { ⌜ keyat + keylen ≤ length (now delta) ⌝ }
+    ensures { λ r. ⌜ r ≡ valueAt (now (delta .entry)) keyat keylen ⌝ }
 {
-    let value = read_text(s, keyat + keylen, Record::VALUE);
+    let value = read_text(delta, keyat + keylen, Record::VALUE);
     match value {
-        TextRead::Held { start, len } => read_version(s, keyat, keylen, start, len),
+        TextRead::Held { start, len } => read_version(delta, keyat, keylen, start, len),
         TextRead::Bad(why) => OpRead::Bad(why),
     }
 }
 
 // Key, value, version and status, behind the tag.
-fn read_key_value(s: &[u8], at: usize) -> OpRead
-    requires { ⌜ at ≤ length (now s) ⌝ }
-    ensures { λ r. ⌜ r ≡ keyValueAt (now (s .entry)) at ⌝ }
+fn read_key_value(delta: &[u8], at: usize) -> OpRead
+    requires { ⌜ at ≤ length (now delta) ⌝ }
+    ensures { λ r. ⌜ r ≡ keyValueAt (now (delta .entry)) at ⌝ }
 {
-    let key = read_text(s, at, Record::KEY);
+    let key = read_text(delta, at, Record::KEY);
     match key {
-        TextRead::Held { start, len } => read_value(s, start, len),
+        TextRead::Held { start, len } => read_value(delta, start, len),
         TextRead::Bad(why) => OpRead::Bad(why),
     }
 }
 
 // The max, behind the tag.
-fn read_set_max_version(s: &[u8], at: usize) -> OpRead
-    requires { ⌜ at ≤ length (now s) ⌝ }
-    ensures { λ r. ⌜ r ≡ setMaxVersionAt (now (s .entry)) at ⌝ }
+fn read_set_max_version(delta: &[u8], at: usize) -> OpRead
+    requires { ⌜ at ≤ length (now delta) ⌝ }
+    ensures { λ r. ⌜ r ≡ setMaxVersionAt (now (delta .entry)) at ⌝ }
 {
-    if s.len() - at < 8 {
+    if delta.len() - at < 8 {
         return OpRead::Bad(Refusal::Cut);
     }
     OpRead::Got {
         op: Op::SetMaxVersion {
-            max: fields::read_u64(s, at),
+            max: fields::read_u64(delta, at),
         },
         next: at + 8,
     }
 }
 
 // The operation whose tag stands at `at`.
-pub fn read_op(s: &[u8], at: usize) -> OpRead
-    requires { ⌜ at ≤ length (now s) ⌝ }
-    ensures { λ r. ⌜ r ≡ opAt (now (s .entry)) at ⌝ }
+pub fn read_op(delta: &[u8], at: usize) -> OpRead
+    requires { ⌜ at ≤ length (now delta) ⌝ }
+    ensures { λ r. ⌜ r ≡ opAt (now (delta .entry)) at ⌝ }
 {
-    if at == s.len() {
+    if at == delta.len() {
         return OpRead::Bad(Refusal::Cut);
     }
-    let tag = fields::byte_at(s, at);
+    let tag = fields::byte_at(delta, at);
     match tag {
-        0 => read_node(s, at + 1),
-        1 => read_key_value(s, at + 1),
-        2 => read_set_max_version(s, at + 1),
+        0 => read_node(delta, at + 1),
+        1 => read_key_value(delta, at + 1),
+        2 => read_set_max_version(delta, at + 1),
         _ => OpRead::Bad(Refusal::BadTag),
     }
 }
@@ -250,7 +256,7 @@ pub fn follow(seen: &[u64; sizes::NODES], nodes: usize, running: u64, op: Op) ->
     match op {
         Op::Node {
             number,
-            gc: _,
+            last_gc: _,
             from: _,
         } => follow_node(seen, nodes, number),
         Op::KeyValue {
@@ -266,10 +272,10 @@ pub fn follow(seen: &[u64; sizes::NODES], nodes: usize, running: u64, op: Op) ->
 }
 
 // How many operations and nodes the delta holds, or why it is refused and where the tag of the faulty operation stands. One pass.
-pub fn read_delta(s: &[u8]) -> DeltaRead
-    ensures { λ r. ⌜ r ≡ deltaRead (now (s .entry)) ⌝ }
+pub fn read_delta(delta: &[u8]) -> DeltaRead
+    ensures { λ r. ⌜ r ≡ deltaRead (now (delta .entry)) ⌝ }
 {
-    if sizes::LONGEST_DELTA < s.len() {
+    if sizes::LONGEST_DELTA < delta.len() {
         return DeltaRead::Refused {
             why: Refusal::TooMany,
             at: 0,
@@ -280,8 +286,8 @@ pub fn read_delta(s: &[u8]) -> DeltaRead
     let mut running: u64 = 0;
     let mut ops: usize = 0;
     let mut at: usize = 0;
-    while at < s.len() {
-        let read = read_op(s, at);
+    while at < delta.len() {
+        let read = read_op(delta, at);
         match read {
             OpRead::Bad(why) => {
                 return DeltaRead::Refused { why, at };

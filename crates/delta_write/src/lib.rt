@@ -47,70 +47,70 @@ fn record_fits(room: usize, keylen: usize, valuelen: usize) -> bool
 }
 
 // Stores a text behind its length of two bytes.
-fn write_text(d: &mut [u8], at: usize, text: &[u8])
-    requires { ⌜ at + 2 + length (now text) ≤ length (now d) ⌝ }
-    ensures { λ _. ⌜ now (d .exit) ≡ put at (textBytes (now (text .entry))) (now (d .entry)) ⌝ }
+fn write_text(datagram: &mut [u8], at: usize, text: &[u8])
+    requires { ⌜ at + 2 + length (now text) ≤ length (now datagram) ⌝ }
+    ensures { λ _. ⌜ now (datagram .exit) ≡ put at (textBytes (now (text .entry))) (now (datagram .entry)) ⌝ }
 {
-    fields::write_u16(d, at, text.len());
-    fields::copy_to(d, at + LENGTH, text);
+    fields::write_u16(datagram, at, text.len());
+    fields::copy_to(datagram, at + LENGTH, text);
 }
 
 // A Node operation.
-pub fn write_node(d: &mut [u8], number: u64, gc: u64, from: u64) -> Wrote
-    ensures { λ r. ⌜ WritesOp (NodeOp number gc from) (now (d .entry)) r (now (d .exit)) ⌝ }
+pub fn write_node(datagram: &mut [u8], number: u64, last_gc: u64, from: u64) -> Wrote
+    ensures { λ r. ⌜ WritesOp (NodeOp number «last_gc» from) (now (datagram .entry)) r (now (datagram .exit)) ⌝ }
 {
     let size = BYTE + 3 * NUMBER;
-    if d.len() < size {
+    if datagram.len() < size {
         return Wrote::NoFit;
     }
-    fields::write_byte(d, 0, NODE);
-    fields::write_u64(d, BYTE, number);
-    fields::write_u64(d, BYTE + NUMBER, gc);
-    fields::write_u64(d, BYTE + 2 * NUMBER, from);
+    fields::write_byte(datagram, 0, NODE);
+    fields::write_u64(datagram, BYTE, number);
+    fields::write_u64(datagram, BYTE + NUMBER, last_gc);
+    fields::write_u64(datagram, BYTE + 2 * NUMBER, from);
     Wrote::Bytes(size)
 }
 
 // A record, where there is room for it. Of the lengths the two lowest bytes are written.
-fn store_key_value(d: &mut [u8], key: &[u8], value: &[u8], version: u64, status: Status)
-    requires { ⌜ 14 + length (now key) + length (now value) ≤ length (now d) ⌝ }
-    ensures { λ _. ⌜ now (d .exit) ≡ put 0 (opBytes (keyValue (now (key .entry)) (now (value .entry)) version status)) (now (d .entry)) ⌝ }
+fn store_key_value(datagram: &mut [u8], key: &[u8], value: &[u8], version: u64, status: Status)
+    requires { ⌜ 14 + length (now key) + length (now value) ≤ length (now datagram) ⌝ }
+    ensures { λ _. ⌜ now (datagram .exit) ≡ put 0 (opBytes (keyValue (now (key .entry)) (now (value .entry)) version status)) (now (datagram .entry)) ⌝ }
 {
     let behind_key = BYTE + LENGTH + key.len();
     let behind_value = behind_key + LENGTH + value.len();
-    fields::write_byte(d, 0, KEY_VALUE);
-    write_text(d, BYTE, key);
-    write_text(d, behind_key, value);
-    fields::write_u64(d, behind_value, version);
-    fields::write_byte(d, behind_value + NUMBER, status.byte());
+    fields::write_byte(datagram, 0, KEY_VALUE);
+    write_text(datagram, BYTE, key);
+    write_text(datagram, behind_key, value);
+    fields::write_u64(datagram, behind_value, version);
+    fields::write_byte(datagram, behind_value + NUMBER, status.byte());
 }
 
 // A KeyValue operation.
 pub fn write_key_value(
-    d: &mut [u8],
+    datagram: &mut [u8],
     key: &[u8],
     value: &[u8],
     version: u64,
     status: Status,
 ) -> Wrote
-    ensures { λ r. ⌜ WritesOp (keyValue (now (key .entry)) (now (value .entry)) version status) (now (d .entry)) r (now (d .exit)) ⌝ }
+    ensures { λ r. ⌜ WritesOp (keyValue (now (key .entry)) (now (value .entry)) version status) (now (datagram .entry)) r (now (datagram .exit)) ⌝ }
 {
-    if record_fits(d.len(), key.len(), value.len()) {
+    if record_fits(datagram.len(), key.len(), value.len()) {
         let size = BESIDE + key.len() + value.len();
-        store_key_value(d, key, value, version, status);
+        store_key_value(datagram, key, value, version, status);
         return Wrote::Bytes(size);
     }
     Wrote::NoFit
 }
 
 // A SetMaxVersion operation.
-pub fn write_set_max_version(d: &mut [u8], max: u64) -> Wrote
-    ensures { λ r. ⌜ WritesOp (SetMaxVersionOp max) (now (d .entry)) r (now (d .exit)) ⌝ }
+pub fn write_set_max_version(datagram: &mut [u8], max: u64) -> Wrote
+    ensures { λ r. ⌜ WritesOp (SetMaxVersionOp max) (now (datagram .entry)) r (now (datagram .exit)) ⌝ }
 {
     let size = BYTE + NUMBER;
-    if d.len() < size {
+    if datagram.len() < size {
         return Wrote::NoFit;
     }
-    fields::write_byte(d, 0, SET_MAX_VERSION);
-    fields::write_u64(d, BYTE, max);
+    fields::write_byte(datagram, 0, SET_MAX_VERSION);
+    fields::write_u64(datagram, BYTE, max);
     Wrote::Bytes(size)
 }

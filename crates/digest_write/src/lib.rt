@@ -39,14 +39,14 @@ pub fn is_excluded(excluded: &[u64], number: u64) -> bool
 }
 
 // What the digest tells of the node in these bytes.
-fn entry_of(b: &[u8]) -> NodeDigest
-    requires { ⌜ length (now b) ≡ nodeWidth ⌝ }
-    ensures { λ r. ⌜ r ≡ held (digestOfNode (decodeNode (now (b .entry)))) ⌝ }
+fn entry_of(node: &[u8]) -> NodeDigest
+    requires { ⌜ length (now node) ≡ nodeWidth ⌝ }
+    ensures { λ r. ⌜ r ≡ held (digestOfNode (decodeNode (now (node .entry)))) ⌝ }
 {
-    let header = table_read::read_header(b);
+    let header = table_read::read_header(node);
     let heartbeat = header.heartbeat;
     NodeDigest {
-        number: fields::read_u64(b, layout::NUMBER),
+        number: fields::read_u64(node, layout::NUMBER),
         heartbeat,
         last_gc: header.last_gc,
         max: header.max,
@@ -74,20 +74,20 @@ fn count_written(table: &[u8], excluded: &[u64]) -> usize
 }
 
 // Stores an entry in its 32 bytes.
-fn write_entry(d: &mut [u8], e: NodeDigest)
-    requires { ⌜ 32 ≤ length (now d) ⌝ }
-    ensures { λ _. ⌜ now (d .exit) ≡ put 0 (entryBytes (back e)) (now (d .entry)) ⌝ }
+fn write_entry(datagram: &mut [u8], entry: NodeDigest)
+    requires { ⌜ 32 ≤ length (now datagram) ⌝ }
+    ensures { λ _. ⌜ now (datagram .exit) ≡ put 0 (entryBytes (back entry)) (now (datagram .entry)) ⌝ }
 {
-    fields::write_u64(d, 0, e.number);
-    fields::write_u64(d, NUMBER, e.heartbeat.0);
-    fields::write_u64(d, 2 * NUMBER, e.last_gc);
-    fields::write_u64(d, 3 * NUMBER, e.max);
+    fields::write_u64(datagram, 0, entry.number);
+    fields::write_u64(datagram, NUMBER, entry.heartbeat.0);
+    fields::write_u64(datagram, 2 * NUMBER, entry.last_gc);
+    fields::write_u64(datagram, 3 * NUMBER, entry.max);
 }
 
 // Stores the entries of the nodes that are not excluded, one behind the other.
-fn write_entries(table: &[u8], excluded: &[u64], d: &mut [u8])
-    requires { ⌜ LaidTable (now table) × Room 0 (now excluded) (now table) (now d) ⌝ }
-    ensures { λ _. ⌜ now (d .exit) ≡ put 0 (flat entryBytes (digestOf (now (excluded .entry)) (decode (now (table .entry))))) (now (d .entry)) ⌝ }
+fn write_entries(table: &[u8], excluded: &[u64], datagram: &mut [u8])
+    requires { ⌜ LaidTable (now table) × Room 0 (now excluded) (now table) (now datagram) ⌝ }
+    ensures { λ _. ⌜ now (datagram .exit) ≡ put 0 (flat entryBytes (digestOf (now (excluded .entry)) (decode (now (table .entry))))) (now (datagram .entry)) ⌝ }
 {
     let nodes = fields::byte_at(table, layout::NODE_COUNT);
     let mut at = 0;
@@ -98,7 +98,7 @@ fn write_entries(table: &[u8], excluded: &[u64], d: &mut [u8])
             i += 1;
         } else {
             let end = at + ENTRY;
-            write_entry(&mut d[at..end], e);
+            write_entry(&mut datagram[at..end], e);
             at = end;
             i += 1;
         }
@@ -106,12 +106,12 @@ fn write_entries(table: &[u8], excluded: &[u64], d: &mut [u8])
 }
 
 // Stores the count and the entries at the front of what is lent.
-fn store_digest(table: &[u8], excluded: &[u64], d: &mut [u8], count: usize)
-    requires { ⌜ LaidTable (now table) × Room 2 (now excluded) (now table) (now d) × (count ≡ length (digestOf (now excluded) (decode (now table)))) ⌝ }
-    ensures { λ _. ⌜ now (d .exit) ≡ put 0 (digestBytes (digestOf (now (excluded .entry)) (decode (now (table .entry))))) (now (d .entry)) ⌝ }
+fn store_digest(table: &[u8], excluded: &[u64], datagram: &mut [u8], count: usize)
+    requires { ⌜ LaidTable (now table) × Room 2 (now excluded) (now table) (now datagram) × (count ≡ length (digestOf (now excluded) (decode (now table)))) ⌝ }
+    ensures { λ _. ⌜ now (datagram .exit) ≡ put 0 (digestBytes (digestOf (now (excluded .entry)) (decode (now (table .entry))))) (now (datagram .entry)) ⌝ }
 {
-    fields::write_u16(d, 0, count);
-    write_entries(table, excluded, &mut d[COUNT..]);
+    fields::write_u16(datagram, 0, count);
+    write_entries(table, excluded, &mut datagram[COUNT..]);
 }
 
 // The digest of the table, from `place` on in the datagram: 14, then 8 where the place is past the end or too few bytes are free from there.

@@ -148,37 +148,37 @@ pub extern "C" fn kev_set_good(table: &mut [u8], number: u64, key: &[u8], value:
 }
 
 #[no_mangle]
-pub extern "C" fn kev_delete(table: &mut [u8], number: u64, key: &[u8], time: u64) -> u64
-    ensures { λ r. ⌜ (r ≡ answerTold (lentCall (Deleting time) number (now (key .entry)) (now (table .entry)) .answer) .number)
-        × (now (table .exit) ≡ lentCall (Deleting time) number (now (key .entry)) (now (table .entry)) .lent) ⌝ }
+pub extern "C" fn kev_delete(table: &mut [u8], number: u64, key: &[u8], clock: u64) -> u64
+    ensures { λ r. ⌜ (r ≡ answerTold (lentCall (Deleting clock) number (now (key .entry)) (now (table .entry)) .answer) .number)
+        × (now (table .exit) ≡ lentCall (Deleting clock) number (now (key .entry)) (now (table .entry)) .lent) ⌝ }
 {
-    number_of(local::delete(table, number, key, time))
+    number_of(local::delete(table, number, key, clock))
 }
 
 #[no_mangle]
-pub extern "C" fn kev_delete_good(table: &mut [u8], number: u64, key: &[u8], time: u64) -> u64
+pub extern "C" fn kev_delete_good(table: &mut [u8], number: u64, key: &[u8], clock: u64) -> u64
     requires { ⌜ valid (now table) ≡ true ⌝ }
-    ensures { λ r. ⌜ (r ≡ answerTold (call (Deleting time) number (now (key .entry)) (decode (now (table .entry))) .answer) .number)
-        × (now (table .exit) ≡ encode (call (Deleting time) number (now (key .entry)) (decode (now (table .entry))) .table)) ⌝ }
+    ensures { λ r. ⌜ (r ≡ answerTold (call (Deleting clock) number (now (key .entry)) (decode (now (table .entry))) .answer) .number)
+        × (now (table .exit) ≡ encode (call (Deleting clock) number (now (key .entry)) (decode (now (table .entry))) .table)) ⌝ }
 {
-    number_of(local::write_good(table, number, Kind::Deleting, key, b"", time))
+    number_of(local::write_good(table, number, Kind::Deleting, key, b"", clock))
 }
 
 // ---- removal
 
 #[no_mangle]
-pub extern "C" fn kev_remove(table: &mut [u8], time: u64, grace: u64) -> u64
-    ensures { λ r. ⌜ (r ≡ answerTold (lentGc time grace (now (table .entry)) .answer) .number) × (now (table .exit) ≡ lentGc time grace (now (table .entry)) .lent) ⌝ }
+pub extern "C" fn kev_remove(table: &mut [u8], clock: u64, grace: u64) -> u64
+    ensures { λ r. ⌜ (r ≡ answerTold (lentGc clock grace (now (table .entry)) .answer) .number) × (now (table .exit) ≡ lentGc clock grace (now (table .entry)) .lent) ⌝ }
 {
-    number_of(removal::remove_scheduled(table, time, grace))
+    number_of(removal::remove_scheduled(table, clock, grace))
 }
 
 #[no_mangle]
-pub extern "C" fn kev_remove_good(table: &mut [u8], time: u64, grace: u64)
+pub extern "C" fn kev_remove_good(table: &mut [u8], clock: u64, grace: u64)
     requires { ⌜ valid (now table) ≡ true ⌝ }
-    ensures { λ _. ⌜ now (table .exit) ≡ encode (removeAll (λ i. due time grace) (decode (now (table .entry)))) ⌝ }
+    ensures { λ _. ⌜ now (table .exit) ≡ encode (removeAll (λ i. due clock grace) (decode (now (table .entry)))) ⌝ }
 {
-    removal::remove_good(table, time, grace);
+    removal::remove_good(table, clock, grace);
 }
 
 // ---- digests

@@ -24,13 +24,13 @@ pub struct RaisedHeader {
 }
 
 // The header with this heartbeat; max and last_gc stay.
-fn with_heartbeat(h: Header, heartbeat: Heartbeat) -> Header
-    ensures { λ r. ⌜ r ≡ beating heartbeat h ⌝ }
+fn with_heartbeat(header: Header, heartbeat: Heartbeat) -> Header
+    ensures { λ r. ⌜ r ≡ beating heartbeat header ⌝ }
 {
     Header {
         heartbeat: heartbeat,
-        max: h.max,
-        last_gc: h.last_gc,
+        max: header.max,
+        last_gc: header.last_gc,
     }
 }
 
@@ -49,13 +49,13 @@ fn told(held: Heartbeat, got: Heartbeat) -> bool
 }
 
 // A heartbeat offer to a header by value: the header afterwards, and whether the offer was news.
-pub fn offered(h: Header, got: Heartbeat) -> OfferedHeader
-    ensures { λ r. ⌜ r ≡ offeredTo h got ⌝ }
+pub fn offered(header: Header, got: Heartbeat) -> OfferedHeader
+    ensures { λ r. ⌜ r ≡ offeredTo header got ⌝ }
 {
-    let held = h.heartbeat;
+    let held = header.heartbeat;
     let beat = rules::after_offer(held, got);
     let stored = beat.heartbeat;
-    let header = with_heartbeat(h, stored);
+    let header = with_heartbeat(header, stored);
     OfferedHeader {
         header: header,
         news: beat.news,
@@ -80,12 +80,12 @@ fn risen(held: Heartbeat) -> Heartbeat
 }
 
 // A local beat on a header by value: the header afterwards, and whether the heartbeat rose. A caller answers 6 where it did not.
-pub fn raised(h: Header) -> RaisedHeader
-    ensures { λ r. ⌜ r ≡ raisedOf h ⌝ }
+pub fn raised(header: Header) -> RaisedHeader
+    ensures { λ r. ⌜ r ≡ raisedOf header ⌝ }
 {
-    let held = h.heartbeat;
+    let held = header.heartbeat;
     let next = risen(held);
-    let header = with_heartbeat(h, next);
+    let header = with_heartbeat(header, next);
     RaisedHeader {
         header: header,
         rose: can_rise(held),
@@ -93,19 +93,19 @@ pub fn raised(h: Header) -> RaisedHeader
 }
 
 // A heartbeat offer to a header that is lent: whether the offer was news. max and last_gc are untouched.
-pub fn offer_heartbeat(h: &mut Header, got: Heartbeat) -> bool
-    ensures { λ r. ⌜ (r ≡ offeredTo (now (h .entry)) got .news) × (now (h .exit) ≡ offeredTo (now (h .entry)) got .header) ⌝ }
+pub fn offer_heartbeat(header: &mut Header, got: Heartbeat) -> bool
+    ensures { λ r. ⌜ (r ≡ offeredTo (now (header .entry)) got .news) × (now (header .exit) ≡ offeredTo (now (header .entry)) got .header) ⌝ }
 {
-    let held = h.heartbeat;
-    h.heartbeat = kept(held, got);
+    let held = header.heartbeat;
+    header.heartbeat = kept(held, got);
     told(held, got)
 }
 
 // A local beat on a header that is lent: whether the heartbeat rose. Where it did not, the header is untouched.
-pub fn raise_heartbeat(h: &mut Header) -> bool
-    ensures { λ r. ⌜ (r ≡ raisedOf (now (h .entry)) .rose) × (now (h .exit) ≡ raisedOf (now (h .entry)) .header) ⌝ }
+pub fn raise_heartbeat(header: &mut Header) -> bool
+    ensures { λ r. ⌜ (r ≡ raisedOf (now (header .entry)) .rose) × (now (header .exit) ≡ raisedOf (now (header .entry)) .header) ⌝ }
 {
-    let held = h.heartbeat;
-    h.heartbeat = risen(held);
+    let held = header.heartbeat;
+    header.heartbeat = risen(held);
     can_rise(held)
 }

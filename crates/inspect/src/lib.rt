@@ -128,15 +128,15 @@ pub fn record_count(table: &[u8], number: u64) -> Count
 }
 
 // The record in place `j` of a node's bytes: 8.
-fn record_in(b: &[u8], j: usize) -> RecordRead
-    requires { ⌜ LaidNode (now b) ⌝ }
-    ensures { λ r. ⌜ r ≡ readAt (elementAt j (recsOf (now (b .entry)))) ⌝ }
+fn record_in(node: &[u8], j: usize) -> RecordRead
+    requires { ⌜ LaidNode (now node) ⌝ }
+    ensures { λ r. ⌜ r ≡ readAt (elementAt j (recsOf (now (node .entry)))) ⌝ }
 {
-    let n = fields::byte_at(b, layout::RECORD_COUNT);
+    let n = fields::byte_at(node, layout::RECORD_COUNT);
     if n <= j {
         return RecordRead::Refused(Refusal::NoPlace);
     }
-    RecordRead::Is(table_read::read_record(table::record_of(b, j)))
+    RecordRead::Is(table_read::read_record(table::record_of(node, j)))
 }
 
 // The record in place `j` of a node of a good table.
@@ -162,12 +162,12 @@ pub fn record_at(table: &[u8], number: u64, j: usize) -> RecordRead
 }
 
 // The record of a key in a node's bytes.
-fn record_keyed(b: &[u8], key: &[u8]) -> RecordRead
-    requires { ⌜ LaidNode (now b) × (keysRise (recsOf (now b)) ≡ true) ⌝ }
-    ensures { λ r. ⌜ r ≡ readKey (find (now (key .entry)) (recsOf (now (b .entry)))) ⌝ }
+fn record_keyed(node: &[u8], key: &[u8]) -> RecordRead
+    requires { ⌜ LaidNode (now node) × (keysRise (recsOf (now node)) ≡ true) ⌝ }
+    ensures { λ r. ⌜ r ≡ readKey (find (now (key .entry)) (recsOf (now (node .entry)))) ⌝ }
 {
-    match table_read::search_key(b, key) {
-        Place::At(j) => RecordRead::Is(table_read::read_record(table::record_of(b, j))),
+    match table_read::search_key(node, key) {
+        Place::At(j) => RecordRead::Is(table_read::read_record(table::record_of(node, j))),
         Place::Free(_) => RecordRead::Nothing,
     }
 }

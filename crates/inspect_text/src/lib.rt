@@ -23,15 +23,15 @@ pub enum Text {
 }
 
 // Where the text of record `j` stands, in the bytes of node `i`: 8.
-fn in_node(b: &[u8], i: usize, j: usize, text: Text) -> Found
-    requires { ⌜ LaidNode (now b) × (i < maxNodes) ⌝ }
-    ensures { λ r. ⌜ r ≡ placeOn text i j (elementAt j (recsOf (now (b .entry)))) ⌝ }
+fn in_node(node: &[u8], i: usize, j: usize, text: Text) -> Found
+    requires { ⌜ LaidNode (now node) × (i < maxNodes) ⌝ }
+    ensures { λ r. ⌜ r ≡ placeOn text i j (elementAt j (recsOf (now (node .entry)))) ⌝ }
 {
-    let n = fields::byte_at(b, layout::RECORD_COUNT);
+    let n = fields::byte_at(node, layout::RECORD_COUNT);
     if n <= j {
         return Found::Refused(Refusal::NoPlace);
     }
-    let r = table_read::read_record(table::record_of(b, j));
+    let r = table_read::read_record(table::record_of(node, j));
     match text {
         Text::Key => Found::At {
             start: layout::NODES

@@ -53,14 +53,14 @@ fn line_len(op: Op) -> usize
 }
 
 // How long the lines of all operations are together.
-fn lines_len(s: &[u8]) -> usize
-    requires { ⌜ length (now s) ≤ maxDelta ⌝ }
-    ensures { λ r. ⌜ (r ≡ length (linesFrom (now (s .entry)) 0)) × (r ≤ 81920) ⌝ }
+fn lines_len(delta: &[u8]) -> usize
+    requires { ⌜ length (now delta) ≤ maxDelta ⌝ }
+    ensures { λ r. ⌜ (r ≡ length (linesFrom (now (delta .entry)) 0)) × (r ≤ 81920) ⌝ }
 {
     let mut n: usize = 0;
     let mut at: usize = 0;
-    while at < s.len() {
-        let read = delta_read::read_op(s, at);
+    while at < delta.len() {
+        let read = delta_read::read_op(delta, at);
         match read {
             OpRead::Bad(_) => {
                 return n;
@@ -76,12 +76,12 @@ fn lines_len(s: &[u8]) -> usize
 
 // ---- the lines
 
-fn put_node(out: &mut [u8], at: usize, number: u64, gc: u64, from: u64) -> usize
-    requires { ⌜ Room at (opLine (NodeOp number gc from)) (now out) ⌝ }
-    ensures { λ r. ⌜ Wrote at (opLine (NodeOp number gc from)) (now (out .entry)) (now (out .exit)) r ⌝ }
+fn put_node(out: &mut [u8], at: usize, number: u64, last_gc: u64, from: u64) -> usize
+    requires { ⌜ Room at (opLine (NodeOp number «last_gc» from)) (now out) ⌝ }
+    ensures { λ r. ⌜ Wrote at (opLine (NodeOp number «last_gc» from)) (now (out .entry)) (now (out .exit)) r ⌝ }
 {
     let a = listing_text::put_numbered(out, at, b"op=node id=", number);
-    let b = listing_text::put_numbered(out, a, b" gc=", gc);
+    let b = listing_text::put_numbered(out, a, b" last_gc=", last_gc);
     let c = listing_text::put_numbered(out, b, b" from=", from);
     listing_text::put_text(out, c, b"\n")
 }
@@ -130,9 +130,9 @@ fn put_set_max_version(out: &mut [u8], at: usize, max: u64) -> usize
 }
 
 // The line of an operation of `s`.
-fn put_line(s: &[u8], op: Op, out: &mut [u8], at: usize) -> usize
-    requires { ⌜ (Inside (length (now s)) op) × (Room at (opLine (opOf (now s) op)) (now out)) ⌝ }
-    ensures { λ r. ⌜ Wrote at (opLine (opOf (now (s .entry)) op)) (now (out .entry)) (now (out .exit)) r ⌝ }
+fn put_line(delta: &[u8], op: Op, out: &mut [u8], at: usize) -> usize
+    requires { ⌜ (Inside (length (now delta)) op) × (Room at (opLine (opOf (now delta) op)) (now out)) ⌝ }
+    ensures { λ r. ⌜ Wrote at (opLine (opOf (now (delta .entry)) op)) (now (out .entry)) (now (out .exit)) r ⌝ }
 {
     match op {
         Op::Node { number, gc, from } => put_node(out, at, number, gc, from),
@@ -144,8 +144,8 @@ fn put_line(s: &[u8], op: Op, out: &mut [u8], at: usize) -> usize
             version,
             status,
         } => {
-            let key = &s[keyat..keyat + keylen];
-            let value = &s[valueat..valueat + valuelen];
+            let key = &delta[keyat..keyat + keylen];
+            let value = &delta[valueat..valueat + valuelen];
             put_key_value(out, at, version, status, key, value)
         }
         Op::SetMaxVersion { max } => put_set_max_version(out, at, max),
@@ -153,20 +153,20 @@ fn put_line(s: &[u8], op: Op, out: &mut [u8], at: usize) -> usize
 }
 
 // The lines of all operations of `s`, at the front.
-fn put_lines(s: &[u8], out: &mut [u8]) -> usize
-    requires { ⌜ Room 0 (linesFrom (now s) 0) (now out) ⌝ }
-    ensures { λ r. ⌜ Wrote 0 (linesFrom (now (s .entry)) 0) (now (out .entry)) (now (out .exit)) r ⌝ }
+fn put_lines(delta: &[u8], out: &mut [u8]) -> usize
+    requires { ⌜ Room 0 (linesFrom (now delta) 0) (now out) ⌝ }
+    ensures { λ r. ⌜ Wrote 0 (linesFrom (now (delta .entry)) 0) (now (out .entry)) (now (out .exit)) r ⌝ }
 {
     let mut n: usize = 0;
     let mut at: usize = 0;
-    while at < s.len() {
-        let read = delta_read::read_op(s, at);
+    while at < delta.len() {
+        let read = delta_read::read_op(delta, at);
         match read {
             OpRead::Bad(_) => {
                 return n;
             }
             OpRead::Got { op, next } => {
-                n = put_line(s, op, out, n);
+                n = put_line(delta, op, out, n);
                 at = next;
             }
         }
@@ -187,17 +187,20 @@ fn put_last(out: &mut [u8], at: usize, first: &[u8], a: u64, second: &[u8], b: u
 // ---- the listing
 
 // Of a delta that was accepted with so many operations.
-fn list_good(s: &[u8], out: &mut [u8], ops: usize) -> Written
-    requires { ⌜ length (now s) ≤ maxDelta ⌝ }
-    ensures { λ r. ⌜ (r ≡ frontAnswer (goodText (now (s .entry)) ops) (length (now (out .entry)))) × (now (out .exit) ≡ frontOut (goodText (now (s .entry)) ops) (now (out .entry))) ⌝ }
+fn list_good(delta: &[u8], out: &mut [u8], ops: usize) -> Written
+    requires { ⌜ length (now delta) ≤ maxDelta ⌝ }
+    ensures { λ r. ⌜ (r ≡ frontAnswer (goodText (now (delta .entry)) ops) (length (now (out .entry)))) × (now (out .exit) ≡ frontOut (goodText (now (delta .entry)) ops) (now (out .entry))) ⌝ }
 {
     let count = ops as u64;
-    let bytes = s.len() as u64;
-    let n = lines_len(s) + 19 + listing_text::decimal_len(count) + listing_text::decimal_len(bytes);
+    let bytes = delta.len() as u64;
+    let n = lines_len(delta)
+        + 19
+        + listing_text::decimal_len(count)
+        + listing_text::decimal_len(bytes);
     if out.len() < n {
         return Written::Refused(Refusal::NoPlace);
     }
-    let at = put_lines(s, out);
+    let at = put_lines(delta, out);
     put_last(out, at, b"end=ok ops=", count, b" bytes=", bytes);
     Written::Bytes(n)
 }
@@ -215,12 +218,12 @@ fn list_refused(out: &mut [u8], code: u64, at: u64) -> Written
 }
 
 // The listing of any bytes, at the front of the buffer, and its length. 8, and nothing changed, where the buffer is too short.
-pub fn list_delta(s: &[u8], out: &mut [u8]) -> Written
-    ensures { λ r. ⌜ (r ≡ frontAnswer (listing (now (s .entry))) (length (now (out .entry)))) × (now (out .exit) ≡ frontOut (listing (now (s .entry))) (now (out .entry))) ⌝ }
+pub fn list_delta(delta: &[u8], out: &mut [u8]) -> Written
+    ensures { λ r. ⌜ (r ≡ frontAnswer (listing (now (delta .entry))) (length (now (out .entry)))) × (now (out .exit) ≡ frontOut (listing (now (delta .entry))) (now (out .entry))) ⌝ }
 {
-    let read = delta_read::read_delta(s);
+    let read = delta_read::read_delta(delta);
     match read {
-        DeltaRead::Good { ops, nodes: _ } => list_good(s, out, ops),
+        DeltaRead::Good { ops, nodes: _ } => list_good(delta, out, ops),
         DeltaRead::Refused { why, at } => list_refused(out, why.number(), at as u64),
     }
 }

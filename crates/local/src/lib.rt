@@ -17,61 +17,61 @@ ghost use Rattle.local_node.specs.Writes.{callOf};
 
 // One of the four calls at a key of a node of a good table: 2, then what the node's rules say.
 pub fn write_good(
-    s: &mut [u8],
+    table: &mut [u8],
     number: u64,
     kind: Kind,
     key: &[u8],
     value: &[u8],
-    time: u64,
+    clock: u64,
 ) -> Answer
-    requires { ⌜ valid (now s) ≡ true ⌝ }
-    ensures { λ r. ⌜ Gives (stored (call (callOf kind (now (value .entry)) time) number (now (key .entry)) (decode (now (s .entry)))))
-        r (now (s .exit)) ⌝ }
+    requires { ⌜ valid (now table) ≡ true ⌝ }
+    ensures { λ r. ⌜ Gives (stored (call (callOf kind (now (value .entry)) clock) number (now (key .entry)) (decode (now (table .entry)))))
+        r (now (table .exit)) ⌝ }
 {
-    match table_read::find_node(s, number) {
+    match table_read::find_node(table, number) {
         Place::At(i) => {
             let a = layout::NODES + i * layout::NODE;
             let e = a + layout::NODE;
-            local_node::write_node(&mut s[a..e], kind, key, value, time)
+            local_node::write_node(&mut table[a..e], kind, key, value, clock)
         }
         Place::Free(_) => Answer::Refused(Refusal::NoNode),
     }
 }
 
 // One of the four calls on any bytes.
-fn write(s: &mut [u8], number: u64, kind: Kind, key: &[u8], value: &[u8], time: u64) -> Answer
-    ensures { λ r. ⌜ Gives (lentCall (callOf kind (now (value .entry)) time) number (now (key .entry)) (now (s .entry))) r (now (s .exit)) ⌝ }
+fn write(table: &mut [u8], number: u64, kind: Kind, key: &[u8], value: &[u8], clock: u64) -> Answer
+    ensures { λ r. ⌜ Gives (lentCall (callOf kind (now (value .entry)) clock) number (now (key .entry)) (now (table .entry))) r (now (table .exit)) ⌝ }
 {
-    if table_check::check_table(s) {
-        return write_good(s, number, kind, key, value, time);
+    if table_check::check_table(table) {
+        return write_good(table, number, kind, key, value, clock);
     }
     Answer::Refused(Refusal::BadTable)
 }
 
 // Set: the key's record of the node takes this value, and stays as it is where it has it already.
-pub fn set(s: &mut [u8], number: u64, key: &[u8], value: &[u8]) -> Answer
-    ensures { λ r. ⌜ Gives (lentCall (Setting (now (value .entry))) number (now (key .entry)) (now (s .entry))) r (now (s .exit)) ⌝ }
+pub fn set(table: &mut [u8], number: u64, key: &[u8], value: &[u8]) -> Answer
+    ensures { λ r. ⌜ Gives (lentCall (Setting (now (value .entry))) number (now (key .entry)) (now (table .entry))) r (now (table .exit)) ⌝ }
 {
-    write(s, number, Kind::Setting, key, value, 0)
+    write(table, number, Kind::Setting, key, value, 0)
 }
 
 // Set with TTL: likewise, and a changed record is scheduled from this time on.
-pub fn set_with_ttl(s: &mut [u8], number: u64, key: &[u8], value: &[u8], time: u64) -> Answer
-    ensures { λ r. ⌜ Gives (lentCall (SettingTtl (now (value .entry)) time) number (now (key .entry)) (now (s .entry))) r (now (s .exit)) ⌝ }
+pub fn set_with_ttl(table: &mut [u8], number: u64, key: &[u8], value: &[u8], clock: u64) -> Answer
+    ensures { λ r. ⌜ Gives (lentCall (SettingTtl (now (value .entry)) clock) number (now (key .entry)) (now (table .entry))) r (now (table .exit)) ⌝ }
 {
-    write(s, number, Kind::SettingTtl, key, value, time)
+    write(table, number, Kind::SettingTtl, key, value, clock)
 }
 
 // Delete: the key's record is emptied and hidden, and scheduled from this time on.
-pub fn delete(s: &mut [u8], number: u64, key: &[u8], time: u64) -> Answer
-    ensures { λ r. ⌜ Gives (lentCall (Deleting time) number (now (key .entry)) (now (s .entry))) r (now (s .exit)) ⌝ }
+pub fn delete(table: &mut [u8], number: u64, key: &[u8], clock: u64) -> Answer
+    ensures { λ r. ⌜ Gives (lentCall (Deleting clock) number (now (key .entry)) (now (table .entry))) r (now (table .exit)) ⌝ }
 {
-    write(s, number, Kind::Deleting, key, b"", time)
+    write(table, number, Kind::Deleting, key, b"", clock)
 }
 
 // Delete after TTL: the key's record keeps its value, and is scheduled from this time on.
-pub fn delete_after_ttl(s: &mut [u8], number: u64, key: &[u8], time: u64) -> Answer
-    ensures { λ r. ⌜ Gives (lentCall (DeletingAfterTtl time) number (now (key .entry)) (now (s .entry))) r (now (s .exit)) ⌝ }
+pub fn delete_after_ttl(table: &mut [u8], number: u64, key: &[u8], clock: u64) -> Answer
+    ensures { λ r. ⌜ Gives (lentCall (DeletingAfterTtl clock) number (now (key .entry)) (now (table .entry))) r (now (table .exit)) ⌝ }
 {
-    write(s, number, Kind::DeletingAfterTtl, key, b"", time)
+    write(table, number, Kind::DeletingAfterTtl, key, b"", clock)
 }

@@ -29,11 +29,11 @@ pub enum Found {
 }
 
 // The value of record `j` in the bytes of node `i`.
-fn in_record(b: &[u8], i: usize, j: usize) -> Found
-    requires { ⌜ LaidNode (now b) × (i < maxNodes) × (j < countOf (now b)) ⌝ }
-    ensures { λ r. ⌜ r ≡ foundRec i j (decodeRec (part (33 + j * recWidth) recWidth (now (b .entry)))) ⌝ }
+fn in_record(node: &[u8], i: usize, j: usize) -> Found
+    requires { ⌜ LaidNode (now node) × (i < maxNodes) × (j < countOf (now node)) ⌝ }
+    ensures { λ r. ⌜ r ≡ foundRec i j (decodeRec (part (33 + j * recWidth) recWidth (now (node .entry)))) ⌝ }
 {
-    let r = table_read::read_record(table::record_of(b, j));
+    let r = table_read::read_record(table::record_of(node, j));
     let start = layout::NODES
         + i * layout::NODE
         + (layout::RECORDS + j * layout::RECORD + layout::VALUE);
@@ -52,12 +52,12 @@ fn in_record(b: &[u8], i: usize, j: usize) -> Found
 }
 
 // The value of the key in the bytes of node `i`.
-fn in_node(b: &[u8], i: usize, key: &[u8]) -> Found
-    requires { ⌜ LaidNode (now b) × (keysRise (recsOf (now b)) ≡ true) × (i < maxNodes) ⌝ }
-    ensures { λ r. ⌜ r ≡ findRec (now (key .entry)) i 0 (recsOf (now (b .entry))) ⌝ }
+fn in_node(node: &[u8], i: usize, key: &[u8]) -> Found
+    requires { ⌜ LaidNode (now node) × (keysRise (recsOf (now node)) ≡ true) × (i < maxNodes) ⌝ }
+    ensures { λ r. ⌜ r ≡ findRec (now (key .entry)) i 0 (recsOf (now (node .entry))) ⌝ }
 {
-    match table_read::search_key(b, key) {
-        Place::At(j) => in_record(b, i, j),
+    match table_read::search_key(node, key) {
+        Place::At(j) => in_record(node, i, j),
         Place::Free(_) => Found::Nothing,
     }
 }

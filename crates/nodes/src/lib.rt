@@ -15,41 +15,41 @@ ghost use Rattle.rules.specs.Layout.{decode, valid};
 ghost use Rattle.nodes.specs.New.{lentMade};
 
 // The slice becomes an empty table, whatever stood there; one of another length is refused with 14.
-pub fn new_table(s: &mut [u8]) -> Answer
-    ensures { λ r. ⌜ Gives (lentMade (now (s .entry))) r (now (s .exit)) ⌝ }
+pub fn new_table(table: &mut [u8]) -> Answer
+    ensures { λ r. ⌜ Gives (lentMade (now (table .entry))) r (now (table .exit)) ⌝ }
 {
-    if s.len() != layout::TABLE {
+    if table.len() != layout::TABLE {
         return Answer::Refused(Refusal::BadTable);
     }
-    fields::clear(s, 0, layout::TABLE);
+    fields::clear(table, 0, layout::TABLE);
     Answer::Done
 }
 
 // A fresh node with this number in a good table; one held already stays. 4 where there is no room.
-pub fn add_good(s: &mut [u8], number: u64) -> Answer
-    requires { ⌜ valid (now s) ≡ true ⌝ }
-    ensures { λ r. ⌜ Gives (stored (add number (decode (now (s .entry))))) r (now (s .exit)) ⌝ }
+pub fn add_good(table: &mut [u8], number: u64) -> Answer
+    requires { ⌜ valid (now table) ≡ true ⌝ }
+    ensures { λ r. ⌜ Gives (stored (add number (decode (now (table .entry))))) r (now (table .exit)) ⌝ }
 {
-    match table_read::find_node(s, number) {
+    match table_read::find_node(table, number) {
         Place::At(_) => Answer::Done,
         Place::Free(i) => {
-            if sizes::NODES <= fields::byte_at(s, layout::NODE_COUNT) {
+            if sizes::NODES <= fields::byte_at(table, layout::NODE_COUNT) {
                 return Answer::Refused(Refusal::NinthNode);
             }
-            table_write::insert_node(s, i, number);
+            table_write::insert_node(table, i, number);
             Answer::Done
         }
     }
 }
 
 // The node with this number goes from a good table: 2.
-pub fn remove_good(s: &mut [u8], number: u64) -> Answer
-    requires { ⌜ valid (now s) ≡ true ⌝ }
-    ensures { λ r. ⌜ Gives (stored (removeNode number (decode (now (s .entry))))) r (now (s .exit)) ⌝ }
+pub fn remove_good(table: &mut [u8], number: u64) -> Answer
+    requires { ⌜ valid (now table) ≡ true ⌝ }
+    ensures { λ r. ⌜ Gives (stored (removeNode number (decode (now (table .entry))))) r (now (table .exit)) ⌝ }
 {
-    match table_read::find_node(s, number) {
+    match table_read::find_node(table, number) {
         Place::At(i) => {
-            table_write::remove_node(s, i);
+            table_write::remove_node(table, i);
             Answer::Done
         }
         Place::Free(_) => Answer::Refused(Refusal::NoNode),
@@ -57,21 +57,21 @@ pub fn remove_good(s: &mut [u8], number: u64) -> Answer
 }
 
 // Adds a fresh node: 14, 4.
-pub fn add_node(s: &mut [u8], number: u64) -> Answer
-    ensures { λ r. ⌜ Gives (lentAdd number (now (s .entry))) r (now (s .exit)) ⌝ }
+pub fn add_node(table: &mut [u8], number: u64) -> Answer
+    ensures { λ r. ⌜ Gives (lentAdd number (now (table .entry))) r (now (table .exit)) ⌝ }
 {
-    if table_check::check_table(s) {
-        return add_good(s, number);
+    if table_check::check_table(table) {
+        return add_good(table, number);
     }
     Answer::Refused(Refusal::BadTable)
 }
 
 // Removes a node: 14, 2.
-pub fn remove_node(s: &mut [u8], number: u64) -> Answer
-    ensures { λ r. ⌜ Gives (lentRemoveNode number (now (s .entry))) r (now (s .exit)) ⌝ }
+pub fn remove_node(table: &mut [u8], number: u64) -> Answer
+    ensures { λ r. ⌜ Gives (lentRemoveNode number (now (table .entry))) r (now (table .exit)) ⌝ }
 {
-    if table_check::check_table(s) {
-        return remove_good(s, number);
+    if table_check::check_table(table) {
+        return remove_good(table, number);
     }
     Answer::Refused(Refusal::BadTable)
 }

@@ -21,11 +21,11 @@ ghost use Rattle.table.specs.Tests.{countOf, recsOf};
 ghost use Rattle.table.specs.Fits.{LaidNode};
 
 // Whether record `j` of a node's bytes is a hit.
-fn is_hit(b: &[u8], j: usize, prefix: &[u8]) -> bool
-    requires { ⌜ LaidNode (now b) × (j < countOf (now b)) ⌝ }
-    ensures { λ r. ⌜ r ≡ hits (now (prefix .entry)) (decodeRec (part (33 + j * recWidth) recWidth (now (b .entry)))) ⌝ }
+fn is_hit(node: &[u8], j: usize, prefix: &[u8]) -> bool
+    requires { ⌜ LaidNode (now node) × (j < countOf (now node)) ⌝ }
+    ensures { λ r. ⌜ r ≡ hits (now (prefix .entry)) (decodeRec (part (33 + j * recWidth) recWidth (now (node .entry)))) ⌝ }
 {
-    let record = table::record_of(b, j);
+    let record = table::record_of(node, j);
     if fields::starts_with(prefix, table::key_of(record)) {
         let r = table_read::read_record(record);
         let status = r.status;
@@ -40,15 +40,15 @@ fn is_hit(b: &[u8], j: usize, prefix: &[u8]) -> bool
 }
 
 // How many hits a node has.
-fn count_hits(b: &[u8], prefix: &[u8]) -> usize
-    requires { ⌜ LaidNode (now b) ⌝ }
-    ensures { λ r. ⌜ r ≡ length (hitsFrom (now (prefix .entry)) 0 (recsOf (now (b .entry)))) ⌝ }
+fn count_hits(node: &[u8], prefix: &[u8]) -> usize
+    requires { ⌜ LaidNode (now node) ⌝ }
+    ensures { λ r. ⌜ r ≡ length (hitsFrom (now (prefix .entry)) 0 (recsOf (now (node .entry)))) ⌝ }
 {
-    let n = fields::byte_at(b, layout::RECORD_COUNT);
+    let n = fields::byte_at(node, layout::RECORD_COUNT);
     let mut found = 0;
     let mut j = 0;
     while j < n {
-        if is_hit(b, j, prefix) {
+        if is_hit(node, j, prefix) {
             found += 1;
         }
         j += 1;
@@ -57,15 +57,15 @@ fn count_hits(b: &[u8], prefix: &[u8]) -> usize
 }
 
 // The places of a node's hits, to the front of a list that has room for them.
-fn write_hits(b: &[u8], prefix: &[u8], out: &mut [u8])
-    requires { ⌜ LaidNode (now b) × (length (hitsFrom (now prefix) 0 (recsOf (now b))) ≤ length (now out)) ⌝ }
-    ensures { λ _. ⌜ now (out .exit) ≡ put 0 (hitsFrom (now (prefix .entry)) 0 (recsOf (now (b .entry)))) (now (out .entry)) ⌝ }
+fn write_hits(node: &[u8], prefix: &[u8], out: &mut [u8])
+    requires { ⌜ LaidNode (now node) × (length (hitsFrom (now prefix) 0 (recsOf (now node))) ≤ length (now out)) ⌝ }
+    ensures { λ _. ⌜ now (out .exit) ≡ put 0 (hitsFrom (now (prefix .entry)) 0 (recsOf (now (node .entry)))) (now (out .entry)) ⌝ }
 {
-    let n = fields::byte_at(b, layout::RECORD_COUNT);
+    let n = fields::byte_at(node, layout::RECORD_COUNT);
     let mut next = 0;
     let mut j = 0;
     while j < n {
-        if is_hit(b, j, prefix) {
+        if is_hit(node, j, prefix) {
             out[next] = j as u8;
             next += 1;
         }
@@ -74,15 +74,15 @@ fn write_hits(b: &[u8], prefix: &[u8], out: &mut [u8])
 }
 
 // The listing of one node's bytes: 8.
-fn in_node(b: &[u8], prefix: &[u8], out: &mut [u8]) -> Listed
-    requires { ⌜ LaidNode (now b) ⌝ }
-    ensures { λ r. ⌜ Gives (listInto (hitsFrom (now (prefix .entry)) 0 (recsOf (now (b .entry)))) (now (out .entry))) r (now (out .exit)) ⌝ }
+fn in_node(node: &[u8], prefix: &[u8], out: &mut [u8]) -> Listed
+    requires { ⌜ LaidNode (now node) ⌝ }
+    ensures { λ r. ⌜ Gives (listInto (hitsFrom (now (prefix .entry)) 0 (recsOf (now (node .entry)))) (now (out .entry))) r (now (out .exit)) ⌝ }
 {
-    let found = count_hits(b, prefix);
+    let found = count_hits(node, prefix);
     if out.len() < found {
         return Listed::Refused(Refusal::NoPlace);
     }
-    write_hits(b, prefix, out);
+    write_hits(node, prefix, out);
     Listed::Hits(found)
 }
 

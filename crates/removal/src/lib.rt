@@ -23,26 +23,26 @@ ghost use Rattle.table.proofs.Places.{recAt};
 ghost use Rattle.removal.specs.Removals.{takenOut, removed};
 
 // Whether the grace of a record that is scheduled from `start` is over.
-fn is_due(start: u64, time: u64, grace: u64) -> bool
-    ensures { λ r. ⌜ r ≡ not (ltb time (start + grace)) ⌝ }
+fn is_due(start: u64, clock: u64, grace: u64) -> bool
+    ensures { λ r. ⌜ r ≡ not (ltb clock (start + grace)) ⌝ }
 {
-    if time < start {
+    if clock < start {
         return false;
     }
-    grace <= time - start
+    grace <= clock - start
 }
 
 // Whether record `j` of a node's bytes goes.
-fn must_go(b: &[u8], j: usize, time: u64, grace: u64) -> bool
-    requires { ⌜ LaidNode (now b) × (j < countOf (now b)) ⌝ }
-    ensures { λ r. ⌜ r ≡ goes (due time grace) (recAt j (now (b .entry))) ⌝ }
+fn must_go(node: &[u8], j: usize, clock: u64, grace: u64) -> bool
+    requires { ⌜ LaidNode (now node) × (j < countOf (now node)) ⌝ }
+    ensures { λ r. ⌜ r ≡ goes (due clock grace) (recAt j (now (node .entry))) ⌝ }
 {
-    let r = table_read::read_record(table::record_of(b, j));
+    let r = table_read::read_record(table::record_of(node, j));
     let status = r.status;
     match status {
         Status::Set => false,
-        Status::Delete => is_due(r.start, time, grace),
-        Status::Ttl => is_due(r.start, time, grace),
+        Status::Delete => is_due(r.start, clock, grace),
+        Status::Ttl => is_due(r.start, clock, grace),
     }
 }
 
@@ -54,27 +54,27 @@ fn larger(a: u64, b: u64) -> u64
 }
 
 // Record `j` of a node goes, and last_gc becomes the larger of itself and the record's version.
-fn take_out(b: &mut [u8], j: usize)
-    requires { ⌜ LaidNode (now b) × (j < countOf (now b)) ⌝ }
-    ensures { λ _. ⌜ now (b .exit) ≡ encodeNode (takenOut j (recAt j (now (b .entry)) .kv .version) (decodeNode (now (b .entry)))) ⌝ }
+fn take_out(node: &mut [u8], j: usize)
+    requires { ⌜ LaidNode (now node) × (j < countOf (now node)) ⌝ }
+    ensures { λ _. ⌜ now (node .exit) ≡ encodeNode (takenOut j (recAt j (now (node .entry)) .kv .version) (decodeNode (now (node .entry)))) ⌝ }
 {
-    let held = fields::read_u64(b, layout::LAST_GC);
-    let version = fields::read_u64(b, layout::RECORDS + j * layout::RECORD + layout::VERSION);
+    let held = fields::read_u64(node, layout::LAST_GC);
+    let version = fields::read_u64(node, layout::RECORDS + j * layout::RECORD + layout::VERSION);
     let last_gc = larger(held, version);
-    table_write::remove_record(b, j);
-    table_write::set_last_gc(b, last_gc);
+    table_write::remove_record(node, j);
+    table_write::set_last_gc(node, last_gc);
 }
 
 // All records of a node that are due go. Where one has gone, the next stands in its place.
-fn remove_due(b: &mut [u8], time: u64, grace: u64)
-    requires { ⌜ LaidNode (now b) ⌝ }
-    ensures { λ _. ⌜ now (b .exit) ≡ encodeNode (removed (due time grace) (decodeNode (now (b .entry)))) ⌝ }
+fn remove_due(node: &mut [u8], clock: u64, grace: u64)
+    requires { ⌜ LaidNode (now node) ⌝ }
+    ensures { λ _. ⌜ now (node .exit) ≡ encodeNode (removed (due clock grace) (decodeNode (now (node .entry)))) ⌝ }
 {
-    let mut n = fields::byte_at(b, layout::RECORD_COUNT);
+    let mut n = fields::byte_at(node, layout::RECORD_COUNT);
     let mut j = 0;
     while j < n {
-        if must_go(b, j, time, grace) {
-            take_out(b, j);
+        if must_go(node, j, clock, grace) {
+            take_out(node, j);
             n -= 1;
         } else {
             j += 1;
@@ -83,26 +83,26 @@ fn remove_due(b: &mut [u8], time: u64, grace: u64)
 }
 
 // The removal over all nodes of a good table.
-pub fn remove_good(table: &mut [u8], time: u64, grace: u64)
+pub fn remove_good(table: &mut [u8], clock: u64, grace: u64)
     requires { ⌜ valid (now table) ≡ true ⌝ }
-    ensures { λ _. ⌜ now (table .exit) ≡ encode (removeAll (λ i. due time grace) (decode (now (table .entry)))) ⌝ }
+    ensures { λ _. ⌜ now (table .exit) ≡ encode (removeAll (λ i. due clock grace) (decode (now (table .entry)))) ⌝ }
 {
     let n = fields::byte_at(table, layout::NODE_COUNT);
     let mut i = 0;
     while i < n {
         let a = layout::NODES + i * layout::NODE;
         let e = a + layout::NODE;
-        remove_due(&mut table[a..e], time, grace);
+        remove_due(&mut table[a..e], clock, grace);
         i += 1;
     }
 }
 
 // The removal in lent bytes: 14.
-pub fn remove_scheduled(table: &mut [u8], time: u64, grace: u64) -> Answer
-    ensures { λ r. ⌜ Gives (lentGc time grace (now (table .entry))) r (now (table .exit)) ⌝ }
+pub fn remove_scheduled(table: &mut [u8], clock: u64, grace: u64) -> Answer
+    ensures { λ r. ⌜ Gives (lentGc clock grace (now (table .entry))) r (now (table .exit)) ⌝ }
 {
     if table_check::check_table(table) {
-        remove_good(table, time, grace);
+        remove_good(table, clock, grace);
         Answer::Done
     } else {
         Answer::Refused(Refusal::BadTable)

@@ -135,27 +135,33 @@ pub enum DeltaStatus {
 }
 
 // Step 3: whether there is something new, where no reset is due.
-fn check_newer(ownmax: u64, max: u64) -> DeltaStatus
-    ensures { λ r. ⌜ r ≡ newerOf ownmax max ⌝ }
+fn check_newer(own_max: u64, max: u64) -> DeltaStatus
+    ensures { λ r. ⌜ r ≡ newerOf «own_max» max ⌝ }
 {
-    if ownmax < max {
+    if own_max < max {
         return DeltaStatus::Apply;
     }
     DeltaStatus::Reject
 }
 
 // The three steps of document 01, "Applying to a node", by the numbers alone.
-pub fn check_delta_status(owngc: u64, ownmax: u64, from: u64, gc: u64, max: u64) -> DeltaStatus
-    ensures { λ r. ⌜ r ≡ statusOf owngc ownmax from gc max ⌝ }
+pub fn check_delta_status(
+    own_last_gc: u64,
+    own_max: u64,
+    from: u64,
+    last_gc: u64,
+    max: u64,
+) -> DeltaStatus
+    ensures { λ r. ⌜ r ≡ statusOf «own_last_gc» «own_max» from «last_gc» max ⌝ }
 {
-    if ownmax < from {
+    if own_max < from {
         return DeltaStatus::Reject;
     }
-    if gc <= owngc {
-        return check_newer(ownmax, max);
+    if last_gc <= own_last_gc {
+        return check_newer(own_max, max);
     }
-    if gc <= ownmax {
-        return check_newer(ownmax, max);
+    if last_gc <= own_max {
+        return check_newer(own_max, max);
     }
     if from == 0 {
         return DeltaStatus::ApplyAfterReset;

@@ -10,39 +10,39 @@ ghost use Rattle.table.specs.Tests.{keyLength, valueLength};
 pub mod layout;
 
 // Node `i` of a table's bytes.
-pub fn node_of(s: &[u8], i: usize) -> &[u8]
-    requires { ⌜ (length (now s) ≡ tableWidth) × (i < maxNodes) ⌝ }
-    ensures { λ r. ⌜ now r ≡ part (1 + i * nodeWidth) nodeWidth (now (s .entry)) ⌝ }
+pub fn node_of(table: &[u8], i: usize) -> &[u8]
+    requires { ⌜ (length (now table) ≡ tableWidth) × (i < maxNodes) ⌝ }
+    ensures { λ r. ⌜ now r ≡ part (1 + i * nodeWidth) nodeWidth (now (table .entry)) ⌝ }
 {
     let a = layout::NODES + i * layout::NODE;
     let e = a + layout::NODE;
-    &s[a..e]
+    &table[a..e]
 }
 
 // Record `j` of a node's bytes.
-pub fn record_of(b: &[u8], j: usize) -> &[u8]
-    requires { ⌜ (length (now b) ≡ nodeWidth) × (j < maxRecords) ⌝ }
-    ensures { λ r. ⌜ now r ≡ part (33 + j * recWidth) recWidth (now (b .entry)) ⌝ }
+pub fn record_of(node: &[u8], j: usize) -> &[u8]
+    requires { ⌜ (length (now node) ≡ nodeWidth) × (j < maxRecords) ⌝ }
+    ensures { λ r. ⌜ now r ≡ part (33 + j * recWidth) recWidth (now (node .entry)) ⌝ }
 {
     let a = layout::RECORDS + j * layout::RECORD;
     let e = a + layout::RECORD;
-    &b[a..e]
+    &node[a..e]
 }
 
 // The key in a record's bytes.
-pub fn key_of(b: &[u8]) -> &[u8]
-    requires { ⌜ (length (now b) ≡ recWidth) × (keyLength (now b) ≤ maxKey) ⌝ }
-    ensures { λ r. ⌜ now r ≡ decodeRec (now (b .entry)) .kv .key ⌝ }
+pub fn key_of(record: &[u8]) -> &[u8]
+    requires { ⌜ (length (now «record») ≡ recWidth) × (keyLength (now «record») ≤ maxKey) ⌝ }
+    ensures { λ r. ⌜ now r ≡ decodeRec (now («record» .entry)) .kv .key ⌝ }
 {
-    let e = layout::KEY + fields::byte_at(b, layout::KEY_LENGTH);
-    &b[layout::KEY..e]
+    let e = layout::KEY + fields::byte_at(record, layout::KEY_LENGTH);
+    &record[layout::KEY..e]
 }
 
 // The value in a record's bytes.
-pub fn value_of(b: &[u8]) -> &[u8]
-    requires { ⌜ (length (now b) ≡ recWidth) × (valueLength (now b) ≤ maxValue) ⌝ }
-    ensures { λ r. ⌜ now r ≡ decodeRec (now (b .entry)) .kv .value ⌝ }
+pub fn value_of(record: &[u8]) -> &[u8]
+    requires { ⌜ (length (now «record») ≡ recWidth) × (valueLength (now «record») ≤ maxValue) ⌝ }
+    ensures { λ r. ⌜ now r ≡ decodeRec (now («record» .entry)) .kv .value ⌝ }
 {
-    let e = layout::VALUE + fields::byte_at(b, layout::VALUE_LENGTH);
-    &b[layout::VALUE..e]
+    let e = layout::VALUE + fields::byte_at(record, layout::VALUE_LENGTH);
+    &record[layout::VALUE..e]
 }

@@ -31,60 +31,60 @@ fn mask() -> [u8; 128]
 
 // Whether zeros stand behind a text of `k` bytes in the room for `n` at `at`. It looks at all n bytes and masks those of the text, so that the loop
 // has a fixed length and no branch.
-fn clean_behind(b: &[u8], at: usize, n: usize, k: usize, m: &[u8]) -> bool
-    requires { ⌜ (k ≤ n) × (n ≤ 64) × (at + n ≤ length (now b)) × (now m ≡ maskBytes) ⌝ }
-    ensures { λ r. ⌜ r ≡ clean at n k (now (b .entry)) ⌝ }
+fn clean_behind(record: &[u8], at: usize, n: usize, k: usize, m: &[u8]) -> bool
+    requires { ⌜ (k ≤ n) × (n ≤ 64) × (at + n ≤ length (now «record»)) × (now m ≡ maskBytes) ⌝ }
+    ensures { λ r. ⌜ r ≡ clean at n k (now («record» .entry)) ⌝ }
 {
     let mut seen: u8 = 0;
     let mut i = 0;
     while i < n {
-        seen = seen | (b[at + i] & m[64 - k + i]);
+        seen = seen | (record[at + i] & m[64 - k + i]);
         i += 1;
     }
     seen == 0
 }
 
 // Whether the bytes are those of a record, in a node with this max.
-fn check_record(b: &[u8], max: u64, m: &[u8]) -> bool
-    requires { ⌜ (length (now b) ≡ recWidth) × (now m ≡ maskBytes) ⌝ }
-    ensures { λ r. ⌜ r ≡ recGood max (now (b .entry)) ⌝ }
+fn check_record(record: &[u8], max: u64, m: &[u8]) -> bool
+    requires { ⌜ (length (now «record») ≡ recWidth) × (now m ≡ maskBytes) ⌝ }
+    ensures { λ r. ⌜ r ≡ recGood max (now («record» .entry)) ⌝ }
 {
-    let k = fields::byte_at(b, layout::KEY_LENGTH);
+    let k = fields::byte_at(record, layout::KEY_LENGTH);
     if Record::KEY < k {
         return false;
     }
-    let v = fields::byte_at(b, layout::VALUE_LENGTH);
+    let v = fields::byte_at(record, layout::VALUE_LENGTH);
     if Record::VALUE < v {
         return false;
     }
-    let version = fields::read_u64(b, layout::VERSION);
+    let version = fields::read_u64(record, layout::VERSION);
     if version == 0 {
         return false;
     }
     if max < version {
         return false;
     }
-    if 2 < fields::byte_at(b, layout::STATUS) {
+    if 2 < fields::byte_at(record, layout::STATUS) {
         return false;
     }
-    if clean_behind(b, layout::KEY, Record::KEY, k, m) {
-        clean_behind(b, layout::VALUE, Record::VALUE, v, m)
+    if clean_behind(record, layout::KEY, Record::KEY, k, m) {
+        clean_behind(record, layout::VALUE, Record::VALUE, v, m)
     } else {
         false
     }
 }
 
 // Whether the first `n` records of a node's bytes are records.
-fn check_records(b: &[u8], n: usize, max: u64) -> bool
-    requires { ⌜ (length (now b) ≡ nodeWidth) × (n ≤ 32) ⌝ }
-    ensures { λ r. ⌜ r ≡ allBlocks (recGood max) recWidth n (drop 33 (now (b .entry))) ⌝ }
+fn check_records(node: &[u8], n: usize, max: u64) -> bool
+    requires { ⌜ (length (now node) ≡ nodeWidth) × (n ≤ 32) ⌝ }
+    ensures { λ r. ⌜ r ≡ allBlocks (recGood max) recWidth n (drop 33 (now (node .entry))) ⌝ }
 {
     let m = mask();
     let mut i = 0;
     while i < n {
         let a = layout::RECORDS + i * layout::RECORD;
         let e = a + layout::RECORD;
-        if check_record(&b[a..e], max, &m) {
+        if check_record(&node[a..e], max, &m) {
             i += 1;
         } else {
             return false;
@@ -94,14 +94,14 @@ fn check_records(b: &[u8], n: usize, max: u64) -> bool
 }
 
 // The versions of a node's records, in its first `n` places.
-fn versions_of(b: &[u8], n: usize) -> [u64; Header::RECORDS]
-    requires { ⌜ (length (now b) ≡ nodeWidth) × (n ≤ 32) × (n ≡ countOf (now b)) ⌝ }
-    ensures { λ r. ⌜ (length r ≡ 32) × (take n r ≡ versions (recsOf (now (b .entry)))) ⌝ }
+fn versions_of(node: &[u8], n: usize) -> [u64; Header::RECORDS]
+    requires { ⌜ (length (now node) ≡ nodeWidth) × (n ≤ 32) × (n ≡ countOf (now node)) ⌝ }
+    ensures { λ r. ⌜ (length r ≡ 32) × (take n r ≡ versions (recsOf (now (node .entry)))) ⌝ }
 {
     let mut vs = [0u64; Header::RECORDS];
     let mut i = 0;
     while i < n {
-        vs[i] = fields::read_u64(b, layout::RECORDS + i * layout::RECORD + layout::VERSION);
+        vs[i] = fields::read_u64(node, layout::RECORDS + i * layout::RECORD + layout::VERSION);
         i += 1;
     }
     vs
@@ -164,16 +164,16 @@ fn key_below(x: &[u8], y: &[u8]) -> bool
 }
 
 // Whether each key of a node's records is below the next.
-fn keys_rise(b: &[u8], n: usize, max: u64) -> bool
-    requires { ⌜ (length (now b) ≡ nodeWidth) × (n ≤ 32) × (n ≡ countOf (now b)) × (allBlocks (recGood max) recWidth n (drop 33 (now b)) ≡ true) ⌝ }
-    ensures { λ r. ⌜ r ≡ keysRise (recsOf (now (b .entry))) ⌝ }
+fn keys_rise(node: &[u8], n: usize, max: u64) -> bool
+    requires { ⌜ (length (now node) ≡ nodeWidth) × (n ≤ 32) × (n ≡ countOf (now node)) × (allBlocks (recGood max) recWidth n (drop 33 (now node)) ≡ true) ⌝ }
+    ensures { λ r. ⌜ r ≡ keysRise (recsOf (now (node .entry))) ⌝ }
 {
     let mut i = 0;
     while i + 1 < n {
         let a = layout::RECORDS + i * layout::RECORD;
         let m = a + layout::RECORD;
         let e = m + layout::RECORD;
-        if key_below(&b[a..m], &b[m..e]) {
+        if key_below(&node[a..m], &node[m..e]) {
             i += 1;
         } else {
             return false;
@@ -183,21 +183,21 @@ fn keys_rise(b: &[u8], n: usize, max: u64) -> bool
 }
 
 // Whether the bytes are those of a node.
-fn check_node(b: &[u8]) -> bool
-    requires { ⌜ length (now b) ≡ nodeWidth ⌝ }
-    ensures { λ r. ⌜ r ≡ nodeGood (now (b .entry)) ⌝ }
+fn check_node(node: &[u8]) -> bool
+    requires { ⌜ length (now node) ≡ nodeWidth ⌝ }
+    ensures { λ r. ⌜ r ≡ nodeGood (now (node .entry)) ⌝ }
 {
-    let n = fields::byte_at(b, layout::RECORD_COUNT);
+    let n = fields::byte_at(node, layout::RECORD_COUNT);
     if Header::RECORDS < n {
         return false;
     }
-    let max = fields::read_u64(b, layout::MAX);
-    if check_records(b, n, max) {
-        if keys_rise(b, n, max) {
-            let vs = versions_of(b, n);
+    let max = fields::read_u64(node, layout::MAX);
+    if check_records(node, n, max) {
+        if keys_rise(node, n, max) {
+            let vs = versions_of(node, n);
             if all_differ(&vs, n) {
                 let a = layout::RECORDS + n * layout::RECORD;
-                return fields::is_zero(&b[a..layout::NODE]);
+                return fields::is_zero(&node[a..layout::NODE]);
             }
         }
     }
@@ -205,15 +205,15 @@ fn check_node(b: &[u8]) -> bool
 }
 
 // Whether the first `n` nodes are nodes.
-fn check_nodes(s: &[u8], n: usize) -> bool
-    requires { ⌜ (length (now s) ≡ tableWidth) × (n ≤ 8) ⌝ }
-    ensures { λ r. ⌜ r ≡ allBlocks nodeGood nodeWidth n (drop 1 (now (s .entry))) ⌝ }
+fn check_nodes(table: &[u8], n: usize) -> bool
+    requires { ⌜ (length (now table) ≡ tableWidth) × (n ≤ 8) ⌝ }
+    ensures { λ r. ⌜ r ≡ allBlocks nodeGood nodeWidth n (drop 1 (now (table .entry))) ⌝ }
 {
     let mut i = 0;
     while i < n {
         let a = layout::NODES + i * layout::NODE;
         let e = a + layout::NODE;
-        if check_node(&s[a..e]) {
+        if check_node(&table[a..e]) {
             i += 1;
         } else {
             return false;
@@ -223,14 +223,14 @@ fn check_nodes(s: &[u8], n: usize) -> bool
 }
 
 // Whether each node's number is below the next.
-fn numbers_rise(s: &[u8], n: usize) -> bool
-    requires { ⌜ (length (now s) ≡ tableWidth) × (n ≤ 8) × (n ≡ nodesOf (now s)) ⌝ }
-    ensures { λ r. ⌜ r ≡ rising (numbersOf (decode (now (s .entry)))) ⌝ }
+fn numbers_rise(table: &[u8], n: usize) -> bool
+    requires { ⌜ (length (now table) ≡ tableWidth) × (n ≤ 8) × (n ≡ nodesOf (now table)) ⌝ }
+    ensures { λ r. ⌜ r ≡ rising (numbersOf (decode (now (table .entry)))) ⌝ }
 {
     let mut i = 0;
     while i + 1 < n {
-        let x = fields::read_u64(s, layout::NODES + i * layout::NODE);
-        let y = fields::read_u64(s, layout::NODES + (i + 1) * layout::NODE);
+        let x = fields::read_u64(table, layout::NODES + i * layout::NODE);
+        let y = fields::read_u64(table, layout::NODES + (i + 1) * layout::NODE);
         if x < y {
             i += 1;
         } else {
@@ -241,20 +241,20 @@ fn numbers_rise(s: &[u8], n: usize) -> bool
 }
 
 // Whether the bytes are those of a table that obeys the rules: number 14 is refused exactly where they are not.
-pub fn check_table(s: &[u8]) -> bool
-    ensures { λ r. ⌜ r ≡ valid (now (s .entry)) ⌝ }
+pub fn check_table(table: &[u8]) -> bool
+    ensures { λ r. ⌜ r ≡ valid (now (table .entry)) ⌝ }
 {
-    if s.len() != layout::TABLE {
+    if table.len() != layout::TABLE {
         return false;
     }
-    let n = fields::byte_at(s, layout::NODE_COUNT);
+    let n = fields::byte_at(table, layout::NODE_COUNT);
     if sizes::NODES < n {
         return false;
     }
-    if check_nodes(s, n) {
-        if numbers_rise(s, n) {
+    if check_nodes(table, n) {
+        if numbers_rise(table, n) {
             let a = layout::NODES + n * layout::NODE;
-            return fields::is_zero(&s[a..layout::TABLE]);
+            return fields::is_zero(&table[a..layout::TABLE]);
         }
     }
     false

@@ -30,42 +30,42 @@ pub enum Span {
 }
 
 // What a record's bytes say beside its key and value.
-pub fn read_record(b: &[u8]) -> Record
-    requires { ⌜ (length (now b) ≡ recWidth) × (keyLength (now b) ≤ maxKey) × (valueLength (now b) ≤ maxValue) ⌝ }
-    ensures { λ r. ⌜ r ≡ recordOf (decodeRec (now (b .entry))) ⌝ }
+pub fn read_record(record: &[u8]) -> Record
+    requires { ⌜ (length (now «record») ≡ recWidth) × (keyLength (now «record») ≤ maxKey) × (valueLength (now «record») ≤ maxValue) ⌝ }
+    ensures { λ r. ⌜ r ≡ recordOf (decodeRec (now («record» .entry))) ⌝ }
 {
-    let status = Status::of_byte(fields::byte_at(b, layout::STATUS));
+    let status = Status::of_byte(fields::byte_at(record, layout::STATUS));
     Record {
-        keylen: fields::byte_at(b, layout::KEY_LENGTH),
-        valuelen: fields::byte_at(b, layout::VALUE_LENGTH),
-        version: fields::read_u64(b, layout::VERSION),
+        keylen: fields::byte_at(record, layout::KEY_LENGTH),
+        valuelen: fields::byte_at(record, layout::VALUE_LENGTH),
+        version: fields::read_u64(record, layout::VERSION),
         status: status,
-        start: fields::read_u64(b, layout::START),
+        start: fields::read_u64(record, layout::START),
     }
 }
 
 // What a node's bytes say beside its number and records.
-pub fn read_header(b: &[u8]) -> Header
-    requires { ⌜ length (now b) ≡ nodeWidth ⌝ }
-    ensures { λ r. ⌜ r ≡ headerOf (decodeNode (now (b .entry)) .node) ⌝ }
+pub fn read_header(node: &[u8]) -> Header
+    requires { ⌜ length (now node) ≡ nodeWidth ⌝ }
+    ensures { λ r. ⌜ r ≡ headerOf (decodeNode (now (node .entry)) .node) ⌝ }
 {
-    let heartbeat = Heartbeat(fields::read_u64(b, layout::HEARTBEAT));
+    let heartbeat = Heartbeat(fields::read_u64(node, layout::HEARTBEAT));
     Header {
         heartbeat: heartbeat,
-        max: fields::read_u64(b, layout::MAX),
-        last_gc: fields::read_u64(b, layout::LAST_GC),
+        max: fields::read_u64(node, layout::MAX),
+        last_gc: fields::read_u64(node, layout::LAST_GC),
     }
 }
 
 // The place of the node with this number.
-pub fn find_node(s: &[u8], number: u64) -> Place
-    requires { ⌜ (length (now s) ≡ tableWidth) × (nodesOf (now s) ≤ maxNodes) ⌝ }
-    ensures { λ r. ⌜ r ≡ findNode number (decode (now (s .entry))) ⌝ }
+pub fn find_node(table: &[u8], number: u64) -> Place
+    requires { ⌜ (length (now table) ≡ tableWidth) × (nodesOf (now table) ≤ maxNodes) ⌝ }
+    ensures { λ r. ⌜ r ≡ findNode number (decode (now (table .entry))) ⌝ }
 {
-    let n = fields::byte_at(s, layout::NODE_COUNT);
+    let n = fields::byte_at(table, layout::NODE_COUNT);
     let mut i = 0;
     while i < n {
-        let x = fields::read_u64(s, layout::NODES + i * layout::NODE);
+        let x = fields::read_u64(table, layout::NODES + i * layout::NODE);
         if number == x {
             return Place::At(i);
         }
@@ -95,15 +95,15 @@ pub fn node_span(table: &[u8], number: u64) -> Span
 }
 
 // The place of the record with this key in a node's bytes, whose keys rise. It is sought by halves.
-pub fn search_key(b: &[u8], key: &[u8]) -> Place
-    requires { ⌜ LaidNode (now b) × (keysRise (recsOf (now b)) ≡ true) ⌝ }
-    ensures { λ r. ⌜ r ≡ findKey (now (key .entry)) (recsOf (now (b .entry))) ⌝ }
+pub fn search_key(node: &[u8], key: &[u8]) -> Place
+    requires { ⌜ LaidNode (now node) × (keysRise (recsOf (now node)) ≡ true) ⌝ }
+    ensures { λ r. ⌜ r ≡ findKey (now (key .entry)) (recsOf (now (node .entry))) ⌝ }
 {
     let mut low = 0;
-    let mut high = fields::byte_at(b, layout::RECORD_COUNT);
+    let mut high = fields::byte_at(node, layout::RECORD_COUNT);
     while low < high {
         let j = (low + high) / 2;
-        match fields::compare(key, table::key_of(table::record_of(b, j))) {
+        match fields::compare(key, table::key_of(table::record_of(node, j))) {
             fields::Order::Same => return Place::At(j),
             fields::Order::Less => high = j,
             fields::Order::More => low = j + 1,

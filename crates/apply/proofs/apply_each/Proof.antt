@@ -26,7 +26,7 @@ entry c = c .before .before .before .before .before .before .before .before
 below-eight : (c : tie.In-loop Inv-loop μ-loop) → c .before .loop .i < 8
 below-eight c = omega (arith, c .loop-test .taken, entry c .pre .2 .few)
 
-one-left : (c : tie.In-loop Inv-loop μ-loop) → c .before .loop .i < length (partsFrom (entry c .args .s .now) 0)
+one-left : (c : tie.In-loop Inv-loop μ-loop) → c .before .loop .i < length (partsFrom (entry c .args .delta .now) 0)
 one-left c = omega (arith, c .loop-test .taken, entry c .pre .2 .all)
 
 place-left : (c : tie.In-loop Inv-loop μ-loop) → c .before .loop .i < length (c .before .loop .answers)
@@ -39,7 +39,7 @@ turn c = c .before .before
 abbrev Here : tie.In-loop Inv-loop μ-loop → Type 0
 Here c =
     let st = entry c in
-    Head (st .args .s .now) (getD (partsFrom (st .args .s .now) 0) (c .before .loop .i) noPart)
+    Head (st .args .delta .now) (getD (partsFrom (st .args .delta .now) 0) (c .before .loop .i) noPart)
     (getD (st .args .heads .at) (c .before .loop .i) 0) (getD (st .args .heads .count) (c .before .loop .i) 0) (getD (st .args .heads .max) (c .before .loop .i) 0)
 
 here : (c : tie.In-loop Inv-loop μ-loop) → Here c
@@ -89,8 +89,8 @@ loop-again c =
     let q = turn call in
     let st = entry q in (
       stands-next _ _ _ _ _ _ _ (q .before .loop .inv .0) (one-left q) (place-left q) (st .fits .clock .fits) (st .pre .1)
-          (at-in (λ (b : ℕ). b < 256) (st .args .s .now) 0 (λ i h. q .before .before .before .before .before .before .shared-slice-known .given i .fits)) _ _ _
-          (subst (λ (x : Part). Turned (st .args .clock) x (decode (q .before .loop .t)) (call .apply-part .result) (call .apply-part .last .0)) (sym (here q .is)) (call .apply-part .ensures))
+          (at-in (λ (b : ℕ). b < 256) (st .args .delta .now) 0 (λ i h. q .before .before .before .before .before .before .shared-slice-known .given i .fits)) _ _ _
+          (subst (λ (x : Part). Turned (st .args .clock) x (decode (q .before .loop .table)) (call .apply-part .result) (call .apply-part .last .0)) (sym (here q .is)) (call .apply-part .ensures))
           (ap (λ (x : ℕ). set (q .before .loop .answers) (q .before .loop .i) x) (c .code .ensures)),
       omega (arith, q .loop-test .taken),
     )

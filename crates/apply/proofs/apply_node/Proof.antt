@@ -14,10 +14,10 @@ entry c = c .before .before .before .before .before
 -- the status is the rules' of the node that is read in the bytes
 is : (c : tie.After-check-delta-status)
     → let a = entry c .args in
-    c .check-delta-status .result ≡ deltaStatus (decodeNode (a .b .now) .node) (deltaOf (a .s .now) (a .gc) (a .from) (a .max) (a .at))
+    c .check-delta-status .result ≡ deltaStatus (decodeNode (a .node .now) .node) (deltaOf (a .delta .now) (a .last-gc) (a .from) (a .max) (a .at))
 is c =
     let a = entry c .args in
-    status-is (a .clock) (a .s .now) (a .gc) (a .from) (a .max) (a .at) (a .b .now) (entry c .pre .0 .laid) _ _ (c .before .read-header .ensures) (c .check-delta-status .ensures)
+    status-is (a .clock) (a .delta .now) (a .last-gc) (a .from) (a .max) (a .at) (a .node .now) (entry c .pre .0 .laid) _ _ (c .before .read-header .ensures) (c .check-delta-status .ensures)
 
 read-header-requires : tie.Need-read-header-requires
 read-header-requires c κs = search needs
@@ -35,7 +35,7 @@ returns : tie.Need-returns
 returns c =
     let judged = c .before .before in
     let a = entry judged .args in
-    rejected (a .clock) (a .s .now) (a .gc) (a .from) (a .max) (a .at) (a .b .now) (entry judged .pre .0 .laid) _ (is judged) (sym (c .before .is-reject .ensures) ∙ c .if1 .taken)
+    rejected (a .clock) (a .delta .now) (a .last-gc) (a .from) (a .max) (a .at) (a .node .now) (entry judged .pre .0 .laid) _ (is judged) (sym (c .before .is-reject .ensures) ∙ c .if1 .taken)
 
 is-reset-requires : tie.Need-is-reset-requires
 is-reset-requires c κs = search needs
@@ -56,7 +56,7 @@ returns-2 c =
     let asked = reset .before .before in
     let judged = asked .before .before in
     let a = entry judged .args in
-    concluded (a .clock) (a .s .now) (a .gc) (a .from) (a .max) (a .at) (a .b .now) (entry judged .pre .0 .laid) _ (is judged) (sym (asked .before .is-reject .ensures) ∙ asked .if1 .left)
+    concluded (a .clock) (a .delta .now) (a .last-gc) (a .from) (a .max) (a .at) (a .node .now) (entry judged .pre .0 .laid) _ (is judged) (sym (asked .before .is-reject .ensures) ∙ asked .if1 .left)
     _ (reset .is-reset .ensures) _ _ (grown .grow-in-place .ensures) _ (c .answer-as .ensures)
 
 pub apply-node-spec : {M : Type 1} → statement M

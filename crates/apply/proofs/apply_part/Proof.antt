@@ -22,15 +22,15 @@ entry c = read c .before .before .before .before .before
 
 -- the node delta, and the place of its node
 abbrev part : tie.After-find-node → Part
-part c = partAt (entry c .args .s .now) (entry c .args .at) (entry c .args .max)
+part c = partAt (entry c .args .delta .now) (entry c .args .at) (entry c .args .max)
 
-found : (c : tie.After-find-node) → findNode (part c .number) (decode (entry c .args .t .now)) ≡ c .find-node .result
-found c = ap (λ (n : ℕ). findNode n (decode (entry c .args .t .now))) (sym (read c .before .before .read-u64 .ensures)) ∙ sym (c .find-node .ensures)
+found : (c : tie.After-find-node) → findNode (part c .number) (decode (entry c .args .table .now)) ≡ c .find-node .result
+found c = ap (λ (n : ℕ). findNode n (decode (entry c .args .table .now))) (sym (read c .before .before .read-u64 .ensures)) ∙ sym (c .find-node .ensures)
 
 abbrev sought : tie.After-known-told → tie.After-find-node
 sought c = c .before .before .before
 
-place : (c : tie.After-known-told) → findNode (part (sought c) .number) (decode (entry (sought c) .args .t .now)) ≡ At (c .before .i .given .0 .0)
+place : (c : tie.After-known-told) → findNode (part (sought c) .number) (decode (entry (sought c) .args .table .now)) ≡ At (c .before .i .given .0 .0)
 place c = found (sought c) ∙ c .before .i .given .1
 
 add-read-u64 : tie.Need-add-read-u64
@@ -100,7 +100,7 @@ returns c =
     let st = entry f in
     let a = st .args in
     turned _ (st .pre .0) (a .clock) (part f) _ (place told) _ _
-    (numbers-read (a .clock) (a .s .now) _ _ _ _ (a .max) _ (read f .before .read-u642 .ensures) (read f .read-u643 .ensures) _ _ _ _ (call .apply-node .ensures))
+    (numbers-read (a .clock) (a .delta .now) _ _ _ _ (a .max) _ (read f .before .read-u642 .ensures) (read f .read-u643 .ensures) _ _ _ _ (call .apply-node .ensures))
 
 same-length-2 : tie.Need-same-length-2
 same-length-2 c = search needs

@@ -14,12 +14,12 @@ returns : tie.Need-returns
 returns c =
     let call = c .before .before in
     let st = call .before .before .before .before in
-    begun-bytes (st .args .b .now) (st .args .gc) _ _ (call .before .before .if1 .taken) (call .reset .ensures)
+    begun-bytes (st .args .node .now) (st .args .last-gc) _ _ (call .before .before .if1 .taken) (call .reset .ensures)
 
 returns-2 : tie.Need-returns-2
 returns-2 c =
     let st = c .before .before in
-    begun-same (st .args .b .now) (st .args .gc) (st .pre) _ (c .if1 .left)
+    begun-same (st .args .node .now) (st .args .last-gc) (st .pre) _ (c .if1 .left)
 
 pub begin-spec : {M : Type 1} → statement M
 begin-spec = tie.close (tie.spec reset-requires same-length returns returns-2)

@@ -25,7 +25,7 @@ returns c =
     let st = counted .before .before .before .before in
     let a = st .args in
     stored-surely _ _ _ _ (call .grow .ensures)
-    (surely _ (st .pre .0) _ (st .fits .gc .fits) (a .afresh) (a .clock) (a .s .now) (a .at) (a .max) (a .count) (st .pre .2) (omega (arith, room .if1 .taken, counted .byte-at .ensures .0)))
+    (surely _ (st .pre .0) _ (st .fits .last-gc .fits) (a .afresh) (a .clock) (a .delta .now) (a .at) (a .max) (a .count) (st .pre .2) (omega (arith, room .if1 .taken, counted .byte-at .ensures .0)))
 
 grow-or-keep-requires : tie.Need-grow-or-keep-requires
 grow-or-keep-requires c κs = search needs

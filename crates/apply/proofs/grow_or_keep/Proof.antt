@@ -14,7 +14,7 @@ copied c = c .before .before .before
 abbrev entry : tie.After-grow → tie.Start
 entry c = copied c .before .before .before .before .before
 
-saved : (c : tie.After-grow) → copied c .copy-to .last .0 ≡ entry c .args .b .now
+saved : (c : tie.After-grow) → copied c .copy-to .last .0 ≡ entry c .args .node .now
 saved c = copied c .copy-to .ensures ∙ put-all _ _ (omega (arith, entry c .pre .0 .laid .long))
 
 slice-aggregate-copy-to : tie.Need-slice-aggregate-copy-to

@@ -18,7 +18,7 @@ use Rattle.apply_node.proofs.comes_last.Tie as tie
 abbrev entry : tie.Else1 → tie.Start
 entry c = c .before .before .before .before
 
-inside : (c : tie.Else1) → c .before .byte-at .result - 1 < countOf (entry c .args .b .now)
+inside : (c : tie.Else1) → c .before .byte-at .result - 1 < countOf (entry c .args .node .now)
 inside c = omega (arith, c .if1 .left, c .before .byte-at .ensures .0)
 
 byte-at-requires : tie.Need-byte-at-requires
@@ -36,8 +36,8 @@ record-of-requires c κs = (entry c .pre .laid .long, omega (arith, inside c, en
 key-of-requires : tie.Need-key-of-requires
 key-of-requires c κs =
     let st = entry (c .before) in (
-      ap length (c .record-of .ensures) ∙ rec-long (st .args .b .now) (st .pre .laid) _ (inside (c .before)),
-      subst (λ (x : List ℕ). keyLength x ≤ maxKey) (sym (c .record-of .ensures)) (laid-key (st .args .b .now) (st .pre .laid) _ (inside (c .before))),
+      ap length (c .record-of .ensures) ∙ rec-long (st .args .node .now) (st .pre .laid) _ (inside (c .before)),
+      subst (λ (x : List ℕ). keyLength x ≤ maxKey) (sym (c .record-of .ensures)) (laid-key (st .args .node .now) (st .pre .laid) _ (inside (c .before))),
     )
 
 compare-requires : tie.Need-compare-requires
@@ -63,7 +63,7 @@ returns-4 c =
     let m = c .before .before in
     let one = m .before .before .before in
     let st = entry one in
-    λ _. behind-last (st .args .key .now) (st .args .b .now) (st .pre .keys) _ (omega (arith, inside one, one .before .byte-at .ensures .0))
+    λ _. behind-last (st .args .key .now) (st .args .node .now) (st .pre .keys) _ (omega (arith, inside one, one .before .byte-at .ensures .0))
     (sym (ap (orderOf (st .args .key .now)) (m .before .key-of .ensures ∙ ap (λ (x : List ℕ). decodeRec x .kv .key) (m .before .before .record-of .ensures))) ∙ sym (m .compare .ensures) ∙ c .enum-told3 .given .1)
 
 pub comes-last-spec : {M : Type 1} → statement M

@@ -25,7 +25,7 @@ abbrev looping : (c : tie.After-follow Inv-loop μ-loop) → tie.In-loop Inv-loo
 looping c = c .before .before .before .before .before .before
 
 got : (c : tie.After-follow Inv-loop μ-loop)
-    → opAt (looping c .before .before .before .before .args .s .now) (looping c .before .loop .at) ≡ Got (c .before .before .before .read2 .given .0 .0) (c .before .before .before .read2 .given .0 .1 .0)
+    → opAt (looping c .before .before .before .before .args .delta .now) (looping c .before .loop .at) ≡ Got (c .before .before .before .read2 .given .0 .0) (c .before .before .before .read2 .given .0 .1 .0)
 got c = sym (c .before .before .before .before .before .read-op .ensures) ∙ c .before .before .before .read2 .given .1
 
 -- a Node, or an operation under one
@@ -38,7 +38,7 @@ under-follow c = c .before .before .before
 below-eight : (c : tie.After-known-told4 Inv-loop μ-loop) → looping (node-follow c) .before .loop .nodes < 8
 below-eight c =
     let f = node-follow c in
-    entered (looping f .before .before .before .before .args .s .now) _ _ _ _ _ (sym (f .follow .ensures) ∙ c .before .number .given .1) .1
+    entered (looping f .before .before .before .before .args .delta .now) _ _ _ _ _ (sym (f .follow .ensures) ∙ c .before .number .given .1) .1
 
 from-one : (c : tie.After-known-told5 Inv-loop μ-loop) → 0 < looping (under-follow c) .before .loop .nodes
 from-one c = some-node _ _ _ _ _ (sym (under-follow c .follow .ensures) ∙ c .before .version .given .1)
@@ -54,7 +54,7 @@ returns c =
 
 loop-holds : tie.Need-loop-holds Inv-loop μ-loop
 loop-holds c =
-    let l : List ℕ = c .before .before .args .s .now in
+    let l : List ℕ = c .before .before .args .delta .now in
     ((omega arith, omega arith, omega arith, refl, start l _ (omega arith)), gathering-first l _ _ _ refl refl refl, omega arith)
 
 read-op-requires : tie.Need-read-op-requires Inv-loop μ-loop

@@ -30,7 +30,7 @@ enum-told-2 c = search needs
 returns-2 : tie.Need-returns-2
 returns-2 c =
     let st = c .before .before .before .before in
-    step-node _ _ _ (st .args .s .now) _ _ (st .pre .0) _ _ _ (c .enum-told .given .1)
+    step-node _ _ _ (st .args .delta .now) _ _ (st .pre .0) _ _ _ (c .enum-told .given .1)
 
 same-length-2 : tie.Need-same-length-2
 same-length-2 c = search needs
@@ -43,7 +43,7 @@ returns-3 c =
 returns-4 : tie.Need-returns-4
 returns-4 c =
     let st = c .before .before .before .before in
-    step-max _ _ _ (st .args .s .now) _ _ (st .pre .0) _ (c .enum-told2 .given .1)
+    step-max _ _ _ (st .args .delta .now) _ _ (st .pre .0) _ (c .enum-told2 .given .1)
 
 pub take-op-spec : {M : Type 1} → statement M
 take-op-spec =

@@ -47,12 +47,12 @@ returns c =
     let st = call .before .before .before .before in
     let t = st .before .before in
     let a = t .before .before .before .args in
-    took (a .s .now) (a .b .now) _ _ (a .keyat) (a .keylen) (a .valueat) (a .valuelen) (a .version) (a .status) (a .held) (a .gc) (a .clock) _ (sym (t .takes .ensures) ∙ st .before .if1 .taken) (st .start-of .ensures) (call .store-record .ensures)
+    took (a .delta .now) (a .node .now) _ _ (a .keyat) (a .keylen) (a .valueat) (a .valuelen) (a .version) (a .status) (a .held) (a .last-gc) (a .clock) _ (sym (t .takes .ensures) ∙ st .before .if1 .taken) (st .start-of .ensures) (call .store-record .ensures)
 
 returns-2 : tie.Need-returns-2
 returns-2 c =
     let st = c .before .before .before .before in
-    passed (st .args .s .now) _ _ _ _ _ _ _ _ _ _ (st .pre .0) (sym (c .before .takes .ensures) ∙ c .if1 .left)
+    passed (st .args .delta .now) _ _ _ _ _ _ _ _ _ _ (st .pre .0) (sym (c .before .takes .ensures) ∙ c .if1 .left)
 
 pub take-record-spec : {M : Type 1} → statement M
 take-record-spec =

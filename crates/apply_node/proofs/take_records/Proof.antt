@@ -41,7 +41,7 @@ take-op-requires : tie.Need-take-op-requires Inv-loop μ-loop
 take-op-requires c κs =
     let r = c .before .before in
     let q = r .before .before .before in
-    (q .before .loop .inv .0, subst (Within (length (q .before .before .before .before .args .s .now)) (q .before .loop .i)) (sym (r .before .before .read-op .ensures) ∙ r .read .given .1) (op-within (q .before .before .before .before .args .s .now) (q .before .loop .i)) .2)
+    (q .before .loop .inv .0, subst (Within (length (q .before .before .before .before .args .delta .now)) (q .before .loop .i)) (sym (r .before .before .read-op .ensures) ∙ r .read .given .1) (op-within (q .before .before .before .before .args .delta .now) (q .before .loop .i)) .2)
 
 enum-told-2 : tie.Need-enum-told-2 Inv-loop μ-loop
 enum-told-2 c = search needs

@@ -1,6 +1,7 @@
 -- `compute::compute` meets its contract: 14 exactly where the table is not valid, else the rule on it. Assumes nothing.
 use mathlib.Core.Path.{_≡_, sym, ap, _∙_}
 use mathlib.Core.List.{List}
+use Rattle.fields.specs.Numbers.{Bytes}
 use Rattle.rules.specs.Given.{Given}
 use Rattle.rules.specs.declared.Computed.{Computed}
 use Rattle.compute.proofs.Calling.{bad-table, good-table}
@@ -26,13 +27,13 @@ returns c =
     let a = c .before .before .before .before .before .before .before .before .before .before .before .args in
     let call = c .before .before .compute-good .ensures in
     let e = good-table (a .excluded .now) (a .ties .now) (a .mtu) (a .place) (a .digest .now) (a .table .now) (a .datagram .now) (sym (c .before .before .before .before .before .check-table .ensures) ∙ c .before .before .before .before .if1 .taken) in
-    (call .0 ∙ ap (λ (x : Given Computed (List ℕ)). x .answer) e, call .1 ∙ ap (λ (x : Given Computed (List ℕ)). x .lent) e)
+    (call .0 ∙ ap (λ (x : Given Computed Bytes). x .answer) e, call .1 ∙ ap (λ (x : Given Computed Bytes). x .lent) e)
 
 returns-2 : tie.Need-returns-2
 returns-2 c =
     let a = c .before .before .before .before .before .before .before .args in
     let e = bad-table (a .excluded .now) (a .ties .now) (a .mtu) (a .place) (a .digest .now) (a .table .now) (a .datagram .now) (sym (c .before .check-table .ensures) ∙ c .if1 .left) in
-    (ap (λ (x : Given Computed (List ℕ)). x .answer) e, ap (λ (x : Given Computed (List ℕ)). x .lent) e)
+    (ap (λ (x : Given Computed Bytes). x .answer) e, ap (λ (x : Given Computed Bytes). x .lent) e)
 
 pub compute-spec : {M : Type 1} → statement M
 compute-spec =

@@ -6,13 +6,13 @@ use Rattle.compute.proofs.from_of.Reads as reads
 use Rattle.compute.proofs.from_of.Lts as lts
 
 returns : tie.Need-returns
-returns c = let a = c .before .args in gc-told (a .owngc) (a .gc) (a .max) (c .if1 .taken)
+returns c = let a = c .before .args in gc-told (a .own-last-gc) (a .last-gc) (a .max) (c .if1 .taken)
 
 returns-2 : tie.Need-returns-2
-returns-2 c = let a = c .before .before .args in gc-reached (a .owngc) (a .gc) (a .max) (c .before .if1 .left) (c .if2 .taken)
+returns-2 c = let a = c .before .before .args in gc-reached (a .own-last-gc) (a .last-gc) (a .max) (c .before .if1 .left) (c .if2 .taken)
 
 returns-3 : tie.Need-returns-3
-returns-3 c = let a = c .before .before .args in gc-missed (a .owngc) (a .gc) (a .max) (c .before .if1 .left) (c .if2 .left)
+returns-3 c = let a = c .before .before .args in gc-missed (a .own-last-gc) (a .last-gc) (a .max) (c .before .if1 .left) (c .if2 .left)
 
 pub from-of-spec : {M : Type 1} → statement M
 from-of-spec = tie.close (tie.spec returns returns-2 returns-3)

@@ -33,14 +33,14 @@ Inv-loop s d excluded ties line₀ froms₀ counts₀ n₀ i₀ line froms count
 abbrev μ-loop : tie.MeasureT-loop
 μ-loop s d excluded ties line₀ froms₀ counts₀ n₀ i₀ line froms counts n i = i
 
-few-nodes : (c : tie.Start Inv-loop μ-loop) → length (decode (c .args .s .now)) ≤ 8
+few-nodes : (c : tie.Start Inv-loop μ-loop) → length (decode (c .args .table .now)) ≤ 8
 few-nodes c = rw length-decode (c .pre .0 .few)
 
 -- the next node stands in the table
-next-in : (c : tie.In-loop Inv-loop μ-loop) → c .before .loop .i - 1 < nodesOf (c .before .before .before .before .before .before .args .s .now)
+next-in : (c : tie.In-loop Inv-loop μ-loop) → c .before .loop .i - 1 < nodesOf (c .before .before .before .before .before .before .args .table .now)
 next-in c =
     let w = c .before .loop .inv .within in
-    let e = length-decode (c .before .before .before .before .before .before .args .s .now) in
+    let e = length-decode (c .before .before .before .before .before .before .args .table .now) in
     let h = c .loop-test .taken in
     omega arith
 
@@ -53,7 +53,7 @@ byte-at-requires c κs = let e = c .before .before .before .pre .0 .long in omeg
 loop-holds : tie.Need-loop-holds Inv-loop μ-loop
 loop-holds c =
     let a = c .before .before .before .before .args in
-    none-yet (a .excluded .now) (entriesIn (a .d)) (a .ties .now) (decode (a .s .now)) (c .byte-at .result) _ _ _ (c .byte-at .ensures .0 ∙ sym (length-decode (a .s .now))) refl refl refl
+    none-yet (a .excluded .now) (entriesIn (a .digest)) (a .ties .now) (decode (a .table .now)) (c .byte-at .result) _ _ _ (c .byte-at .ensures .0 ∙ sym (length-decode (a .table .now))) refl refl refl
 
 sub-i : tie.Need-sub-i Inv-loop μ-loop
 sub-i c = search needs
@@ -71,13 +71,13 @@ array-write-froms : tie.Need-array-write-froms Inv-loop μ-loop
 array-write-froms c = next-low (c .before .before .before .before)
 
 node-of-requires : tie.Need-node-of-requires Inv-loop μ-loop
-node-of-requires c κs = lent-node (c .before .before .before .before .before .before .before .before .before .before .args .s .now) (c .before .before .before .before .before .before .before .before .before .before .pre .0) _ (next-in (c .before .before .before .before))
+node-of-requires c κs = lent-node (c .before .before .before .before .before .before .before .before .before .before .args .table .now) (c .before .before .before .before .before .before .before .before .before .before .pre .0) _ (next-in (c .before .before .before .before))
 
 count-stale-requires : tie.Need-count-stale-requires Inv-loop μ-loop
 count-stale-requires c κs =
     let q = c .before .before .before .before .before .before .before .before .before .before .before in
     let h = next-in (c .before .before .before .before .before) in
-    (node-long (q .args .s .now) (q .pre .0) _ h _ (c .node-of .ensures), count-low (q .args .s .now) (q .pre .0) _ h _ (c .node-of .ensures))
+    (node-long (q .args .table .now) (q .pre .0) _ h _ (c .node-of .ensures), count-low (q .args .table .now) (q .pre .0) _ h _ (c .node-of .ensures))
 
 mul-counts : tie.Need-mul-counts Inv-loop μ-loop
 mul-counts c = let w = next-low (c .before .before .before .before .before .before) in omega arith
@@ -109,7 +109,7 @@ queue-requires c κs =
       length-set (q .loop .counts) (q .loop .i - 1) _ ∙ u .counts-long,
       omega arith,
       u .line-long,
-      λ x m. rw (length-decode (a .s .now)) at (above (a .excluded .now) (entriesIn (a .d)) (a .ties .now) (decode (a .s .now)) (q .loop .n) (q .loop .i) (q .loop .line) (q .loop .froms) (q .loop .counts) u h x m .1),
+      λ x m. rw (length-decode (a .table .now)) at (above (a .excluded .now) (entriesIn (a .digest)) (a .ties .now) (decode (a .table .now)) (q .loop .n) (q .loop .i) (q .loop .line) (q .loop .froms) (q .loop .counts) u h x m .1),
     )
 
 add-n : tie.Need-add-n Inv-loop μ-loop
@@ -123,12 +123,12 @@ loop-again c =
     let q = c .before .before .before .before .before .before .before .before .before .before .before in
     let b = q .before .before .before .before .before in
     let a = b .args in
-    let t : Table = decode (a .s .now) in
+    let t : Table = decode (a .table .now) in
     let i : ℕ = q .loop .i - 1 in
-    let g = goes-from (a .excluded .now) (entriesIn (a .d)) t i _ (c .before .before .before .before .before .before .before .before .before .stale-from .ensures) _ (c .before .before .before .before .before .before .before .from .given .1) in
-    let recs = recs-are (a .s .now) (b .pre .0) i (next-in (c .before .before .before .before .before .before .before .before .before .before)) _ (c .before .before .before .before .before .node-of .ensures) in
+    let g = goes-from (a .excluded .now) (entriesIn (a .digest)) t i _ (c .before .before .before .before .before .before .before .before .before .stale-from .ensures) _ (c .before .before .before .before .before .before .before .from .given .1) in
+    let recs = recs-are (a .table .now) (b .pre .0) i (next-in (c .before .before .before .before .before .before .before .before .before .before)) _ (c .before .before .before .before .before .node-of .ensures) in
     let count = c .before .before .before .before .count-stale .ensures .0 ∙ (λ k. length (stale (g .1 k) (recs k))) in
-    joins (a .excluded .now) (entriesIn (a .d)) (a .ties .now) t (q .loop .n) (q .loop .i) (q .loop .line) (q .loop .froms) (q .loop .counts) (q .loop .inv) (c .before .before .before .before .before .before .before .before .before .before .loop-test .taken)
+    joins (a .excluded .now) (entriesIn (a .digest)) (a .ties .now) t (q .loop .n) (q .loop .i) (q .loop .line) (q .loop .froms) (q .loop .counts) (q .loop .inv) (c .before .before .before .before .before .before .before .before .before .before .loop-test .taken)
     (few-nodes b) _ _ (g .1) count (g .0) _ (c .queue .ensures .0) (c .queue .ensures .1)
 
 enum-told : tie.Need-enum-told Inv-loop μ-loop
@@ -141,15 +141,15 @@ loop-again-2 : tie.Need-loop-again-2 Inv-loop μ-loop
 loop-again-2 c =
     let q = c .before .before .before .before in
     let a = q .before .before .before .before .before .args in
-    let t : Table = decode (a .s .now) in
-    stays (a .excluded .now) (entriesIn (a .d)) (a .ties .now) t (q .loop .n) (q .loop .i) (q .loop .line) (q .loop .froms) (q .loop .counts) (q .loop .inv) (c .before .before .before .loop-test .taken)
-    (goes-not (a .excluded .now) (entriesIn (a .d)) t (q .loop .i - 1) _ (c .before .before .stale-from .ensures) (c .enum-told .given .1))
+    let t : Table = decode (a .table .now) in
+    stays (a .excluded .now) (entriesIn (a .digest)) (a .ties .now) t (q .loop .n) (q .loop .i) (q .loop .line) (q .loop .froms) (q .loop .counts) (q .loop .inv) (c .before .before .before .loop-test .taken)
+    (goes-not (a .excluded .now) (entriesIn (a .digest)) t (q .loop .i - 1) _ (c .before .before .stale-from .ensures) (c .enum-told .given .1))
 
 returns : tie.Need-returns Inv-loop μ-loop
 returns c =
     let q = c .before in
     let a = q .before .before .before .before .before .args in
-    all-in-line (a .excluded .now) (entriesIn (a .d)) (a .ties .now) (decode (a .s .now)) (q .loop .n) (q .loop .i) (q .loop .line) (q .loop .froms) (q .loop .counts)
+    all-in-line (a .excluded .now) (entriesIn (a .digest)) (a .ties .now) (decode (a .table .now)) (q .loop .n) (q .loop .i) (q .loop .line) (q .loop .froms) (q .loop .counts)
     (few-nodes (q .before .before .before .before .before)) (omega arith) (q .loop .inv)
 
 pub line-up-spec : {M : Type 1} → statement M

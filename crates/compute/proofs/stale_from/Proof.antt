@@ -27,7 +27,7 @@ returns c =
     let a = c .before .before .before .before .before .args in
     let number = c .before .before .number-at .ensures in
     let out = c .before .is-excluded .ensures in
-    left-out (a .excluded .now) (entriesIn (a .d)) (decode (a .s .now)) (a .p) _ number _ out (c .if1 .taken)
+    left-out (a .excluded .now) (entriesIn (a .digest)) (decode (a .table .now)) (a .p) _ number _ out (c .if1 .taken)
 
 told-requires : tie.Need-told-requires
 told-requires c κs = search needs
@@ -40,7 +40,7 @@ returns-2 c =
     let a = c .before .before .before .before .before .before .before .before .args in
     let number = c .before .before .before .before .before .number-at .ensures in
     let out = c .before .before .before .before .is-excluded .ensures in
-    level (a .excluded .now) (entriesIn (a .d)) (decode (a .s .now)) (a .p) _ number _ out (c .before .before .before .if1 .left) _ (c .before .before .told .ensures) _ (c .before .max-at .ensures) (c .if2 .taken)
+    level (a .excluded .now) (entriesIn (a .digest)) (decode (a .table .now)) (a .p) _ number _ out (c .before .before .before .if1 .left) _ (c .before .before .told .ensures) _ (c .before .max-at .ensures) (c .if2 .taken)
 
 last-gc-at-requires : tie.Need-last-gc-at-requires
 last-gc-at-requires c κs = search needs
@@ -53,7 +53,7 @@ returns-3 c =
     let a = c .before .before .before .before .before .before .before .before .before .before .args in
     let number = c .before .before .before .before .before .before .before .number-at .ensures in
     let out = c .before .before .before .before .before .before .is-excluded .ensures in
-    behind (a .excluded .now) (entriesIn (a .d)) (decode (a .s .now)) (a .p) _ number _ out (c .before .before .before .before .before .if1 .left) _ (c .before .before .before .before .told .ensures) _ (c .before .before .before .max-at .ensures) (c .before .before .if2 .left) _ _ (c .before .last-gc-at .ensures) (c .from-of .ensures)
+    behind (a .excluded .now) (entriesIn (a .digest)) (decode (a .table .now)) (a .p) _ number _ out (c .before .before .before .before .before .if1 .left) _ (c .before .before .before .before .told .ensures) _ (c .before .before .before .max-at .ensures) (c .before .before .if2 .left) _ _ (c .before .last-gc-at .ensures) (c .from-of .ensures)
 
 pub stale-from-spec : {M : Type 1} → statement M
 stale-from-spec =

@@ -2,6 +2,7 @@
 use mathlib.Core.Path.{_≡_, ap, _∙_}
 use mathlib.Core.List.{List}
 use lib.ListN.{length}
+use Rattle.fields.specs.Numbers.{Bytes}
 use Rattle.rules.specs.Given.{Given}
 use Rattle.rules.specs.Layout.{decode}
 use Rattle.table.proofs.Tables.{length-decode}
@@ -34,7 +35,7 @@ send-requires c κs =
       k .froms-long,
       k .line-long,
       k .count-low,
-      λ p m. rw (length-decode (a .s .now)) at (line-within (a .excluded .now) (entriesIn (a .d)) (a .ties .now) (decode (a .s .now)) _ k p m),
+      λ p m. rw (length-decode (a .table .now)) at (line-within (a .excluded .now) (entriesIn (a .digest)) (a .ties .now) (decode (a .table .now)) _ k p m),
     )
 
 same-length : tie.Need-same-length
@@ -45,9 +46,9 @@ returns c =
     let a = c .before .before .before .before .before .before .before .before .before .before .before .before .before .args in
     let k = c .before .before .before .before .before .before .before .before .line-up .ensures in
     let call = c .before .before .send .ensures in
-    let e = delta-is (a .excluded .now) (entriesIn (a .d)) (a .ties .now) (decode (a .s .now)) _ k (a .part .now) in
-    let f = call .0 ∙ ap (λ (x : Given Sent (List ℕ)). x .answer) e in
-    (ap (λ (x : Sent). x .ops) f, ap (λ (x : Sent). x .bytes) f, call .1 ∙ ap (λ (x : Given Sent (List ℕ)). x .lent) e)
+    let e = delta-is (a .excluded .now) (entriesIn (a .digest)) (a .ties .now) (decode (a .table .now)) _ k (a .part .now) in
+    let f = call .0 ∙ ap (λ (x : Given Sent Bytes). x .answer) e in
+    (ap (λ (x : Sent). x .ops) f, ap (λ (x : Sent). x .bytes) f, call .1 ∙ ap (λ (x : Given Sent Bytes). x .lent) e)
 
 pub write-delta-spec : {M : Type 1} → statement M
 write-delta-spec =

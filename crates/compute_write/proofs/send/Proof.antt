@@ -61,7 +61,7 @@ abbrev μ-nodes : tie.MeasureT-nodes
 μ-nodes s froms line n d₀ ops₀ used₀ j₀ d ops used j = j
 
 -- the next node stands in the table
-node-in : (c : tie.In-nodes Inv-loop μ-loop Inv-nodes μ-nodes) → getD (c .before .before .before .before .before .before .args .line .now) (c .before .nodes .j - 1) 0 < nodesOf (c .before .before .before .before .before .before .args .s .now)
+node-in : (c : tie.In-nodes Inv-loop μ-loop Inv-nodes μ-nodes) → getD (c .before .before .before .before .before .before .args .line .now) (c .before .nodes .j - 1) 0 < nodesOf (c .before .before .before .before .before .before .args .table .now)
 node-in c =
     let q = c .before in
     q .nodes .inv .4 _ (listed-in (q .nodes .j) (q .before .before .before .before .before .args .line .now) (c .nodes-test .taken))
@@ -69,34 +69,34 @@ node-in c =
 -- what is left, with the next node's operations in front
 node-first : (c : tie.In-nodes Inv-loop μ-loop Inv-nodes μ-nodes) → let q = c .before in
     let a = q .before .before .before .before .before .args in
-    let t : Table = decode (a .s .now) in
+    let t : Table = decode (a .table .now) in
     let p : ℕ = getD (a .line .now) (q .nodes .j - 1) 0 in
     let from : ℕ = getD (a .froms .now) p 0 in
-    sending (q .nodes .ops) (q .nodes .used) (nodeOpAt t p from ∷ (bodyOps (entryAt t p .node .max) (stale from (entryAt t p .node .recs)) ++ opsAt t (a .froms .now) (listed (q .nodes .j - 1) (a .line .now)))) (q .nodes .d)
-    ≡ sending 0 0 (opsAt t (a .froms .now) (listed (a .n) (a .line .now))) (a .d .now)
+    sending (q .nodes .ops) (q .nodes .used) (nodeOpAt t p from ∷ (bodyOps (entryAt t p .node .max) (stale from (entryAt t p .node .recs)) ++ opsAt t (a .froms .now) (listed (q .nodes .j - 1) (a .line .now)))) (q .nodes .datagram)
+    ≡ sending 0 0 (opsAt t (a .froms .now) (listed (a .n) (a .line .now))) (a .datagram .now)
 node-first c =
     let q = c .before in
     let a = q .before .before .before .before .before .args in
-    ap (λ (os : List Op). sending (q .nodes .ops) (q .nodes .used) os (q .nodes .d)) (sym (next-node (decode (a .s .now)) (a .froms .now) (a .line .now) (q .nodes .j) (c .nodes-test .taken)))
+    ap (λ (os : List Op). sending (q .nodes .ops) (q .nodes .used) os (q .nodes .datagram)) (sym (next-node (decode (a .table .now)) (a .froms .now) (a .line .now) (q .nodes .j) (c .nodes-test .taken)))
     ∙ q .nodes .inv .5
 
 -- its Node is written
 after-node : (c : tie.After-known-told Inv-loop μ-loop Inv-nodes μ-nodes) → let q = c .before .before .before .before .before .before .before .before .before .before in
     let a = q .before .before .before .before .before .args in
-    let t : Table = decode (a .s .now) in
+    let t : Table = decode (a .table .now) in
     let p : ℕ = getD (a .line .now) (q .nodes .j - 1) 0 in
     let from : ℕ = getD (a .froms .now) p 0 in
-    Stepped (q .nodes .used) (q .nodes .d) (q .nodes .inv .1) (q .nodes .ops) (c .before .size .given .0 .0)
+    Stepped (q .nodes .used) (q .nodes .datagram) (q .nodes .inv .1) (q .nodes .ops) (c .before .size .given .0 .0)
     (bodyOps (entryAt t p .node .max) (stale from (entryAt t p .node .recs)) ++ opsAt t (a .froms .now) (listed (q .nodes .j - 1) (a .line .now)))
     (c .before .before .before .before .before .send-node .last .1 .1 .1 .0)
-    (sending 0 0 (opsAt t (a .froms .now) (listed (a .n) (a .line .now))) (a .d .now))
+    (sending 0 0 (opsAt t (a .froms .now) (listed (a .n) (a .line .now))) (a .datagram .now))
 after-node c =
     let q = c .before .before .before .before .before .before .before .before .before .before in
-    stepped (q .nodes .used) (q .nodes .d) (q .nodes .inv .1) _ _ _ _ _ _ _ (c .before .before .before .before .before .send-node .ensures) (c .before .size .given .1) (node-first (c .before .before .before .before .before .before .before .before .before))
+    stepped (q .nodes .used) (q .nodes .datagram) (q .nodes .inv .1) _ _ _ _ _ _ _ (c .before .before .before .before .before .send-node .ensures) (c .before .size .given .1) (node-first (c .before .before .before .before .before .before .before .before .before))
 
 -- the datagram then, and that what is used fits into it
 abbrev node-written : (c : tie.After-known-told Inv-loop μ-loop Inv-nodes μ-nodes) → List ℕ
-node-written c = let q = c .before .before .before .before .before .before .before .before .before .before in whole (q .nodes .used) (q .nodes .d) (q .nodes .inv .1) (c .before .before .before .before .before .send-node .last .1 .1 .1 .0)
+node-written c = let q = c .before .before .before .before .before .before .before .before .before .before in whole (q .nodes .used) (q .nodes .datagram) (q .nodes .inv .1) (c .before .before .before .before .before .send-node .last .1 .1 .1 .0)
 
 abbrev node-used : (c : tie.After-known-told Inv-loop μ-loop Inv-nodes μ-nodes) → ℕ
 node-used c = c .before .before .before .before .before .before .before .before .before .before .nodes .used + c .before .size .given .0 .0
@@ -121,33 +121,33 @@ module _ (c : tie.After-stale-places Inv-loop μ-loop Inv-nodes μ-nodes) where
   abbrev found : List ℕ
   found = listed (c .stale-places .result .count) (c .stale-places .result .at)
 
-  own-stale : map (recordAt (decode (start .args .s .now)) own) found ≡ stale own-from (entryAt (decode (start .args .s .now)) own .node .recs)
-  own-stale = stale-are (start .args .s .now) (start .pre .0) own (node-in in-nodes) _ (c .before .node-of .ensures) own-from _ _ (c .stale-places .ensures .2)
+  own-stale : map (recordAt (decode (start .args .table .now)) own) found ≡ stale own-from (entryAt (decode (start .args .table .now)) own .node .recs)
+  own-stale = stale-are (start .args .table .now) (start .pre .0) own (node-in in-nodes) _ (c .before .node-of .ensures) own-from _ _ (c .stale-places .ensures .2)
 
-  own-count : c .stale-places .result .count ≡ length (stale own-from (entryAt (decode (start .args .s .now)) own .node .recs))
-  own-count = stale-count (start .args .s .now) (start .pre .0) own (node-in in-nodes) _ (c .before .node-of .ensures) own-from _ _ (c .stale-places .ensures .2)
+  own-count : c .stale-places .result .count ≡ length (stale own-from (entryAt (decode (start .args .table .now)) own .node .recs))
+  own-count = stale-count (start .args .table .now) (start .pre .0) own (node-in in-nodes) _ (c .before .node-of .ensures) own-from _ _ (c .stale-places .ensures .2)
 
-  own-within : (x : ℕ) → x ∈ found → x < length (entryAt (decode (start .args .s .now)) own .node .recs)
-  own-within = stale-within (start .args .s .now) (start .pre .0) own (node-in in-nodes) _ (c .before .node-of .ensures) own-from _ _ (c .stale-places .ensures .2)
+  own-within : (x : ℕ) → x ∈ found → x < length (entryAt (decode (start .args .table .now)) own .node .recs)
+  own-within = stale-within (start .args .table .now) (start .pre .0) own (node-in in-nodes) _ (c .before .node-of .ensures) own-from _ _ (c .stale-places .ensures .2)
 
 -- its SetMaxVersion is written, dropped, or not due: its records are left
 after-max : (c : tie.After-struct-known Inv-loop μ-loop Inv-nodes μ-nodes) → let m = c .before .before .before .before .before .before .before .before in
     let q = m .before .before .before .before .before .before .before .before .before .before in
     let a = q .before .before .before .before .before .args in
-    let t : Table = decode (a .s .now) in
+    let t : Table = decode (a .table .now) in
     Closed (node-used m) (node-written m) (room m) (q .nodes .ops + 1) (c .before .before .before .send-max .result)
     (recordOps t (own (c .before .before .before .before .before .before)) (found (c .before .before .before .before .before .before)) ++ opsAt t (a .froms .now) (listed (q .nodes .j - 1) (a .line .now)))
     (c .before .before .before .send-max .last .1 .1 .1 .0)
-    (sending 0 0 (opsAt t (a .froms .now) (listed (a .n) (a .line .now))) (a .d .now))
+    (sending 0 0 (opsAt t (a .froms .now) (listed (a .n) (a .line .now))) (a .datagram .now))
 after-max c =
     let m = c .before .before .before .before .before .before .before .before in
     let q = m .before .before .before .before .before .before .before .before .before .before in
     let a = q .before .before .before .before .before .args in
-    let t : Table = decode (a .s .now) in
+    let t : Table = decode (a .table .now) in
     let k = c .before .before .before .before .before .before in
     let recs : List KeyValue = map (recordAt t (own k)) (found k) in
     let body : sending (q .nodes .ops + 1) (node-used m) (bodyOps (entryAt t (own k) .node .max) recs ++ opsAt t (a .froms .now) (listed (q .nodes .j - 1) (a .line .now))) (node-written m)
-    ≡ sending 0 0 (opsAt t (a .froms .now) (listed (a .n) (a .line .now))) (a .d .now) =
+    ≡ sending 0 0 (opsAt t (a .froms .now) (listed (a .n) (a .line .now))) (a .datagram .now) =
     ap (λ (rs : List KeyValue). sending (q .nodes .ops + 1) (node-used m) (bodyOps (entryAt t (own k) .node .max) rs ++ opsAt t (a .froms .now) (listed (q .nodes .j - 1) (a .line .now))) (node-written m)) (own-stale k)
     ∙ after-node m .same in
     closes (node-used m) (node-written m) (room m) (q .nodes .ops + 1) (entryAt t (own k) .node .max) recs (k .stale-places .result .count) _ _ _ _
@@ -158,7 +158,7 @@ abbrev begun : (m : tie.After-struct-known2 Inv-loop μ-loop Inv-nodes μ-nodes)
 begun m =
     let q = m .before .before .before .before .before .before .before .before .before .before .before .before .before .before .before .before .before .before .before in
     let a = q .before .before .before .before .before .args in
-    let t : Table = decode (a .s .now) in
+    let t : Table = decode (a .table .now) in
     sending (q .nodes .ops + 1 + m .before .before .before .before .send-max .result .ops) (node-used (m .before .before .before .before .before .before .before .before .before) + m .before .before .before .before .send-max .result .bytes)
     (recordOps t (own (m .before .before .before .before .before .before .before)) (found (m .before .before .before .before .before .before .before)) ++ opsAt t (a .froms .now) (listed (q .nodes .j - 1) (a .line .now)))
     (whole (node-used (m .before .before .before .before .before .before .before .before .before)) (node-written (m .before .before .before .before .before .before .before .before .before)) (room (m .before .before .before .before .before .before .before .before .before)) (m .before .before .before .before .send-max .last .1 .1 .1 .0))
@@ -166,42 +166,42 @@ begun m =
 abbrev at-entry : (q : tie.At-nodes Inv-loop μ-loop Inv-nodes μ-nodes) → Given Sent (List ℕ)
 at-entry q =
     let a = q .before .before .before .before .before .args in
-    sending 0 0 (opsAt (decode (a .s .now)) (a .froms .now) (listed (a .n) (a .line .now))) (a .d .now)
+    sending 0 0 (opsAt (decode (a .table .now)) (a .froms .now) (listed (a .n) (a .line .now))) (a .datagram .now)
 
 -- the operations behind the node's own
 abbrev others : (q : tie.At-nodes Inv-loop μ-loop Inv-nodes μ-nodes) → List Op
-others q = let a = q .before .before .before .before .before .args in opsAt (decode (a .s .now)) (a .froms .now) (listed (q .nodes .j - 1) (a .line .now))
+others q = let a = q .before .before .before .before .before .args in opsAt (decode (a .table .now)) (a .froms .now) (listed (q .nodes .j - 1) (a .line .now))
 
 -- what is left, with the next record in front
 record-first : (c : tie.In-loop Inv-loop μ-loop Inv-nodes μ-nodes) → let q = c .before in
     let m = q .before in
-    let t : Table = decode (m .before .before .before .before .before .before .before .before .before .before .before .before .before .before .before .before .before .before .before .before .before .before .before .before .args .s .now) in
+    let t : Table = decode (m .before .before .before .before .before .before .before .before .before .before .before .before .before .before .before .before .before .before .before .before .before .before .before .before .args .table .now) in
     let at : List ℕ = m .before .before .before .before .before .before .before .stale-places .result .at in
-    sending (q .loop .ops) (q .loop .used) (KeyValueOp (recordAt t (own (m .before .before .before .before .before .before .before)) (getD at (q .loop .k - 1) 0)) ∷ (recordOps t (own (m .before .before .before .before .before .before .before)) (listed (q .loop .k - 1) at) ++ others (m .before .before .before .before .before .before .before .before .before .before .before .before .before .before .before .before .before .before .before))) (q .loop .d)
+    sending (q .loop .ops) (q .loop .used) (KeyValueOp (recordAt t (own (m .before .before .before .before .before .before .before)) (getD at (q .loop .k - 1) 0)) ∷ (recordOps t (own (m .before .before .before .before .before .before .before)) (listed (q .loop .k - 1) at) ++ others (m .before .before .before .before .before .before .before .before .before .before .before .before .before .before .before .before .before .before .before))) (q .loop .datagram)
     ≡ begun m
 record-first c =
     let q = c .before in
     let m = q .before in
-    let t : Table = decode (m .before .before .before .before .before .before .before .before .before .before .before .before .before .before .before .before .before .before .before .before .before .before .before .before .args .s .now) in
+    let t : Table = decode (m .before .before .before .before .before .before .before .before .before .before .before .before .before .before .before .before .before .before .before .before .before .before .before .before .args .table .now) in
     let at : List ℕ = m .before .before .before .before .before .before .before .stale-places .result .at in
-    ap (λ (os : List Op). sending (q .loop .ops) (q .loop .used) (os ++ others (m .before .before .before .before .before .before .before .before .before .before .before .before .before .before .before .before .before .before .before)) (q .loop .d)) (sym (next-record t (own (m .before .before .before .before .before .before .before)) (q .loop .k) at (c .loop-test .taken)))
+    ap (λ (os : List Op). sending (q .loop .ops) (q .loop .used) (os ++ others (m .before .before .before .before .before .before .before .before .before .before .before .before .before .before .before .before .before .before .before)) (q .loop .datagram)) (sym (next-record t (own (m .before .before .before .before .before .before .before)) (q .loop .k) at (c .loop-test .taken)))
     ∙ q .loop .inv .9
 
 -- it is written
 after-record : (c : tie.After-known-told2 Inv-loop μ-loop Inv-nodes μ-nodes) → let q = c .before .before .before .before .before .before .before .before in
     let m = q .before in
-    let t : Table = decode (m .before .before .before .before .before .before .before .before .before .before .before .before .before .before .before .before .before .before .before .before .before .before .before .before .args .s .now) in
+    let t : Table = decode (m .before .before .before .before .before .before .before .before .before .before .before .before .before .before .before .before .before .before .before .before .before .before .before .before .args .table .now) in
     let at : List ℕ = m .before .before .before .before .before .before .before .stale-places .result .at in
-    Stepped (q .loop .used) (q .loop .d) (q .loop .inv .1) (q .loop .ops) (c .before .size2 .given .0 .0)
+    Stepped (q .loop .used) (q .loop .datagram) (q .loop .inv .1) (q .loop .ops) (c .before .size2 .given .0 .0)
     (recordOps t (own (m .before .before .before .before .before .before .before)) (listed (q .loop .k - 1) at) ++ others (m .before .before .before .before .before .before .before .before .before .before .before .before .before .before .before .before .before .before .before))
     (c .before .before .before .before .before .send-record .last .1 .1 .1 .0)
     (begun m)
 after-record c =
     let q = c .before .before .before .before .before .before .before .before in
-    stepped (q .loop .used) (q .loop .d) (q .loop .inv .1) _ _ _ _ _ _ _ (c .before .before .before .before .before .send-record .ensures) (c .before .size2 .given .1) (record-first (c .before .before .before .before .before .before .before))
+    stepped (q .loop .used) (q .loop .datagram) (q .loop .inv .1) _ _ _ _ _ _ _ (c .before .before .before .before .before .send-record .ensures) (c .before .size2 .given .1) (record-first (c .before .before .before .before .before .before .before))
 
 -- the datagram is as long as it was at entry
-long : (q : tie.At-loop Inv-loop μ-loop Inv-nodes μ-nodes) → length (q .loop .d) ≡ length (q .before .before .before .before .before .before .before .before .before .before .before .before .before .before .before .before .before .before .before .before .before .before .before .before .before .args .d .now)
+long : (q : tie.At-loop Inv-loop μ-loop Inv-nodes μ-nodes) → length (q .loop .datagram) ≡ length (q .before .before .before .before .before .before .before .before .before .before .before .before .before .before .before .before .before .before .before .before .before .before .before .before .before .args .datagram .now)
 long q =
     let m = q .before in
     q .loop .inv .3 ∙ after-max (m .before) .long ∙ after-node (m .before .before .before .before .before .before .before .before .before) .long ∙ m .before .before .before .before .before .before .before .before .before .before .before .before .before .before .before .before .before .before .before .nodes .inv .3
@@ -249,13 +249,13 @@ add-used : tie.Need-add-used Inv-loop μ-loop Inv-nodes μ-nodes
 add-used c = let w = after-node c in omega (arith, c .before .before .before .before .before .before .before .before .before .before .before .before .before .before .before)
 
 node-of-requires : tie.Need-node-of-requires Inv-loop μ-loop Inv-nodes μ-nodes
-node-of-requires c κs = let q = c .before .before .before .before .before .before .before .before .before .before .before .before .before .before .before in lent-node (q .args .s .now) (q .pre .0) _ (node-in (c .before .before .before .before .before .before .before .before .before))
+node-of-requires c κs = let q = c .before .before .before .before .before .before .before .before .before .before .before .before .before .before .before in lent-node (q .args .table .now) (q .pre .0) _ (node-in (c .before .before .before .before .before .before .before .before .before))
 
 stale-places-requires : tie.Need-stale-places-requires Inv-loop μ-loop Inv-nodes μ-nodes
 stale-places-requires c κs =
     let q = c .before .before .before .before .before .before .before .before .before .before .before .before .before .before .before .before in
     let h = node-in (c .before .before .before .before .before .before .before .before .before .before) in
-    (node-long (q .args .s .now) (q .pre .0) _ h _ (c .node-of .ensures), count-low (q .args .s .now) (q .pre .0) _ h _ (c .node-of .ensures))
+    (node-long (q .args .table .now) (q .pre .0) _ h _ (c .node-of .ensures), count-low (q .args .table .now) (q .pre .0) _ h _ (c .node-of .ensures))
 
 sub-send-max : tie.Need-sub-send-max Inv-loop μ-loop Inv-nodes μ-nodes
 sub-send-max c = let w = after-node (c .before .before .before) in rw (w .long) (w .fits)
@@ -301,14 +301,14 @@ nodes-again c =
     let r = c .before in
     let m = r .before in
     let q = m .before .before .before .before .before .before .before .before .before .before .before .before .before .before .before .before .before .before .before in
-    let t : Table = decode (m .before .before .before .before .before .before .before .before .before .before .before .before .before .before .before .before .before .before .before .before .before .before .before .before .args .s .now) in
+    let t : Table = decode (m .before .before .before .before .before .before .before .before .before .before .before .before .before .before .before .before .before .before .before .before .before .before .before .before .args .table .now) in
     let k = m .before .before .before .before .before .before .before in (
       omega (arith, q .nodes),
       r .loop .inv .1,
       r .loop .inv .2,
       long r,
       λ p o. q .nodes .inv .4 p (listed-lower (q .nodes .j) (m .before .before .before .before .before .before .before .before .before .before .before .before .before .before .before .before .before .before .before .before .before .before .before .before .args .line .now) (m .before .before .before .before .before .before .before .before .before .before .before .before .before .before .before .before .before .before .nodes-test .taken) o),
-      ap (λ (os : List Op). sending (r .loop .ops) (r .loop .used) (os ++ others q) (r .loop .d)) (sym (no-record t (own k) (r .loop .k) (k .stale-places .result .at) (omega arith)))
+      ap (λ (os : List Op). sending (r .loop .ops) (r .loop .used) (os ++ others q) (r .loop .datagram)) (sym (no-record t (own k) (r .loop .k) (k .stale-places .result .at) (omega arith)))
           ∙ r .loop .inv .9
           ∙ after-max (m .before) .same,
     )
@@ -376,9 +376,9 @@ returns : tie.Need-returns Inv-loop μ-loop Inv-nodes μ-nodes
 returns c =
     let q = c .before in
     let a = q .before .before .before .before .before .args in
-    let e : given (record { ops = q .nodes .ops; bytes = q .nodes .used }) (q .nodes .d) ≡ at-entry q =
-    sym (none-left (q .nodes .ops) (q .nodes .used) (q .nodes .d))
-    ∙ ap (λ (os : List Op). sending (q .nodes .ops) (q .nodes .used) os (q .nodes .d)) (sym (no-node (decode (a .s .now)) (a .froms .now) (a .line .now) (q .nodes .j) (omega arith)))
+    let e : given (record { ops = q .nodes .ops; bytes = q .nodes .used }) (q .nodes .datagram) ≡ at-entry q =
+    sym (none-left (q .nodes .ops) (q .nodes .used) (q .nodes .datagram))
+    ∙ ap (λ (os : List Op). sending (q .nodes .ops) (q .nodes .used) os (q .nodes .datagram)) (sym (no-node (decode (a .table .now)) (a .froms .now) (a .line .now) (q .nodes .j) (omega arith)))
     ∙ q .nodes .inv .5 in
     (ap (λ (x : Given Sent (List ℕ)). x .answer) e, ap (λ (x : Given Sent (List ℕ)). x .lent) e)
 
@@ -389,22 +389,22 @@ returns-2 : tie.Need-returns-2 Inv-loop μ-loop Inv-nodes μ-nodes
 returns-2 c =
     let i = c .before .before .before .before .before .before .before .before in
     let q = i .before in
-    let u = unchanged (q .nodes .used) (q .nodes .d) (q .nodes .inv .1) _ _ _ (c .before .before .before .before .send-node .ensures) (c .enum-told .given .1) in
-    let e : given (record { ops = q .nodes .ops; bytes = q .nodes .used }) (q .nodes .d) ≡ at-entry q = sym (node-ends _ _ _ _ _ _ _ (u .0)) ∙ node-first i in
+    let u = unchanged (q .nodes .used) (q .nodes .datagram) (q .nodes .inv .1) _ _ _ (c .before .before .before .before .send-node .ensures) (c .enum-told .given .1) in
+    let e : given (record { ops = q .nodes .ops; bytes = q .nodes .used }) (q .nodes .datagram) ≡ at-entry q = sym (node-ends _ _ _ _ _ _ _ (u .0)) ∙ node-first i in
     (ap (λ (x : Given Sent (List ℕ)). x .answer) e, u .1 ∙ ap (λ (x : Given Sent (List ℕ)). x .lent) e)
 
 same-length-3 : tie.Need-same-length-3 Inv-loop μ-loop Inv-nodes μ-nodes
 same-length-3 c =
     let q = c .before .before .before .before .before .before .before in
-    ap length (unchanged (q .loop .used) (q .loop .d) (q .loop .inv .1) _ _ _ (c .before .before .before .before .send-record .ensures) (c .enum-told2 .given .1) .1) ∙ long q
+    ap length (unchanged (q .loop .used) (q .loop .datagram) (q .loop .inv .1) _ _ _ (c .before .before .before .before .send-record .ensures) (c .enum-told2 .given .1) .1) ∙ long q
 
 returns-3 : tie.Need-returns-3 Inv-loop μ-loop Inv-nodes μ-nodes
 returns-3 c =
     let i = c .before .before .before .before .before .before in
     let q = i .before in
     let m = q .before in
-    let u = unchanged (q .loop .used) (q .loop .d) (q .loop .inv .1) _ _ _ (c .before .before .before .before .send-record .ensures) (c .enum-told2 .given .1) in
-    let e : given (record { ops = q .loop .ops; bytes = q .loop .used }) (q .loop .d) ≡ at-entry (m .before .before .before .before .before .before .before .before .before .before .before .before .before .before .before .before .before .before .before) =
+    let u = unchanged (q .loop .used) (q .loop .datagram) (q .loop .inv .1) _ _ _ (c .before .before .before .before .send-record .ensures) (c .enum-told2 .given .1) in
+    let e : given (record { ops = q .loop .ops; bytes = q .loop .used }) (q .loop .datagram) ≡ at-entry (m .before .before .before .before .before .before .before .before .before .before .before .before .before .before .before .before .before .before .before) =
     sym (record-ends _ _ _ _ _ (u .0)) ∙ record-first i ∙ after-max (m .before) .same in
     (ap (λ (x : Given Sent (List ℕ)). x .answer) e, u .1 ∙ ap (λ (x : Given Sent (List ℕ)). x .lent) e)
 

@@ -17,17 +17,17 @@ use Rattle.compute_order.proofs.max_at.Reads as max-at-reads
 use Rattle.delta_write.proofs.write_set_max_version.Reads as write-set-max-version-reads
 
 -- the operation is that of the node's max
-wrote : (c : tie.After-write-set-max-version) → let a = c .before .before .before .before .before .before .args in WritesOp (SetMaxVersionOp (entryAt (decode (a .s .now)) (a .p) .node .max)) (a .d .now) (c .write-set-max-version .result) (c .write-set-max-version .last .0)
+wrote : (c : tie.After-write-set-max-version) → let a = c .before .before .before .before .before .before .args in WritesOp (SetMaxVersionOp (entryAt (decode (a .table .now)) (a .p) .node .max)) (a .datagram .now) (c .write-set-max-version .result) (c .write-set-max-version .last .0)
 wrote c =
     let a = c .before .before .before .before .before .before .args in
     let call = c .write-set-max-version in
-    subst (λ (o : Op). WritesOp o (a .d .now) (call .result) (call .last .0)) (ap SetMaxVersionOp (c .before .max-at .ensures)) (call .ensures)
+    subst (λ (o : Op). WritesOp o (a .datagram .now) (call .result) (call .last .0)) (ap SetMaxVersionOp (c .before .max-at .ensures)) (call .ensures)
 
 returns : tie.Need-returns
-returns c = let a = c .before .before .before .args in not-due (a .stale) (entryAt (decode (a .s .now)) (a .p) .node .max) (a .d .now) (c .if1 .taken)
+returns c = let a = c .before .before .before .args in not-due (a .stale) (entryAt (decode (a .table .now)) (a .p) .node .max) (a .datagram .now) (c .if1 .taken)
 
 max-at-requires : tie.Need-max-at-requires
-max-at-requires c κs = let q = c .before .before .before .before in held (q .args .s .now) (q .pre .0) (q .args .p) (q .pre .1)
+max-at-requires c κs = let q = c .before .before .before .before in held (q .args .table .now) (q .pre .0) (q .args .p) (q .pre .1)
 
 write-set-max-version-requires : tie.Need-write-set-max-version-requires
 write-set-max-version-requires c κs = search needs
@@ -45,7 +45,7 @@ returns-2 : tie.Need-returns-2
 returns-2 c =
     let q = c .before .before .before .before .before in
     let a = q .before .before .before .before .before .before .args in
-    max-sent (a .stale) (entryAt (decode (a .s .now)) (a .p) .node .max) (a .d .now) _ _ (q .before .before .before .if1 .left) (wrote q) _ (c .before .bytes .given .1)
+    max-sent (a .stale) (entryAt (decode (a .table .now)) (a .p) .node .max) (a .datagram .now) _ _ (q .before .before .before .if1 .left) (wrote q) _ (c .before .bytes .given .1)
 
 same-length-2 : tie.Need-same-length-2
 same-length-2 c = search needs
@@ -54,7 +54,7 @@ returns-3 : tie.Need-returns-3
 returns-3 c =
     let q = c .before .before .before .before in
     let a = q .before .before .before .before .before .before .args in
-    max-left (a .stale) (entryAt (decode (a .s .now)) (a .p) .node .max) (a .d .now) _ _ (q .before .before .before .if1 .left) (wrote q) (c .enum-told .given .1)
+    max-left (a .stale) (entryAt (decode (a .table .now)) (a .p) .node .max) (a .datagram .now) _ _ (q .before .before .before .if1 .left) (wrote q) (c .enum-told .given .1)
 
 pub send-max-spec : {M : Type 1} → statement M
 send-max-spec =

@@ -15,10 +15,10 @@ use Rattle.compute_order.proofs.number_at.Reads as number-at-reads
 use Rattle.delta_write.proofs.write_node.Reads as write-node-reads
 
 number-at-requires : tie.Need-number-at-requires
-number-at-requires c κs = let q = c .before .before .before in held (q .args .s .now) (q .pre .0) (q .args .p) (q .pre .1)
+number-at-requires c κs = let q = c .before .before .before in held (q .args .table .now) (q .pre .0) (q .args .p) (q .pre .1)
 
 last-gc-at-requires : tie.Need-last-gc-at-requires
-last-gc-at-requires c κs = let q = c .before .before .before .before in held (q .args .s .now) (q .pre .0) (q .args .p) (q .pre .1)
+last-gc-at-requires c κs = let q = c .before .before .before .before in held (q .args .table .now) (q .pre .0) (q .args .p) (q .pre .1)
 
 write-node-requires : tie.Need-write-node-requires
 write-node-requires c κs = search needs
@@ -32,7 +32,7 @@ returns c =
     let call = c .before .before .write-node in
     let n = c .before .before .before .before .number-at .ensures in
     let g = c .before .before .before .last-gc-at .ensures in
-    subst (λ (o : Op). WritesOp o (a .d .now) (call .result) (call .last .0)) (λ i. NodeOp (n i) (g i) (a .from)) (call .ensures)
+    subst (λ (o : Op). WritesOp o (a .datagram .now) (call .result) (call .last .0)) (λ i. NodeOp (n i) (g i) (a .from)) (call .ensures)
 
 pub send-node-spec : {M : Type 1} → statement M
 send-node-spec =

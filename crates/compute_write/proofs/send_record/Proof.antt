@@ -30,15 +30,15 @@ Texts x = (length x ≡ recWidth) × (keyLength x ≤ maxKey) × (valueLength x 
 texts : (c : tie.After-record-of) → Texts (c .record-of .result .now)
 texts c =
     let q = c .before .before .before .before in
-    lent-text (q .args .s .now) (q .pre .0) (q .args .p) (q .pre .1) _ (c .before .node-of .ensures) (q .args .q) (q .pre .2) _ (c .record-of .ensures)
+    lent-text (q .args .table .now) (q .pre .0) (q .args .p) (q .pre .1) _ (c .before .node-of .ensures) (q .args .q) (q .pre .2) _ (c .record-of .ensures)
 
 node-of-requires : tie.Need-node-of-requires
-node-of-requires c κs = let q = c .before .before in lent-node (q .args .s .now) (q .pre .0) (q .args .p) (q .pre .1)
+node-of-requires c κs = let q = c .before .before in lent-node (q .args .table .now) (q .pre .0) (q .args .p) (q .pre .1)
 
 record-of-requires : tie.Need-record-of-requires
 record-of-requires c κs =
     let q = c .before .before .before in
-    lent-record (q .args .s .now) (q .pre .0) (q .args .p) (q .pre .1) _ (c .node-of .ensures) (q .args .q) (q .pre .2)
+    lent-record (q .args .table .now) (q .pre .0) (q .args .p) (q .pre .1) _ (c .node-of .ensures) (q .args .q) (q .pre .2)
 
 read-record-requires : tie.Need-read-record-requires
 read-record-requires c κs = texts c
@@ -63,8 +63,8 @@ returns c =
     let k = c .before .before .before .before .key-of .ensures in
     let v = c .before .before .before .value-of .ensures in
     let r = c .before .before .before .before .before .before .read-record .ensures in
-    let is = record-is (a .s .now) (q .pre .0) (a .p) (q .pre .1) _ (c .before .before .before .before .before .before .before .before .node-of .ensures) (a .q) (q .pre .2) _ (c .before .before .before .before .before .before .before .record-of .ensures) in
-    subst (λ (o : Op). WritesOp o (a .d .now) (call .result) (call .last .0))
+    let is = record-is (a .table .now) (q .pre .0) (a .p) (q .pre .1) _ (c .before .before .before .before .before .before .before .before .node-of .ensures) (a .q) (q .pre .2) _ (c .before .before .before .before .before .before .before .record-of .ensures) in
+    subst (λ (o : Op). WritesOp o (a .datagram .now) (call .result) (call .last .0))
     ((λ i. KeyValueOp (record { key = k i; value = v i; version = r i .version; status = r i .status })) ∙ ap (λ (x : Rec). KeyValueOp (x .kv)) is) (call .ensures)
 
 pub send-record-spec : {M : Type 1} → statement M

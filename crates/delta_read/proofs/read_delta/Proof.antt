@@ -28,12 +28,12 @@ abbrev looping : (c : tie.After-follow Inv-loop μ-loop) → tie.In-loop Inv-loo
 looping c = c .before .before .before .before .before .before
 
 got : (c : tie.After-follow Inv-loop μ-loop)
-    → opAt (looping c .before .before .before .before .args .s .now) (looping c .before .loop .at) ≡ Got (c .before .before .before .read2 .given .0 .0) (c .before .before .before .read2 .given .0 .1 .0)
+    → opAt (looping c .before .before .before .before .args .delta .now) (looping c .before .loop .at) ≡ Got (c .before .before .before .read2 .given .0 .0) (c .before .before .before .read2 .given .0 .1 .0)
 got c = sym (c .before .before .before .before .before .read-op .ensures) ∙ c .before .before .before .read2 .given .1
 
 loop-holds : tie.Need-loop-holds Inv-loop μ-loop
 loop-holds c =
-    let l : List ℕ = c .before .before .args .s .now in
+    let l : List ℕ = c .before .before .args .delta .now in
     (omega arith, omega arith, omega arith, refl, start l _ (omega arith))
 
 read-op-requires : tie.Need-read-op-requires Inv-loop μ-loop
@@ -71,7 +71,7 @@ mul-seen c = search needs
 array-write-seen : tie.Need-array-write-seen Inv-loop μ-loop
 array-write-seen c =
     let at-follow = c .before .before .before in
-    entered (looping at-follow .before .before .before .before .args .s .now) _ _ _ _ _ (sym (at-follow .follow .ensures) ∙ c .before .followed2 .given .1) .1
+    entered (looping at-follow .before .before .before .before .args .delta .now) _ _ _ _ _ (sym (at-follow .follow .ensures) ∙ c .before .followed2 .given .1) .1
 
 add-nodes : tie.Need-add-nodes Inv-loop μ-loop
 add-nodes c = search needs

@@ -48,7 +48,7 @@ same-length c = search needs
 returns : tie.Need-returns
 returns c =
     let a = c .before .before .before .before .before .before .before .before .before .before .before .before .before .before .before .before .before .before .before .before .before .before .before .before .args in
-    key-value-fields (a .key .now) (a .value .now) (a .version) (a .status) (a .d .now) _ _ _ _ _ (c .before .before .before .before .before .before .before .before .before .before .before .before .before .before .before .before .before .before .before .before .before .before .before .before .pre)
+    key-value-fields (a .key .now) (a .value .now) (a .version) (a .status) (a .datagram .now) _ _ _ _ _ (c .before .before .before .before .before .before .before .before .before .before .before .before .before .before .before .before .before .before .before .before .before .before .before .before .pre)
     (c .before .before .before .before .before .before .before .before .before .before .before .before .before .before .before .before .before .before .before .write-byte .ensures) (c .before .before .before .before .before .before .before .before .before .before .before .before .before .before .before .write-text .ensures) (c .before .before .before .before .before .before .before .before .before .before .before .write-text2 .ensures) (c .before .before .before .before .before .before .before .write-u64 .ensures)
     (c .before .before .write-byte2 .ensures ∙ ap (λ (v : ℕ). put (1 + 2 + length (a .key .now) + 2 + length (a .value .now) + 8) (bytesOf 1 v) (c .before .before .before .before .before .before .before .write-u64 .last .0)) (c .before .before .before .byte .ensures))
 

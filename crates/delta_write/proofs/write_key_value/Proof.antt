@@ -10,7 +10,7 @@ use Rattle.delta_write.proofs.write_key_value.Statement.{statement}
 use Rattle.delta_write.proofs.write_key_value.Tie as tie
 
 -- where the test holds there is room
-room : (c : tie.Then1) → 14 + length (c .before .before .before .before .before .args .key .now) + length (c .before .before .before .before .before .args .value .now) ≤ length (c .before .before .before .before .before .args .d .now)
+room : (c : tie.Then1) → 14 + length (c .before .before .before .before .before .args .key .now) + length (c .before .before .before .before .before .args .value .now) ≤ length (c .before .before .before .before .before .args .datagram .now)
 room c = leb-true _ _ (sym (c .before .record-fits .ensures) ∙ c .if1 .taken)
 
 record-fits-requires : tie.Need-record-fits-requires
@@ -31,12 +31,12 @@ same-length c = search needs
 returns : tie.Need-returns
 returns c =
     let a = c .before .before .before .before .before .before .before .before .before .args in
-    fits _ _ (a .d .now) _ (key-value-size (a .key .now) (a .value .now) (a .version) (a .status)) (room (c .before .before .before .before)) (c .before .before .store-key-value .ensures)
+    fits _ _ (a .datagram .now) _ (key-value-size (a .key .now) (a .value .now) (a .version) (a .status)) (room (c .before .before .before .before)) (c .before .before .store-key-value .ensures)
 
 returns-2 : tie.Need-returns-2
 returns-2 c =
     let a = c .before .before .before .before .before .args in
-    no-fit _ _ (a .d .now) (key-value-size (a .key .now) (a .value .now) (a .version) (a .status))
+    no-fit _ _ (a .datagram .now) (key-value-size (a .key .now) (a .value .now) (a .version) (a .status))
     (leb-false _ _ (sym (c .before .record-fits .ensures) ∙ c .if1 .left))
 
 pub write-key-value-spec : {M : Type 1} → statement M

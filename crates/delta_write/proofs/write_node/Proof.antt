@@ -41,8 +41,8 @@ same-length c = search needs
 returns-2 : tie.Need-returns-2
 returns-2 c =
     let a = c .before .before .before .before .before .before .before .before .before .before .before .before .before .before .before .before .before .before .args in
-    fits _ _ (a .d .now) _ (node-size (a .number) (a .gc) (a .from)) (omega arith)
-    (node-fields (a .number) (a .gc) (a .from) (a .d .now) _ _ _ _ (omega arith) (c .before .before .before .before .before .before .before .before .before .before .before .before .before .before .write-byte .ensures) (c .before .before .before .before .before .before .before .before .before .before .write-u64 .ensures) (c .before .before .before .before .before .before .write-u642 .ensures) (c .before .before .write-u643 .ensures))
+    fits _ _ (a .datagram .now) _ (node-size (a .number) (a .last-gc) (a .from)) (omega arith)
+    (node-fields (a .number) (a .last-gc) (a .from) (a .datagram .now) _ _ _ _ (omega arith) (c .before .before .before .before .before .before .before .before .before .before .before .before .before .before .write-byte .ensures) (c .before .before .before .before .before .before .before .before .before .before .write-u64 .ensures) (c .before .before .before .before .before .before .write-u642 .ensures) (c .before .before .write-u643 .ensures))
 
 pub write-node-spec : {M : Type 1} → statement M
 write-node-spec =

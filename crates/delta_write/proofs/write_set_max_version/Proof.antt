@@ -23,8 +23,8 @@ same-length c = search needs
 returns-2 : tie.Need-returns-2
 returns-2 c =
     let a = c .before .before .before .before .before .before .before .before .before .before .args in
-    fits _ _ (a .d .now) _ (set-max-version-size (a .max)) (omega arith)
-    (set-max-version-fields (a .max) (a .d .now) _ _ (omega arith) (c .before .before .before .before .before .before .write-byte .ensures) (c .before .before .write-u64 .ensures))
+    fits _ _ (a .datagram .now) _ (set-max-version-size (a .max)) (omega arith)
+    (set-max-version-fields (a .max) (a .datagram .now) _ _ (omega arith) (c .before .before .before .before .before .before .write-byte .ensures) (c .before .before .write-u64 .ensures))
 
 pub write-set-max-version-spec : {M : Type 1} → statement M
 write-set-max-version-spec =

@@ -18,7 +18,7 @@ same-length : tie.Need-same-length
 same-length c = search needs
 
 returns : tie.Need-returns
-returns c = text-fields (c .before .before .before .before .before .before .before .before .before .before .args .text .now) (c .before .before .before .before .before .before .before .before .before .before .args .at) (c .before .before .before .before .before .before .before .before .before .before .args .d .now) _ _ (omega arith) (c .before .before .before .before .before .before .write-u16 .ensures) (c .before .before .copy-to .ensures)
+returns c = text-fields (c .before .before .before .before .before .before .before .before .before .before .args .text .now) (c .before .before .before .before .before .before .before .before .before .before .args .at) (c .before .before .before .before .before .before .before .before .before .before .args .datagram .now) _ _ (omega arith) (c .before .before .before .before .before .before .write-u16 .ensures) (c .before .before .copy-to .ensures)
 
 pub write-text-spec : {M : Type 1} → statement M
 write-text-spec =

@@ -35,7 +35,7 @@ returns c =
     let k = c .before .before .before .before .before .before .write-u16 .kept .0 in
     let r = s .pre .1 in
     let w = c .before .before .write-entries in
-    stored ds (s .args .count) (s .args .d .now) x _ (s .pre .2) (omega arith) (c .before .before .before .before .before .before .write-u16 .ensures)
+    stored ds (s .args .count) (s .args .datagram .now) x _ (s .pre .2) (omega arith) (c .before .before .before .before .before .before .write-u16 .ensures)
     (lent-rest-put 2 0 (flat entryBytes ds) x (w .last .1 .1 .0) (omega arith) (w .ensures))
 
 pub store-digest-spec : {M : Type 1} → statement M

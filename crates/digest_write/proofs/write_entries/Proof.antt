@@ -37,11 +37,11 @@ asked : (c : tie.After-is-excluded Inv-loop μ-loop)
 asked c = ap (λ (x : NodeDigest). among (x .number) (c .before .before .before .before .before .before .before .before .before .args .excluded .now)) (sym (entry-is (c .before))) ∙ sym (c .is-excluded .ensures)
 
 -- there is room for an entry
-free : (c : tie.Else1 Inv-loop μ-loop) → c .before .before .before .before .before .loop .at + 32 ≤ length (c .before .before .before .before .before .loop .d)
+free : (c : tie.Else1 Inv-loop μ-loop) → c .before .before .before .before .before .loop .at + 32 ≤ length (c .before .before .before .before .before .loop .datagram)
 free c =
     let a = c .before .before .before .before .before .before .before .before .before .before .args in
     let l = c .before .before .before .before .before .loop in
-    writes-room (a .excluded .now) (a .table .now) (a .d .now) (l .at) (l .i) (l .d) (l .inv .1) (omega arith) (asked (c .before) ∙ c .if1 .left)
+    writes-room (a .excluded .now) (a .table .now) (a .datagram .now) (l .at) (l .i) (l .datagram) (l .inv .1) (omega arith) (asked (c .before) ∙ c .if1 .left)
 
 byte-at-requires : tie.Need-byte-at-requires Inv-loop μ-loop
 byte-at-requires c κs = search needs
@@ -70,7 +70,7 @@ loop-again : tie.Need-loop-again Inv-loop μ-loop
 loop-again c =
     let a = c .before .before .before .before .before .before .before .before .before .before .args in
     let l = c .before .before .before .before .before .loop in
-    (l .inv .0, writes-past (a .excluded .now) (a .table .now) (a .d .now) (l .at) (l .i) (l .d) (l .inv .1) (omega arith) (asked (c .before) ∙ c .if1 .taken))
+    (l .inv .0, writes-past (a .excluded .now) (a .table .now) (a .datagram .now) (l .at) (l .i) (l .datagram) (l .inv .1) (omega arith) (asked (c .before) ∙ c .if1 .taken))
 
 add-end : tie.Need-add-end Inv-loop μ-loop
 add-end c = search needs
@@ -101,10 +101,10 @@ loop-again-2 c =
     let x = back (e .before .before .entry-of .result) in
     let k = entry-long x in
     let w = c .before .before .write-entry in
-    let p : putMid (l .at) (l .at + 32 - l .at) (l .d) (w .last .0) ≡ put (l .at) (entryBytes x) (l .d) =
-    lent-put (l .at) 32 0 (entryBytes x) (l .d) (w .last .0) (free e) (omega arith) (w .ensures) (w .kept .0)
-    ∙ ap (λ (n : ℕ). put n (entryBytes x) (l .d)) (add-zero (l .at)) in
-    (l .inv .0, writes-next (a .excluded .now) (a .table .now) (a .d .now) (l .at) (l .i) (l .d) (l .inv .1) x _ (omega arith) (asked (e .before) ∙ e .if1 .left) (entry-is (e .before .before)) p)
+    let p : putMid (l .at) (l .at + 32 - l .at) (l .datagram) (w .last .0) ≡ put (l .at) (entryBytes x) (l .datagram) =
+    lent-put (l .at) 32 0 (entryBytes x) (l .datagram) (w .last .0) (free e) (omega arith) (w .ensures) (w .kept .0)
+    ∙ ap (λ (n : ℕ). put n (entryBytes x) (l .datagram)) (add-zero (l .at)) in
+    (l .inv .0, writes-next (a .excluded .now) (a .table .now) (a .datagram .now) (l .at) (l .i) (l .datagram) (l .inv .1) x _ (omega arith) (asked (e .before) ∙ e .if1 .left) (entry-is (e .before .before)) p)
 
 same-length : tie.Need-same-length Inv-loop μ-loop
 same-length c = search needs
@@ -113,7 +113,7 @@ returns : tie.Need-returns Inv-loop μ-loop
 returns c =
     let a = c .before .before .before .before .before .before .args in
     let l = c .before .loop in
-    writes-all (a .excluded .now) (a .table .now) (a .d .now) (l .at) (l .i) (l .d) (l .inv .1) (omega arith)
+    writes-all (a .excluded .now) (a .table .now) (a .datagram .now) (l .at) (l .i) (l .datagram) (l .inv .1) (omega arith)
 
 pub write-entries-spec : {M : Type 1} → statement M
 write-entries-spec =

@@ -30,7 +30,7 @@ same-length c = search needs
 returns : tie.Need-returns
 returns c =
     let a = c .before .before .before .before .before .before .before .before .before .before .before .before .before .before .before .before .before .args in
-    entry-fields (back (a .e)) (a .d .now) _ _ _ _ (omega arith) (c .before .before .before .before .before .before .before .before .before .before .before .before .before .before .write-u64 .ensures) (c .before .before .before .before .before .before .before .before .before .before .write-u642 .ensures) (c .before .before .before .before .before .before .write-u643 .ensures) (c .before .before .write-u644 .ensures)
+    entry-fields (back (a .entry)) (a .datagram .now) _ _ _ _ (omega arith) (c .before .before .before .before .before .before .before .before .before .before .before .before .before .before .write-u64 .ensures) (c .before .before .before .before .before .before .before .before .before .before .write-u642 .ensures) (c .before .before .before .before .before .before .write-u643 .ensures) (c .before .before .write-u644 .ensures)
 
 pub write-entry-spec : {M : Type 1} → statement M
 write-entry-spec =

@@ -21,7 +21,7 @@ with-heartbeat-requires c κs = search needs
 
 returns : tie.Need-returns
 returns c =
-    let h : Header = c .before .before .before .before .args .h in
+    let h : Header = c .before .before .before .before .args .header in
     ap₂ given (c .with-heartbeat .ensures ∙ ap (λ (b : Beat). beating (b .heartbeat) h) (c .before .before .after-offer .ensures))
     (ap (λ (b : Beat). b .news) (c .before .before .after-offer .ensures))
 

@@ -25,7 +25,7 @@ can-rise-requires c κs = search needs
 
 returns : tie.Need-returns
 returns c =
-    let h : Header = c .before .before .before .before .args .h in
+    let h : Header = c .before .before .before .before .args .header in
     ap₂ given (c .before .with-heartbeat .ensures ∙ ap (λ (b : Heartbeat). beating b h) (c .before .before .risen .ensures) ∙ beaten h)
     (c .can-rise .ensures)
 

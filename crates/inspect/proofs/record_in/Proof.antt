@@ -21,7 +21,7 @@ use Rattle.fields.proofs.byte_at.Reads as byte-at-reads
 use Rattle.table_read.proofs.read_record.Reads as read-record-reads
 use Rattle.table.proofs.record_of.Reads as record-of-reads
 
-within : (c : tie.Else1) → let s = c .before .before .before in s .args .j < countOf (s .args .b .now)
+within : (c : tie.Else1) → let s = c .before .before .before in s .args .j < countOf (s .args .node .now)
 within c = omega (arith, c .before .byte-at .ensures .0)
 
 byte-at-requires : tie.Need-byte-at-requires
@@ -30,7 +30,7 @@ byte-at-requires c κs = search needs
 returns : tie.Need-returns
 returns c =
     let a = c .before .before .before .args in
-    sym (ap readAt (no-rec-there (a .b .now) (a .j) (omega (arith, c .before .byte-at .ensures .0))))
+    sym (ap readAt (no-rec-there (a .node .now) (a .j) (omega (arith, c .before .byte-at .ensures .0))))
 
 record-of-requires : tie.Need-record-of-requires
 record-of-requires c κs = (search needs, omega (arith, within c))
@@ -39,7 +39,7 @@ read-record-requires : tie.Need-read-record-requires
 read-record-requires c κs =
     let t = c .before in
     let s = t .before .before .before in
-    let b : List ℕ = s .args .b .now in
+    let b : List ℕ = s .args .node .now in
     let j : ℕ = s .args .j in
     let h = within t in
     let e = c .record-of .ensures in (
@@ -53,7 +53,7 @@ returns-2 c =
     let m = c .before in
     let t = m .before in
     let a = t .before .before .before .args in
-    ap rec.Is (c .read-record .ensures ∙ ap (λ (x : List ℕ). recordOf (decodeRec x)) (m .record-of .ensures)) ∙ sym (ap readAt (rec-there (a .b .now) (a .j) (within t)))
+    ap rec.Is (c .read-record .ensures ∙ ap (λ (x : List ℕ). recordOf (decodeRec x)) (m .record-of .ensures)) ∙ sym (ap readAt (rec-there (a .node .now) (a .j) (within t)))
 
 pub record-in-spec : {M : Type 1} → statement M
 record-in-spec =

@@ -23,14 +23,14 @@ use Rattle.table_read.proofs.read_record.Reads as read-record-reads
 use Rattle.table.proofs.record_of.Reads as record-of-reads
 
 -- the record's place is one of the node's
-found : (c : tie.After-known-told) → let j = c .before in let s = j .before .before .before .before .before in findKey (s .args .key .now) (recsOf (s .args .b .now)) ≡ place.At (j .j .given .0 .0)
+found : (c : tie.After-known-told) → let j = c .before in let s = j .before .before .before .before .before in findKey (s .args .key .now) (recsOf (s .args .node .now)) ≡ place.At (j .j .given .0 .0)
 found c = let j = c .before in sym (j .before .before .search-key .ensures) ∙ j .j .given .1
 
-held : (c : tie.After-known-told) → let j = c .before in j .j .given .0 .0 < countOf (j .before .before .before .before .before .args .b .now)
+held : (c : tie.After-known-told) → let j = c .before in j .j .given .0 .0 < countOf (j .before .before .before .before .before .args .node .now)
 held c =
     let j = c .before in
     let a = j .before .before .before .before .before .args in
-    rec-in (a .b .now) (a .key .now) (j .j .given .0 .0) (found c)
+    rec-in (a .node .now) (a .key .now) (j .j .given .0 .0) (found c)
 
 search-key-requires : tie.Need-search-key-requires
 search-key-requires c κs = search needs
@@ -47,7 +47,7 @@ read-record-requires : tie.Need-read-record-requires
 read-record-requires c κs =
     let t = c .before in
     let s = t .before .before .before .before .before .before in
-    let b : List ℕ = s .args .b .now in
+    let b : List ℕ = s .args .node .now in
     let j : ℕ = t .before .j .given .0 .0 in
     let e = c .record-of .ensures in (
       ap length e ∙ rec-long b (s .pre .0) j (held t),
@@ -63,13 +63,13 @@ returns c =
     let m = c .before in
     let t = m .before in
     let a = t .before .before .before .before .before .before .args in
-    ap rec.Is (c .read-record .ensures ∙ ap (λ (x : List ℕ). recordOf (decodeRec x)) (m .record-of .ensures)) ∙ sym (ap readKey (rec-found (a .b .now) (a .key .now) (t .before .j .given .0 .0) (found t)))
+    ap rec.Is (c .read-record .ensures ∙ ap (λ (x : List ℕ). recordOf (decodeRec x)) (m .record-of .ensures)) ∙ sym (ap readKey (rec-found (a .node .now) (a .key .now) (t .before .j .given .0 .0) (found t)))
 
 returns-2 : tie.Need-returns-2
 returns-2 c =
     let f = c .before .before in
     let s = f .before .before .before in
-    sym (ap readKey (rec-missing (s .args .b .now) (s .args .key .now) (c .enum-told .given .0 .0) (s .pre .1) (sym (f .search-key .ensures) ∙ c .enum-told .given .1)))
+    sym (ap readKey (rec-missing (s .args .node .now) (s .args .key .now) (c .enum-told .given .0 .0) (s .pre .1) (sym (f .search-key .ensures) ∙ c .enum-told .given .1)))
 
 pub record-keyed-spec : {M : Type 1} → statement M
 record-keyed-spec =

@@ -26,7 +26,7 @@ use Rattle.fields.proofs.byte_at.Reads as byte-at-reads
 use Rattle.table_read.proofs.read_record.Reads as read-record-reads
 use Rattle.table.proofs.record_of.Reads as record-of-reads
 
-within : (c : tie.Else1) → let s = c .before .before .before in s .args .j < countOf (s .args .b .now)
+within : (c : tie.Else1) → let s = c .before .before .before in s .args .j < countOf (s .args .node .now)
 within c = omega (arith, c .before .byte-at .ensures .0)
 
 -- by what was read of the record
@@ -46,7 +46,7 @@ byte-at-requires c κs = search needs
 returns : tie.Need-returns
 returns c =
     let a = c .before .before .before .args in
-    sym (ap (placeOn (a .text) (a .i) (a .j)) (no-rec-there (a .b .now) (a .j) (omega (arith, c .before .byte-at .ensures .0))))
+    sym (ap (placeOn (a .text) (a .i) (a .j)) (no-rec-there (a .node .now) (a .j) (omega (arith, c .before .byte-at .ensures .0))))
 
 record-of-requires : tie.Need-record-of-requires
 record-of-requires c κs = search needs
@@ -55,7 +55,7 @@ read-record-requires : tie.Need-read-record-requires
 read-record-requires c κs =
     let t = c .before in
     let s = t .before .before .before in
-    let b : List ℕ = s .args .b .now in
+    let b : List ℕ = s .args .node .now in
     let j : ℕ = s .args .j in
     let h = within t in
     let e = c .record-of .ensures in (
@@ -113,8 +113,8 @@ returns-2 c =
     let t = p .before in
     let a = t .before .before .before .args in
     let e = m .read-record .ensures in
-    is (a .b .now) (p .record-of .result .now) (a .i) (a .j) (within t) (p .record-of .ensures) (m .read-record .result) e (a .text) (m .read-record .result .keylen) Key (c .enum-told .given .1)
-    (ap (λ (r : Record). r .keylen) (read (a .b .now) (p .record-of .result .now) (a .i) (a .j) (within t) (p .record-of .ensures) (m .read-record .result) e (a .text)))
+    is (a .node .now) (p .record-of .result .now) (a .i) (a .j) (within t) (p .record-of .ensures) (m .read-record .result) e (a .text) (m .read-record .result .keylen) Key (c .enum-told .given .1)
+    (ap (λ (r : Record). r .keylen) (read (a .node .now) (p .record-of .result .now) (a .i) (a .j) (within t) (p .record-of .ensures) (m .read-record .result) e (a .text)))
 
 returns-3 : tie.Need-returns-3
 returns-3 c =
@@ -123,8 +123,8 @@ returns-3 c =
     let t = p .before in
     let a = t .before .before .before .args in
     let e = m .read-record .ensures in
-    is (a .b .now) (p .record-of .result .now) (a .i) (a .j) (within t) (p .record-of .ensures) (m .read-record .result) e (a .text) (m .read-record .result .valuelen) Value (c .enum-told2 .given .1)
-    (ap (λ (r : Record). r .valuelen) (read (a .b .now) (p .record-of .result .now) (a .i) (a .j) (within t) (p .record-of .ensures) (m .read-record .result) e (a .text)))
+    is (a .node .now) (p .record-of .result .now) (a .i) (a .j) (within t) (p .record-of .ensures) (m .read-record .result) e (a .text) (m .read-record .result .valuelen) Value (c .enum-told2 .given .1)
+    (ap (λ (r : Record). r .valuelen) (read (a .node .now) (p .record-of .result .now) (a .i) (a .j) (within t) (p .record-of .ensures) (m .read-record .result) e (a .text)))
 
 pub in-node-spec : {M : Type 1} → statement M
 in-node-spec =

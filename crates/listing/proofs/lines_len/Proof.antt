@@ -56,7 +56,7 @@ enum-known-read : tie.Need-enum-known-read Inv-loop μ-loop
 enum-known-read c = search needs
 
 line-len-requires : tie.Need-line-len-requires Inv-loop μ-loop
-line-len-requires c κs = width-most (length (c .before .before .before .before .before .before .before .args .s .now)) (c .before .read .given .0 .0) (turn-within _ _ _ _ (sym (c .before .before .before .read-op .ensures) ∙ c .before .read .given .1) .2)
+line-len-requires c κs = width-most (length (c .before .before .before .before .before .before .before .args .delta .now)) (c .before .read .given .0 .0) (turn-within _ _ _ _ (sym (c .before .before .before .read-op .ensures) ∙ c .before .read .given .1) .2)
 
 add-n : tie.Need-add-n Inv-loop μ-loop
 add-n c =

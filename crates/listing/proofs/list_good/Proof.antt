@@ -34,7 +34,7 @@ add-n-3 c = search needs
 returns : tie.Need-returns
 returns c =
     let x = c .before .before .before .before .before .before .args in
-    front-none (goodText (x .s .now) (x .ops)) (x .out .now) (omega (arith, good-long (x .s .now) (x .ops), c .before .before .before .lines-len .ensures .0, c .before .before .decimal-len .ensures .0, c .before .decimal-len2 .ensures .0, c .if1 .taken))
+    front-none (goodText (x .delta .now) (x .ops)) (x .out .now) (omega (arith, good-long (x .delta .now) (x .ops), c .before .before .before .lines-len .ensures .0, c .before .before .decimal-len .ensures .0, c .before .decimal-len2 .ensures .0, c .if1 .taken))
 
 put-lines-requires : tie.Need-put-lines-requires
 put-lines-requires c κs =
@@ -51,8 +51,8 @@ put-last-requires : tie.Need-put-last-requires
 unfolding goodText
 put-last-requires c κs =
     let x = c .before .before .before .before .before .before .before .before .before .before .before .before .before .args in
-    let room : Room 0 (goodText (x .s .now) (x .ops)) (x .out .now) = omega (arith, good-long (x .s .now) (x .ops), c .before .before .before .before .before .before .before .before .before .before .lines-len .ensures .0, c .before .before .before .before .before .before .before .before .before .decimal-len .ensures .0, c .before .before .before .before .before .before .before .before .decimal-len2 .ensures .0, c .before .before .before .before .before .before .before .if1 .left) in
-    room-second 0 (linesFrom (x .s .now) 0) (lastLine (ascii "end=ok ops=") (x .ops) (ascii " bytes=") (length (x .s .now))) (x .out .now) _ _ room (c .before .before .before .before .before .put-lines .ensures)
+    let room : Room 0 (goodText (x .delta .now) (x .ops)) (x .out .now) = omega (arith, good-long (x .delta .now) (x .ops), c .before .before .before .before .before .before .before .before .before .before .lines-len .ensures .0, c .before .before .before .before .before .before .before .before .before .decimal-len .ensures .0, c .before .before .before .before .before .before .before .before .decimal-len2 .ensures .0, c .before .before .before .before .before .before .before .if1 .left) in
+    room-second 0 (linesFrom (x .delta .now) 0) (lastLine (ascii "end=ok ops=") (x .ops) (ascii " bytes=") (length (x .delta .now))) (x .out .now) _ _ room (c .before .before .before .before .before .put-lines .ensures)
 
 same-length : tie.Need-same-length
 same-length c = search needs
@@ -61,9 +61,9 @@ returns-2 : tie.Need-returns-2
 unfolding goodText
 returns-2 c =
     let x = c .before .before .before .before .before .before .before .before .before .before .before .before .before .before .before .before .args in
-    let room : Room 0 (goodText (x .s .now) (x .ops)) (x .out .now) = omega (arith, good-long (x .s .now) (x .ops), c .before .before .before .before .before .before .before .before .before .before .before .before .before .lines-len .ensures .0, c .before .before .before .before .before .before .before .before .before .before .before .before .decimal-len .ensures .0, c .before .before .before .before .before .before .before .before .before .before .before .decimal-len2 .ensures .0, c .before .before .before .before .before .before .before .before .before .before .if1 .left) in
-    front-whole (goodText (x .s .now) (x .ops)) (x .out .now) _ _ (omega (arith, room)) (omega (arith, good-long (x .s .now) (x .ops), c .before .before .before .before .before .before .before .before .before .before .before .before .before .lines-len .ensures .0, c .before .before .before .before .before .before .before .before .before .before .before .before .decimal-len .ensures .0, c .before .before .before .before .before .before .before .before .before .before .before .decimal-len2 .ensures .0))
-    (then 0 (linesFrom (x .s .now) 0) (lastLine (ascii "end=ok ops=") (x .ops) (ascii " bytes=") (length (x .s .now))) (x .out .now) _ _ _ _ room (c .before .before .before .before .before .before .before .before .put-lines .ensures) (c .before .before .put-last .ensures) .stands)
+    let room : Room 0 (goodText (x .delta .now) (x .ops)) (x .out .now) = omega (arith, good-long (x .delta .now) (x .ops), c .before .before .before .before .before .before .before .before .before .before .before .before .before .lines-len .ensures .0, c .before .before .before .before .before .before .before .before .before .before .before .before .decimal-len .ensures .0, c .before .before .before .before .before .before .before .before .before .before .before .decimal-len2 .ensures .0, c .before .before .before .before .before .before .before .before .before .before .if1 .left) in
+    front-whole (goodText (x .delta .now) (x .ops)) (x .out .now) _ _ (omega (arith, room)) (omega (arith, good-long (x .delta .now) (x .ops), c .before .before .before .before .before .before .before .before .before .before .before .before .before .lines-len .ensures .0, c .before .before .before .before .before .before .before .before .before .before .before .before .decimal-len .ensures .0, c .before .before .before .before .before .before .before .before .before .before .before .decimal-len2 .ensures .0))
+    (then 0 (linesFrom (x .delta .now) 0) (lastLine (ascii "end=ok ops=") (x .ops) (ascii " bytes=") (length (x .delta .now))) (x .out .now) _ _ _ _ room (c .before .before .before .before .before .before .before .before .put-lines .ensures) (c .before .before .put-last .ensures) .stands)
 
 pub list-good-spec : {M : Type 1} → statement M
 list-good-spec =

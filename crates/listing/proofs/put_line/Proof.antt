@@ -44,7 +44,7 @@ enum-known-op : tie.Need-enum-known-op
 enum-known-op c = search needs
 
 put-node-requires : tie.Need-put-node-requires
-put-node-requires c κs = subst (λ (o : Op). Room (c .before .before .before .before .before .before .args .at) (opLine (opOf (c .before .before .before .before .before .before .args .s .now) o)) (c .before .before .before .before .before .before .args .out .now)) (c .before .before .op .given .1) (c .before .before .before .before .before .before .pre .1)
+put-node-requires c κs = subst (λ (o : Op). Room (c .before .before .before .before .before .before .args .at) (opLine (opOf (c .before .before .before .before .before .before .args .delta .now) o)) (c .before .before .before .before .before .before .args .out .now)) (c .before .before .op .given .1) (c .before .before .before .before .before .before .pre .1)
 
 enum-known-op-2 : tie.Need-enum-known-op-2
 enum-known-op-2 c = search needs
@@ -76,13 +76,13 @@ part-value-end c = inside _ _ _ _ _ _ _ _ (c .before .before .op2 .given .1) (c 
 put-key-value-requires : tie.Need-put-key-value-requires
 put-key-value-requires c κs =
     let start = c .before .before .before .before .before .before .before .before in
-    record-room (start .args .s .now) (start .args .out .now) (start .args .at) _ _ _ _ _ _ _ _ _ (c .before .before .before .before .op2 .given .1) (seen _ _ _) (seen _ _ _) (start .pre .1)
+    record-room (start .args .delta .now) (start .args .out .now) (start .args .at) _ _ _ _ _ _ _ _ _ (c .before .before .before .before .op2 .given .1) (seen _ _ _) (seen _ _ _) (start .pre .1)
 
 enum-known-op-3 : tie.Need-enum-known-op-3
 enum-known-op-3 c = search needs
 
 put-set-max-version-requires : tie.Need-put-set-max-version-requires
-put-set-max-version-requires c κs = subst (λ (o : Op). Room (c .before .before .before .before .before .before .args .at) (opLine (opOf (c .before .before .before .before .before .before .args .s .now) o)) (c .before .before .before .before .before .before .args .out .now)) (c .before .before .op3 .given .1) (c .before .before .before .before .before .before .pre .1)
+put-set-max-version-requires c κs = subst (λ (o : Op). Room (c .before .before .before .before .before .before .args .at) (opLine (opOf (c .before .before .before .before .before .before .args .delta .now) o)) (c .before .before .before .before .before .before .args .out .now)) (c .before .before .op3 .given .1) (c .before .before .before .before .before .before .pre .1)
 
 same-length : tie.Need-same-length
 same-length c = search needs
@@ -91,7 +91,7 @@ returns : tie.Need-returns
 returns c =
     let start = c .before .before .before .before .before .before .before .before .before in
     let call = c .before .before .put-node in
-    subst (λ (o : Op). Wrote (start .args .at) (opLine (opOf (start .args .s .now) o)) (start .args .out .now) (call .last .0) (call .result))
+    subst (λ (o : Op). Wrote (start .args .at) (opLine (opOf (start .args .delta .now) o)) (start .args .out .now) (call .last .0) (call .result))
     (sym (c .before .before .before .before .before .op .given .1)) (call .ensures)
 
 same-length-2 : tie.Need-same-length-2
@@ -100,7 +100,7 @@ same-length-2 c = search needs
 returns-2 : tie.Need-returns-2
 returns-2 c =
     let start = c .before .before .before .before .before .before .before .before .before .before .before in
-    record-wrote (start .args .s .now) _ _ (start .args .at) _ _ _ _ _ _ _ _ _ _ (c .before .before .before .before .before .before .before .op2 .given .1) (seen _ _ _) (seen _ _ _) (c .before .before .put-key-value .ensures)
+    record-wrote (start .args .delta .now) _ _ (start .args .at) _ _ _ _ _ _ _ _ _ _ (c .before .before .before .before .before .before .before .op2 .given .1) (seen _ _ _) (seen _ _ _) (c .before .before .put-key-value .ensures)
 
 same-length-3 : tie.Need-same-length-3
 same-length-3 c = search needs
@@ -109,7 +109,7 @@ returns-3 : tie.Need-returns-3
 returns-3 c =
     let start = c .before .before .before .before .before .before .before .before .before in
     let call = c .before .before .put-set-max-version in
-    subst (λ (o : Op). Wrote (start .args .at) (opLine (opOf (start .args .s .now) o)) (start .args .out .now) (call .last .0) (call .result))
+    subst (λ (o : Op). Wrote (start .args .at) (opLine (opOf (start .args .delta .now) o)) (start .args .out .now) (call .last .0) (call .result))
     (sym (c .before .before .before .before .before .op3 .given .1)) (call .ensures)
 
 pub put-line-spec : {M : Type 1} → statement M

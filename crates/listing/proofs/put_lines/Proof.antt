@@ -79,8 +79,8 @@ put-line-requires : tie.Need-put-line-requires Inv-loop μ-loop
 put-line-requires c κs =
     let at-loop = c .before .before .before .before .before .before in
     let start = c .before .before .before .before .before .before .before .before .before in
-    let t = turn (c .before .before .before .before .before .before .before .before .before .args .s .now) (at-loop .loop .out) (at-loop .loop .n) (at-loop .loop .at) _ _ (sym (c .before .before .before .before .read-op .ensures) ∙ c .before .before .read .given .1) (c .before .before .before .before .before .loop-test .taken) (omega (arith, at-loop .loop .inv .1, at-loop .loop .inv .2, start .pre)) in
-    (t .1 .2, room-first (at-loop .loop .n) (opLine (opOf (start .args .s .now) (c .before .before .read .given .0 .0))) (linesFrom (start .args .s .now) (c .before .before .read .given .0 .1 .0)) (at-loop .loop .out) (t .0))
+    let t = turn (c .before .before .before .before .before .before .before .before .before .args .delta .now) (at-loop .loop .out) (at-loop .loop .n) (at-loop .loop .at) _ _ (sym (c .before .before .before .before .read-op .ensures) ∙ c .before .before .read .given .1) (c .before .before .before .before .before .loop-test .taken) (omega (arith, at-loop .loop .inv .1, at-loop .loop .inv .2, start .pre)) in
+    (t .1 .2, room-first (at-loop .loop .n) (opLine (opOf (start .args .delta .now) (c .before .before .read .given .0 .0))) (linesFrom (start .args .delta .now) (c .before .before .read .given .0 .1 .0)) (at-loop .loop .out) (t .0))
 
 loop-less : tie.Need-loop-less Inv-loop μ-loop
 loop-less c =
@@ -91,7 +91,7 @@ loop-again : tie.Need-loop-again Inv-loop μ-loop
 loop-again c =
     let at-loop = c .before .before .before .before .before .before .before .before .before in
     let start = c .before .before .before .before .before .before .before .before .before .before .before .before in
-    again (c .before .before .before .before .before .before .before .before .before .before .before .before .args .s .now) (at-loop .loop .out) (at-loop .loop .n) (at-loop .loop .at) _ _ (sym (c .before .before .before .before .before .before .before .read-op .ensures) ∙ c .before .before .before .before .before .read .given .1) (c .before .before .before .before .before .before .before .before .loop-test .taken) (omega (arith, at-loop .loop .inv .1, at-loop .loop .inv .2, start .pre)) (start .args .out .now) _ _ _ _ (c .before .before .put-line .ensures) (at-loop .loop .inv .1) (at-loop .loop .inv .2) (at-loop .loop .inv .3)
+    again (c .before .before .before .before .before .before .before .before .before .before .before .before .args .delta .now) (at-loop .loop .out) (at-loop .loop .n) (at-loop .loop .at) _ _ (sym (c .before .before .before .before .before .before .before .read-op .ensures) ∙ c .before .before .before .before .before .read .given .1) (c .before .before .before .before .before .before .before .before .loop-test .taken) (omega (arith, at-loop .loop .inv .1, at-loop .loop .inv .2, start .pre)) (start .args .out .now) _ _ _ _ (c .before .before .put-line .ensures) (at-loop .loop .inv .1) (at-loop .loop .inv .2) (at-loop .loop .inv .3)
 
 same-length-2 : tie.Need-same-length-2 Inv-loop μ-loop
 same-length-2 c = c .before .loop .inv .1

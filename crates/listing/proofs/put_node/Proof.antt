@@ -15,7 +15,7 @@ unfolding opLine
 put-numbered-requires c κs =
     let start = c .before .before .before in
     let x = start .args in
-    room-first (x .at) (numbered (ascii "op=node id=") (x .number)) (numbered (ascii " gc=") (x .gc) ++ (numbered (ascii " from=") (x .from) ++ lineFeed)) (x .out .now) (start .pre)
+    room-first (x .at) (numbered (ascii "op=node id=") (x .number)) (numbered (ascii " gc=") (x .last-gc) ++ (numbered (ascii " from=") (x .from) ++ lineFeed)) (x .out .now) (start .pre)
 
 slice-aggregate-put-numbered-2 : tie.Need-slice-aggregate-put-numbered-2
 slice-aggregate-put-numbered-2 c = search needs
@@ -25,7 +25,7 @@ unfolding opLine
 put-numbered-requires-2 c κs =
     let start = c .before .before .before .before .before .before .before .before in
     let x = start .args in
-    room-two (x .at) (numbered (ascii "op=node id=") (x .number)) (numbered (ascii " gc=") (x .gc)) (numbered (ascii " from=") (x .from) ++ lineFeed) (x .out .now) _ _ (start .pre) (c .before .before .before .before .put-numbered .ensures)
+    room-two (x .at) (numbered (ascii "op=node id=") (x .number)) (numbered (ascii " gc=") (x .last-gc)) (numbered (ascii " from=") (x .from) ++ lineFeed) (x .out .now) _ _ (start .pre) (c .before .before .before .before .put-numbered .ensures)
 
 slice-aggregate-put-numbered-3 : tie.Need-slice-aggregate-put-numbered-3
 slice-aggregate-put-numbered-3 c = search needs
@@ -35,7 +35,7 @@ unfolding opLine
 put-numbered-requires-3 c κs =
     let start = c .before .before .before .before .before .before .before .before .before .before .before .before .before in
     let x = start .args in
-    room-two _ (numbered (ascii " gc=") (x .gc)) (numbered (ascii " from=") (x .from)) lineFeed _ _ _ (room-second (x .at) (numbered (ascii "op=node id=") (x .number)) (numbered (ascii " gc=") (x .gc) ++ (numbered (ascii " from=") (x .from) ++ lineFeed)) (x .out .now) _ _ (start .pre) (c .before .before .before .before .before .before .before .before .before .put-numbered .ensures)) (c .before .before .before .before .put-numbered2 .ensures)
+    room-two _ (numbered (ascii " gc=") (x .last-gc)) (numbered (ascii " from=") (x .from)) lineFeed _ _ _ (room-second (x .at) (numbered (ascii "op=node id=") (x .number)) (numbered (ascii " gc=") (x .last-gc) ++ (numbered (ascii " from=") (x .from) ++ lineFeed)) (x .out .now) _ _ (start .pre) (c .before .before .before .before .before .before .before .before .before .put-numbered .ensures)) (c .before .before .before .before .put-numbered2 .ensures)
 
 slice-aggregate-put-text : tie.Need-slice-aggregate-put-text
 slice-aggregate-put-text c = search needs
@@ -45,7 +45,7 @@ unfolding opLine
 put-text-requires c κs =
     let start = c .before .before .before .before .before .before .before .before .before .before .before .before .before .before .before .before .before .before in
     let x = start .args in
-    room-three _ (numbered (ascii " gc=") (x .gc)) (numbered (ascii " from=") (x .from)) lineFeed _ _ _ (room-second (x .at) (numbered (ascii "op=node id=") (x .number)) (numbered (ascii " gc=") (x .gc) ++ (numbered (ascii " from=") (x .from) ++ lineFeed)) (x .out .now) _ _ (start .pre) (c .before .before .before .before .before .before .before .before .before .before .before .before .before .before .put-numbered .ensures)) (c .before .before .before .before .before .before .before .before .before .put-numbered2 .ensures) _ _ (c .before .before .before .before .put-numbered3 .ensures)
+    room-three _ (numbered (ascii " gc=") (x .last-gc)) (numbered (ascii " from=") (x .from)) lineFeed _ _ _ (room-second (x .at) (numbered (ascii "op=node id=") (x .number)) (numbered (ascii " gc=") (x .last-gc) ++ (numbered (ascii " from=") (x .from) ++ lineFeed)) (x .out .now) _ _ (start .pre) (c .before .before .before .before .before .before .before .before .before .before .before .before .before .before .put-numbered .ensures)) (c .before .before .before .before .before .before .before .before .before .put-numbered2 .ensures) _ _ (c .before .before .before .before .put-numbered3 .ensures)
 
 same-length : tie.Need-same-length
 same-length c = search needs
@@ -55,8 +55,8 @@ unfolding opLine
 returns c =
     let start = c .before .before .before .before .before .before .before .before .before .before .before .before .before .before .before .before .before .before .before .before .before in
     let x = start .args in
-    then (x .at) (numbered (ascii "op=node id=") (x .number)) (numbered (ascii " gc=") (x .gc) ++ (numbered (ascii " from=") (x .from) ++ lineFeed)) (x .out .now) _ _ _ _ (start .pre) (c .before .before .before .before .before .before .before .before .before .before .before .before .before .before .before .before .before .put-numbered .ensures)
-    (three _ (numbered (ascii " gc=") (x .gc)) (numbered (ascii " from=") (x .from)) lineFeed _ _ _ (room-second (x .at) (numbered (ascii "op=node id=") (x .number)) (numbered (ascii " gc=") (x .gc) ++ (numbered (ascii " from=") (x .from) ++ lineFeed)) (x .out .now) _ _ (start .pre) (c .before .before .before .before .before .before .before .before .before .before .before .before .before .before .before .before .before .put-numbered .ensures)) (c .before .before .before .before .before .before .before .before .before .before .before .before .put-numbered2 .ensures) _ _ (c .before .before .before .before .before .before .before .put-numbered3 .ensures) _ _ (c .before .before .put-text .ensures))
+    then (x .at) (numbered (ascii "op=node id=") (x .number)) (numbered (ascii " gc=") (x .last-gc) ++ (numbered (ascii " from=") (x .from) ++ lineFeed)) (x .out .now) _ _ _ _ (start .pre) (c .before .before .before .before .before .before .before .before .before .before .before .before .before .before .before .before .before .put-numbered .ensures)
+    (three _ (numbered (ascii " gc=") (x .last-gc)) (numbered (ascii " from=") (x .from)) lineFeed _ _ _ (room-second (x .at) (numbered (ascii "op=node id=") (x .number)) (numbered (ascii " gc=") (x .last-gc) ++ (numbered (ascii " from=") (x .from) ++ lineFeed)) (x .out .now) _ _ (start .pre) (c .before .before .before .before .before .before .before .before .before .before .before .before .before .before .before .before .before .put-numbered .ensures)) (c .before .before .before .before .before .before .before .before .before .before .before .before .put-numbered2 .ensures) _ _ (c .before .before .before .before .before .before .before .put-numbered3 .ensures) _ _ (c .before .before .put-text .ensures))
 
 pub put-node-spec : {M : Type 1} → statement M
 put-node-spec =

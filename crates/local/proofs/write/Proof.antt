@@ -26,7 +26,7 @@ returns : tie.Need-returns
 returns c =
     let a = (c .before .before .before .before .before .before .before .before .before .before) .args in
     let w = (c .before .before) .write-good in
-    good-table (Refused BadTable) (call (callOf (a .kind) (a .value .now) (a .time)) (a .number) (a .key .now)) (a .s .now)
+    good-table (Refused BadTable) (call (callOf (a .kind) (a .value .now) (a .clock)) (a .number) (a .key .now)) (a .table .now)
     (sym ((c .before .before .before .before .before) .check-table .ensures) ∙ (c .before .before .before .before) .if1 .taken) (w .result) (w .last .0) (w .ensures)
 
 same-length-2 : tie.Need-same-length-2
@@ -35,7 +35,7 @@ same-length-2 c = search needs
 returns-2 : tie.Need-returns-2
 returns-2 c =
     let a = (c .before .before .before .before .before .before) .args in
-    bad-table (Refused BadTable) (call (callOf (a .kind) (a .value .now) (a .time)) (a .number) (a .key .now)) (a .s .now) (sym (c .before .check-table .ensures) ∙ c .if1 .left)
+    bad-table (Refused BadTable) (call (callOf (a .kind) (a .value .now) (a .clock)) (a .number) (a .key .now)) (a .table .now) (sym (c .before .check-table .ensures) ∙ c .if1 .left)
 
 pub write-spec : {M : Type 1} → statement M
 write-spec =

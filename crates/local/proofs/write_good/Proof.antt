@@ -30,17 +30,17 @@ use Rattle.table_read.proofs.find_node.Reads as find-node-reads
 use Rattle.local_node.proofs.write_node.Reads as write-node-reads
 
 -- where the node stands
-stands : (c : tie.After-i) → findNode ((c .before .before .before .before .before .before .before) .args .number) (decode ((c .before .before .before .before .before .before .before) .args .s .now)) ≡ At (c .i .given .0 .0)
+stands : (c : tie.After-i) → findNode ((c .before .before .before .before .before .before .before) .args .number) (decode ((c .before .before .before .before .before .before .before) .args .table .now)) ≡ At (c .i .given .0 .0)
 stands c = sym ((c .before .before) .find-node .ensures) ∙ c .i .given .1
 
-within : (c : tie.After-i) → c .i .given .0 .0 < nodesOf ((c .before .before .before .before .before .before .before) .args .s .now)
-within c = let st = (c .before .before .before .before .before .before .before) in node-in (st .args .s .now) (st .pre) (st .args .number) (c .i .given .0 .0) (stands c)
+within : (c : tie.After-i) → c .i .given .0 .0 < nodesOf ((c .before .before .before .before .before .before .before) .args .table .now)
+within c = let st = (c .before .before .before .before .before .before .before) in node-in (st .args .table .now) (st .pre) (st .args .number) (c .i .given .0 .0) (stands c)
 
 below : (c : tie.After-i) → c .i .given .0 .0 < maxNodes
-below c = let st = (c .before .before .before .before .before .before .before) in omega (arith, within c, valid-few (st .args .s .now) (st .pre))
+below c = let st = (c .before .before .before .before .before .before .before) in omega (arith, within c, valid-few (st .args .table .now) (st .pre))
 
 find-node-requires : tie.Need-find-node-requires
-find-node-requires c κs = let st = (c .before .before .before .before) in (valid-long (st .args .s .now) (st .pre), valid-few (st .args .s .now) (st .pre))
+find-node-requires c κs = let st = (c .before .before .before .before) in (valid-long (st .args .table .now) (st .pre), valid-few (st .args .table .now) (st .pre))
 
 enum-known-i : tie.Need-enum-known-i
 enum-known-i c = search needs
@@ -61,12 +61,12 @@ part-write-node-start : tie.Need-part-write-node-start
 part-write-node-start c = search needs
 
 part-write-node-end : tie.Need-part-write-node-end
-part-write-node-end c = let st = (c .before .before .before .before .before .before .before .before) in omega (arith, below ((c .before)), valid-long (st .args .s .now) (st .pre))
+part-write-node-end c = let st = (c .before .before .before .before .before .before .before .before) in omega (arith, below ((c .before)), valid-long (st .args .table .now) (st .pre))
 
 write-node-requires : tie.Need-write-node-requires
 write-node-requires c κs =
     let st = (c .before .before .before .before .before .before .before .before .before) in
-    let l : List ℕ = st .args .s .now in
+    let l : List ℕ = st .args .table .now in
     let i : ℕ = (c .before .before) .i .given .0 .0 in
     let h = within ((c .before .before)) in
     subst (λ (b : List ℕ). LaidNode b × (keysRise (recsOf b) ≡ true)) (sym (seen (1 + i * 3713) 3713 l)) (node-laid l (st .pre) i h, node-rises l (st .pre) i h)
@@ -81,10 +81,10 @@ returns : tie.Need-returns
 returns c =
     let st = (c .before .before .before .before .before .before .before .before .before .before .before .before) in
     let a = st .args in
-    let l : List ℕ = a .s .now in
+    let l : List ℕ = a .table .now in
     let k : List ℕ = a .key .now in
     let i : ℕ = (c .before .before .before .before .before) .i .given .0 .0 in
-    let cl : Call = callOf (a .kind) (a .value .now) (a .time) in
+    let cl : Call = callOf (a .kind) (a .value .now) (a .clock) in
     let w = (c .before .before) .write-node in
     let acted : Acted k (decide cl k (nodeIn (nodeBytes i l))) (nodeBytes i l) (w .result) (w .last .0) =
     subst (λ (b : List ℕ). Acted k (decide cl k (nodeIn b)) b (w .result) (w .last .0)) (seen (1 + i * 3713) 3713 l) (w .ensures) in
@@ -99,7 +99,7 @@ returns-2 : tie.Need-returns-2
 returns-2 c =
     let st = (c .before .before .before .before .before .before .before) in
     let a = st .args in
-    no-node (callOf (a .kind) (a .value .now) (a .time)) (a .number) (a .key .now) (a .s .now) (st .pre) _ (sym ((c .before .before) .find-node .ensures) ∙ c .enum-told .given .1)
+    no-node (callOf (a .kind) (a .value .now) (a .clock)) (a .number) (a .key .now) (a .table .now) (st .pre) _ (sym ((c .before .before) .find-node .ensures) ∙ c .enum-told .given .1)
 
 pub write-good-spec : {M : Type 1} → statement M
 write-good-spec =

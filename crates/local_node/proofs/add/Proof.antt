@@ -38,13 +38,13 @@ unfolding adding
 not-full ch n h = pick-false (leb maxRecords (length (n .recs))) (Refuse NodeFull) (rising ch n) (lt-leb maxRecords (length (n .recs)) h)
 
 -- the count and the max that were read
-count : (c : tie.After-byte-at) → c .byte-at .result ≡ countOf ((c .before .before .before .before .before) .args .b .now)
+count : (c : tie.After-byte-at) → c .byte-at .result ≡ countOf ((c .before .before .before .before .before) .args .node .now)
 count c = c .byte-at .ensures .0
 
-has-room : (c : tie.Else1) → countOf ((c .before .before .before .before .before .before) .args .b .now) < maxRecords
+has-room : (c : tie.Else1) → countOf ((c .before .before .before .before .before .before) .args .node .now) < maxRecords
 has-room c = omega (arith, count (c .before))
 
-max : (c : tie.After-read-u64) → c .read-u64 .result ≡ nodeIn ((c .before .before .before .before .before .before .before .before) .args .b .now) .max
+max : (c : tie.After-read-u64) → c .read-u64 .result ≡ nodeIn ((c .before .before .before .before .before .before .before .before) .args .node .now) .max
 unfolding decodeNode
 max c = c .read-u64 .ensures
 
@@ -54,10 +54,10 @@ rises c = let m = max (c .before) in room _ (let h = (c .before .before .before 
 -- the decision where there is room
 on : (c : tie.Else1)
     → let a = (c .before .before .before .before .before .before) .args in
-    let ch : Change = changeOf (a .value .now) (a .status) (a .start) in adding ch (nodeIn (a .b .now)) ≡ rising ch (nodeIn (a .b .now))
+    let ch : Change = changeOf (a .value .now) (a .status) (a .start) in adding ch (nodeIn (a .node .now)) ≡ rising ch (nodeIn (a .node .now))
 on c =
     let a = (c .before .before .before .before .before .before) .args in
-    not-full (changeOf (a .value .now) (a .status) (a .start)) (nodeIn (a .b .now)) (omega (arith, has-room c, length-recs (a .b .now)))
+    not-full (changeOf (a .value .now) (a .status) (a .start)) (nodeIn (a .node .now)) (omega (arith, has-room c, length-recs (a .node .now)))
 
 byte-at-requires : tie.Need-byte-at-requires
 byte-at-requires c κs = search needs
@@ -69,8 +69,8 @@ returns : tie.Need-returns
 returns c =
     let st = (c .before .before .before .before .before .before) in
     let a = st .args in
-    refused (a .key .now) (a .b .now) (st .pre .0) _ NodeFull
-    (full (changeOf (a .value .now) (a .status) (a .start)) (nodeIn (a .b .now)) (omega (arith, count (c .before), length-recs (a .b .now))))
+    refused (a .key .now) (a .node .now) (st .pre .0) _ NodeFull
+    (full (changeOf (a .value .now) (a .status) (a .start)) (nodeIn (a .node .now)) (omega (arith, count (c .before), length-recs (a .node .now))))
 
 read-u64-requires : tie.Need-read-u64-requires
 read-u64-requires c κs = search needs
@@ -82,9 +82,9 @@ returns-2 : tie.Need-returns-2
 returns-2 c =
     let st = (c .before .before .before .before .before .before .before .before .before) in
     let a = st .args in
-    refused (a .key .now) (a .b .now) (st .pre .0) _ Exhausted
+    refused (a .key .now) (a .node .now) (st .pre .0) _ Exhausted
     (on ((c .before .before .before))
-    ∙ cannot-rise (changeOf (a .value .now) (a .status) (a .start)) (nodeIn (a .b .now)) (c .before .read-u64 .result) (max (c .before)) (c .if2 .taken))
+    ∙ cannot-rise (changeOf (a .value .now) (a .status) (a .start)) (nodeIn (a .node .now)) (c .before .read-u64 .result) (max (c .before)) (c .if2 .taken))
 
 add-set-max : tie.Need-add-set-max
 add-set-max c = search needs
@@ -98,7 +98,7 @@ add-insert-record c = search needs
 insert-record-requires : tie.Need-insert-record-requires
 insert-record-requires c κs =
     let st = (c .before .before .before .before .before .before .before .before .before .before .before .before .before .before) in
-    let b : List ℕ = st .args .b .now in
+    let b : List ℕ = st .args .node .now in
     let m : ℕ = (c .before .before .before .before .before .before) .read-u64 .result + 1 in
     let h : m < numbers = omega (arith, rises ((c .before .before .before .before .before))) in
     let s = (c .before .before .before) .set-max in
@@ -117,7 +117,7 @@ returns-3 : tie.Need-returns-3
 returns-3 c =
     let st = (c .before .before .before .before .before .before .before .before .before .before .before .before .before .before .before .before .before) in
     let a = st .args in
-    let b : List ℕ = a .b .now in
+    let b : List ℕ = a .node .now in
     let x = (c .before .before .before .before .before .before .before .before .before) .read-u64 .result in
     let v : List ℕ = a .value .now in
     let r = rises ((c .before .before .before .before .before .before .before .before)) in

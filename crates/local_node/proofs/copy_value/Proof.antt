@@ -22,13 +22,13 @@ use Rattle.table.proofs.record_of.Reads as record-of-reads
 use Rattle.table.proofs.value_of.Reads as value-of-reads
 
 -- the value
-value : (c : tie.After-value-of) → c .value-of .result .now ≡ recAt ((c .before .before .before .before) .args .j) ((c .before .before .before .before) .args .b .now) .kv .value
+value : (c : tie.After-value-of) → c .value-of .result .now ≡ recAt ((c .before .before .before .before) .args .j) ((c .before .before .before .before) .args .node .now) .kv .value
 value c = c .value-of .ensures ∙ ap (λ (x : List ℕ). decodeRec x .kv .value) ((c .before) .record-of .ensures)
 
 short : (c : tie.After-value-of) → length (c .value-of .result .now) ≤ maxValue
 short c =
     let st = (c .before .before .before .before) in
-    subst (λ (v : List ℕ). length v ≤ maxValue) (sym (value c)) (laid-rec (st .args .b .now) (st .pre .0) (st .args .j) (st .pre .1) .value-fits)
+    subst (λ (v : List ℕ). length v ≤ maxValue) (sym (value c)) (laid-rec (st .args .node .now) (st .pre .0) (st .args .j) (st .pre .1) .value-fits)
 
 front : (v l s : List ℕ) → length v ≤ length l → s ≡ put 0 v l → take (length v) s ≡ v
 front v l s h e = ap (take (length v)) e ∙ seen-first (length v) (put 0 v l) ∙ part-put 0 v l (omega arith)
@@ -39,8 +39,8 @@ record-of-requires c κs = search needs
 value-of-requires : tie.Need-value-of-requires
 value-of-requires c κs =
     let st = (c .before .before .before) in (
-      ap length (c .record-of .ensures) ∙ rec-long (st .args .b .now) (st .pre .0) (st .args .j) (st .pre .1),
-      subst (λ (x : List ℕ). valueLength x ≤ maxValue) (sym (c .record-of .ensures)) (laid-value (st .args .b .now) (st .pre .0) (st .args .j) (st .pre .1)),
+      ap length (c .record-of .ensures) ∙ rec-long (st .args .node .now) (st .pre .0) (st .args .j) (st .pre .1),
+      subst (λ (x : List ℕ). valueLength x ≤ maxValue) (sym (c .record-of .ensures)) (laid-value (st .args .node .now) (st .pre .0) (st .args .j) (st .pre .1)),
     )
 
 copy-to-requires : tie.Need-copy-to-requires

@@ -26,7 +26,7 @@ slice-aggregate-copy-value c = search needs
 copy-value-requires : tie.Need-copy-value-requires
 copy-value-requires c κs =
     let st = (c .before .before .before .before) in
-    (st .pre .0, rec-in (st .args .b .now) (st .args .key .now) (st .args .j) (st .pre .1), search needs)
+    (st .pre .0, rec-in (st .args .node .now) (st .args .key .now) (st .args .j) (st .pre .1), search needs)
 
 array-share-prefix-held : tie.Need-array-share-prefix-held
 array-share-prefix-held c = search needs
@@ -46,7 +46,7 @@ returns : tie.Need-returns
 returns c =
     let a = (c .before .before .before .before .before .before .before .before .before .before .before) .args in
     let r = (c .before .before) .rewrite in
-    subst (λ (v : List ℕ). Acted (a .key .now) (rising (changeOf v Ttl (a .time)) (nodeIn (a .b .now))) (a .b .now) (r .result) (r .last .0))
+    subst (λ (v : List ℕ). Acted (a .key .now) (rising (changeOf v Ttl (a .clock)) (nodeIn (a .node .now))) (a .node .now) (r .result) (r .last .0))
     ((c .before .before .before .before .before .before) .copy-value .ensures .2) (r .ensures)
 
 pub expire-at-spec : {M : Type 1} → statement M

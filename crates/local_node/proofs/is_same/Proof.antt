@@ -26,15 +26,15 @@ use Rattle.local_node.proofs.same_status.Reads as same-status-reads
 
 -- the bytes of the record
 long : (c : tie.After-record-of) → length (c .record-of .result .now) ≡ recWidth
-long c = let st = (c .before .before .before) in ap length (c .record-of .ensures) ∙ rec-long (st .args .b .now) (st .pre .0) (st .args .j) (st .pre .1)
+long c = let st = (c .before .before .before) in ap length (c .record-of .ensures) ∙ rec-long (st .args .node .now) (st .pre .0) (st .args .j) (st .pre .1)
 
 value-short : (c : tie.After-record-of) → valueLength (c .record-of .result .now) ≤ maxValue
 value-short c =
     let st = (c .before .before .before) in
-    subst (λ (x : List ℕ). valueLength x ≤ maxValue) (sym (c .record-of .ensures)) (laid-value (st .args .b .now) (st .pre .0) (st .args .j) (st .pre .1))
+    subst (λ (x : List ℕ). valueLength x ≤ maxValue) (sym (c .record-of .ensures)) (laid-value (st .args .node .now) (st .pre .0) (st .args .j) (st .pre .1))
 
 -- its status, as the test saw it
-status : (c : tie.After-same-status) → c .same-status .result ≡ sameStatus (recAt ((c .before .before .before .before .before) .args .j) ((c .before .before .before .before .before) .args .b .now) .kv .status) ((c .before .before .before .before .before) .args .status)
+status : (c : tie.After-same-status) → c .same-status .result ≡ sameStatus (recAt ((c .before .before .before .before .before) .args .j) ((c .before .before .before .before .before) .args .node .now) .kv .status) ((c .before .before .before .before .before) .args .status)
 status c =
     c .same-status .ensures
     ∙ ap (λ (h : Record). sameStatus (h .status) ((c .before .before .before .before .before) .args .status)) ((c .before) .read-record .ensures)
@@ -47,7 +47,7 @@ read-record-requires : tie.Need-read-record-requires
 read-record-requires c κs =
     let st = (c .before .before .before) in (
       long c,
-      subst (λ (x : List ℕ). keyLength x ≤ maxKey) (sym (c .record-of .ensures)) (laid-key (st .args .b .now) (st .pre .0) (st .args .j) (st .pre .1)),
+      subst (λ (x : List ℕ). keyLength x ≤ maxKey) (sym (c .record-of .ensures)) (laid-key (st .args .node .now) (st .pre .0) (st .args .j) (st .pre .1)),
       value-short c,
     )
 
@@ -63,7 +63,7 @@ same-requires c κs = search needs
 returns : tie.Need-returns
 returns c =
     let a = (c .before .before .before .before .before .before .before .before) .args in
-    alike-by (recAt (a .j) (a .b .now)) (a .value .now) (a .status) (c .same .result) (sym (status ((c .before .before .before))) ∙ (c .before .before) .if1 .taken)
+    alike-by (recAt (a .j) (a .node .now)) (a .value .now) (a .status) (c .same .result) (sym (status ((c .before .before .before))) ∙ (c .before .before) .if1 .taken)
     (c .same .ensures
     ∙ ap (λ (v : List ℕ). sameBytes v (a .value .now))
     ((c .before) .value-of .ensures ∙ ap (λ (x : List ℕ). decodeRec x .kv .value) ((c .before .before .before .before .before) .record-of .ensures)))
@@ -71,7 +71,7 @@ returns c =
 returns-2 : tie.Need-returns-2
 returns-2 c =
     let a = (c .before .before .before .before .before .before) .args in
-    not-alike (recAt (a .j) (a .b .now)) (a .value .now) (a .status) (sym (status ((c .before))) ∙ c .if1 .left)
+    not-alike (recAt (a .j) (a .node .now)) (a .value .now) (a .status) (sym (status ((c .before))) ∙ c .if1 .left)
 
 pub is-same-spec : {M : Type 1} → statement M
 is-same-spec =

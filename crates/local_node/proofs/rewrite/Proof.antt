@@ -24,7 +24,7 @@ use Rattle.table_write.proofs.set_max.Reads as set-max-reads
 use Rattle.fields.proofs.read_u64.Reads as read-u64-reads
 
 -- the max that was read
-max : (c : tie.After-read-u64) → c .read-u64 .result ≡ nodeIn ((c .before .before .before .before .before) .args .b .now) .max
+max : (c : tie.After-read-u64) → c .read-u64 .result ≡ nodeIn ((c .before .before .before .before .before) .args .node .now) .max
 unfolding decodeNode
 max c = c .read-u64 .ensures
 
@@ -41,8 +41,8 @@ returns : tie.Need-returns
 returns c =
     let st = (c .before .before .before .before .before .before) in
     let a = st .args in
-    refused (a .key .now) (a .b .now) (st .pre .0) _ Exhausted
-    (cannot-rise (changeOf (a .value .now) (a .status) (a .start)) (nodeIn (a .b .now)) (c .before .read-u64 .result) (max (c .before)) (c .if1 .taken))
+    refused (a .key .now) (a .node .now) (st .pre .0) _ Exhausted
+    (cannot-rise (changeOf (a .value .now) (a .status) (a .start)) (nodeIn (a .node .now)) (c .before .read-u64 .result) (max (c .before)) (c .if1 .taken))
 
 add-set-max : tie.Need-add-set-max
 add-set-max c = search needs
@@ -56,7 +56,7 @@ add-put-record c = search needs
 put-record-requires : tie.Need-put-record-requires
 put-record-requires c κs =
     let st = (c .before .before .before .before .before .before .before .before .before .before .before) in
-    let b : List ℕ = st .args .b .now in
+    let b : List ℕ = st .args .node .now in
     let m : ℕ = (c .before .before .before .before .before .before) .read-u64 .result + 1 in
     let h : m < numbers = omega (arith, rises ((c .before .before .before .before .before))) in
     let s = (c .before .before .before) .set-max in (
@@ -73,7 +73,7 @@ returns-2 : tie.Need-returns-2
 returns-2 c =
     let st = (c .before .before .before .before .before .before .before .before .before .before .before .before .before .before) in
     let a = st .args in
-    let b : List ℕ = a .b .now in
+    let b : List ℕ = a .node .now in
     let x = (c .before .before .before .before .before .before .before .before .before) .read-u64 .result in
     let v : List ℕ = a .value .now in
     let r = rises ((c .before .before .before .before .before .before .before .before)) in

@@ -30,7 +30,7 @@ is-same-requires : tie.Need-is-same-requires
 is-same-requires c κs =
     let st = (c .before .before .before .before) in (
       st .pre .0,
-      rec-in (st .args .b .now) (st .args .key .now) (st .args .j) (st .pre .1),
+      rec-in (st .args .node .now) (st .args .key .now) (st .args .j) (st .pre .1),
     )
 
 same-length : tie.Need-same-length
@@ -40,8 +40,8 @@ returns : tie.Need-returns
 returns c =
     let st = (c .before .before .before .before .before .before) in
     let a = st .args in
-    left (a .key .now) (a .b .now) (st .pre .0) _
-    (leaves (recAt (a .j) (a .b .now)) (changeOf (a .value .now) (a .status) (a .start)) (nodeIn (a .b .now)) (sym (c .before .is-same .ensures) ∙ c .if1 .taken))
+    left (a .key .now) (a .node .now) (st .pre .0) _
+    (leaves (recAt (a .j) (a .node .now)) (changeOf (a .value .now) (a .status) (a .start)) (nodeIn (a .node .now)) (sym (c .before .is-same .ensures) ∙ c .if1 .taken))
 
 rewrite-requires : tie.Need-rewrite-requires
 rewrite-requires c κs = search needs
@@ -53,8 +53,8 @@ returns-2 : tie.Need-returns-2
 returns-2 c =
     let a = (c .before .before .before .before .before .before .before .before .before .before) .args in
     let r = (c .before .before) .rewrite in
-    subst (λ (d : Decision). Acted (a .key .now) d (a .b .now) (r .result) (r .last .0))
-    (changes (recAt (a .j) (a .b .now)) (changeOf (a .value .now) (a .status) (a .start)) (nodeIn (a .b .now))
+    subst (λ (d : Decision). Acted (a .key .now) d (a .node .now) (r .result) (r .last .0))
+    (changes (recAt (a .j) (a .node .now)) (changeOf (a .value .now) (a .status) (a .start)) (nodeIn (a .node .now))
     (sym ((c .before .before .before .before .before) .is-same .ensures) ∙ (c .before .before .before .before) .if1 .left))
     (r .ensures)
 

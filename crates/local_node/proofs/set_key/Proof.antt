@@ -38,10 +38,10 @@ value-fits : (c : tie.Else2) → length ((c .before .before .before .before .bef
 value-fits c = omega arith
 
 -- where the key stands, or belongs
-stands : (c : tie.After-j) → findKey ((c .before .before .before .before .before .before .before .before .before) .args .key .now) (recsOf ((c .before .before .before .before .before .before .before .before .before) .args .b .now)) ≡ At (c .j .given .0 .0)
+stands : (c : tie.After-j) → findKey ((c .before .before .before .before .before .before .before .before .before) .args .key .now) (recsOf ((c .before .before .before .before .before .before .before .before .before) .args .node .now)) ≡ At (c .j .given .0 .0)
 stands c = sym ((c .before .before) .search-key .ensures) ∙ c .j .given .1
 
-belongs : (c : tie.After-j2) → findKey ((c .before .before .before .before .before .before .before .before .before) .args .key .now) (recsOf ((c .before .before .before .before .before .before .before .before .before) .args .b .now)) ≡ Free (c .j2 .given .0 .0)
+belongs : (c : tie.After-j2) → findKey ((c .before .before .before .before .before .before .before .before .before) .args .key .now) (recsOf ((c .before .before .before .before .before .before .before .before .before) .args .node .now)) ≡ Free (c .j2 .given .0 .0)
 belongs c = sym ((c .before .before) .search-key .ensures) ∙ c .j2 .given .1
 
 returns : tie.Need-returns
@@ -49,14 +49,14 @@ returns c =
     let st = (c .before .before .before .before) in
     let a = st .args in
     let ch : Change = changeOf (a .value .now) (a .status) (a .start) in
-    refused (a .key .now) (a .b .now) (st .pre .0) _ TooLong (long (a .key .now) ch (a .b .now) (omega arith))
+    refused (a .key .now) (a .node .now) (st .pre .0) _ TooLong (long (a .key .now) ch (a .node .now) (omega arith))
 
 returns-2 : tie.Need-returns-2
 returns-2 c =
     let st = (c .before .before .before .before .before) in
     let a = st .args in
     let ch : Change = changeOf (a .value .now) (a .status) (a .start) in
-    refused (a .key .now) (a .b .now) (st .pre .0) _ TooLong (long-value (a .key .now) ch (a .b .now) (key-fits (c .before)) (omega arith))
+    refused (a .key .now) (a .node .now) (st .pre .0) _ TooLong (long-value (a .key .now) ch (a .node .now) (key-fits (c .before)) (omega arith))
 
 search-key-requires : tie.Need-search-key-requires
 search-key-requires c κs = search needs
@@ -84,10 +84,10 @@ returns-3 : tie.Need-returns-3
 returns-3 c =
     let a = (c .before .before .before .before .before .before .before .before .before .before .before .before .before .before) .args in
     let r = (c .before .before) .set-at in
-    subst (λ (d : Decision). Acted (a .key .now) d (a .b .now) (r .result) (r .last .0))
+    subst (λ (d : Decision). Acted (a .key .now) d (a .node .now) (r .result) (r .last .0))
     (sym
-    (deciding-at (a .key .now) (nodeIn (a .b .now)) (changeOf (a .value .now) (a .status) (a .start)) (key-fits ((c .before .before .before .before .before .before .before .before .before .before))) (value-fits ((c .before .before .before .before .before .before .before .before .before)))
-    (rec-found (a .b .now) (a .key .now) _ (stands ((c .before .before .before .before .before))))))
+    (deciding-at (a .key .now) (nodeIn (a .node .now)) (changeOf (a .value .now) (a .status) (a .start)) (key-fits ((c .before .before .before .before .before .before .before .before .before .before))) (value-fits ((c .before .before .before .before .before .before .before .before .before)))
+    (rec-found (a .node .now) (a .key .now) _ (stands ((c .before .before .before .before .before))))))
     (r .ensures)
 
 same-length-2 : tie.Need-same-length-2
@@ -98,10 +98,10 @@ returns-4 c =
     let st = (c .before .before .before .before .before .before .before .before .before .before .before .before .before .before) in
     let a = st .args in
     let r = (c .before .before) .add in
-    subst (λ (d : Decision). Acted (a .key .now) d (a .b .now) (r .result) (r .last .0))
+    subst (λ (d : Decision). Acted (a .key .now) d (a .node .now) (r .result) (r .last .0))
     (sym
-    (deciding-new (a .key .now) (nodeIn (a .b .now)) (changeOf (a .value .now) (a .status) (a .start)) (key-fits ((c .before .before .before .before .before .before .before .before .before .before))) (value-fits ((c .before .before .before .before .before .before .before .before .before)))
-    (rec-missing (a .b .now) (a .key .now) _ (st .pre .1) (belongs ((c .before .before .before .before .before))))))
+    (deciding-new (a .key .now) (nodeIn (a .node .now)) (changeOf (a .value .now) (a .status) (a .start)) (key-fits ((c .before .before .before .before .before .before .before .before .before .before))) (value-fits ((c .before .before .before .before .before .before .before .before .before)))
+    (rec-missing (a .node .now) (a .key .now) _ (st .pre .1) (belongs ((c .before .before .before .before .before))))))
     (r .ensures)
 
 pub set-key-spec : {M : Type 1} → statement M

@@ -60,8 +60,8 @@ returns : tie.Need-returns
 returns c =
     let a = (c .before .before .before .before .before .before .before .before .before) .args in
     let r = (c .before .before) .set-key in
-    one (a .key .now) (a .value .now) (a .time) (a .b .now) (r .result) (r .last .0) (a .kind) _ ((c .before .before .before .before) .enum-told .given .1)
-    (subst (λ (d : Decision). Acted (a .key .now) d (a .b .now) (r .result) (r .last .0)) (set-is (a .key .now) (a .value .now) (nodeIn (a .b .now))) (r .ensures))
+    one (a .key .now) (a .value .now) (a .clock) (a .node .now) (r .result) (r .last .0) (a .kind) _ ((c .before .before .before .before) .enum-told .given .1)
+    (subst (λ (d : Decision). Acted (a .key .now) d (a .node .now) (r .result) (r .last .0)) (set-is (a .key .now) (a .value .now) (nodeIn (a .node .now))) (r .ensures))
 
 same-length-2 : tie.Need-same-length-2
 same-length-2 c = search needs
@@ -70,8 +70,8 @@ returns-2 : tie.Need-returns-2
 returns-2 c =
     let a = (c .before .before .before .before .before .before .before .before .before) .args in
     let r = (c .before .before) .set-key2 in
-    one (a .key .now) (a .value .now) (a .time) (a .b .now) (r .result) (r .last .0) (a .kind) _ ((c .before .before .before .before) .enum-told2 .given .1)
-    (subst (λ (d : Decision). Acted (a .key .now) d (a .b .now) (r .result) (r .last .0)) (ttl-is (a .key .now) (a .value .now) (a .time) (nodeIn (a .b .now))) (r .ensures))
+    one (a .key .now) (a .value .now) (a .clock) (a .node .now) (r .result) (r .last .0) (a .kind) _ ((c .before .before .before .before) .enum-told2 .given .1)
+    (subst (λ (d : Decision). Acted (a .key .now) d (a .node .now) (r .result) (r .last .0)) (ttl-is (a .key .now) (a .value .now) (a .clock) (nodeIn (a .node .now))) (r .ensures))
 
 same-length-3 : tie.Need-same-length-3
 same-length-3 c = search needs
@@ -80,7 +80,7 @@ returns-3 : tie.Need-returns-3
 returns-3 c =
     let a = (c .before .before .before .before .before .before .before .before .before) .args in
     let r = (c .before .before) .delete-key in
-    one (a .key .now) (a .value .now) (a .time) (a .b .now) (r .result) (r .last .0) (a .kind) _ ((c .before .before .before .before) .enum-told3 .given .1) (r .ensures)
+    one (a .key .now) (a .value .now) (a .clock) (a .node .now) (r .result) (r .last .0) (a .kind) _ ((c .before .before .before .before) .enum-told3 .given .1) (r .ensures)
 
 same-length-4 : tie.Need-same-length-4
 same-length-4 c = search needs
@@ -89,7 +89,7 @@ returns-4 : tie.Need-returns-4
 returns-4 c =
     let a = (c .before .before .before .before .before .before .before .before .before) .args in
     let r = (c .before .before) .expire-key in
-    one (a .key .now) (a .value .now) (a .time) (a .b .now) (r .result) (r .last .0) (a .kind) _ ((c .before .before .before .before) .enum-told4 .given .1) (r .ensures)
+    one (a .key .now) (a .value .now) (a .clock) (a .node .now) (r .result) (r .last .0) (a .kind) _ ((c .before .before .before .before) .enum-told4 .given .1) (r .ensures)
 
 pub write-node-spec : {M : Type 1} → statement M
 write-node-spec =

@@ -20,7 +20,7 @@ in-record-requires : tie.Need-in-record-requires
 in-record-requires c κs =
     let f = c .before .before .before in
     let s = f .before .before .before in
-    (s .pre .0, s .pre .2, rec-in (s .args .b .now) (s .args .key .now) (c .before .j .given .0 .0) (sym (f .search-key .ensures) ∙ c .before .j .given .1))
+    (s .pre .0, s .pre .2, rec-in (s .args .node .now) (s .args .key .now) (c .before .j .given .0 .0) (sym (f .search-key .ensures) ∙ c .before .j .given .1))
 
 enum-told : tie.Need-enum-told
 enum-told c = search needs
@@ -30,14 +30,14 @@ returns c =
     let j = c .before .before in
     let f = j .before .before in
     let a = f .before .before .before .args in
-    c .in-record .ensures ∙ sym (rec-place (a .b .now) (a .key .now) (a .i) (j .j .given .0 .0) (sym (f .search-key .ensures) ∙ j .j .given .1))
+    c .in-record .ensures ∙ sym (rec-place (a .node .now) (a .key .now) (a .i) (j .j .given .0 .0) (sym (f .search-key .ensures) ∙ j .j .given .1))
 
 returns-2 : tie.Need-returns-2
 returns-2 c =
     let f = c .before .before in
     let s = f .before .before .before in
     let a = s .args in
-    sym (rec-nowhere (a .b .now) (a .key .now) (a .i) (c .enum-told .given .0 .0) (s .pre .1) (sym (f .search-key .ensures) ∙ c .enum-told .given .1))
+    sym (rec-nowhere (a .node .now) (a .key .now) (a .i) (c .enum-told .given .0 .0) (s .pre .1) (sym (f .search-key .ensures) ∙ c .enum-told .given .1))
 
 pub in-node-spec : {M : Type 1} → statement M
 in-node-spec =

@@ -44,7 +44,7 @@ record-of-requires c κs = (search needs, omega arith)
 read-record-requires : tie.Need-read-record-requires
 read-record-requires c κs =
     let s = c .before .before in
-    let b : List ℕ = s .args .b .now in
+    let b : List ℕ = s .args .node .now in
     let j : ℕ = s .args .j in
     let e = c .record-of .ensures in (
       ap length e ∙ rec-long b (s .pre .0) j (s .pre .2),
@@ -84,21 +84,21 @@ returns c =
     let m = c .before .before in
     let p = m .before in
     let a = p .before .before .args in
-    is (a .i) (a .j) (a .b .now) (p .record-of .result .now) (m .read-record .result) (m .read-record .ensures) (p .record-of .ensures) Delete (c .enum-told .given .1)
+    is (a .i) (a .j) (a .node .now) (p .record-of .result .now) (m .read-record .result) (m .read-record .ensures) (p .record-of .ensures) Delete (c .enum-told .given .1)
 
 returns-2 : tie.Need-returns-2
 returns-2 c =
     let m = c .before .before in
     let p = m .before in
     let a = p .before .before .args in
-    is (a .i) (a .j) (a .b .now) (p .record-of .result .now) (m .read-record .result) (m .read-record .ensures) (p .record-of .ensures) Set (c .enum-told2 .given .1)
+    is (a .i) (a .j) (a .node .now) (p .record-of .result .now) (m .read-record .result) (m .read-record .ensures) (p .record-of .ensures) Set (c .enum-told2 .given .1)
 
 returns-3 : tie.Need-returns-3
 returns-3 c =
     let m = c .before .before in
     let p = m .before in
     let a = p .before .before .args in
-    is (a .i) (a .j) (a .b .now) (p .record-of .result .now) (m .read-record .result) (m .read-record .ensures) (p .record-of .ensures) Ttl (c .enum-told3 .given .1)
+    is (a .i) (a .j) (a .node .now) (p .record-of .result .now) (m .read-record .result) (m .read-record .ensures) (p .record-of .ensures) Ttl (c .enum-told3 .given .1)
 
 pub in-record-spec : {M : Type 1} → statement M
 in-record-spec =

@@ -21,14 +21,14 @@ use Rattle.fields.proofs.byte_at.Reads as byte-at-reads
 use Rattle.table_read.proofs.find_node.Reads as find-node-reads
 
 -- where the number belongs
-belongs : (c : tie.After-i) → findNode ((c .before .before .before .before .before) .args .number) (decode ((c .before .before .before .before .before) .args .s .now)) ≡ Free (c .i .given .0 .0)
+belongs : (c : tie.After-i) → findNode ((c .before .before .before .before .before) .args .number) (decode ((c .before .before .before .before .before) .args .table .now)) ≡ Free (c .i .given .0 .0)
 belongs c = sym ((c .before .before) .find-node .ensures) ∙ c .i .given .1
 
-has-room : (c : tie.Else1) → nodesOf ((c .before .before .before .before .before .before .before .before .before) .args .s .now) < maxNodes
+has-room : (c : tie.Else1) → nodesOf ((c .before .before .before .before .before .before .before .before .before) .args .table .now) < maxNodes
 has-room c = omega (arith, (c .before) .byte-at .ensures .0)
 
 find-node-requires : tie.Need-find-node-requires
-find-node-requires c κs = let st = (c .before .before) in (valid-long (st .args .s .now) (st .pre), valid-few (st .args .s .now) (st .pre))
+find-node-requires c κs = let st = (c .before .before) in (valid-long (st .args .table .now) (st .pre), valid-few (st .args .table .now) (st .pre))
 
 enum-told : tie.Need-enum-told
 enum-told c = search needs
@@ -37,7 +37,7 @@ enum-known-i : tie.Need-enum-known-i
 enum-known-i c = search needs
 
 byte-at-requires : tie.Need-byte-at-requires
-byte-at-requires c κs = let st = (c .before .before .before .before .before .before .before) in omega (arith, valid-long (st .args .s .now) (st .pre))
+byte-at-requires c κs = let st = (c .before .before .before .before .before .before .before) in omega (arith, valid-long (st .args .table .now) (st .pre))
 
 same-length : tie.Need-same-length
 same-length c = search needs
@@ -45,12 +45,12 @@ same-length c = search needs
 returns : tie.Need-returns
 returns c =
     let st = (c .before .before .before .before .before .before .before .before .before) in
-    add-full (st .args .number) (st .args .s .now) (st .pre) _ (belongs ((c .before .before .before .before))) (omega (arith, c .before .byte-at .ensures .0))
+    add-full (st .args .number) (st .args .table .now) (st .pre) _ (belongs ((c .before .before .before .before))) (omega (arith, c .before .byte-at .ensures .0))
 
 insert-node-requires : tie.Need-insert-node-requires
 insert-node-requires c κs =
     let st = (c .before .before .before .before .before .before .before .before .before .before) in
-    let l = st .args .s .now in (
+    let l = st .args .table .now in (
       valid-laid l (st .pre),
       omega (arith, free-in (toNode (st .args .number)) (decode l) ((c .before .before .before .before .before) .i .given .0 .0) (belongs ((c .before .before .before .before .before))), length-decode l),
       has-room ((c .before)),
@@ -62,7 +62,7 @@ same-length-2 c = search needs
 returns-2 : tie.Need-returns-2
 returns-2 c =
     let st = (c .before .before .before .before .before) in
-    add-held (st .args .number) (st .args .s .now) (st .pre) _ (sym ((c .before .before) .find-node .ensures) ∙ c .enum-told .given .1)
+    add-held (st .args .number) (st .args .table .now) (st .pre) _ (sym ((c .before .before) .find-node .ensures) ∙ c .enum-told .given .1)
 
 same-length-3 : tie.Need-same-length-3
 same-length-3 c = search needs
@@ -71,7 +71,7 @@ returns-3 : tie.Need-returns-3
 returns-3 c =
     let st = (c .before .before .before .before .before .before .before .before .before .before .before .before .before) in
     let w = (c .before .before) .insert-node in
-    add-new (st .args .number) (st .args .s .now) (st .pre) _ (belongs ((c .before .before .before .before .before .before .before .before))) (has-room ((c .before .before .before .before))) (w .last .0) (w .ensures)
+    add-new (st .args .number) (st .args .table .now) (st .pre) _ (belongs ((c .before .before .before .before .before .before .before .before))) (has-room ((c .before .before .before .before))) (w .last .0) (w .ensures)
 
 pub add-good-spec : {M : Type 1} → statement M
 add-good-spec =

@@ -10,7 +10,7 @@ use Rattle.nodes.proofs.new_table.Lts as lts
 use Rattle.fields.proofs.clear.Reads as clear-reads
 
 returns : tie.Need-returns
-returns c = not-made ((c .before .before) .args .s .now) (c .if1 .taken)
+returns c = not-made ((c .before .before) .args .table .now) (c .if1 .taken)
 
 clear-requires : tie.Need-clear-requires
 clear-requires c κs = search needs
@@ -19,7 +19,7 @@ same-length : tie.Need-same-length
 same-length c = search needs
 
 returns-2 : tie.Need-returns-2
-returns-2 c = made ((c .before .before .before .before .before .before) .args .s .now) ((c .before .before .before .before) .if1 .left) ((c .before .before) .clear .last .0) ((c .before .before) .clear .ensures)
+returns-2 c = made ((c .before .before .before .before .before .before) .args .table .now) ((c .before .before .before .before) .if1 .left) ((c .before .before) .clear .last .0) ((c .before .before) .clear .ensures)
 
 pub new-table-spec : {M : Type 1} → statement M
 new-table-spec = tie.close (tie.spec returns clear-requires same-length returns-2)

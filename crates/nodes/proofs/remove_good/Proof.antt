@@ -15,11 +15,11 @@ use Rattle.table_write.proofs.remove_node.Reads as remove-node-reads
 use Rattle.table_read.proofs.find_node.Reads as find-node-reads
 
 -- where the node stands
-stands : (c : tie.After-i) → findNode ((c .before .before .before .before .before) .args .number) (decode ((c .before .before .before .before .before) .args .s .now)) ≡ At (c .i .given .0 .0)
+stands : (c : tie.After-i) → findNode ((c .before .before .before .before .before) .args .number) (decode ((c .before .before .before .before .before) .args .table .now)) ≡ At (c .i .given .0 .0)
 stands c = sym ((c .before .before) .find-node .ensures) ∙ c .i .given .1
 
 find-node-requires : tie.Need-find-node-requires
-find-node-requires c κs = let st = (c .before .before) in (valid-long (st .args .s .now) (st .pre), valid-few (st .args .s .now) (st .pre))
+find-node-requires c κs = let st = (c .before .before) in (valid-long (st .args .table .now) (st .pre), valid-few (st .args .table .now) (st .pre))
 
 enum-known-i : tie.Need-enum-known-i
 enum-known-i c = search needs
@@ -27,7 +27,7 @@ enum-known-i c = search needs
 remove-node-requires : tie.Need-remove-node-requires
 remove-node-requires c κs =
     let st = (c .before .before .before .before .before .before .before) in
-    (valid-laid (st .args .s .now) (st .pre), node-in (st .args .s .now) (st .pre) (st .args .number) _ (stands ((c .before .before))))
+    (valid-laid (st .args .table .now) (st .pre), node-in (st .args .table .now) (st .pre) (st .args .number) _ (stands ((c .before .before))))
 
 enum-told : tie.Need-enum-told
 enum-told c = search needs
@@ -39,7 +39,7 @@ returns : tie.Need-returns
 returns c =
     let st = (c .before .before .before .before .before .before .before .before .before .before) in
     let w = (c .before .before) .remove-node in
-    remove-held (st .args .number) (st .args .s .now) (st .pre) _ (stands ((c .before .before .before .before .before))) (w .last .0) (w .ensures)
+    remove-held (st .args .number) (st .args .table .now) (st .pre) _ (stands ((c .before .before .before .before .before))) (w .last .0) (w .ensures)
 
 same-length-2 : tie.Need-same-length-2
 same-length-2 c = search needs
@@ -47,7 +47,7 @@ same-length-2 c = search needs
 returns-2 : tie.Need-returns-2
 returns-2 c =
     let st = (c .before .before .before .before .before) in
-    remove-none (st .args .number) (st .args .s .now) (st .pre) _ (sym ((c .before .before) .find-node .ensures) ∙ c .enum-told .given .1)
+    remove-none (st .args .number) (st .args .table .now) (st .pre) _ (sym ((c .before .before) .find-node .ensures) ∙ c .enum-told .given .1)
 
 pub remove-good-spec : {M : Type 1} → statement M
 remove-good-spec =

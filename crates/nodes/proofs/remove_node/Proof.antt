@@ -25,7 +25,7 @@ returns : tie.Need-returns
 returns c =
     let a = (c .before .before .before .before .before .before .before .before) .args in
     let w = (c .before .before) .remove-good in
-    good-table (Refused BadTable) (removeNode (a .number)) (a .s .now) (sym ((c .before .before .before .before .before) .check-table .ensures) ∙ (c .before .before .before .before) .if1 .taken) (w .result) (w .last .0) (w .ensures)
+    good-table (Refused BadTable) (removeNode (a .number)) (a .table .now) (sym ((c .before .before .before .before .before) .check-table .ensures) ∙ (c .before .before .before .before) .if1 .taken) (w .result) (w .last .0) (w .ensures)
 
 same-length-2 : tie.Need-same-length-2
 same-length-2 c = search needs
@@ -33,7 +33,7 @@ same-length-2 c = search needs
 returns-2 : tie.Need-returns-2
 returns-2 c =
     let a = (c .before .before .before .before) .args in
-    bad-table (Refused BadTable) (removeNode (a .number)) (a .s .now) (sym (c .before .check-table .ensures) ∙ c .if1 .left)
+    bad-table (Refused BadTable) (removeNode (a .number)) (a .table .now) (sym (c .before .check-table .ensures) ∙ c .if1 .left)
 
 pub remove-node-spec : {M : Type 1} → statement M
 remove-node-spec =

@@ -23,14 +23,14 @@ Inv-loop b prefix n found₀ j₀ found j = (j ≤ n) × (found ≤ j) × (found
 abbrev μ-loop : tie.MeasureT-loop
 μ-loop b prefix n found₀ j₀ found j = n - j
 
-within : (c : tie.In-loop Inv-loop μ-loop) → c .before .loop .j < countOf (c .before .before .before .before .before .args .b .now)
+within : (c : tie.In-loop Inv-loop μ-loop) → c .before .loop .j < countOf (c .before .before .before .before .before .args .node .now)
 within c = omega (arith, c .before .before .byte-at .ensures .0)
 
 byte-at-requires : tie.Need-byte-at-requires Inv-loop μ-loop
 byte-at-requires c κs = search needs
 
 loop-holds : tie.Need-loop-holds Inv-loop μ-loop
-loop-holds c = (omega arith, omega arith, zero-add (length (hitsFrom (c .before .before .before .args .prefix .now) 0 (recsOf (c .before .before .before .args .b .now)))))
+loop-holds c = (omega arith, omega arith, zero-add (length (hitsFrom (c .before .before .before .args .prefix .now) 0 (recsOf (c .before .before .before .args .node .now)))))
 
 is-hit-requires : tie.Need-is-hit-requires Inv-loop μ-loop
 is-hit-requires c κs = (c .before .before .before .before .before .pre, within c)
@@ -50,7 +50,7 @@ loop-again c =
     let q = i .before .before in
     let a = q .before .before .before .before .args in
     let k : List ℕ = a .prefix .now in
-    let b : List ℕ = a .b .now in
+    let b : List ℕ = a .node .now in
     let j : ℕ = q .loop .j in
     let left : ℕ = length (hitsLeft k (j + 1) b) in
     let n : ℕ = length (hitsFrom k 0 (recsOf b)) in
@@ -70,7 +70,7 @@ returns : tie.Need-returns Inv-loop μ-loop
 returns c =
     let q = c .before in
     let a = q .before .before .before .before .args in
-    omega (arith, q .loop .inv .2, ap length (none-left (a .prefix .now) (a .b .now) (q .loop .j) (omega (arith, q .before .byte-at .ensures .0))))
+    omega (arith, q .loop .inv .2, ap length (none-left (a .prefix .now) (a .node .now) (q .loop .j) (omega (arith, q .before .byte-at .ensures .0))))
 
 pub count-hits-spec : {M : Type 1} → statement M
 count-hits-spec =

@@ -16,7 +16,7 @@ count-hits-requires c κs = search needs
 returns : tie.Need-returns
 returns c =
     let a = c .before .before .before .before .before .args in
-    no-room (hitsFrom (a .prefix .now) 0 (recsOf (a .b .now))) (a .out .now) (c .before .count-hits .result) (c .before .count-hits .ensures) (c .if1 .taken)
+    no-room (hitsFrom (a .prefix .now) 0 (recsOf (a .node .now))) (a .out .now) (c .before .count-hits .result) (c .before .count-hits .ensures) (c .if1 .taken)
 
 write-hits-requires : tie.Need-write-hits-requires
 write-hits-requires c κs = search needs
@@ -30,7 +30,7 @@ returns-2 c =
     let t = w .before .before in
     let n = t .before in
     let a = n .before .before .before .before .args in
-    all-listed (hitsFrom (a .prefix .now) 0 (recsOf (a .b .now))) (a .out .now) (n .count-hits .result) (n .count-hits .ensures) (t .if1 .left) (w .write-hits .last .1 .1 .0) (w .write-hits .ensures)
+    all-listed (hitsFrom (a .prefix .now) 0 (recsOf (a .node .now))) (a .out .now) (n .count-hits .result) (n .count-hits .ensures) (t .if1 .left) (w .write-hits .last .1 .1 .0) (w .write-hits .ensures)
 
 pub in-node-spec : {M : Type 1} → statement M
 in-node-spec =

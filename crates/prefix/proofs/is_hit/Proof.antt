@@ -44,7 +44,7 @@ record-of-requires c κs = search needs
 key-of-requires : tie.Need-key-of-requires
 key-of-requires c κs =
     let s = c .before .before .before in
-    let b : List ℕ = s .args .b .now in
+    let b : List ℕ = s .args .node .now in
     let j : ℕ = s .args .j in
     let e = c .record-of .ensures in
     (ap length e ∙ rec-long b (s .pre .0) j (s .pre .1), subst (λ (x : List ℕ). keyLength x ≤ maxKey) (sym e) (laid-key b (s .pre .0) j (s .pre .1)))
@@ -56,7 +56,7 @@ read-record-requires : tie.Need-read-record-requires
 read-record-requires c κs =
     let r = c .before .before .before in
     let s = r .before .before .before in
-    let b : List ℕ = s .args .b .now in
+    let b : List ℕ = s .args .node .now in
     let j : ℕ = s .args .j in
     let e = r .record-of .ensures in (
       ap length e ∙ rec-long b (s .pre .0) j (s .pre .1),
@@ -80,7 +80,7 @@ returns c =
     let k = t .before .before in
     let p = k .before in
     let a = p .before .before .before .args in
-    by-status (a .prefix .now) (a .b .now) (p .record-of .result .now) (k .key-of .result .now) (a .j) (p .record-of .ensures) (k .key-of .ensures) (t .before .starts-with .result)
+    by-status (a .prefix .now) (a .node .now) (p .record-of .result .now) (k .key-of .result .now) (a .j) (p .record-of .ensures) (k .key-of .ensures) (t .before .starts-with .result)
     (t .before .starts-with .ensures) (t .if1 .taken) (m .read-record .result) (m .read-record .ensures) Delete (c .enum-told .given .1)
 
 returns-2 : tie.Need-returns-2
@@ -90,7 +90,7 @@ returns-2 c =
     let k = t .before .before in
     let p = k .before in
     let a = p .before .before .before .args in
-    by-status (a .prefix .now) (a .b .now) (p .record-of .result .now) (k .key-of .result .now) (a .j) (p .record-of .ensures) (k .key-of .ensures) (t .before .starts-with .result)
+    by-status (a .prefix .now) (a .node .now) (p .record-of .result .now) (k .key-of .result .now) (a .j) (p .record-of .ensures) (k .key-of .ensures) (t .before .starts-with .result)
     (t .before .starts-with .ensures) (t .if1 .taken) (m .read-record .result) (m .read-record .ensures) Set (c .enum-told2 .given .1)
 
 returns-3 : tie.Need-returns-3
@@ -100,7 +100,7 @@ returns-3 c =
     let k = t .before .before in
     let p = k .before in
     let a = p .before .before .before .args in
-    by-status (a .prefix .now) (a .b .now) (p .record-of .result .now) (k .key-of .result .now) (a .j) (p .record-of .ensures) (k .key-of .ensures) (t .before .starts-with .result)
+    by-status (a .prefix .now) (a .node .now) (p .record-of .result .now) (k .key-of .result .now) (a .j) (p .record-of .ensures) (k .key-of .ensures) (t .before .starts-with .result)
     (t .before .starts-with .ensures) (t .if1 .taken) (m .read-record .result) (m .read-record .ensures) Ttl (c .enum-told3 .given .1)
 
 returns-4 : tie.Need-returns-4
@@ -108,7 +108,7 @@ returns-4 c =
     let k = c .before .before in
     let p = k .before in
     let a = p .before .before .before .args in
-    other (a .prefix .now) (a .b .now) (p .record-of .result .now) (k .key-of .result .now) (a .j) (p .record-of .ensures) (k .key-of .ensures) (c .before .starts-with .result)
+    other (a .prefix .now) (a .node .now) (p .record-of .result .now) (k .key-of .result .now) (a .j) (p .record-of .ensures) (k .key-of .ensures) (c .before .starts-with .result)
     (c .before .starts-with .ensures) (c .if1 .left)
 
 pub is-hit-spec : {M : Type 1} → statement M

@@ -29,7 +29,7 @@ Inv-loop b prefix out₀ n next₀ j₀ out next j =
 abbrev μ-loop : tie.MeasureT-loop
 μ-loop b prefix out₀ n next₀ j₀ out next j = n - j
 
-within : (c : tie.In-loop Inv-loop μ-loop) → c .before .loop .j < countOf (c .before .before .before .before .before .before .args .b .now)
+within : (c : tie.In-loop Inv-loop μ-loop) → c .before .loop .j < countOf (c .before .before .before .before .before .before .args .node .now)
 within c = omega (arith, c .before .before .byte-at .ensures .0)
 
 -- a hit has a place in the list
@@ -38,7 +38,7 @@ room c =
     let i = c .before in
     let q = i .before .before in
     let s = q .before .before .before .before .before in
-    hit-room (s .args .prefix .now) (s .args .b .now) (q .loop .j) (q .loop .next) (length (q .loop .out)) (within (i .before)) (sym (i .is-hit .ensures) ∙ c .if1 .taken)
+    hit-room (s .args .prefix .now) (s .args .node .now) (q .loop .j) (q .loop .next) (length (q .loop .out)) (within (i .before)) (sym (i .is-hit .ensures) ∙ c .if1 .taken)
     (omega (arith, q .loop .inv .1, q .loop .inv .2, s .pre .1))
 
 byte-at-requires : tie.Need-byte-at-requires Inv-loop μ-loop
@@ -47,7 +47,7 @@ byte-at-requires c κs = search needs
 loop-holds : tie.Need-loop-holds Inv-loop μ-loop
 loop-holds c =
     let a = c .before .before .before .before .args in
-    (omega arith, refl, zero-add (length (hitsFrom (a .prefix .now) 0 (recsOf (a .b .now)))), refl)
+    (omega arith, refl, zero-add (length (hitsFrom (a .prefix .now) 0 (recsOf (a .node .now)))), refl)
 
 is-hit-requires : tie.Need-is-hit-requires Inv-loop μ-loop
 is-hit-requires c κs = (c .before .before .before .before .before .before .pre .0, within c)
@@ -76,7 +76,7 @@ loop-again c =
     let q = i .before .before in
     let s = q .before .before .before .before .before in
     let k : List ℕ = s .args .prefix .now in
-    let b : List ℕ = s .args .b .now in
+    let b : List ℕ = s .args .node .now in
     let j : ℕ = q .loop .j in
     let f : ℕ = q .loop .next in
     let h = within (i .before) in
@@ -104,7 +104,7 @@ returns : tie.Need-returns Inv-loop μ-loop
 returns c =
     let q = c .before in
     let a = q .before .before .before .before .before .args in
-    let none = none-left (a .prefix .now) (a .b .now) (q .loop .j) (omega (arith, q .before .byte-at .ensures .0)) in
+    let none = none-left (a .prefix .now) (a .node .now) (q .loop .j) (omega (arith, q .before .byte-at .ensures .0)) in
     sym (ap (λ (x : List ℕ). put (q .loop .next) x (q .loop .out)) none ∙ put-nil (q .loop .next) (q .loop .out)) ∙ q .loop .inv .3
 
 pub write-hits-spec : {M : Type 1} → statement M

@@ -6,10 +6,10 @@ use Rattle.removal.proofs.is_due.Reads as reads
 use Rattle.removal.proofs.is_due.Lts as lts
 
 returns : tie.Need-returns
-returns c = early (c .before .args .start) (c .before .args .time) (c .before .args .grace) (c .if1 .taken)
+returns c = early (c .before .args .start) (c .before .args .clock) (c .before .args .grace) (c .if1 .taken)
 
 returns-2 : tie.Need-returns-2
-returns-2 c = over (c .before .args .start) (c .before .args .time) (c .before .args .grace) (c .if1 .left)
+returns-2 c = over (c .before .args .start) (c .before .args .clock) (c .before .args .grace) (c .if1 .left)
 
 pub is-due-spec : {M : Type 1} → statement M
 is-due-spec = tie.close (tie.spec returns returns-2)

@@ -38,7 +38,7 @@ record-of-requires c κs = search needs
 read-record-requires : tie.Need-read-record-requires
 read-record-requires c κs =
     let s = c .before .before in
-    let b : List ℕ = s .args .b .now in
+    let b : List ℕ = s .args .node .now in
     let j : ℕ = s .args .j in
     let e = c .record-of .ensures in (
       ap length e ∙ rec-long b (s .pre .0) j (s .pre .1),
@@ -66,7 +66,7 @@ returns c =
     let m = c .before .before in
     let p = m .before in
     let a = p .before .before .args in
-    by-status (a .b .now) (p .record-of .result .now) (a .j) (a .time) (a .grace) (p .record-of .ensures) (m .read-record .result) (m .read-record .ensures) Set (c .enum-told .given .1)
+    by-status (a .node .now) (p .record-of .result .now) (a .j) (a .clock) (a .grace) (p .record-of .ensures) (m .read-record .result) (m .read-record .ensures) Set (c .enum-told .given .1)
 
 returns-2 : tie.Need-returns-2
 returns-2 c =
@@ -74,7 +74,7 @@ returns-2 c =
     let p = m .before in
     let a = p .before .before .args in
     c .is-due .ensures
-    ∙ by-status (a .b .now) (p .record-of .result .now) (a .j) (a .time) (a .grace) (p .record-of .ensures) (m .read-record .result) (m .read-record .ensures) Delete (c .before .enum-told2 .given .1)
+    ∙ by-status (a .node .now) (p .record-of .result .now) (a .j) (a .clock) (a .grace) (p .record-of .ensures) (m .read-record .result) (m .read-record .ensures) Delete (c .before .enum-told2 .given .1)
 
 returns-3 : tie.Need-returns-3
 returns-3 c =
@@ -82,7 +82,7 @@ returns-3 c =
     let p = m .before in
     let a = p .before .before .args in
     c .is-due2 .ensures
-    ∙ by-status (a .b .now) (p .record-of .result .now) (a .j) (a .time) (a .grace) (p .record-of .ensures) (m .read-record .result) (m .read-record .ensures) Ttl (c .before .enum-told3 .given .1)
+    ∙ by-status (a .node .now) (p .record-of .result .now) (a .j) (a .clock) (a .grace) (p .record-of .ensures) (m .read-record .result) (m .read-record .ensures) Ttl (c .before .enum-told3 .given .1)
 
 pub must-go-spec : {M : Type 1} → statement M
 must-go-spec =

@@ -25,7 +25,7 @@ Inv-loop b₀ time grace n₀ j₀ b n j =
 abbrev μ-loop : tie.MeasureT-loop
 μ-loop b₀ time grace n₀ j₀ b n j = n - j
 
-within : (c : tie.In-loop Inv-loop μ-loop) → c .before .loop .j < countOf (c .before .loop .b)
+within : (c : tie.In-loop Inv-loop μ-loop) → c .before .loop .j < countOf (c .before .loop .node)
 within c = omega (arith, c .before .loop .inv .1)
 
 byte-at-requires : tie.Need-byte-at-requires Inv-loop μ-loop
@@ -35,7 +35,7 @@ loop-holds : tie.Need-loop-holds Inv-loop μ-loop
 loop-holds c =
     let st = c .before .before .before in
     let a = st .args in
-    (st .pre, c .byte-at .ensures .0, omega arith, none-done (due (a .time) (a .grace)) (decodeNode (a .b .now)))
+    (st .pre, c .byte-at .ensures .0, omega arith, none-done (due (a .clock) (a .grace)) (decodeNode (a .node .now)))
 
 must-go-requires : tie.Need-must-go-requires Inv-loop μ-loop
 must-go-requires c κs = (c .before .before .loop .inv .0, within (c .before))
@@ -59,7 +59,7 @@ loop-again c =
     let i = m .before .before in
     let q = i .before in
     let a = q .before .before .before .before .args in
-    let b : List ℕ = q .loop .b in
+    let b : List ℕ = q .loop .node in
     let o = q .loop .inv .0 in
     let j : ℕ = q .loop .j in
     let h = within i in
@@ -67,7 +67,7 @@ loop-again c =
       taken-laid b o j h _ e,
       omega (arith, taken-count b o j h _ e, q .loop .inv .1),
       omega arith,
-      node-goes b o j h _ e (due (a .time) (a .grace)) (sym (m .must-go .ensures) ∙ y .if1 .taken) ∙ q .loop .inv .3,
+      node-goes b o j h _ e (due (a .clock) (a .grace)) (sym (m .must-go .ensures) ∙ y .if1 .taken) ∙ q .loop .inv .3,
     )
 
 add-j : tie.Need-add-j Inv-loop μ-loop
@@ -85,7 +85,7 @@ loop-again-2 c =
       q .loop .inv .0,
       q .loop .inv .1,
       omega arith,
-      node-stays (q .loop .b) (q .loop .inv .0) (q .loop .j) (within i) (due (a .time) (a .grace)) (sym (m .must-go .ensures) ∙ c .if1 .left) ∙ q .loop .inv .3,
+      node-stays (q .loop .node) (q .loop .inv .0) (q .loop .j) (within i) (due (a .clock) (a .grace)) (sym (m .must-go .ensures) ∙ c .if1 .left) ∙ q .loop .inv .3,
     )
 
 same-length : tie.Need-same-length Inv-loop μ-loop
@@ -97,7 +97,7 @@ returns : tie.Need-returns Inv-loop μ-loop
 returns c =
     let q = c .before in
     let a = q .before .before .before .before .args in
-    node-end (q .loop .b) (q .loop .inv .0) (due (a .time) (a .grace)) (q .loop .j) (removed (due (a .time) (a .grace)) (decodeNode (a .b .now)))
+    node-end (q .loop .node) (q .loop .inv .0) (due (a .clock) (a .grace)) (q .loop .j) (removed (due (a .clock) (a .grace)) (decodeNode (a .node .now)))
     (omega (arith, q .loop .inv .1)) (q .loop .inv .3)
 
 pub remove-due-spec : {M : Type 1} → statement M

@@ -84,7 +84,7 @@ loop-again c =
     let l : List ℕ = q .loop .table in
     let o = q .loop .inv .0 in
     let i : ℕ = q .loop .i in
-    let p : Rec → Bool = due (a .time) (a .grace) in
+    let p : Rec → Bool = due (a .clock) (a .grace) in
     let h = within j in
     let e =
     lent-by (λ (x : List ℕ). encodeNode (removed p (decodeNode x))) (1 + i * 3713) 3713 l (r .remove-due .last .0) (omega (arith, h, o .long, o .few))
@@ -105,7 +105,7 @@ returns : tie.Need-returns Inv-loop μ-loop
 returns c =
     let q = c .before in
     let a = q .before .before .before .before .args in
-    table-end (q .loop .table) (q .loop .inv .0) (due (a .time) (a .grace)) (q .loop .i) (removeAll (λ k. due (a .time) (a .grace)) (decode (a .table .now)))
+    table-end (q .loop .table) (q .loop .inv .0) (due (a .clock) (a .grace)) (q .loop .i) (removeAll (λ k. due (a .clock) (a .grace)) (decode (a .table .now)))
     (omega (arith, q .loop .inv .1)) (q .loop .inv .3)
 
 pub remove-good-spec : {M : Type 1} → statement M

@@ -24,7 +24,7 @@ returns c =
     let y = r .before .before in
     let k = y .before in
     let a = k .before .before .before .args in
-    good-removed (a .time) (a .grace) (a .table .now) (sym (k .check-table .ensures) ∙ y .if1 .taken) _ (r .remove-good .ensures)
+    good-removed (a .clock) (a .grace) (a .table .now) (sym (k .check-table .ensures) ∙ y .if1 .taken) _ (r .remove-good .ensures)
 
 same-length-2 : tie.Need-same-length-2
 same-length-2 c = search needs
@@ -33,7 +33,7 @@ returns-2 : tie.Need-returns-2
 returns-2 c =
     let k = c .before in
     let a = k .before .before .before .args in
-    bad-removed (a .time) (a .grace) (a .table .now) (sym (k .check-table .ensures) ∙ c .if1 .left)
+    bad-removed (a .clock) (a .grace) (a .table .now) (sym (k .check-table .ensures) ∙ c .if1 .left)
 
 pub remove-scheduled-spec : {M : Type 1} → statement M
 remove-scheduled-spec =

@@ -51,7 +51,7 @@ set-last-gc-requires : tie.Need-set-last-gc-requires
 set-last-gc-requires c κs =
     let w = c .before .before .before in
     let st = w .before .before .before .before .before .before .before .before in
-    less-laid (st .args .b .now) (st .pre .0) (st .args .j) (st .pre .1) _ (w .remove-record .ensures)
+    less-laid (st .args .node .now) (st .pre .0) (st .args .j) (st .pre .1) _ (w .remove-record .ensures)
 
 same-length : tie.Need-same-length
 same-length c = search needs
@@ -64,7 +64,7 @@ returns c =
     let v = m .before in
     let u = v .before .before in
     let st = u .before .before .before in
-    let b : List ℕ = st .args .b .now in
+    let b : List ℕ = st .args .node .now in
     let j : ℕ = st .args .j in
     taken-steps b (st .pre .0) j (st .pre .1) _ (w .remove-record .ensures) (m .larger .result) (recAt j b .kv .version) _
     (raised b (st .pre .0) j (st .pre .1) (u .read-u64 .result) (v .read-u642 .result) (m .larger .result) (u .read-u64 .ensures) (v .read-u642 .ensures) (m .larger .ensures))

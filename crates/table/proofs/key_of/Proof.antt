@@ -31,7 +31,7 @@ unfolding decodeRec
 key-is b k e = seen 1 k b ∙ ap (λ (n : ℕ). part 1 n b) e
 
 returns : tie.Need-returns
-returns c = key-is (c .before .before .before .args .b .now) (c .before .byte-at .result) (c .before .byte-at .ensures .0)
+returns c = key-is (c .before .before .before .args .«record» .now) (c .before .byte-at .result) (c .before .byte-at .ensures .0)
 
 pub key-of-spec : {M : Type 1} → statement M
 key-of-spec =

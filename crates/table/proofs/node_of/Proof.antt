@@ -24,7 +24,7 @@ part-result-end : tie.Need-part-result-end
 part-result-end c = search needs
 
 returns : tie.Need-returns
-returns c = seen (1 + c .before .args .i * 3713) 3713 (c .before .args .s .now)
+returns c = seen (1 + c .before .args .i * 3713) 3713 (c .before .args .table .now)
 
 pub node-of-spec : {M : Type 1} → statement M
 node-of-spec =

@@ -24,7 +24,7 @@ part-result-end : tie.Need-part-result-end
 part-result-end c = search needs
 
 returns : tie.Need-returns
-returns c = seen (33 + c .before .args .j * 115) 115 (c .before .args .b .now)
+returns c = seen (33 + c .before .args .j * 115) 115 (c .before .args .node .now)
 
 pub record-of-spec : {M : Type 1} → statement M
 record-of-spec =

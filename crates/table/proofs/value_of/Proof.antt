@@ -31,7 +31,7 @@ unfolding decodeRec
 value-is b k e = seen 34 k b ∙ ap (λ (n : ℕ). part 34 n b) e
 
 returns : tie.Need-returns
-returns c = value-is (c .before .before .before .args .b .now) (c .before .byte-at .result) (c .before .byte-at .ensures .0)
+returns c = value-is (c .before .before .before .args .«record» .now) (c .before .byte-at .result) (c .before .byte-at .ensures .0)
 
 pub value-of-spec : {M : Type 1} → statement M
 value-of-spec =

@@ -42,7 +42,7 @@ byte-at-requires c κs = search needs
 
 returns : tie.Need-returns
 returns c =
-    let b : List ℕ = c .before .before .before .args .b .now in
+    let b : List ℕ = c .before .before .before .args .node .now in
     node-stop b 0 (lt-leb (countOf b) 32 (omega arith))
 
 read-u64-requires : tie.Need-read-u64-requires
@@ -90,7 +90,7 @@ returns-2 c =
     let then3 = v .before in
     let then2 = then3 .before .before in
     let q = then2 .before .before .before .before in
-    let b : List ℕ = q .before .before .args .b .now in
+    let b : List ℕ = q .before .before .args .node .now in
     all-pass b _ (le-leb (countOf b) 32 (omega (arith, q .byte-at .ensures .0, then2 .before .before .before .if1 .left)))
     (records-test b _ _ (q .byte-at .ensures .0) (then2 .before .before .read-u64 .ensures) _ (then2 .before .check-records .ensures) ∙ then2 .if2 .taken)
     (sym (then3 .before .keys-rise .ensures) ∙ then3 .if3 .taken)
@@ -100,18 +100,18 @@ returns-2 c =
 returns-3 : tie.Need-returns-3
 returns-3 c =
     let q = c .before .before .before in
-    let b : List ℕ = q .before .before .before .before .before .before .before .before .before .args .b .now in
+    let b : List ℕ = q .before .before .before .before .before .before .before .before .before .args .node .now in
     node-stop b 3 (different b (q .versions-of .result) (q .before .before .before .before .before .before .before .byte-at .result) _ (c .before .all-differ .ensures) (q .versions-of .ensures .1) ∙ c .if4 .left)
 
 returns-4 : tie.Need-returns-4
 returns-4 c =
-    let b : List ℕ = c .before .before .before .before .before .before .before .before .args .b .now in
+    let b : List ℕ = c .before .before .before .before .before .before .before .before .args .node .now in
     node-stop b 2 (sym (c .before .keys-rise .ensures) ∙ c .if3 .left)
 
 returns-5 : tie.Need-returns-5
 returns-5 c =
     let q = c .before .before .before .before in
-    let b : List ℕ = q .before .before .args .b .now in
+    let b : List ℕ = q .before .before .args .node .now in
     node-stop b 1
     (records-test b _ _ (q .byte-at .ensures .0) (c .before .before .read-u64 .ensures) _ (c .before .check-records .ensures) ∙ c .if2 .left)
 

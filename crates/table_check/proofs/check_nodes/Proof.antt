@@ -55,8 +55,8 @@ loop-again c =
     let q = c .before .before .before .before in
     let a = q .before .before .args in
     let i : ℕ = q .loop .i in
-    let flag = sym (ap nodeGood (seen (1 + i * nodeWidth) nodeWidth (a .s .now))) ∙ sym (c .before .check-node .ensures) in
-    let e = blocks-turn nodeGood nodeWidth 1 (a .n) i (a .s .now) (omega arith) in
+    let flag = sym (ap nodeGood (seen (1 + i * nodeWidth) nodeWidth (a .table .now))) ∙ sym (c .before .check-node .ensures) in
+    let e = blocks-turn nodeGood nodeWidth 1 (a .n) i (a .table .now) (omega arith) in
     (omega arith, sym (e ∙ and-yes _ _ (flag ∙ c .if1 .taken)) ∙ q .loop .inv .1)
 
 returns : tie.Need-returns Inv-loop μ-loop
@@ -64,8 +64,8 @@ returns c =
     let q = c .before .before .before .before in
     let a = q .before .before .args in
     let i : ℕ = q .loop .i in
-    let flag = sym (ap nodeGood (seen (1 + i * nodeWidth) nodeWidth (a .s .now))) ∙ sym (c .before .check-node .ensures) in
-    let e = blocks-turn nodeGood nodeWidth 1 (a .n) i (a .s .now) (omega arith) in
+    let flag = sym (ap nodeGood (seen (1 + i * nodeWidth) nodeWidth (a .table .now))) ∙ sym (c .before .check-node .ensures) in
+    let e = blocks-turn nodeGood nodeWidth 1 (a .n) i (a .table .now) (omega arith) in
     sym (e ∙ and-no _ _ (flag ∙ c .if1 .left)) ∙ q .loop .inv .1
 
 returns-2 : tie.Need-returns-2 Inv-loop μ-loop

@@ -21,7 +21,7 @@ byte-at-requires c κs = search needs
 returns : tie.Need-returns
 returns c =
     let a = c .before .before .before .before .args in
-    rec-stop (a .max) (a .b .now) 0 (lt-leb (keyLength (a .b .now)) 32 (omega arith))
+    rec-stop (a .max) (a .«record» .now) 0 (lt-leb (keyLength (a .«record» .now)) 32 (omega arith))
 
 byte-at-requires-2 : tie.Need-byte-at-requires-2
 byte-at-requires-2 c κs = search needs
@@ -29,7 +29,7 @@ byte-at-requires-2 c κs = search needs
 returns-2 : tie.Need-returns-2
 returns-2 c =
     let a = c .before .before .before .before .before .before .args in
-    rec-stop (a .max) (a .b .now) 1 (lt-leb (valueLength (a .b .now)) 64 (omega arith))
+    rec-stop (a .max) (a .«record» .now) 1 (lt-leb (valueLength (a .«record» .now)) 64 (omega arith))
 
 read-u64-requires : tie.Need-read-u64-requires
 read-u64-requires c κs = search needs
@@ -37,12 +37,12 @@ read-u64-requires c κs = search needs
 returns-3 : tie.Need-returns-3
 returns-3 c =
     let a = c .before .before .before .before .before .before .before .before .args in
-    rec-stop (a .max) (a .b .now) 2 (lt-leb 1 (versionOf (a .b .now)) (omega arith))
+    rec-stop (a .max) (a .«record» .now) 2 (lt-leb 1 (versionOf (a .«record» .now)) (omega arith))
 
 returns-4 : tie.Need-returns-4
 returns-4 c =
     let a = c .before .before .before .before .before .before .before .before .before .args in
-    rec-stop (a .max) (a .b .now) 3 (lt-leb (versionOf (a .b .now)) (a .max) (omega arith))
+    rec-stop (a .max) (a .«record» .now) 3 (lt-leb (versionOf (a .«record» .now)) (a .max) (omega arith))
 
 byte-at-requires-3 : tie.Need-byte-at-requires-3
 byte-at-requires-3 c κs = search needs
@@ -50,7 +50,7 @@ byte-at-requires-3 c κs = search needs
 returns-5 : tie.Need-returns-5
 returns-5 c =
     let a = c .before .before .before .before .before .before .before .before .before .before .before .args in
-    rec-stop (a .max) (a .b .now) 4 (lt-leb (natOf (part 106 1 (a .b .now))) 2 (omega arith))
+    rec-stop (a .max) (a .«record» .now) 4 (lt-leb (natOf (part 106 1 (a .«record» .now))) 2 (omega arith))
 
 clean-behind-requires : tie.Need-clean-behind-requires
 clean-behind-requires c κs = search needs
@@ -67,7 +67,7 @@ past max b k v ek ev h1 h2 h3 h4 h5 =
 
 passed : (c : tie.Else5)
     → let l2 = c .before .before .before .before .before in
-    let b : List ℕ = l2 .before .before .before .before .before .before .args .b .now in
+    let b : List ℕ = l2 .before .before .before .before .before .before .args .«record» .now in
     let max : ℕ = l2 .before .before .before .before .before .before .args .max in
     let k : ℕ = l2 .before .before .before .byte-at .result in
     let v : ℕ = l2 .before .byte-at2 .result in
@@ -75,7 +75,7 @@ passed : (c : tie.Else5)
 passed c =
     let l2 = c .before .before .before .before .before in
     let a = l2 .before .before .before .before .before .before .args in
-    past (a .max) (a .b .now) (l2 .before .before .before .byte-at .result) (l2 .before .byte-at2 .result) (l2 .before .before .before .byte-at .ensures .0) (l2 .before .byte-at2 .ensures .0)
+    past (a .max) (a .«record» .now) (l2 .before .before .before .byte-at .result) (l2 .before .byte-at2 .result) (l2 .before .before .before .byte-at .ensures .0) (l2 .before .byte-at2 .ensures .0)
     (omega arith) (omega arith) (omega arith) (omega arith) (omega arith)
 
 returns-6 : tie.Need-returns-6

@@ -61,8 +61,8 @@ loop-again c =
     let q = c .before .before .before .before .before in
     let a = q .before .before .before .args in
     let i : ℕ = q .loop .i in
-    let flag = sym (ap (recGood (a .max)) (seen (33 + i * recWidth) recWidth (a .b .now))) ∙ sym (c .before .check-record .ensures) in
-    let e = blocks-turn (recGood (a .max)) recWidth 33 (a .n) i (a .b .now) (omega arith) in
+    let flag = sym (ap (recGood (a .max)) (seen (33 + i * recWidth) recWidth (a .node .now))) ∙ sym (c .before .check-record .ensures) in
+    let e = blocks-turn (recGood (a .max)) recWidth 33 (a .n) i (a .node .now) (omega arith) in
     (omega arith, sym (e ∙ and-yes _ _ (flag ∙ c .if1 .taken)) ∙ q .loop .inv .1)
 
 returns : tie.Need-returns Inv-loop μ-loop
@@ -70,8 +70,8 @@ returns c =
     let q = c .before .before .before .before .before in
     let a = q .before .before .before .args in
     let i : ℕ = q .loop .i in
-    let flag = sym (ap (recGood (a .max)) (seen (33 + i * recWidth) recWidth (a .b .now))) ∙ sym (c .before .check-record .ensures) in
-    let e = blocks-turn (recGood (a .max)) recWidth 33 (a .n) i (a .b .now) (omega arith) in
+    let flag = sym (ap (recGood (a .max)) (seen (33 + i * recWidth) recWidth (a .node .now))) ∙ sym (c .before .check-record .ensures) in
+    let e = blocks-turn (recGood (a .max)) recWidth 33 (a .n) i (a .node .now) (omega arith) in
     sym (e ∙ and-no _ _ (flag ∙ c .if1 .left)) ∙ q .loop .inv .1
 
 returns-2 : tie.Need-returns-2 Inv-loop μ-loop

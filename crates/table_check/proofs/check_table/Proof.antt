@@ -19,8 +19,8 @@ use Rattle.table_check.proofs.check_table.Statement.{statement}
 use Rattle.table_check.proofs.check_table.Tie as tie
 
 -- what is known of a slice
-bytes : (c : tie.After-shared-slice-known) → AreBytes (c .before .args .s .now)
-bytes c = at-bytes (c .before .args .s .now) (λ i. c .shared-slice-known .given i .fits)
+bytes : (c : tie.After-shared-slice-known) → AreBytes (c .before .args .table .now)
+bytes c = at-bytes (c .before .args .table .now) (λ i. c .shared-slice-known .given i .fits)
 
 nodes-test : (l : List ℕ) (n : ℕ) (t : Bool) → n ≡ nodesOf l → t ≡ allBlocks nodeGood nodeWidth n (drop 1 l) → getD (tableTests l) 1 true ≡ t
 nodes-test l n t en e = sym (e ∙ ap (λ (k : ℕ). allBlocks nodeGood nodeWidth k (drop 1 l)) en)
@@ -33,7 +33,7 @@ zeros-test l n t en h e =
     sym (e ∙ ap (λ (k : ℕ). allZero (take k (drop (1 + n * nodeWidth) l))) p ∙ ap (λ (k : ℕ). allZero (part (1 + k * nodeWidth) ((8 - k) * nodeWidth) l)) en)
 
 returns : tie.Need-returns
-returns c = length-stop (c .before .before .args .s .now) (c .if1 .taken)
+returns c = length-stop (c .before .before .args .table .now) (c .if1 .taken)
 
 byte-at-requires : tie.Need-byte-at-requires
 byte-at-requires c κs = search needs
@@ -41,7 +41,7 @@ byte-at-requires c κs = search needs
 returns-2 : tie.Need-returns-2
 returns-2 c =
     let q = c .before .before .before in
-    let l : List ℕ = q .before .args .s .now in
+    let l : List ℕ = q .before .args .table .now in
     table-stop l (bytes q) 0 (lt-leb (nodesOf l) 8 (omega arith))
 
 check-nodes-requires : tie.Need-check-nodes-requires
@@ -74,7 +74,7 @@ returns-3 c =
     let then3 = then4 .before .before in
     let b = then3 .before .before .before in
     let q = b .before .before in
-    let l : List ℕ = q .before .args .s .now in
+    let l : List ℕ = q .before .args .table .now in
     table-pass l (bytes q) _ (b .before .if1 .left) (le-leb (nodesOf l) 8 (omega (arith, b .byte-at .ensures .0, then3 .before .before .if2 .left)))
     (nodes-test l _ _ (b .byte-at .ensures .0) (then3 .before .check-nodes .ensures) ∙ then3 .if3 .taken)
     (sym (then4 .before .numbers-rise .ensures) ∙ then4 .if4 .taken)
@@ -84,13 +84,13 @@ returns-4 : tie.Need-returns-4
 returns-4 c =
     let b = c .before .before .before .before .before in
     let q = b .before .before in
-    table-stop (q .before .args .s .now) (bytes q) 2 (sym (c .before .numbers-rise .ensures) ∙ c .if4 .left)
+    table-stop (q .before .args .table .now) (bytes q) 2 (sym (c .before .numbers-rise .ensures) ∙ c .if4 .left)
 
 returns-5 : tie.Need-returns-5
 returns-5 c =
     let b = c .before .before .before in
     let q = b .before .before in
-    let l : List ℕ = q .before .args .s .now in
+    let l : List ℕ = q .before .args .table .now in
     table-stop l (bytes q) 1 (nodes-test l _ _ (b .byte-at .ensures .0) (c .before .check-nodes .ensures) ∙ c .if3 .left)
 
 pub check-table-spec : {M : Type 1} → statement M

@@ -100,7 +100,7 @@ module _ (at k i d : ℕ) (l : List ℕ) (fits : at + i < length l) (long : k �
       ]
 
 loop-holds : tie.Need-loop-holds Inv-loop μ-loop
-loop-holds c = (omega arith, none (c .args .at + c .args .k) (c .args .k) (c .args .b .now))
+loop-holds c = (omega arith, none (c .args .at + c .args .k) (c .args .k) (c .args .«record» .now))
 
 add-seen : tie.Need-add-seen Inv-loop μ-loop
 add-seen c = search needs
@@ -131,8 +131,8 @@ loop-again c =
     let i : ℕ = q .loop .i in
     let d : ℕ = q .loop .seen in (
       omega arith,
-      ap (λ (m : List ℕ). eqb (bitOr d (bitAnd (getD (a .b .now) (a .at + i) 0) (getD m (64 - a .k + i) 0))) 0) (s .pre .3)
-          ∙ turn (a .at) (a .k) i d (a .b .now) (omega arith) (omega arith) (omega arith) (c .before .shared-slice-known .given (a .at + i) .fits) (q .loop .inv .1),
+      ap (λ (m : List ℕ). eqb (bitOr d (bitAnd (getD (a .«record» .now) (a .at + i) 0) (getD m (64 - a .k + i) 0))) 0) (s .pre .3)
+          ∙ turn (a .at) (a .k) i d (a .«record» .now) (omega arith) (omega arith) (omega arith) (c .before .shared-slice-known .given (a .at + i) .fits) (q .loop .inv .1),
     )
 
 returns : tie.Need-returns Inv-loop μ-loop
@@ -140,7 +140,7 @@ returns c =
     let q = c .before in
     let a = q .before .args in
     let p : q .loop .i ≡ a .n = omega arith in
-    q .loop .inv .1 ∙ ap (λ (j : ℕ). allZero (part (a .at + a .k) (j - a .k) (a .b .now))) p
+    q .loop .inv .1 ∙ ap (λ (j : ℕ). allZero (part (a .at + a .k) (j - a .k) (a .«record» .now))) p
 
 pub clean-behind-spec : {M : Type 1} → statement M
 clean-behind-spec =

@@ -103,7 +103,7 @@ key-below-requires : tie.Need-key-below-requires Inv-loop μ-loop
 key-below-requires c κs =
     let q = c .before .before .before in
     let a = q .before .before .args in
-    asked (a .b .now) (a .n) (a .max) (q .loop .i) (omega arith) (omega arith) (omega arith) (q .before .before .pre .3)
+    asked (a .node .now) (a .n) (a .max) (q .loop .i) (omega arith) (omega arith) (omega arith) (q .before .before .pre .3)
 
 add-i : tie.Need-add-i Inv-loop μ-loop
 add-i c = search needs
@@ -115,20 +115,20 @@ loop-again : tie.Need-loop-again Inv-loop μ-loop
 loop-again c =
     let q = c .before .before .before .before .before in
     let a = q .before .before .args in
-    let e = turn (a .b .now) (a .n) (a .max) (q .loop .i) (omega arith) (omega arith) (omega arith) (q .before .before .pre .3) (c .before .key-below .result) (c .before .key-below .ensures) (omega arith) in
+    let e = turn (a .node .now) (a .n) (a .max) (q .loop .i) (omega arith) (omega arith) (omega arith) (q .before .before .pre .3) (c .before .key-below .result) (c .before .key-below .ensures) (omega arith) in
     (omega arith, sym (e ∙ and-yes _ _ (c .if1 .taken)) ∙ q .loop .inv .1)
 
 returns : tie.Need-returns Inv-loop μ-loop
 returns c =
     let q = c .before .before .before .before .before in
     let a = q .before .before .args in
-    let e = turn (a .b .now) (a .n) (a .max) (q .loop .i) (omega arith) (omega arith) (omega arith) (q .before .before .pre .3) (c .before .key-below .result) (c .before .key-below .ensures) (omega arith) in
+    let e = turn (a .node .now) (a .n) (a .max) (q .loop .i) (omega arith) (omega arith) (omega arith) (q .before .before .pre .3) (c .before .key-below .result) (c .before .key-below .ensures) (omega arith) in
     sym (e ∙ and-no _ _ (c .if1 .left)) ∙ q .loop .inv .1
 
 returns-2 : tie.Need-returns-2 Inv-loop μ-loop
 returns-2 c =
     let q = c .before in
-    let b : List ℕ = q .before .before .args .b .now in
+    let b : List ℕ = q .before .before .args .node .now in
     sym (few (drop (q .loop .i) (recsOf b)) (rw (length-drop, length-recs) (omega arith))) ∙ q .loop .inv .1
 
 pub keys-rise-spec : {M : Type 1} → statement M

@@ -78,7 +78,7 @@ loop-again c =
     let q = c .before .before .before .before in
     let a = q .before .before .args in
     let i : ℕ = q .loop .i in
-    let e = turn (a .s .now) i (c .before .before .read-u64 .result) (c .before .read-u642 .result) (omega arith) (omega arith) (omega arith) (c .before .before .read-u64 .ensures) (c .before .read-u642 .ensures) in
+    let e = turn (a .table .now) i (c .before .before .read-u64 .result) (c .before .read-u642 .result) (omega arith) (omega arith) (omega arith) (c .before .before .read-u64 .ensures) (c .before .read-u642 .ensures) in
     (omega arith, sym (e ∙ and-yes _ _ (lt-ltb _ _ (c .if1 .taken))) ∙ q .loop .inv .1)
 
 returns : tie.Need-returns Inv-loop μ-loop
@@ -86,13 +86,13 @@ returns c =
     let q = c .before .before .before .before in
     let a = q .before .before .args in
     let i : ℕ = q .loop .i in
-    let e = turn (a .s .now) i (c .before .before .read-u64 .result) (c .before .read-u642 .result) (omega arith) (omega arith) (omega arith) (c .before .before .read-u64 .ensures) (c .before .read-u642 .ensures) in
+    let e = turn (a .table .now) i (c .before .before .read-u64 .result) (c .before .read-u642 .result) (omega arith) (omega arith) (omega arith) (c .before .before .read-u64 .ensures) (c .before .read-u642 .ensures) in
     sym (e ∙ and-no _ _ (le-ltb _ _ (c .if1 .left))) ∙ q .loop .inv .1
 
 returns-2 : tie.Need-returns-2 Inv-loop μ-loop
 returns-2 c =
     let q = c .before in
-    let l : List ℕ = q .before .before .args .s .now in
+    let l : List ℕ = q .before .before .args .table .now in
     sym (short (drop (q .loop .i) (decode l)) (rw (length-drop, length-decode) (omega arith))) ∙ q .loop .inv .1
 
 pub numbers-rise-spec : {M : Type 1} → statement M

@@ -78,14 +78,14 @@ loop-again c =
     let a = q .before .before .args in (
       omega arith,
       length-set (q .loop .vs) (q .loop .i) (c .read-u64 .result) ∙ q .loop .inv .1,
-      turn (a .b .now) (q .loop .vs) (q .loop .i) (c .read-u64 .result) _ (omega arith) (omega arith) (omega arith) (q .loop .inv .1) (c .read-u64 .ensures) (q .loop .inv .2),
+      turn (a .node .now) (q .loop .vs) (q .loop .i) (c .read-u64 .result) _ (omega arith) (omega arith) (omega arith) (q .loop .inv .1) (c .read-u64 .ensures) (q .loop .inv .2),
     )
 
 returns : tie.Need-returns Inv-loop μ-loop
 returns c =
     let q = c .before in
     let a = q .before .before .args in
-    (q .loop .inv .1, over (a .b .now) (q .loop .vs) (q .loop .i) (a .n) _ (omega arith) (omega arith) (q .loop .inv .2))
+    (q .loop .inv .1, over (a .node .now) (q .loop .vs) (q .loop .i) (a .n) _ (omega arith) (omega arith) (q .loop .inv .2))
 
 pub versions-of-spec : {M : Type 1} → statement M
 versions-of-spec =

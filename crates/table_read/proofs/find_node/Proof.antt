@@ -44,7 +44,7 @@ module _ (number i x : ℕ) (l : List ℕ) (e : length l ≡ tableWidth) (h : i 
 loop-holds : tie.Need-loop-holds Inv-loop μ-loop
 loop-holds c =
     let a = c .before .before .args in
-    (omega arith, start (toNode (a .number)) (decode (a .s .now)))
+    (omega arith, start (toNode (a .number)) (decode (a .table .now)))
 
 mul-read-u64 : tie.Need-mul-read-u64 Inv-loop μ-loop
 mul-read-u64 c = search needs
@@ -59,13 +59,13 @@ returns : tie.Need-returns Inv-loop μ-loop
 returns c =
     let q = c .before .before .before in
     let a = q .before .before .before .args in
-    sym (turn-same (a .number) (q .loop .i) (c .before .read-u64 .result) (a .s .now) (omega arith) (omega arith) (omega arith) (c .before .read-u64 .ensures) (c .if1 .taken)) ∙ q .loop .inv .1
+    sym (turn-same (a .number) (q .loop .i) (c .before .read-u64 .result) (a .table .now) (omega arith) (omega arith) (omega arith) (c .before .read-u64 .ensures) (c .if1 .taken)) ∙ q .loop .inv .1
 
 returns-2 : tie.Need-returns-2 Inv-loop μ-loop
 returns-2 c =
     let q = c .before .before .before .before in
     let a = q .before .before .before .args in
-    sym (turn-less (a .number) (q .loop .i) (c .before .before .read-u64 .result) (a .s .now) (omega arith) (omega arith) (omega arith) (c .before .before .read-u64 .ensures) (c .if2 .taken)) ∙ q .loop .inv .1
+    sym (turn-less (a .number) (q .loop .i) (c .before .before .read-u64 .result) (a .table .now) (omega arith) (omega arith) (omega arith) (c .before .before .read-u64 .ensures) (c .if2 .taken)) ∙ q .loop .inv .1
 
 add-i : tie.Need-add-i Inv-loop μ-loop
 add-i c = search needs
@@ -78,13 +78,13 @@ loop-again c =
     let q = c .before .before .before .before in
     let a = q .before .before .before .args in
     let far : c .before .before .read-u64 .result < a .number = omega (arith, c .before .if1 .left) in
-    (omega arith, sym (turn-more (a .number) (q .loop .i) (c .before .before .read-u64 .result) (a .s .now) (omega arith) (omega arith) (omega arith) (c .before .before .read-u64 .ensures) far) ∙ q .loop .inv .1)
+    (omega arith, sym (turn-more (a .number) (q .loop .i) (c .before .before .read-u64 .result) (a .table .now) (omega arith) (omega arith) (omega arith) (c .before .before .read-u64 .ensures) far) ∙ q .loop .inv .1)
 
 returns-3 : tie.Need-returns-3 Inv-loop μ-loop
 returns-3 c =
     let q = c .before in
     let a = q .before .before .before .args in
-    let t : Table = decode (a .s .now) in
+    let t : Table = decode (a .table .now) in
     sym (end (toNode (a .number)) t (q .loop .i) (rw length-decode (omega arith))) ∙ q .loop .inv .1
 
 pub find-node-spec : {M : Type 1} → statement M

@@ -26,7 +26,7 @@ header-is b beat max gc p q r = λ i. record { heartbeat = record { 0 = p i }; m
 
 returns : tie.Need-returns
 returns c =
-    header-is (c .before .before .before .before .args .b .now) (c .before .before .read-u64 .result) (c .before .read-u642 .result) (c .read-u643 .result) (c .before .before .read-u64 .ensures) (c .before .read-u642 .ensures) (c .read-u643 .ensures)
+    header-is (c .before .before .before .before .args .node .now) (c .before .before .read-u64 .result) (c .before .read-u642 .result) (c .read-u643 .result) (c .before .before .read-u64 .ensures) (c .before .read-u642 .ensures) (c .read-u643 .ensures)
 
 pub read-header-spec : {M : Type 1} → statement M
 read-header-spec =

@@ -51,7 +51,7 @@ returns c =
     let k = v .before in
     let s = k .before in
     let a = s .before .before .before in
-    record-is (a .args .b .now) (k .byte-at2 .result) (v .byte-at3 .result) (n .read-u64 .result) (c .read-u642 .result) (s .before .byte-at .result) (s .of-byte .result)
+    record-is (a .args .«record» .now) (k .byte-at2 .result) (v .byte-at3 .result) (n .read-u64 .result) (c .read-u642 .result) (s .before .byte-at .result) (s .of-byte .result)
     (a .pre .0) (a .pre .1) (a .pre .2) (k .byte-at2 .ensures .0) (v .byte-at3 .ensures .0) (n .read-u64 .ensures) (s .of-byte .ensures) (s .before .byte-at .ensures .0) (c .read-u642 .ensures)
 
 pub read-record-spec : {M : Type 1} → statement M

@@ -36,7 +36,7 @@ mid q = (q .loop .low + q .loop .high) / 2
 halved : (a b : ℕ) → a < b → (a ≤ (a + b) / 2) × ((a + b) / 2 < b)
 halved a b h = (omega arith, omega arith)
 
-within : (c : tie.In-loop Inv-loop μ-loop) → mid (c .before) < countOf (c .before .before .before .before .before .args .b .now)
+within : (c : tie.In-loop Inv-loop μ-loop) → mid (c .before) < countOf (c .before .before .before .before .before .args .node .now)
 within c = omega (arith, halved (c .before .loop .low) (c .before .loop .high) (c .loop-test .taken) .1)
 
 halves : (c : tie.After-compare Inv-loop μ-loop)
@@ -48,7 +48,7 @@ halves c =
 -- what the comparison says
 is : (c : tie.After-compare Inv-loop μ-loop)
     → let q = c .before .before .before .before in
-    let a = q .before .before .before .before .args in orderOf (a .key .now) (recAt (mid q) (a .b .now) .kv .key) ≡ c .compare .result
+    let a = q .before .before .before .before .args in orderOf (a .key .now) (recAt (mid q) (a .node .now) .kv .key) ≡ c .compare .result
 is c =
     let q = c .before .before .before .before in
     let a = q .before .before .before .before .args in
@@ -58,7 +58,7 @@ loop-holds : tie.Need-loop-holds Inv-loop μ-loop
 loop-holds c =
     let a = c .before .before .before .args in
     let n = c .byte-at .ensures .0 in
-    (omega arith, omega (arith, n), start (toKey (a .key .now)) (recsOf (a .b .now)), ap (findKey (a .key .now)) (take-all (c .byte-at .result) (recsOf (a .b .now)) (rw length-recs (omega (arith, n)))))
+    (omega arith, omega (arith, n), start (toKey (a .key .now)) (recsOf (a .node .now)), ap (findKey (a .key .now)) (take-all (c .byte-at .result) (recsOf (a .node .now)) (rw length-recs (omega (arith, n)))))
 
 add-j : tie.Need-add-j Inv-loop μ-loop
 add-j c = omega (arith, c .before .before .byte-at .ensures .1)
@@ -69,7 +69,7 @@ record-of-requires c κs = (search needs, omega (arith, within c))
 key-of-requires : tie.Need-key-of-requires Inv-loop μ-loop
 key-of-requires c κs =
     let s = c .before .before .before .before .before .before in
-    let b : List ℕ = s .args .b .now in
+    let b : List ℕ = s .args .node .now in
     let j : ℕ = mid (c .before .before) in (
       ap length (c .record-of .ensures) ∙ rec-long b (s .pre .0) j (within (c .before)),
       subst (λ (x : List ℕ). keyLength x ≤ maxKey) (sym (c .record-of .ensures)) (laid-key b (s .pre .0) j (within (c .before))),
@@ -86,7 +86,7 @@ returns c =
     let m = c .before .before in
     let q = m .before .before .before .before in
     let s = q .before .before .before .before in
-    half-same (s .args .key .now) (s .args .b .now) (s .pre .1) (mid q) (within (m .before .before .before)) (is m ∙ c .enum-told .given .1)
+    half-same (s .args .key .now) (s .args .node .now) (s .pre .1) (mid q) (within (m .before .before .before)) (is m ∙ c .enum-told .given .1)
 
 enum-told-2 : tie.Need-enum-told-2 Inv-loop μ-loop
 enum-told-2 c = search needs
@@ -100,7 +100,7 @@ loop-again c =
     let q = m .before .before .before .before in
     let s = q .before .before .before .before in
     let t = halves m in
-    (t .0, omega (arith, t .1), q .loop .inv .2, half-less (s .args .key .now) (s .args .b .now) (s .pre .1) (mid q) (within (m .before .before .before)) (is m ∙ c .enum-told2 .given .1))
+    (t .0, omega (arith, t .1), q .loop .inv .2, half-less (s .args .key .now) (s .args .node .now) (s .pre .1) (mid q) (within (m .before .before .before)) (is m ∙ c .enum-told2 .given .1))
 
 enum-told-3 : tie.Need-enum-told-3 Inv-loop μ-loop
 enum-told-3 c = search needs
@@ -117,14 +117,14 @@ loop-again-2 c =
     let q = m .before .before .before .before in
     let s = q .before .before .before .before in
     let t = halves m in
-    (omega (arith, t .1), q .loop .inv .1, half-more (s .args .key .now) (s .args .b .now) (s .pre .1) (mid q) (within (m .before .before .before)) (is m ∙ c .enum-told3 .given .1), q .loop .inv .3)
+    (omega (arith, t .1), q .loop .inv .1, half-more (s .args .key .now) (s .args .node .now) (s .pre .1) (mid q) (within (m .before .before .before)) (is m ∙ c .enum-told3 .given .1), q .loop .inv .3)
 
 returns-2 : tie.Need-returns-2 Inv-loop μ-loop
 returns-2 c =
     let q = c .before in
     let s = q .before .before .before .before in
     let e : q .loop .high ≡ q .loop .low = omega arith in
-    sym (met (toKey (s .args .key .now)) (recsOf (s .args .b .now)) (q .loop .low) (ap (λ (n : ℕ). findKey (s .args .key .now) (take n (recsOf (s .args .b .now)))) (sym e) ∙ q .loop .inv .3) (q .loop .inv .2))
+    sym (met (toKey (s .args .key .now)) (recsOf (s .args .node .now)) (q .loop .low) (ap (λ (n : ℕ). findKey (s .args .key .now) (take n (recsOf (s .args .node .now)))) (sym e) ∙ q .loop .inv .3) (q .loop .inv .2))
 
 pub search-key-spec : {M : Type 1} → statement M
 search-key-spec =

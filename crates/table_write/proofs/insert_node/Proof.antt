@@ -49,7 +49,7 @@ returns c =
     let n = moved .before .before in
     let st = n .before .before .before in
     let a = st .args in
-    add-steps (a .s .now) (st .pre .0) (a .i) _ _ _ _ (n .byte-at .result) (a .number) (n .byte-at .ensures .0) (st .pre .1) (st .pre .2) (moved .move-up .ensures) (cleared .clear .ensures)
+    add-steps (a .table .now) (st .pre .0) (a .i) _ _ _ _ (n .byte-at .result) (a .number) (n .byte-at .ensures .0) (st .pre .1) (st .pre .2) (moved .move-up .ensures) (cleared .clear .ensures)
     (named .write-u64 .ensures) (counted .write-byte .ensures)
 
 pub insert-node-spec : {M : Type 1} → statement M

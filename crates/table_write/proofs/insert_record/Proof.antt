@@ -63,7 +63,7 @@ returns c =
     let st = n .before .before .before .before .before in
     let a = st .args in
     let r : Rec = recOf (a .key .now) (a .value .now) (a .version) (a .status) (a .start) in
-    insert-steps (a .b .now) (st .pre .0) (a .j) r (moved .move-up .last .0) _ _ (n .byte-at .result) (n .byte-at .ensures .0) (st .pre .1) (st .pre .2) (moved .move-up .ensures)
+    insert-steps (a .node .now) (st .pre .0) (a .j) r (moved .move-up .last .0) _ _ (n .byte-at .result) (n .byte-at .ensures .0) (st .pre .1) (st .pre .2) (moved .move-up .ensures)
     (lent (33 + a .j * 115) 115 (moved .move-up .last .0) (written .write-record .last .0) (encodeRec r) (written .write-record .ensures) (ap length (written .write-record .ensures) ∙ length-rec r))
     (counted .write-byte .ensures)
 

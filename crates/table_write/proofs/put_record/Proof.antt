@@ -42,8 +42,8 @@ returns c =
     let st = w .before .before .before .before .before in
     let a = st .args in
     let r : Rec = recOf (a .key .now) (a .value .now) (a .version) (a .status) (a .start) in
-    put-steps (a .b .now) (st .pre .0) (a .j) r _ (st .pre .1)
-    (lent (33 + a .j * 115) 115 (a .b .now) (w .write-record .last .0) (encodeRec r) (w .write-record .ensures) (ap length (w .write-record .ensures) ∙ length-rec r))
+    put-steps (a .node .now) (st .pre .0) (a .j) r _ (st .pre .1)
+    (lent (33 + a .j * 115) 115 (a .node .now) (w .write-record .last .0) (encodeRec r) (w .write-record .ensures) (ap length (w .write-record .ensures) ∙ length-rec r))
 
 pub put-record-spec : {M : Type 1} → statement M
 put-record-spec =

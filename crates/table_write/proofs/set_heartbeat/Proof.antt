@@ -19,7 +19,7 @@ returns c =
     let w = c .before .before in
     let st = w .before .before .before in
     let a = st .args in
-    w .write-u64 .ensures ∙ ap (put 8 (bytesOf 8 (a .h .0))) (sym (st .pre .is)) ∙ put-beat (decodeNode (a .b .now)) (a .h .0)
+    w .write-u64 .ensures ∙ ap (put 8 (bytesOf 8 (a .heartbeat .0))) (sym (st .pre .is)) ∙ put-beat (decodeNode (a .node .now)) (a .heartbeat .0)
 
 pub set-heartbeat-spec : {M : Type 1} → statement M
 set-heartbeat-spec = tie.close (tie.spec write-u64-requires same-length returns)

@@ -19,7 +19,7 @@ returns c =
     let w = c .before .before in
     let st = w .before .before .before in
     let a = st .args in
-    w .write-u64 .ensures ∙ ap (put 24 (bytesOf 8 (a .last-gc))) (sym (st .pre .is)) ∙ put-gc (decodeNode (a .b .now)) (a .last-gc)
+    w .write-u64 .ensures ∙ ap (put 24 (bytesOf 8 (a .last-gc))) (sym (st .pre .is)) ∙ put-gc (decodeNode (a .node .now)) (a .last-gc)
 
 pub set-last-gc-spec : {M : Type 1} → statement M
 set-last-gc-spec = tie.close (tie.spec write-u64-requires same-length returns)

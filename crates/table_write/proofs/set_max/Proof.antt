@@ -19,7 +19,7 @@ returns c =
     let w = c .before .before in
     let st = w .before .before .before in
     let a = st .args in
-    w .write-u64 .ensures ∙ ap (put 16 (bytesOf 8 (a .max))) (sym (st .pre .is)) ∙ put-max (decodeNode (a .b .now)) (a .max)
+    w .write-u64 .ensures ∙ ap (put 16 (bytesOf 8 (a .max))) (sym (st .pre .is)) ∙ put-max (decodeNode (a .node .now)) (a .max)
 
 pub set-max-spec : {M : Type 1} → statement M
 set-max-spec = tie.close (tie.spec write-u64-requires same-length returns)

@@ -34,7 +34,7 @@ returns c =
     let keyed = valued .before .before .before .before in
     let code = keyed .before .before in
     let st = code .before .before .before .before in
-    record-steps (st .args .b .now) _ _ _ _ _ (st .args .key .now) (st .args .value .now) (st .args .version) (code .byte .result) (st .args .start) (st .args .status) (st .pre .0)
+    record-steps (st .args .«record» .now) _ _ _ _ _ (st .args .key .now) (st .args .value .now) (st .args .version) (code .byte .result) (st .args .start) (st .args .status) (st .pre .0)
     (code .byte .ensures) (keyed .write-text .ensures) (valued .write-text2 .ensures) (numbered .write-u64 .ensures) (coded .write-byte .ensures) (started .write-u642 .ensures)
 
 pub write-record-spec : {M : Type 1} → statement M

@@ -28,7 +28,7 @@ returns c =
     let cleared = copied .before .before .before .before in
     let counted = cleared .before .before .before .before in
     let st = counted .before .before .before .before in
-    text-steps (st .args .b .now) _ _ _ (st .args .text .now) (st .args .at) (st .args .room) (st .pre .0) (st .pre .1) (counted .write-byte .ensures) (cleared .clear .ensures)
+    text-steps (st .args .«record» .now) _ _ _ (st .args .text .now) (st .args .at) (st .args .room) (st .pre .0) (st .pre .1) (counted .write-byte .ensures) (cleared .clear .ensures)
     (copied .copy-to .ensures)
 
 pub write-text-spec : {M : Type 1} → statement M
