@@ -1,7 +1,7 @@
 #!/usr/bin/env python3
-"""Makes the folder of samples that the program `samples` replays, and what it must write for them.
+"""Makes the folder of samples that the program `listing_samples` replays, and what it must write for them.
 
-    python3 crates/samples/make.py
+    python3 crates/listing_samples/make.py
 
 writes, beside this file, a file for each sample into data/, their names into args, and into stdout for each the name and its listing. The
 listings come from `listing` below, which was written from document 01 ("Bytes", "Numbers given on refusal", "The listing") and shares nothing

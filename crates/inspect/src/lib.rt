@@ -1,6 +1,6 @@
 // Small readings of a lent table: which nodes are held, a node's header, its records one by one. Each takes any bytes and answers a refusal where there
 // is nothing to read; the one that ends in `_good` does the same on a table known to be good, without the check. A place past the end is refused with 8.
-// The keys and values themselves are handed out by the crate recordtext.
+// The keys and values themselves are handed out by the crate `inspect_text`.
 use rules::Header;
 use rules::Record;
 use rules::Refusal;

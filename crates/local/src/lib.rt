@@ -1,5 +1,5 @@
 // The four local calls that give a version, on a lent table: set, set with TTL, delete, delete after TTL. The entry points take any bytes and refuse in
-// document 01's order: 14, 2, then what the node's rules say (crate `write`): 1, 3, nothing to change, 5, 6. A refused call changes no byte.
+// document 01's order: 14, 2, then what the node's rules say (crate `local_node`): 1, 3, nothing to change, 5, 6. A refused call changes no byte.
 // `write_good` is all four on a table known to be good, for a caller that need not pay for the check again.
 use local_node::Kind;
 use rules::Answer;
