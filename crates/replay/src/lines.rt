@@ -1,7 +1,5 @@
 // Lines of standard input, read by the chunk.
 use libc::STDIN_FILENO;
-ghost use Prim.Native.Nat.{_≤_, _<_};
-ghost use lib.ListN.{length};
 
 // Room for a line: one byte more than the longest that is taken. A line that fills it is too long.
 pub const LINE: usize = 59420;
@@ -41,9 +39,9 @@ fn move_line(chunk: &[u8], source: Source, line: &mut [u8]) -> Source {
                 closed: false,
             };
         }
-        let b = chunk[at];
+        let byte = chunk[at];
         at += 1;
-        if b == b'\n' {
+        if byte == b'\n' {
             return Source {
                 at,
                 end,
@@ -52,7 +50,7 @@ fn move_line(chunk: &[u8], source: Source, line: &mut [u8]) -> Source {
             };
         }
         if len < line.len() {
-            line[len] = b;
+            line[len] = byte;
             len += 1;
         }
     }
@@ -65,27 +63,27 @@ fn move_line(chunk: &[u8], source: Source, line: &mut [u8]) -> Source {
 }
 
 // The next line: closed by a line feed or by the input's end. It is the last where it is not closed, and none where it is empty too.
-pub fn next(chunk: &mut [u8; CHUNK], source: Source, line: &mut [u8; LINE]) -> Source {
-    let mut s = Source {
-        at: source.at,
-        end: source.end,
+pub fn next(chunk: &mut [u8; CHUNK], before: Source, line: &mut [u8; LINE]) -> Source {
+    let mut source = Source {
+        at: before.at,
+        end: before.end,
         len: 0,
         closed: false,
     };
     let mut left: u64 = 1099511627776;
     while 0 < left {
-        s = move_line(chunk, s, line);
-        if s.closed {
-            return s;
+        source = move_line(chunk, source, line);
+        if source.closed {
+            return source;
         }
         let got = libc::read(STDIN_FILENO, chunk);
         let n = io::count(got, chunk);
         if n == 0 {
-            return s;
+            return source;
         }
-        s.at = 0;
-        s.end = n;
+        source.at = 0;
+        source.end = n;
         left -= 1;
     }
-    s
+    source
 }

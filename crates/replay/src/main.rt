@@ -1,19 +1,16 @@
 // Answers the scripts of oracle/README.md, one line a call, by the port's own calls: the port's side of the comparison with the original. A line that is
 // none of the language is answered by `malformed`, without a checksum.
-mod desk;
 mod lines;
-mod local_calls;
-mod peer_calls;
-mod tell;
-mod verbs;
 
-use desk::Desk;
 use libc::STDOUT_FILENO;
 use lines::Source;
-use peer_calls::Kept;
+use replay_desk::Desk;
+use replay_peers::Kept;
+use replay_tell::checksum;
 use replay_words::print;
 use replay_words::read;
 use replay_words::read::Count;
+use replay_words::verbs;
 
 // Room for output. It is written once it holds ENOUGH; the longest answer, a digest in the longest datagram, has 65,555 bytes and fits behind.
 const OUT: usize = 131072;
@@ -23,7 +20,7 @@ const ENOUGH: usize = 65000;
 // The longest digest and the longest delta.
 const DIGEST: usize = 258;
 
-const DELTA: usize = 16384;
+const DELTA: usize = delta_read::LONGEST;
 
 // The longest datagram; one that is longer makes a line malformed.
 const DATAGRAM: usize = 32768;
@@ -32,7 +29,7 @@ const DATAGRAM: usize = 32768;
 fn bytes_call(
     desk: Desk,
     verb: usize,
-    t: &mut [u8],
+    table: &mut [u8],
     delta: &mut [u8],
     datagram: &mut [u8],
     bytes: &[u8],
@@ -41,25 +38,25 @@ fn bytes_call(
 ) -> Desk {
     let at = desk.out;
     match verb {
-        verbs::READ_DIGEST => desk.with_out(peer_calls::read_digest(bytes, out, at)),
-        verbs::READ_DELTA => desk.with_out(peer_calls::read_delta(bytes, out, at)),
-        verbs::APPLY => desk.with_out(peer_calls::apply(t, bytes, line, out, at)),
+        verbs::READ_DIGEST => desk.with_out(replay_peers::read_digest(bytes, out, at)),
+        verbs::READ_DELTA => desk.with_out(replay_peers::read_delta(bytes, out, at)),
+        verbs::APPLY => desk.with_out(replay_peers::apply(table, bytes, line, out, at)),
         _ => {
             let held = Kept {
                 at,
                 len: desk.delta,
             };
-            let kept = peer_calls::compute(t, bytes, line, datagram, delta, held, out);
-            let mut d = desk.with_out(kept.at);
-            d.delta = kept.len;
-            d
+            let kept = replay_peers::compute(table, bytes, line, datagram, delta, held, out);
+            let mut after = desk.with_out(kept.at);
+            after.delta = kept.len;
+            after
         }
     }
 }
 
 fn digest_call(
     desk: Desk,
-    t: &[u8],
+    table: &[u8],
     digest: &mut [u8],
     datagram: &mut [u8],
     line: &[u8],
@@ -69,16 +66,16 @@ fn digest_call(
         at: desk.out,
         len: desk.digest,
     };
-    let kept = peer_calls::digest(t, line, datagram, digest, held, out);
-    let mut d = desk.with_out(kept.at);
-    d.digest = kept.len;
-    d
+    let kept = replay_peers::digest(table, line, datagram, digest, held, out);
+    let mut after = desk.with_out(kept.at);
+    after.digest = kept.len;
+    after
 }
 
 fn peer_call(
     desk: Desk,
     verb: usize,
-    t: &mut [u8],
+    table: &mut [u8],
     digest: &mut [u8],
     delta: &mut [u8],
     datagram: &mut [u8],
@@ -87,9 +84,9 @@ fn peer_call(
     out: &mut [u8],
 ) -> Desk {
     match verb {
-        verbs::DIGEST => digest_call(desk, t, digest, datagram, line, out),
+        verbs::DIGEST => digest_call(desk, table, digest, datagram, line, out),
         _ => {
-            let Count::Is(n) = peer_calls::bytes_of(
+            let Count::Is(n) = read::bytes_of(
                 read::word(line, 1),
                 read::front(digest, desk.digest),
                 read::front(delta, desk.delta),
@@ -100,7 +97,7 @@ fn peer_call(
             bytes_call(
                 desk,
                 verb,
-                t,
+                table,
                 delta,
                 datagram,
                 read::front(given, n),
@@ -114,7 +111,7 @@ fn peer_call(
 // One call: what it answers is written, and nothing where the line asks for none.
 fn call(
     desk: Desk,
-    table: &mut [u8],
+    room: &mut [u8],
     digest: &mut [u8],
     delta: &mut [u8],
     datagram: &mut [u8],
@@ -122,36 +119,25 @@ fn call(
     line: &[u8],
     out: &mut [u8],
 ) -> Desk {
-    let n = desk.lent();
-    if table.len() < n {
-        return desk;
-    }
     let verb = verbs::asked(line);
     let at = desk.out;
     match verb {
         verbs::SET..=verbs::LIST => {
-            desk.with_out(local_calls::key_call(&mut table[..n], verb, line, out, at))
+            let table = read::front_mut(room, desk.lent());
+            desk.with_out(replay_local::key_call(table, verb, line, out, at))
         }
         verbs::ADD..=verbs::GC => {
-            desk.with_out(local_calls::plain_call(&mut table[..n], verb, line, out, at))
+            let table = read::front_mut(room, desk.lent());
+            desk.with_out(replay_local::plain_call(table, verb, line, out, at))
         }
         verbs::DIGEST..=verbs::APPLY => {
-            peer_call(
-                desk,
-                verb,
-                &mut table[..n],
-                digest,
-                delta,
-                datagram,
-                given,
-                line,
-                out,
-            )
+            let table = read::front_mut(room, desk.lent());
+            peer_call(desk, verb, table, digest, delta, datagram, given, line, out)
         }
-        verbs::NEW..=verbs::DUMP => desk::shelf_call(
+        verbs::NEW..=verbs::DUMP => replay_desk::shelf_call(
             desk,
             verb,
-            table,
+            room,
             read::front(digest, desk.digest),
             read::front(delta, desk.delta),
             given,
@@ -167,17 +153,17 @@ fn closed(before: Desk, after: Desk, table: &[u8], out: &mut [u8]) -> Desk {
     if before.out == after.out {
         return after.with_out(print::text(out, after.out, b"malformed\n"));
     }
-    after.with_out(tell::checksum(out, after.out, read::front(table, after.lent())))
+    after.with_out(checksum::checksum(out, after.out, read::front(table, after.lent())))
 }
 
 // One line on the current table.
 fn step(
     desk: Desk,
-    table: &mut [u8; desk::TABLE],
+    table: &mut [u8; replay_desk::TABLE],
     digest: &mut [u8; DIGEST],
     delta: &mut [u8; DELTA],
     datagram: &mut [u8; DATAGRAM],
-    given: &mut [u8; desk::TABLE],
+    given: &mut [u8; replay_desk::TABLE],
     line: &[u8],
     out: &mut [u8; OUT],
 ) -> Desk {
@@ -210,16 +196,16 @@ fn taken(line: &[u8; lines::LINE], n: usize) -> &[u8] {
 // One line, on the table of the hub that is current after it.
 fn on_line(
     before: Desk,
-    first: &mut [u8; desk::TABLE],
-    second: &mut [u8; desk::TABLE],
+    first: &mut [u8; replay_desk::TABLE],
+    second: &mut [u8; replay_desk::TABLE],
     digest: &mut [u8; DIGEST],
     delta: &mut [u8; DELTA],
     datagram: &mut [u8; DATAGRAM],
-    given: &mut [u8; desk::TABLE],
+    given: &mut [u8; replay_desk::TABLE],
     line: &[u8],
     out: &mut [u8; OUT],
 ) -> Desk {
-    let desk = desk::turned(before, line);
+    let desk = replay_desk::turned(before, line);
     if desk.hub == 0 {
         let after = step(desk, first, digest, delta, datagram, given, line, out);
         return flushed(after, out);
@@ -229,12 +215,12 @@ fn on_line(
 }
 
 fn main() {
-    let mut first = [0u8; desk::TABLE];
-    let mut second = [0u8; desk::TABLE];
+    let mut first = [0u8; replay_desk::TABLE];
+    let mut second = [0u8; replay_desk::TABLE];
     let mut digest = [0u8; DIGEST];
     let mut delta = [0u8; DELTA];
     let mut datagram = [0u8; DATAGRAM];
-    let mut given = [0u8; desk::TABLE];
+    let mut given = [0u8; replay_desk::TABLE];
     let mut chunk = [0u8; lines::CHUNK];
     let mut room = [0u8; lines::LINE];
     let mut out = [0u8; OUT];

@@ -18,11 +18,11 @@ fn has_room(len: usize, at: usize, n: usize) -> bool
     at <= len - n
 }
 
-pub fn byte(out: &mut [u8], at: usize, b: u8) -> usize
-    ensures { λ r. ⌜ page r (now (out .exit)) ≡ say (b ∷ []) (page at (now (out .entry))) ⌝ }
+pub fn byte(out: &mut [u8], at: usize, value: u8) -> usize
+    ensures { λ r. ⌜ page r (now (out .exit)) ≡ say (value ∷ []) (page at (now (out .entry))) ⌝ }
 {
     if at < out.len() {
-        out[at] = b;
+        out[at] = value;
         return at + 1;
     }
     at
@@ -40,74 +40,74 @@ pub fn text(out: &mut [u8], at: usize, text: &[u8]) -> usize
 }
 
 // Decimal digits.
-pub fn decimal(out: &mut [u8], at: usize, v: u64) -> usize
-    ensures { λ r. ⌜ page r (now (out .exit)) ≡ say (decimal v) (page at (now (out .entry))) ⌝ }
+pub fn decimal(out: &mut [u8], at: usize, value: u64) -> usize
+    ensures { λ r. ⌜ page r (now (out .exit)) ≡ say (decimal value) (page at (now (out .entry))) ⌝ }
 {
-    if has_room(out.len(), at, listing_text::decimal_len(v)) {
-        return listing_text::put_decimal(out, at, v);
+    if has_room(out.len(), at, listing_text::decimal_len(value)) {
+        return listing_text::put_decimal(out, at, value);
     }
     at
 }
 
 // A hexadecimal digit.
-fn digit(v: u64) -> u8
-    requires { ⌜ v < 16 ⌝ }
-    ensures { λ r. ⌜ r ≡ hexDigit v ⌝ }
+fn digit(value: u64) -> u8
+    requires { ⌜ value < 16 ⌝ }
+    ensures { λ r. ⌜ r ≡ hexDigit value ⌝ }
 {
-    if v < 10 {
-        return 48 + v as u8;
+    if value < 10 {
+        return 48 + value as u8;
     }
-    87 + v as u8
+    87 + value as u8
 }
 
 // A byte as a number.
-fn wide(b: u8) -> u64
-    ensures { λ r. ⌜ (r ≡ b) × (r < 256) ⌝ }
+fn wide(byte: u8) -> u64
+    ensures { λ r. ⌜ (r ≡ byte) × (r < 256) ⌝ }
 {
-    b as u64
+    byte as u64
 }
 
 // The two hexadecimal digits of a byte.
-fn two(out: &mut [u8], at: usize, b: u8) -> usize
-    ensures { λ r. ⌜ page r (now (out .exit)) ≡ say (hexDigit (b % 16) ∷ []) (say (hexDigit (b / 16) ∷ []) (page at (now (out .entry)))) ⌝ }
+fn two(out: &mut [u8], at: usize, value: u8) -> usize
+    ensures { λ r. ⌜ page r (now (out .exit)) ≡ say (hexDigit (value % 16) ∷ []) (say (hexDigit (value / 16) ∷ []) (page at (now (out .entry)))) ⌝ }
 {
-    let v = wide(b);
-    let next = byte(out, at, digit(v / 16));
-    byte(out, next, digit(v % 16))
+    let code = wide(value);
+    let next = byte(out, at, digit(code / 16));
+    byte(out, next, digit(code % 16))
 }
 
 // `x` and two hexadecimal digits a byte.
-pub fn hex(out: &mut [u8], at: usize, s: &[u8]) -> usize
-    ensures { λ r. ⌜ page r (now (out .exit)) ≡ says (hexTexts (now (s .entry))) (say (120 ∷ []) (page at (now (out .entry)))) ⌝ }
+pub fn hex(out: &mut [u8], at: usize, bytes: &[u8]) -> usize
+    ensures { λ r. ⌜ page r (now (out .exit)) ≡ says (hexTexts (now (bytes .entry))) (say (120 ∷ []) (page at (now (out .entry)))) ⌝ }
 {
     let mut next = byte(out, at, b'x');
     let mut i = 0;
-    while i < s.len() {
-        next = two(out, next, s[i]);
+    while i < bytes.len() {
+        next = two(out, next, bytes[i]);
         i += 1;
     }
     next
 }
 
 // A comma and a decimal number.
-fn more(out: &mut [u8], at: usize, b: u8) -> usize
-    ensures { λ r. ⌜ page r (now (out .exit)) ≡ say (decimal b) (say (44 ∷ []) (page at (now (out .entry)))) ⌝ }
+fn more(out: &mut [u8], at: usize, value: u8) -> usize
+    ensures { λ r. ⌜ page r (now (out .exit)) ≡ say (decimal value) (say (44 ∷ []) (page at (now (out .entry)))) ⌝ }
 {
     let next = byte(out, at, b',');
-    decimal(out, next, wide(b))
+    decimal(out, next, wide(value))
 }
 
 // The bytes as decimal numbers with commas between them; a dash where there is none.
-pub fn list(out: &mut [u8], at: usize, s: &[u8]) -> usize
-    ensures { λ r. ⌜ page r (now (out .exit)) ≡ says (listTexts (now (s .entry))) (page at (now (out .entry))) ⌝ }
+pub fn list(out: &mut [u8], at: usize, bytes: &[u8]) -> usize
+    ensures { λ r. ⌜ page r (now (out .exit)) ≡ says (listTexts (now (bytes .entry))) (page at (now (out .entry))) ⌝ }
 {
-    if s.len() == 0 {
+    if bytes.len() == 0 {
         return byte(out, at, b'-');
     }
-    let mut next = decimal(out, at, wide(s[0]));
+    let mut next = decimal(out, at, wide(bytes[0]));
     let mut i = 1;
-    while i < s.len() {
-        next = more(out, next, s[i]);
+    while i < bytes.len() {
+        next = more(out, next, bytes[i]);
         i += 1;
     }
     next

@@ -20,14 +20,14 @@ pub enum Count {
     Not,
 }
 
-// The place of the first `b` from `at` on, or the end.
-fn end_of(s: &[u8], at: usize, b: u8) -> usize
-    requires { ⌜ at ≤ length (now s) ⌝ }
-    ensures { λ r. ⌜ (r ≡ at + length (getD (pieces b (drop at (now (s .entry)))) 0 [])) × (r ≤ length (now (s .entry))) ⌝ }
+// The place of the first `separator` from `at` on, or the end.
+fn end_of(bytes: &[u8], at: usize, separator: u8) -> usize
+    requires { ⌜ at ≤ length (now bytes) ⌝ }
+    ensures { λ r. ⌜ (r ≡ at + length (getD (pieces separator (drop at (now (bytes .entry)))) 0 [])) × (r ≤ length (now (bytes .entry))) ⌝ }
 {
     let mut i = at;
-    while i < s.len() {
-        if s[i] == b {
+    while i < bytes.len() {
+        if bytes[i] == separator {
             return i;
         }
         i += 1;
@@ -35,14 +35,14 @@ fn end_of(s: &[u8], at: usize, b: u8) -> usize
     i
 }
 
-// How many pieces stand between the bytes `b`.
-fn pieces_of(s: &[u8], b: u8) -> usize
-    ensures { λ r. ⌜ r ≡ length (pieces b (now (s .entry))) ⌝ }
+// How many pieces stand between the separators.
+fn pieces_of(bytes: &[u8], separator: u8) -> usize
+    ensures { λ r. ⌜ r ≡ length (pieces separator (now (bytes .entry))) ⌝ }
 {
     let mut n: usize = 1;
     let mut i = 0;
-    while i < s.len() {
-        if s[i] == b {
+    while i < bytes.len() {
+        if bytes[i] == separator {
             n += 1;
         }
         i += 1;
@@ -50,22 +50,22 @@ fn pieces_of(s: &[u8], b: u8) -> usize
     n
 }
 
-// Piece k between the bytes `b`; an empty one where there is none.
-fn piece(s: &[u8], b: u8, k: usize) -> &[u8]
-    ensures { λ r. ⌜ now r ≡ getD (pieces b (now (s .entry))) k [] ⌝ }
+// Piece k between the separators; an empty one where there is none.
+fn piece(bytes: &[u8], separator: u8, k: usize) -> &[u8]
+    ensures { λ r. ⌜ now r ≡ getD (pieces separator (now (bytes .entry))) k [] ⌝ }
 {
     let mut at: usize = 0;
     let mut i: usize = 0;
     while i < k {
-        let e = end_of(s, at, b);
-        if e == s.len() {
-            return &s[..0];
+        let end = end_of(bytes, at, separator);
+        if end == bytes.len() {
+            return &bytes[..0];
         }
-        at = e + 1;
+        at = end + 1;
         i += 1;
     }
-    let end = end_of(s, at, b);
-    &s[at..end]
+    let end = end_of(bytes, at, separator);
+    &bytes[at..end]
 }
 
 // How many words the line has: what stands between single spaces. Two spaces have an empty word between them, and so has an empty line.
@@ -83,13 +83,13 @@ pub fn word(line: &[u8], k: usize) -> &[u8]
 }
 
 // Which of the names the word is; as many as there are names where it is none of them.
-pub fn place_of(names: &[u8], w: &[u8]) -> usize
-    ensures { λ r. ⌜ r ≡ placeIn (now (w .entry)) (wordsOf (now (names .entry))) ⌝ }
+pub fn place_of(names: &[u8], wanted: &[u8]) -> usize
+    ensures { λ r. ⌜ r ≡ placeIn (now (wanted .entry)) (wordsOf (now (names .entry))) ⌝ }
 {
     let n = words_of(names);
     let mut k: usize = 0;
     while k < n {
-        if fields::same(word(names, k), w) {
+        if fields::same(word(names, k), wanted) {
             return k;
         }
         k += 1;
@@ -98,97 +98,107 @@ pub fn place_of(names: &[u8], w: &[u8]) -> usize
 }
 
 // The first `n` bytes; all of them where there are fewer.
-pub fn front(s: &[u8], n: usize) -> &[u8]
-    ensures { λ r. ⌜ now r ≡ take n (now (s .entry)) ⌝ }
+pub fn front(bytes: &[u8], n: usize) -> &[u8]
+    ensures { λ r. ⌜ now r ≡ take n (now (bytes .entry)) ⌝ }
 {
-    if s.len() < n {
-        return s;
+    if bytes.len() < n {
+        return bytes;
     }
-    &s[..n]
+    &bytes[..n]
+}
+
+// The first `n` bytes, lent on; all of them where there are fewer.
+pub fn front_mut(bytes: &mut [u8], n: usize) -> &mut [u8]
+    ensures { λ r. ⌜ now r ≡ take n (now (bytes .entry)) ⌝ }
+{
+    if bytes.len() < n {
+        return bytes;
+    }
+    &mut bytes[..n]
 }
 
 // The bytes behind the first `n`; none where there are fewer.
-pub fn behind(s: &[u8], n: usize) -> &[u8]
-    ensures { λ r. ⌜ now r ≡ drop n (now (s .entry)) ⌝ }
+pub fn behind(bytes: &[u8], n: usize) -> &[u8]
+    ensures { λ r. ⌜ now r ≡ drop n (now (bytes .entry)) ⌝ }
 {
-    if s.len() < n {
-        return &s[..0];
+    if bytes.len() < n {
+        return &bytes[..0];
     }
-    &s[n..]
+    &bytes[n..]
 }
 
 // The first `n` numbers; all of them where there are fewer.
-pub fn front_numbers(s: &[u64], n: usize) -> &[u64]
-    ensures { λ r. ⌜ now r ≡ take n (now (s .entry)) ⌝ }
+pub fn front_numbers(numbers: &[u64], n: usize) -> &[u64]
+    ensures { λ r. ⌜ now r ≡ take n (now (numbers .entry)) ⌝ }
 {
-    if s.len() < n {
-        return s;
+    if numbers.len() < n {
+        return numbers;
     }
-    &s[..n]
+    &numbers[..n]
 }
 
 // A byte as a number.
-fn wide(b: u8) -> u64
-    ensures { λ r. ⌜ (r ≡ b) × (r < 256) ⌝ }
+fn wide(byte: u8) -> u64
+    ensures { λ r. ⌜ (r ≡ byte) × (r < 256) ⌝ }
 {
-    b as u64
+    byte as u64
 }
 
 // The number with one decimal digit more.
-fn with_digit(v: u64, b: u8) -> Numeral
-    ensures { λ r. ⌜ r ≡ withDigit v b ⌝ }
+fn with_digit(value: u64, byte: u8) -> Numeral
+    ensures { λ r. ⌜ r ≡ withDigit value byte ⌝ }
 {
-    let d = wide(b);
-    if d < 48 {
+    let code = wide(byte);
+    if code < 48 {
         return Numeral::Not;
     }
-    if 57 < d {
+    if 57 < code {
         return Numeral::Not;
     }
-    let low = d - 48;
-    if (MOST - low) / 10 < v {
+    let low = code - 48;
+    if (MOST - low) / 10 < value {
         return Numeral::Not;
     }
-    Numeral::Is(v * 10 + low)
+    Numeral::Is(value * 10 + low)
 }
 
 // The number that the word writes in decimal digits.
-pub fn number(w: &[u8]) -> Numeral
-    ensures { λ r. ⌜ r ≡ numeralOf (now (w .entry)) ⌝ }
+pub fn number(word: &[u8]) -> Numeral
+    ensures { λ r. ⌜ r ≡ numeralOf (now (word .entry)) ⌝ }
 {
-    if w.len() == 0 {
+    if word.len() == 0 {
         return Numeral::Not;
     }
-    let mut v: u64 = 0;
+    let mut value: u64 = 0;
     let mut i = 0;
-    while i < w.len() {
-        match with_digit(v, w[i]) {
+    while i < word.len() {
+        match with_digit(value, word[i]) {
             Numeral::Is(more) => {
-                v = more;
+                value = more;
             }
             Numeral::Not => return Numeral::Not,
         }
         i += 1;
     }
-    Numeral::Is(v)
+    Numeral::Is(value)
 }
 
 // The value of a hexadecimal digit, lower case; 16 where it is none.
-fn digit(b: u8) -> u64
+fn digit(byte: u8) -> u64
     ensures { λ r. ⌜ r ≤ 16 ⌝ }
 {
-    let d = wide(b);
-    if d < 48 {
+    let code = wide(byte);
+    if code < 48 {
         return 16;
     }
-    if d < 58 {
-        return d - 48;
+    if code < 58 {
+        return code - 48;
     }
-    if d < 97 {
+    if code < 97 {
         return 16;
     }
-    if d < 103 {
-        return d - 87;
+    if code < 103 {
+        return code - 87;
     }
     16
 }
@@ -208,15 +218,15 @@ fn store(out: &mut [u8], i: usize, high: u64, low: u64) -> bool
 }
 
 // The bytes that the word writes as `x` and two digits each, to the front of the lent ones. Where there is no room for them, it counts as none.
-pub fn bytes(w: &[u8], out: &mut [u8]) -> Count {
-    if w.len() == 0 {
+pub fn bytes(word: &[u8], out: &mut [u8]) -> Count {
+    if word.len() == 0 {
         return Count::Not;
     }
-    let n = (w.len() - 1) / 2;
-    if w[0] != b'x' {
+    let n = (word.len() - 1) / 2;
+    if word[0] != b'x' {
         return Count::Not;
     }
-    if n * 2 != w.len() - 1 {
+    if n * 2 != word.len() - 1 {
         return Count::Not;
     }
     if out.len() < n {
@@ -224,7 +234,7 @@ pub fn bytes(w: &[u8], out: &mut [u8]) -> Count {
     }
     let mut i: usize = 0;
     while i < n {
-        if store(out, i, digit(w[1 + 2 * i]), digit(w[2 + 2 * i])) {
+        if store(out, i, digit(word[1 + 2 * i]), digit(word[2 + 2 * i])) {
             i += 1;
         } else {
             return Count::Not;
@@ -234,23 +244,23 @@ pub fn bytes(w: &[u8], out: &mut [u8]) -> Count {
 }
 
 // The numbers that the word lists with commas, to the front of the lent ones; `-` is the empty list.
-pub fn numbers(w: &[u8], out: &mut [u64]) -> Count {
-    if fields::same(w, b"-") {
+pub fn numbers(word: &[u8], out: &mut [u64]) -> Count {
+    if fields::same(word, b"-") {
         return Count::Is(0);
     }
     let mut at: usize = 0;
     let mut n: usize = 0;
     while n < out.len() {
-        let e = end_of(w, at, b',');
-        let Numeral::Is(v) = number(&w[at..e]) else {
+        let end = end_of(word, at, b',');
+        let Numeral::Is(value) = number(&word[at..end]) else {
             return Count::Not;
         };
-        out[n] = v;
+        out[n] = value;
         n += 1;
-        if e == w.len() {
+        if end == word.len() {
             return Count::Is(n);
         }
-        at = e + 1;
+        at = end + 1;
     }
     Count::Not
 }
@@ -264,4 +274,15 @@ pub fn copy(src: &[u8], out: &mut [u8]) -> Count
     }
     fields::copy_to(out, 0, src);
     Count::Is(src.len())
+}
+
+// A byte string: written out, or what was last written by `digest` or `compute`.
+pub fn bytes_of(word: &[u8], digest: &[u8], delta: &[u8], given: &mut [u8]) -> Count {
+    if fields::same(word, b"@digest") {
+        return copy(digest, given);
+    }
+    if fields::same(word, b"@delta") {
+        return copy(delta, given);
+    }
+    bytes(word, given)
 }

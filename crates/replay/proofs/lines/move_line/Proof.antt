@@ -21,8 +21,8 @@ same-length c = search needs
 returns : tie.Need-returns Inv-loop μ-loop
 returns c = search needs
 
-shared-slice-read-b : tie.Need-shared-slice-read-b Inv-loop μ-loop
-shared-slice-read-b c = search needs
+shared-slice-read-byte : tie.Need-shared-slice-read-byte Inv-loop μ-loop
+shared-slice-read-byte c = search needs
 
 add-at : tie.Need-add-at Inv-loop μ-loop
 add-at c = search needs
@@ -66,7 +66,7 @@ move-line-spec =
     loop-holds
     same-length
     returns
-    shared-slice-read-b
+    shared-slice-read-byte
     add-at
     same-length-2
     returns-2

@@ -4,10 +4,10 @@ use Rattle.replay.proofs.lines.next.Statement.{statement}
 use Rattle.replay.proofs.lines.next.Tie as tie
 
 abbrev Inv-loop : tie.InvT-loop
-Inv-loop chunk₀ line₀ s₀ left₀ chunk line s left = Unit {0}
+Inv-loop chunk₀ line₀ source₀ left₀ chunk line source left = Unit {0}
 
 abbrev μ-loop : tie.MeasureT-loop
-μ-loop chunk₀ line₀ s₀ left₀ chunk line s left = left
+μ-loop chunk₀ line₀ source₀ left₀ chunk line source left = left
 
 loop-holds : tie.Need-loop-holds Inv-loop μ-loop
 loop-holds c = search needs

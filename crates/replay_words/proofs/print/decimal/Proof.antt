@@ -34,7 +34,7 @@ put-decimal-requires : tie.Need-put-decimal-requires
 put-decimal-requires c κs =
     let asked = c .before .before in
     let a = asked .before .before .before .args in
-    room (a .at) _ (decimal (a .v)) (a .out .now) _ (asked .before .decimal-len .ensures .0) (asked .has-room .ensures) (c .before .if1 .taken)
+    room (a .at) _ (decimal (a .value)) (a .out .now) _ (asked .before .decimal-len .ensures .0) (asked .has-room .ensures) (c .before .if1 .taken)
 
 same-length : tie.Need-same-length
 same-length c = search needs
@@ -45,14 +45,14 @@ returns c =
     let test = call .before .before in
     let asked = test .before in
     let a = asked .before .before .before .args in
-    written (a .at) _ (decimal (a .v)) (a .out .now) _
-    (room (a .at) _ (decimal (a .v)) (a .out .now) _ (asked .before .decimal-len .ensures .0) (asked .has-room .ensures) (test .if1 .taken)) (call .put-decimal .ensures)
+    written (a .at) _ (decimal (a .value)) (a .out .now) _
+    (room (a .at) _ (decimal (a .value)) (a .out .now) _ (asked .before .decimal-len .ensures .0) (asked .has-room .ensures) (test .if1 .taken)) (call .put-decimal .ensures)
 
 returns-2 : tie.Need-returns-2
 returns-2 c =
     let asked = c .before in
     let a = asked .before .before .before .args in
-    unsaid (a .at) (decimal (a .v)) (a .out .now) (none (a .at) _ (decimal (a .v)) (a .out .now) _ (asked .before .decimal-len .ensures .0) (asked .has-room .ensures) (c .if1 .left))
+    unsaid (a .at) (decimal (a .value)) (a .out .now) (none (a .at) _ (decimal (a .value)) (a .out .now) _ (asked .before .decimal-len .ensures .0) (asked .has-room .ensures) (c .if1 .left))
 
 pub decimal-spec : {M : Type 1} → statement M
 decimal-spec =

@@ -38,7 +38,7 @@ loop-less c = search needs
 loop-again : tie.Need-loop-again Inv-loop μ-loop
 loop-again c =
     let at-loop = c .before .before .before .before .before .before in
-    let s = at-loop .before .before .before .before .before .before .before .args .s .now in (
+    let s = at-loop .before .before .before .before .before .before .before .args .bytes .now in (
       omega arith,
       c .before .before .two .kept .0 ∙ at-loop .loop .inv .1,
       hex-turn s _ _ _ _ (c .before .before .before .before .before .loop-test .taken) (at-loop .loop .inv .2) (c .before .before .two .ensures),
@@ -49,7 +49,7 @@ same-length c = search needs
 
 returns : tie.Need-returns Inv-loop μ-loop
 returns c =
-    let s = c .before .before .before .before .before .before .before .before .args .s .now in
+    let s = c .before .before .before .before .before .before .before .before .args .bytes .now in
     hex-end s _ _ (page 0 []) _ (c .loop-test .left) (c .before .loop .inv .2) ∙ ap (says (hexTexts s)) (c .before .before .before .before .byte .ensures)
 
 pub hex-spec : {M : Type 1} → statement M

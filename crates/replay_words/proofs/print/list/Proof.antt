@@ -54,7 +54,7 @@ loop-less c = search needs
 loop-again : tie.Need-loop-again Inv-loop μ-loop
 loop-again c =
     let at-loop = c .before .before .before .before .before .before in
-    let s = at-loop .before .before .before .before .before .before .before .before .before .before .args .s .now in (
+    let s = at-loop .before .before .before .before .before .before .before .before .before .before .args .bytes .now in (
       omega arith,
       c .before .before .more .kept .0 ∙ at-loop .loop .inv .1,
       more-turn s _ _ _ _ (c .before .before .before .before .before .loop-test .taken) (at-loop .loop .inv .2) (c .before .before .more .ensures),
@@ -68,7 +68,7 @@ returns-2 c =
     let call = c .before .before .before .before in
     let test = call .before .before .before .before in
     let a = test .before .before .before .args in
-    let s = a .s .now in
+    let s = a .bytes .now in
     more-end s _ _ (page 0 []) _ (c .loop-test .left) (c .before .loop .inv .2)
     ∙ list-first s _ _ (test .if1 .left) (call .decimal .ensures ∙ ap (λ (k : ℕ). say (decimal k) (page (a .at) (a .out .now))) (call .before .wide .ensures .0))
 

@@ -13,7 +13,7 @@ slice-aggregate-result c = search needs
 returns : tie.Need-returns
 returns c =
     let a = c .before .before .args in
-    sym (drop-of-length-le (a .s .now) {i = a .n} (omega arith))
+    sym (drop-of-length-le (a .bytes .now) {i = a .n} (omega arith))
 
 sub-result : tie.Need-sub-result
 sub-result c = search needs
@@ -27,7 +27,7 @@ part-result-end c = search needs
 returns-2 : tie.Need-returns-2
 returns-2 c =
     let a = c .before .before .args in
-    seen-rest (a .n) (a .s .now)
+    seen-rest (a .n) (a .bytes .now)
 
 pub behind-spec : {M : Type 1} → statement M
 behind-spec = tie.close (tie.spec slice-aggregate-result returns sub-result part-result-start part-result-end returns-2)

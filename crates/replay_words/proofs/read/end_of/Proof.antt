@@ -41,7 +41,7 @@ shared-slice-read-if1 : tie.Need-shared-slice-read-if1 Inv-loop μ-loop
 shared-slice-read-if1 c = search needs
 
 returns : tie.Need-returns Inv-loop μ-loop
-returns c = (here _ (c .before .before .before .before .args .s .now) _ _ (c .before .before .loop-test .taken) (c .if1 .taken) (c .before .before .before .loop .inv .1), omega arith)
+returns c = (here _ (c .before .before .before .before .args .bytes .now) _ _ (c .before .before .loop-test .taken) (c .if1 .taken) (c .before .before .before .loop .inv .1), omega arith)
 
 add-i : tie.Need-add-i Inv-loop μ-loop
 add-i c = search needs
@@ -50,10 +50,10 @@ loop-less : tie.Need-loop-less Inv-loop μ-loop
 loop-less c = search needs
 
 loop-again : tie.Need-loop-again Inv-loop μ-loop
-loop-again c = (omega arith, turn _ (c .before .before .before .before .args .s .now) _ _ (c .before .before .loop-test .taken) (c .if1 .left) (c .before .before .before .loop .inv .1))
+loop-again c = (omega arith, turn _ (c .before .before .before .before .args .bytes .now) _ _ (c .before .before .loop-test .taken) (c .if1 .left) (c .before .before .before .loop .inv .1))
 
 returns-2 : tie.Need-returns-2 Inv-loop μ-loop
-returns-2 c = (end _ (c .before .before .args .s .now) _ _ (c .loop-test .left) (c .before .loop .inv .1), omega arith)
+returns-2 c = (end _ (c .before .before .args .bytes .now) _ _ (c .loop-test .left) (c .before .loop .inv .1), omega arith)
 
 pub end-of-spec : {M : Type 1} → statement M
 end-of-spec =

@@ -53,10 +53,10 @@ abbrev μ-loop : tie.MeasureT-loop
 μ-loop w v₀ i₀ v i = length w - i
 
 returns : tie.Need-returns Inv-loop μ-loop
-returns c = none (c .before .before .args .w .now) (c .if1 .taken)
+returns c = none (c .before .before .args .word .now) (c .if1 .taken)
 
 loop-holds : tie.Need-loop-holds Inv-loop μ-loop
-loop-holds c = (omega arith, some (c .before .before .args .w .now) (c .if1 .left))
+loop-holds c = (omega arith, some (c .before .before .args .word .now) (c .if1 .left))
 
 shared-slice-read-with-digit : tie.Need-shared-slice-read-with-digit Inv-loop μ-loop
 shared-slice-read-with-digit c = search needs
@@ -74,7 +74,7 @@ returns-2 : tie.Need-returns-2 Inv-loop μ-loop
 returns-2 c =
     let call = c .before .before in
     let at-loop = call .before .before .before in
-    let w = at-loop .before .before .before .args .w .now in
+    let w = at-loop .before .before .before .args .word .now in
     bad w _ _ _ _ (at-loop .loop .inv .1) (call .with-digit .ensures) (call .before .before .loop-test .taken) (c .enum-told .given .1)
 
 add-i : tie.Need-add-i Inv-loop μ-loop
@@ -87,13 +87,13 @@ loop-again : tie.Need-loop-again Inv-loop μ-loop
 loop-again c =
     let call = c .before .before .before in
     let at-loop = call .before .before .before in
-    let w = at-loop .before .before .before .args .w .now in (
+    let w = at-loop .before .before .before .args .word .now in (
       omega arith,
       turn w _ _ _ _ (at-loop .loop .inv .1) (call .with-digit .ensures) _ (call .before .before .loop-test .taken) (c .before .more .given .1),
     )
 
 returns-3 : tie.Need-returns-3 Inv-loop μ-loop
-returns-3 c = last (c .before .before .before .before .args .w .now) _ _ _ (c .loop-test .left) (c .before .loop .inv .1)
+returns-3 c = last (c .before .before .before .before .args .word .now) _ _ _ (c .loop-test .left) (c .before .loop .inv .1)
 
 pub number-spec : {M : Type 1} → statement M
 number-spec =

@@ -39,8 +39,8 @@ part-number-end c = search needs
 number-requires : tie.Need-number-requires Inv-loop μ-loop
 number-requires c κs = search needs
 
-enum-known-v : tie.Need-enum-known-v Inv-loop μ-loop
-enum-known-v c = search needs
+enum-known-value : tie.Need-enum-known-value Inv-loop μ-loop
+enum-known-value c = search needs
 
 enum-told : tie.Need-enum-told Inv-loop μ-loop
 enum-told c = search needs
@@ -96,7 +96,7 @@ numbers-spec =
     part-number-start
     part-number-end
     number-requires
-    enum-known-v
+    enum-known-value
     enum-told
     same-length
     returns-2

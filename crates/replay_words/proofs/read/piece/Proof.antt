@@ -38,7 +38,7 @@ abbrev μ-loop : tie.MeasureT-loop
 loop-holds : tie.Need-loop-holds Inv-loop μ-loop
 loop-holds c =
     let a = c .before .args in
-    (omega arith, ap (λ (m : ℕ). getD (pieces (a .b) (a .s .now)) m []) (sub-zero (a .k)))
+    (omega arith, ap (λ (m : ℕ). getD (pieces (a .separator) (a .bytes .now)) m []) (sub-zero (a .k)))
 
 end-of-requires : tie.Need-end-of-requires Inv-loop μ-loop
 end-of-requires c κs = search needs
@@ -51,7 +51,7 @@ returns c =
     let call = c .before .before in
     let at-loop = call .before .before in
     let a = at-loop .before .before .args in
-    gone (a .b) (a .s .now) (at-loop .loop .at) _ (a .k) (at-loop .loop .i) _
+    gone (a .separator) (a .bytes .now) (at-loop .loop .at) _ (a .k) (at-loop .loop .i) _
     (at-loop .loop .inv .0) (call .end-of .ensures .0) (at-loop .loop .inv .1) (call .before .loop-test .taken) (c .before .if1 .taken)
 
 add-at : tie.Need-add-at Inv-loop μ-loop
@@ -69,7 +69,7 @@ loop-again c =
     let at-loop = call .before .before in
     let a = at-loop .before .before .args in (
       omega arith,
-      turn (a .b) (a .s .now) (at-loop .loop .at) _ (a .k) (at-loop .loop .i) _
+      turn (a .separator) (a .bytes .now) (at-loop .loop .at) _ (a .k) (at-loop .loop .i) _
           (at-loop .loop .inv .0) (call .end-of .ensures .0) (at-loop .loop .inv .1) (call .before .loop-test .taken) (c .if1 .left),
     )
 
@@ -90,7 +90,7 @@ returns-2 c =
     let call = c .before in
     let at-loop = call .before .before in
     let a = at-loop .before .before .args in
-    here (a .b) (a .s .now) (at-loop .loop .at) _ (a .k) (at-loop .loop .i) _
+    here (a .separator) (a .bytes .now) (at-loop .loop .at) _ (a .k) (at-loop .loop .i) _
     (at-loop .loop .inv .0) (call .end-of2 .ensures .0) (at-loop .loop .inv .1) (call .before .loop-test .left)
 
 pub piece-spec : {M : Type 1} → statement M

@@ -58,7 +58,7 @@ loop-less c = search needs
 loop-again : tie.Need-loop-again Inv-loop μ-loop
 loop-again c =
     let at-loop = c .before .before .before in
-    let s = at-loop .before .args .s .now in
+    let s = at-loop .before .args .bytes .now in
     let near = c .before .before .loop-test .taken in
     ⊎-elim
     (λ w. (omega arith, omega arith, turn-at _ s _ _ _ (at-loop .loop .inv .2) _ (w .1) near (w .0 .taken)))
@@ -66,7 +66,7 @@ loop-again c =
     (c .if1 .came)
 
 returns : tie.Need-returns Inv-loop μ-loop
-returns c = end _ (c .before .before .args .s .now) _ _ _ (c .before .loop .inv .2) (c .loop-test .left)
+returns c = end _ (c .before .before .args .bytes .now) _ _ _ (c .before .loop .inv .2) (c .loop-test .left)
 
 pub pieces-of-spec : {M : Type 1} → statement M
 pieces-of-spec =

@@ -68,7 +68,7 @@ returns c =
     let at-loop = c .before .before .before .before in
     let asked = at-loop .before in
     let a = asked .before .before .before .args in
-    here (a .w .now) (wordsOf (a .names .now)) (at-loop .loop .k) _ _ (c .before .before .word .ensures) (at-loop .loop .inv .1)
+    here (a .wanted .now) (wordsOf (a .names .now)) (at-loop .loop .k) _ _ (c .before .before .word .ensures) (at-loop .loop .inv .1)
     (omega (arith, asked .words-of .ensures, c .before .before .before .loop-test .taken)) (sym (c .before .same .ensures) ∙ c .if1 .taken)
 
 add-k : tie.Need-add-k Inv-loop μ-loop
@@ -83,7 +83,7 @@ loop-again c =
     let asked = at-loop .before in
     let a = asked .before .before .before .args in (
       omega arith,
-      turn (a .w .now) (wordsOf (a .names .now)) (at-loop .loop .k) _ _ (c .before .before .word .ensures) (at-loop .loop .inv .1)
+      turn (a .wanted .now) (wordsOf (a .names .now)) (at-loop .loop .k) _ _ (c .before .before .word .ensures) (at-loop .loop .inv .1)
           (omega (arith, asked .words-of .ensures, c .before .before .before .loop-test .taken)) (sym (c .before .same .ensures) ∙ c .if1 .left),
     )
 
@@ -92,7 +92,7 @@ returns-2 c =
     let at-loop = c .before in
     let asked = at-loop .before in
     let a = asked .before .before .before .args in
-    end (a .w .now) (wordsOf (a .names .now)) (at-loop .loop .k) _ (omega (arith, asked .words-of .ensures, c .loop-test .left)) (at-loop .loop .inv .1)
+    end (a .wanted .now) (wordsOf (a .names .now)) (at-loop .loop .k) _ (omega (arith, asked .words-of .ensures, c .loop-test .left)) (at-loop .loop .inv .1)
 
 pub place-of-spec : {M : Type 1} → statement M
 place-of-spec =

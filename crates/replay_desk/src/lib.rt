@@ -1,0 +1,128 @@
+// Two hubs' tables, which one is current, and what `@digest` and `@delta` stand for.
+use replay_words::print;
+use replay_words::read;
+use replay_words::read::Count;
+use replay_words::read::Numeral;
+use replay_words::verbs;
+use table::layout;
+
+// Room for a table, good or not: a byte more than a good one has.
+pub const TABLE: usize = layout::TABLE + 1;
+
+// The current hub, how many bytes of each hub's room are its lent table, the lengths of the last digest and the last delta, and the output so far.
+pub struct Desk {
+    pub hub: u64,
+    pub first: usize,
+    pub second: usize,
+    pub digest: usize,
+    pub delta: usize,
+    pub out: usize,
+}
+
+impl Desk {
+    // Both tables are empty.
+    pub fn new() -> Self {
+        Desk {
+            hub: 0,
+            first: layout::TABLE,
+            second: layout::TABLE,
+            digest: 0,
+            delta: 0,
+            out: 0,
+        }
+    }
+
+    // How long the current table is.
+    pub fn lent(self) -> usize {
+        if self.hub == 0 {
+            return self.first;
+        }
+        self.second
+    }
+
+    fn with_lent(mut self, n: usize) -> Self {
+        if self.hub == 0 {
+            self.first = n;
+        } else {
+            self.second = n;
+        }
+        self
+    }
+
+    pub fn with_out(mut self, at: usize) -> Self {
+        self.out = at;
+        self
+    }
+}
+
+// The current hub is changed before the call, so that the checksum is the new one's.
+pub fn turned(before: Desk, line: &[u8]) -> Desk {
+    let mut desk = before;
+    if verbs::asked(line) == verbs::HUB {
+        if let Numeral::Is(n) = read::number(read::word(line, 1)) {
+            if n < 2 {
+                desk.hub = n;
+            }
+        }
+    }
+    desk
+}
+
+fn done(desk: Desk, out: &mut [u8]) -> Desk {
+    desk.with_out(print::text(out, desk.out, b"done"))
+}
+
+// Whether there is such a hub was not asked when it was turned to.
+fn hub(desk: Desk, line: &[u8], out: &mut [u8]) -> Desk {
+    let Numeral::Is(n) = read::number(read::word(line, 1)) else {
+        return desk;
+    };
+    if n < 2 {
+        return done(desk, out);
+    }
+    desk
+}
+
+// An empty table in the first bytes of the room.
+fn new_table(desk: Desk, room: &mut [u8], out: &mut [u8]) -> Desk {
+    let answer = nodes::new_table(read::front_mut(room, layout::TABLE));
+    let next = replay_tell::answer(out, desk.out, answer);
+    desk.with_lent(layout::TABLE).with_out(next)
+}
+
+// From now on these bytes are the lent table, good or not.
+fn take_table(desk: Desk, room: &mut [u8], bytes: &[u8], out: &mut [u8]) -> Desk {
+    let Count::Is(n) = read::copy(bytes, room) else {
+        return desk;
+    };
+    done(desk.with_lent(n), out)
+}
+
+fn dump(desk: Desk, room: &[u8], out: &mut [u8]) -> Desk {
+    let next = replay_tell::named(out, desk.out, b"table ", read::front(room, desk.lent()));
+    desk.with_out(next)
+}
+
+// The calls of the desk itself, on the room of the current hub's table.
+pub fn shelf_call(
+    desk: Desk,
+    verb: usize,
+    room: &mut [u8],
+    digest: &[u8],
+    delta: &[u8],
+    given: &mut [u8],
+    line: &[u8],
+    out: &mut [u8],
+) -> Desk {
+    match verb {
+        verbs::NEW => new_table(desk, room, out),
+        verbs::HUB => hub(desk, line, out),
+        verbs::DUMP => dump(desk, room, out),
+        _ => {
+            let Count::Is(n) = read::bytes_of(read::word(line, 1), digest, delta, given) else {
+                return desk;
+            };
+            take_table(desk, room, read::front(given, n), out)
+        }
+    }
+}
