@@ -25,10 +25,10 @@ use Rattle.rules.specs.Answers.{codeOf}
 use Rattle.rules.specs.Node.{Node}
 use Rattle.rules.specs.Table.{Entry, Table, nodeOf, keysRise, obeys}
 use Rattle.rules.specs.Delta as rule
-use Rattle.rules.specs.Apply.{Taken, Stream, takenAs, withRoom, answered, statusOf, deltaStatus, outcome, takeAll, applyNode, onNode, answering, applyEach, codes, apply}
+use Rattle.rules.specs.Apply.{Taken, Stream, takenAs, withRoom, answered, statusOf, deltaStatus, outcome, takeAll, applyNode, onNode, answering, applyEach, codes, apply, plainWays}
 use Rattle.rules.specs.Layout.{nodePlace, nodeWidth, encodeNode, decodeNode, encode, decode, valid}
 use Rattle.rules.specs.Given.{Gives}
-use Rattle.rules.specs.Lent.{both, lentApply}
+use Rattle.rules.specs.Lent.{both, lentApply, lentApplyAs}
 use Rattle.rules.specs.declared.DeltaStatus.{DeltaStatus}
 use Rattle.rules.specs.declared.DeltaStatus.the-variants.{Reject, Apply, ApplyAfterReset}
 use Rattle.rules.specs.declared.NodeAnswer.{NodeAnswer}
@@ -42,6 +42,7 @@ use Rattle.rules.proofs.Obeys.{OkTable, table-facts, facts-table}
 use Rattle.rules.proofs.Received.{OkDelta, parts-ok}
 use Rattle.rules.proofs.Deltas.{delta-is}
 use Rattle.rules.proofs.Calls.{ok-each}
+use Rattle.rules.proofs.Keeps.{plain-lawful}
 use Rattle.delta_read.specs.Plain.{opsFrom}
 use Rattle.delta_read.proofs.Plain.{good-plain}
 use Rattle.table.specs.Fits.{FitsEntry, LaidNode}
@@ -172,7 +173,7 @@ module _ (clock : ℕ) (s : List ℕ) (gc from max at : ℕ) (b : List ℕ) (o :
   unfolding deltaStatus
   status-is h v e q = q ∙ ap (λ (x : Header). statusOf (x .«last_gc») (x .max) from gc max) e
 
-  by-room : (a : NodeAnswer) (x : Node) (r : Bool) (b′ : List ℕ) → Stored (withNode x (decodeNode b)) b r b′ → (y : Taken) → y ≡ withRoom a x (decodeNode b .node)
+  by-room : (a : NodeAnswer) (x : Node) (r : Bool) (b′ : List ℕ) → Stored (withNode x (decodeNode b)) b r b′ → (y : Taken) → y ≡ withRoom plainWays a x (decodeNode b .node)
       → Answered y b (pick r a node.Room) b′
   by-room a x true b′ t y e =
       let p : y ≡ takenAs a x = e ∙ ap (λ (q : Bool). pick q (takenAs a x) (takenAs node.Room (decodeNode b .node))) (sym (t .room)) in
@@ -182,15 +183,15 @@ module _ (clock : ℕ) (s : List ℕ) (gc from max at : ℕ) (b : List ℕ) (o :
       record { answer = sym (ap (λ (z : Taken). z .answer) p); bytes = t .bytes ∙ sym (o .is) ∙ ap (λ (z : Taken). encodeNode (withNode (z .node) (decodeNode b))) (sym p) }
 
   module _ (v : DeltaStatus) (is : v ≡ deltaStatus (decodeNode b .node) (deltaOf s gc from max at)) where
-    by-status : (w : DeltaStatus) → v ≡ w → applyNode clock d n ≡ answered w (outcome w clock d n) n
+    by-status : (w : DeltaStatus) → v ≡ w → applyNode plainWays clock d n ≡ answered plainWays w (outcome w clock d n) n
     unfolding d n applyNode
-    by-status w q = ap (λ (x : DeltaStatus). answered x (outcome x clock d n) n) (sym is ∙ q)
+    by-status w q = ap (λ (x : DeltaStatus). answered plainWays x (outcome x clock d n) n) (sym is ∙ q)
 
-    pub rejected : rejects v ≡ true → Answered (applyNode clock (deltaOf s gc from max at) (decodeNode b .node)) b node.Reject b
+    pub rejected : rejects v ≡ true → Answered (applyNode plainWays clock (deltaOf s gc from max at) (decodeNode b .node)) b node.Reject b
     unfolding d n
     rejected q = go v refl q
       where
-        go : (w : DeltaStatus) → v ≡ w → rejects w ≡ true → Answered (applyNode clock (deltaOf s gc from max at) (decodeNode b .node)) b node.Reject b
+        go : (w : DeltaStatus) → v ≡ w → rejects w ≡ true → Answered (applyNode plainWays clock (deltaOf s gc from max at) (decodeNode b .node)) b node.Reject b
         go Reject p q =
             let y = by-status Reject p in
             record { answer = sym (ap (λ (z : Taken). z .answer) y); bytes = sym (o .is) ∙ ap (λ (z : Taken). encodeNode (withNode (z .node) (decodeNode b))) (sym y) }
@@ -198,19 +199,19 @@ module _ (clock : ℕ) (s : List ℕ) (gc from max at : ℕ) (b : List ℕ) (o :
         go ApplyAfterReset p q = let z : _≡_ {A = ℕ} 0 1 = cc in absurd (omega arith)
 
     pub concluded : rejects v ≡ false → (f : Bool) → f ≡ resets v → (r : Bool) (b′ : List ℕ) → Stored (grown clock s at max (begun f gc (decodeNode b))) b r b′ → (a : NodeAnswer) → a ≡ answerAs v r
-        → Answered (applyNode clock (deltaOf s gc from max at) (decodeNode b .node)) b a b′
+        → Answered (applyNode plainWays clock (deltaOf s gc from max at) (decodeNode b .node)) b a b′
     unfolding d n outcome
     concluded q f fe r b′ t a ae = go v refl q (fe) ae
       where
-        go : (w : DeltaStatus) → v ≡ w → rejects w ≡ false → f ≡ resets w → a ≡ answerAs w r → Answered (applyNode clock (deltaOf s gc from max at) (decodeNode b .node)) b a b′
+        go : (w : DeltaStatus) → v ≡ w → rejects w ≡ false → f ≡ resets w → a ≡ answerAs w r → Answered (applyNode plainWays clock (deltaOf s gc from max at) (decodeNode b .node)) b a b′
         go Reject p q fe ae = let z : _≡_ {A = ℕ} 0 1 = cc in absurd (omega arith)
-        go Apply p q fe ae = rw ae (by-room node.Apply (outcome Apply clock d n) r b′ (rw fe at t) (applyNode clock d n) (by-status Apply p))
+        go Apply p q fe ae = rw ae (by-room node.Apply (outcome Apply clock d n) r b′ (rw fe at t) (applyNode plainWays clock d n) (by-status Apply p))
         go ApplyAfterReset p q fe ae =
-            rw ae (by-room node.ApplyAfterReset (outcome ApplyAfterReset clock d n) r b′ (rw fe at t) (applyNode clock d n) (by-status ApplyAfterReset p))
+            rw ae (by-room node.ApplyAfterReset (outcome ApplyAfterReset clock d n) r b′ (rw fe at t) (applyNode plainWays clock d n) (by-status ApplyAfterReset p))
 
 -- by the numbers that were read
 pub numbers-read : (clock : ℕ) (s : List ℕ) (gc gc′ from from′ max at : ℕ) → gc ≡ gc′ → from ≡ from′ → (n : Node) (b : List ℕ) (r : NodeAnswer) (b′ : List ℕ)
-    → Answered (applyNode clock (deltaOf s gc from max at) n) b r b′ → Answered (applyNode clock (deltaOf s gc′ from′ max at) n) b r b′
+    → Answered (applyNode plainWays clock (deltaOf s gc from max at) n) b r b′ → Answered (applyNode plainWays clock (deltaOf s gc′ from′ max at) n) b r b′
 numbers-read clock s gc gc′ from from′ max at p q n b r b′ t = rw (p, q) at t
 
 -- ---- one node delta on a table
@@ -231,26 +232,26 @@ module _ (l : List ℕ) (v : valid l ≡ true) (clock : ℕ) (x : rule.Part) (i 
         subst Rising (sym (seen (nodePlace i) nodeWidth l)) (record { laid = node-laid l v i h; keys = node-rises l v i h })
 
     pub turned : (r : NodeAnswer) (y : List ℕ)
-        → Answered (applyNode clock (x .delta) (decodeNode (take (nodePlace i + nodeWidth - nodePlace i) (drop (nodePlace i) l)) .node)) (take (nodePlace i + nodeWidth - nodePlace i) (drop (nodePlace i) l)) r y
+        → Answered (applyNode plainWays clock (x .delta) (decodeNode (take (nodePlace i + nodeWidth - nodePlace i) (drop (nodePlace i) l)) .node)) (take (nodePlace i + nodeWidth - nodePlace i) (drop (nodePlace i) l)) r y
         → Turned clock x (decode l) r (putMid (nodePlace i) (nodePlace i + nodeWidth - nodePlace i) l y)
     turned r y t =
         let m = node-found l v (x .number) i e in
-        let a : Answered (applyNode clock (x .delta) (nodeAt i l .node)) (nodeBytes i l) r y =
-        subst (λ (b : List ℕ). Answered (applyNode clock (x .delta) (decodeNode b .node)) b r y) (seen (nodePlace i) nodeWidth l) t in
+        let a : Answered (applyNode plainWays clock (x .delta) (nodeAt i l .node)) (nodeBytes i l) r y =
+        subst (λ (b : List ℕ). Answered (applyNode plainWays clock (x .delta) (decodeNode b .node)) b r y) (seen (nodePlace i) nodeWidth l) t in
         record {
           answer = a .answer ∙ ap (partAnswer clock x) (sym m);
           bytes =
-              node-changed l v (x .number) i e (applyNode clock (x .delta) (nodeAt i l .node) .node) (putMid (nodePlace i) (nodePlace i + nodeWidth - nodePlace i) l y)
-              (lent (nodePlace i) nodeWidth l y (encodeNode (withNode (applyNode clock (x .delta) (nodeAt i l .node) .node) (nodeAt i l))) (a .bytes) (ap length (a .bytes) ∙ length-node _))
+              node-changed l v (x .number) i e (applyNode plainWays clock (x .delta) (nodeAt i l .node) .node) (putMid (nodePlace i) (nodePlace i + nodeWidth - nodePlace i) l y)
+              (lent (nodePlace i) nodeWidth l y (encodeNode (withNode (applyNode plainWays clock (x .delta) (nodeAt i l .node) .node) (nodeAt i l))) (a .bytes) (ap length (a .bytes) ∙ length-node _))
               ∙ ap (λ (o : Option Node). encode (partTable clock x o (decode l))) (sym m);
         }
 
 each-cons : (clock : ℕ) (x : rule.Part) (xs : List rule.Part) (t : Table)
-    → applyEach (applyNode clock) (x ∷ xs) t ≡ answering (partAnswer clock x (nodeOf (x .number) t)) (applyEach (applyNode clock) xs (partTable clock x (nodeOf (x .number) t) t))
+    → applyEach (applyNode plainWays clock) (x ∷ xs) t ≡ answering (partAnswer clock x (nodeOf (x .number) t)) (applyEach (applyNode plainWays clock) xs (partTable clock x (nodeOf (x .number) t) t))
 unfolding applyEach
 each-cons clock x xs t = go (nodeOf (x .number) t)
   where
-    go : (o : Option Node) → onNode (applyNode clock) x o t (applyEach (applyNode clock) xs) ≡ answering (partAnswer clock x o) (applyEach (applyNode clock) xs (partTable clock x o t))
+    go : (o : Option Node) → onNode (applyNode plainWays clock) x o t (applyEach (applyNode plainWays clock) xs) ≡ answering (partAnswer clock x o) (applyEach (applyNode plainWays clock) xs (partTable clock x o t))
     go none = refl
     go (some n) = refl
 
@@ -258,7 +259,7 @@ each-cons clock x xs t = go (nodeOf (x .number) t)
 part-ok : (clock : ℕ) → clock < numbers → (x : rule.Part) (t : Table) → OkDelta (x .delta) → OkTable t → OkTable (partTable clock x (nodeOf (x .number) t) t)
 unfolding applyEach
 part-ok clock h x t d ok =
-    subst OkTable (ap (λ (y : Stream). y .table) (each-cons clock x [] t)) (ok-each clock h (x ∷ []) t (λ y m. one y m) ok)
+    subst OkTable (ap (λ (y : Stream). y .table) (each-cons clock x [] t)) (ok-each plainWays plain-lawful clock h (x ∷ []) t (λ y m. one y m) ok)
   where
     one : (y : rule.Part) → y ∈ x ∷ [] → OkDelta (y .delta)
     one y (here e) = subst (λ (z : rule.Part). OkDelta (z .delta)) (sym e) d
@@ -294,8 +295,8 @@ pub record Stands (clock : ℕ) (s t₀ l₀ : List ℕ) (i : ℕ) (t l : List �
   pub good : valid t ≡ true
   pub same : length t ≡ length t₀
   pub long : length l ≡ length l₀
-  pub table : applyEach (applyNode clock) (drop i (partsFrom s 0)) (decode t) .table ≡ applyEach (applyNode clock) (partsFrom s 0) (decode t₀) .table
-  pub list : put i (codes (applyEach (applyNode clock) (drop i (partsFrom s 0)) (decode t) .answers)) l ≡ put 0 (codes (applyEach (applyNode clock) (partsFrom s 0) (decode t₀) .answers)) l₀
+  pub table : applyEach (applyNode plainWays clock) (drop i (partsFrom s 0)) (decode t) .table ≡ applyEach (applyNode plainWays clock) (partsFrom s 0) (decode t₀) .table
+  pub list : put i (codes (applyEach (applyNode plainWays clock) (drop i (partsFrom s 0)) (decode t) .answers)) l ≡ put 0 (codes (applyEach (applyNode plainWays clock) (partsFrom s 0) (decode t₀) .answers)) l₀
 
 module _ (clock : ℕ) (s t₀ l₀ : List ℕ) where
   pub stands-first : valid t₀ ≡ true → Stands clock s t₀ l₀ 0 t₀ l₀
@@ -303,11 +304,11 @@ module _ (clock : ℕ) (s t₀ l₀ : List ℕ) where
 
   module _ (i : ℕ) (t l : List ℕ) (inv : Stands clock s t₀ l₀ i t l) where
     pub stands-last : length (partsFrom s 0) ≤ i
-        → (t ≡ encode (applyEach (applyNode clock) (partsFrom s 0) (decode t₀) .table)) × (l ≡ put 0 (codes (applyEach (applyNode clock) (partsFrom s 0) (decode t₀) .answers)) l₀)
+        → (t ≡ encode (applyEach (applyNode plainWays clock) (partsFrom s 0) (decode t₀) .table)) × (l ≡ put 0 (codes (applyEach (applyNode plainWays clock) (partsFrom s 0) (decode t₀) .answers)) l₀)
     unfolding applyEach codes
     stands-last h =
         let e : drop i (partsFrom s 0) ≡ [] = drop-of-length-le (partsFrom s 0) {i = i} h in
-        let p : applyEach (applyNode clock) (drop i (partsFrom s 0)) (decode t) ≡ record { answers = []; table = decode t } = ap (λ (xs : List rule.Part). applyEach (applyNode clock) xs (decode t)) e in (
+        let p : applyEach (applyNode plainWays clock) (drop i (partsFrom s 0)) (decode t) ≡ record { answers = []; table = decode t } = ap (λ (xs : List rule.Part). applyEach (applyNode plainWays clock) xs (decode t)) e in (
           sym (encode-decode t (inv .good)) ∙ ap encode (sym (ap (λ (y : Stream). y .table) p) ∙ inv .table),
           sym (put-nil i l) ∙ ap (λ (y : Stream). put i (codes (y .answers)) l) (sym p) ∙ inv .list,
         )
@@ -332,17 +333,17 @@ module _ (clock : ℕ) (s t₀ l₀ : List ℕ) where
           let obeys-u : obeys u ≡ true = facts-table u ok-u in
           let d : decode t′ ≡ u = ap decode (w .bytes) ∙ decode-encode u obeys-u in
           let a : NodeAnswer = partAnswer clock x (nodeOf (x .number) (decode t)) in
-          let p : applyEach (applyNode clock) (drop i (partsFrom s 0)) (decode t) ≡ answering a (applyEach (applyNode clock) rest (decode t′)) =
-          ap (λ (xs : List rule.Part). applyEach (applyNode clock) xs (decode t)) left
+          let p : applyEach (applyNode plainWays clock) (drop i (partsFrom s 0)) (decode t) ≡ answering a (applyEach (applyNode plainWays clock) rest (decode t′)) =
+          ap (λ (xs : List rule.Part). applyEach (applyNode plainWays clock) xs (decode t)) left
           ∙ each-cons clock x rest (decode t)
-          ∙ ap (λ (v : Table). answering a (applyEach (applyNode clock) rest v)) (sym d) in
+          ∙ ap (λ (v : Table). answering a (applyEach (applyNode plainWays clock) rest v)) (sym d) in
           record {
             good = ap valid (w .bytes) ∙ valid-encode u obeys-u;
             same = ap length (w .bytes) ∙ length-table u ∙ sym (valid-long t (inv .good)) ∙ inv .same;
             long = ap length q ∙ length-set l i (codeOf r) ∙ inv .long;
             table = sym (ap (λ (y : Stream). y .table) p) ∙ inv .table;
             list =
-                let others : List ℕ = codes (applyEach (applyNode clock) rest (decode t′) .answers) in
+                let others : List ℕ = codes (applyEach (applyNode plainWays clock) rest (decode t′) .answers) in
                 ap (put (i + 1) others) (q ∙ ap (λ (y : NodeAnswer). set l i (codeOf y)) (w .answer))
                 ∙ ap (λ (j : ℕ). put j others (set l i (codeOf a))) (add-one i)
                 ∙ put-cons i (codeOf a) others l place
@@ -363,12 +364,12 @@ module _ (delta : List ℕ) (clock : ℕ) (list l : List ℕ) where
   parts p q s = (p, ap₂ both q s)
 
   pub bad-table : valid l ≡ false → Outcome (Refused BadTable 0) l list
-  unfolding lentApply
-  bad-table e = parts (rw (lentApply, e)) (rw (lentApply, e)) (rw (lentApply, e))
+  unfolding lentApplyAs
+  bad-table e = parts (rw (lentApplyAs, e)) (rw (lentApplyAs, e)) (rw (lentApplyAs, e))
 
   module _ (v : valid l ≡ true) where
     pub at-fault : (why : Refusal) (at : ℕ) → rule.deltaRead delta ≡ read.Refused why at → Outcome (Refused why at) l list
-    unfolding lentApply apply rule.deltaRead
+    unfolding lentApplyAs apply rule.deltaRead
     at-fault why at e = go (rule.readDelta delta) refl e
       where
         go : (o : rule.Ops) → rule.readDelta delta ≡ o → rule.readAnswer o ≡ read.Refused why at → Outcome (Refused why at) l list
@@ -376,7 +377,7 @@ module _ (delta : List ℕ) (clock : ℕ) (list l : List ℕ) where
         go (rule.Faulty y b) q a =
             let p : y ≡ why = cc in
             let k : b ≡ at = cc in
-            parts (rw (lentApply, v, apply, q, p, k)) (rw (lentApply, v, apply, q) (sym (encode-decode l v))) (rw (lentApply, v, apply, q))
+            parts (rw (lentApplyAs, v, apply, q, p, k)) (rw (lentApplyAs, v, apply, q) (sym (encode-decode l v))) (rw (lentApplyAs, v, apply, q))
 
     module _ (ops nodes : ℕ) (e : rule.deltaRead delta ≡ read.Good ops nodes) where
       pub accepted : (a : Accepted delta) × (nodes ≡ length (rule.partsOf (a .0)))
@@ -399,17 +400,17 @@ module _ (delta : List ℕ) (clock : ℕ) (list l : List ℕ) where
           }
 
       pub no-places : length list < nodes → Outcome (Refused NoPlace 0) l list
-      unfolding lentApply apply
+      unfolding lentApplyAs apply
       no-places h =
           let q = accepted .0 .1 in
           let n : leb (length (rule.partsOf (accepted .0 .0))) (length list) ≡ false = lt-leb (length (rule.partsOf (accepted .0 .0))) (length list) (omega (arith, accepted .1)) in
-          parts (rw (lentApply, v, apply, q, n)) (rw (lentApply, v, apply, q, n) (sym (encode-decode l v))) (rw (lentApply, v, apply, q, n))
+          parts (rw (lentApplyAs, v, apply, q, n)) (rw (lentApplyAs, v, apply, q, n) (sym (encode-decode l v))) (rw (lentApplyAs, v, apply, q, n))
 
-      pub gives : nodes ≤ length list → (l′ list′ : List ℕ) → l′ ≡ encode (applyEach (applyNode clock) (partsFrom delta 0) (decode l) .table)
-          → list′ ≡ put 0 (codes (applyEach (applyNode clock) (partsFrom delta 0) (decode l) .answers)) list → Outcome (Nodes nodes) l′ list′
-      unfolding lentApply apply
+      pub gives : nodes ≤ length list → (l′ list′ : List ℕ) → l′ ≡ encode (applyEach (applyNode plainWays clock) (partsFrom delta 0) (decode l) .table)
+          → list′ ≡ put 0 (codes (applyEach (applyNode plainWays clock) (partsFrom delta 0) (decode l) .answers)) list → Outcome (Nodes nodes) l′ list′
+      unfolding lentApplyAs apply
       gives h l′ list′ p s =
           let q = accepted .0 .1 in
           let n : leb (length (rule.partsOf (accepted .0 .0))) (length list) ≡ true = le-leb (length (rule.partsOf (accepted .0 .0))) (length list) (omega (arith, accepted .1)) in
           let same : partsFrom delta 0 ≡ rule.partsOf (accepted .0 .0) = accepted-parts delta (accepted .0) in
-          parts (rw (lentApply, v, apply, q, n) (ap Nodes (accepted .1))) (rw (lentApply, v, apply, q, n) (rw same at p)) (rw (lentApply, v, apply, q, n) (rw same at s))
+          parts (rw (lentApplyAs, v, apply, q, n) (ap Nodes (accepted .1))) (rw (lentApplyAs, v, apply, q, n) (rw same at p)) (rw (lentApplyAs, v, apply, q, n) (rw same at s))

@@ -10,7 +10,7 @@ use Rattle.fields.specs.Choice.{pick}
 use Rattle.rules.specs.Node.{Node}
 use Rattle.rules.specs.Table.{Entry, Table, nodeOf, setNode}
 use Rattle.rules.specs.Delta.{Op, Good, Part, readDelta}
-use Rattle.rules.specs.Apply.{Taken, takeAll, applyNode}
+use Rattle.rules.specs.Apply.{Taken, takeAll, plainWays, applyNode}
 use Rattle.rules.specs.Layout.{encodeNode, decodeNode, encode}
 use Rattle.rules.specs.declared.NodeAnswer.{NodeAnswer}
 use Rattle.rules.specs.declared.NodeAnswer.the-variants as node
@@ -71,11 +71,11 @@ pub record Answered (x : Taken) (b : List ℕ) (r : NodeAnswer) (b′ : List ℕ
 -- a node missing in the table answers Unknown and is never made
 abbrev pub partAnswer : ℕ → Part → Option Node → NodeAnswer
 partAnswer clock x none = node.Unknown
-partAnswer clock x (some n) = applyNode clock (x .delta) n .answer
+partAnswer clock x (some n) = applyNode plainWays clock (x .delta) n .answer
 
 abbrev pub partTable : ℕ → Part → Option Node → Table → Table
 partTable clock x none t = t
-partTable clock x (some n) t = setNode (x .number) (applyNode clock (x .delta) n .node) t
+partTable clock x (some n) t = setNode (x .number) (applyNode plainWays clock (x .delta) n .node) t
 
 -- what a table answers to one node delta, and its bytes afterwards
 pub record Turned (clock : ℕ) (x : Part) (t : Table) (r : NodeAnswer) (l : List ℕ) : Type 0 where

@@ -15,7 +15,7 @@ ghost use Prim.Native.Nat.{_+_, _≤_};
 ghost use lib.ListN.{length};
 ghost use Rattle.fields.specs.Parts.{put};
 ghost use Rattle.rules.specs.Given.{Gives};
-ghost use Rattle.rules.specs.Apply.{applyNode, applyEach, codes};
+ghost use Rattle.rules.specs.Apply.{applyNode, applyEach, codes, plainWays};
 ghost use Rattle.rules.specs.Layout.{encodeNode, encode, decode, decodeNode, valid};
 ghost use Rattle.rules.specs.Lent.{both, lentApply};
 ghost use Rattle.table.specs.Fits.{LaidNode};
@@ -166,7 +166,7 @@ fn apply_node(
     clock: u64,
 ) -> NodeAnswer
     requires { ⌜ Rising (now node) × (at ≤ length (now delta)) × (length (recsFrom (now delta) at) ≤ count) ⌝ }
-    ensures { λ r. ⌜ Answered (applyNode clock (deltaOf (now (delta .entry)) «last_gc» from max at) (decodeNode (now (node .entry)) .node)) (now (node .entry)) r (now (node .exit)) ⌝ }
+    ensures { λ r. ⌜ Answered (applyNode plainWays clock (deltaOf (now (delta .entry)) «last_gc» from max at) (decodeNode (now (node .entry)) .node)) (now (node .entry)) r (now (node .exit)) ⌝ }
 {
     let own = table_read::read_header(node);
     let status = rules::check_delta_status(own.last_gc, own.max, from, last_gc, max);
@@ -232,7 +232,7 @@ fn apply_each(
     answers: &mut [u8],
 )
     requires { ⌜ (valid (now table) ≡ true) × Accepted (now delta) × Told (now delta) nodes heads × (nodes ≤ length (now answers)) ⌝ }
-    ensures { λ _. ⌜ (now (table .exit) ≡ encode (applyEach (applyNode clock) (partsFrom (now (delta .entry)) 0) (decode (now (table .entry))) .table)) × (now (answers .exit) ≡ put 0 (codes (applyEach (applyNode clock) (partsFrom (now (delta .entry)) 0) (decode (now (table .entry))) .answers)) (now (answers .entry))) ⌝ }
+    ensures { λ _. ⌜ (now (table .exit) ≡ encode (applyEach (applyNode plainWays clock) (partsFrom (now (delta .entry)) 0) (decode (now (table .entry))) .table)) × (now (answers .exit) ≡ put 0 (codes (applyEach (applyNode plainWays clock) (partsFrom (now (delta .entry)) 0) (decode (now (table .entry))) .answers)) (now (answers .entry))) ⌝ }
 {
     let places = heads.at;
     let counts = heads.count;
@@ -248,7 +248,7 @@ fn apply_each(
 // Applies an accepted delta to a good table, one answer for each node delta.
 pub fn apply_good(table: &mut [u8], delta: &[u8], clock: u64, answers: &mut [u8])
     requires { ⌜ (valid (now table) ≡ true) × Accepted (now delta) × (length (partsFrom (now delta) 0) ≤ length (now answers)) ⌝ }
-    ensures { λ _. ⌜ (now (table .exit) ≡ encode (applyEach (applyNode clock) (partsFrom (now (delta .entry)) 0) (decode (now (table .entry))) .table)) × (now (answers .exit) ≡ put 0 (codes (applyEach (applyNode clock) (partsFrom (now (delta .entry)) 0) (decode (now (table .entry))) .answers)) (now (answers .entry))) ⌝ }
+    ensures { λ _. ⌜ (now (table .exit) ≡ encode (applyEach (applyNode plainWays clock) (partsFrom (now (delta .entry)) 0) (decode (now (table .entry))) .table)) × (now (answers .exit) ≡ put 0 (codes (applyEach (applyNode plainWays clock) (partsFrom (now (delta .entry)) 0) (decode (now (table .entry))) .answers)) (now (answers .entry))) ⌝ }
 {
     let heads = apply_node::read_heads(delta);
     let read = heads.read;

@@ -9,6 +9,7 @@ use lib.ListN.{length}
 use Rattle.fields.proofs.Choice.{and-intro, and-left, and-right}
 use Rattle.rules.specs.Node.{KeyValue, Node}
 use Rattle.rules.specs.Table.{nodeOf, obeys}
+use Rattle.rules.specs.Apply.{plainWays}
 use Rattle.rules.specs.Layout.{decode}
 use Rattle.rules.specs.World.{Applying, Computing, Digesting, Event, Exchange, freshTable}
 use Rattle.rules.specs.Demand3.{Holds, Quiet, SameMax, Wide, exchangeOf, exchanges, holdings}
@@ -63,11 +64,11 @@ granted-run g (exchanged.NoDigest r) l e = absurd (false≢true e)
 granted-run g (exchanged.NoDelta r) l e = absurd (false≢true e)
 granted-run g (exchanged.NotApplied r at) l e = absurd (false≢true e)
 
-granted-append : (es fs : List Event) (w : LentWorld) → allLentGranted es w ≡ true → allLentGranted fs (lentAfter es w) ≡ true → allLentGranted (es ++ fs) w ≡ true
+granted-append : (es fs : List Event) (w : LentWorld) → allLentGranted plainWays es w ≡ true → allLentGranted plainWays fs (lentAfter plainWays es w) ≡ true → allLentGranted plainWays (es ++ fs) w ≡ true
 unfolding allLentGranted lentAfter
 granted-append [] fs w g h = h
 granted-append (e ∷ es) fs w g h =
-    and-intro (lentGranted e w) _ (and-left (lentGranted e w) _ g) (granted-append es fs (lentHappen e w) (and-right (lentGranted e w) _ g) h)
+    and-intro (lentGranted plainWays e w) _ (and-left (lentGranted plainWays e w) _ g) (granted-append es fs (lentHappen plainWays e w) (and-right (lentGranted plainWays e w) _ g) h)
 
 -- ---- one after the other
 
@@ -80,19 +81,19 @@ module _ (c : Lending) (w : LentWorld) (p : Plain c) (g : isGranted (lentExchang
   abbrev left : LentWorld
   left = exchangedTo (came-to .follower) (exchange-run c w (p .clock-fits) .0) w
 
-  one : lentAfter (exchangeOf (quietOf c)) w ≡ left
+  one : lentAfter plainWays (exchangeOf (quietOf c)) w ≡ left
   one =
-      ap (λ (x : List Event). lentAfter x w) (sym (granted-run c (came-to .answer) (came-to .answers) g ∙ events-quiet c p))
+      ap (λ (x : List Event). lentAfter plainWays x w) (sym (granted-run c (came-to .answer) (came-to .answers) g ∙ events-quiet c p))
       ∙ exchange-run c w (p .clock-fits) .1
 
-  one-granted : allLentGranted (exchangeOf (quietOf c)) w ≡ true
-  one-granted = ap (λ (x : List Event). allLentGranted x w) (sym (events-quiet c p)) ∙ exchange-granted c w (p .clock-fits) ∙ g
+  one-granted : allLentGranted plainWays (exchangeOf (quietOf c)) w ≡ true
+  one-granted = ap (λ (x : List Event). allLentGranted plainWays x w) (sym (events-quiet c p)) ∙ exchange-granted c w (p .clock-fits) ∙ g
 
 -- the run of all calls: granted, and it ends with the follower's bytes that the calls leave
 record Ran (gs : List Lending) (w : LentWorld) : Type 0 where
   way : Exchange
-  ends : lentAfter (exchanges (quiets gs)) w ≡ exchangedTo (afterExchanges gs (w .publisher) (w .follower)) way w
-  grants : allLentGranted (exchanges (quiets gs)) w ≡ true
+  ends : lentAfter plainWays (exchanges (quiets gs)) w ≡ exchangedTo (afterExchanges gs (w .publisher) (w .follower)) way w
+  grants : allLentGranted plainWays (exchanges (quiets gs)) w ≡ true
 
 runs : (gs : List Lending) (w : LentWorld) → AllPlain gs → allExchanged gs (w .publisher) (w .follower) ≡ true → Ran gs w
 unfolding AllPlain allExchanged afterExchanges exchanges quiets lentAfter allLentGranted
@@ -103,21 +104,21 @@ runs (c ∷ cs) w p g =
     let e = one c w (p .0) h in
     record {
       way = next .way;
-      ends = lent-append (exchangeOf (quietOf c)) (exchanges (quiets cs)) w ∙ ap (lentAfter (exchanges (quiets cs))) e ∙ next .ends;
+      ends = lent-append plainWays (exchangeOf (quietOf c)) (exchanges (quiets cs)) w ∙ ap (lentAfter plainWays (exchanges (quiets cs))) e ∙ next .ends;
       grants =
           granted-append (exchangeOf (quietOf c)) (exchanges (quiets cs)) w (one-granted c w (p .0) h)
-          (subst (λ (x : LentWorld). allLentGranted (exchanges (quiets cs)) x ≡ true) (sym e) (next .grants));
+          (subst (λ (x : LentWorld). allLentGranted plainWays (exchanges (quiets cs)) x ≡ true) (sym e) (next .grants));
     }
 
 module _ (is : List ℕ) (ok : obeys (freshTable is) ≡ true) where
   -- After any run the calls make every node's max the same in both tables.
   pub exchanges-close : (es : List Event) (gs : List Lending)
       → AllPlain gs
-      → let w = lentAfter es (lentStart is) in allExchanged gs (w .publisher) (w .follower) ≡ true
+      → let w = lentAfter plainWays es (lentStart is) in allExchanged gs (w .publisher) (w .follower) ≡ true
       → holdings (decode (w .publisher)) ≤ length gs
       → SameMax (decode (w .publisher)) (decode (afterExchanges gs (w .publisher) (w .follower)))
   exchanges-close es gs p g h =
-      let w = lentAfter es (lentStart is) in
+      let w = lentAfter plainWays es (lentStart is) in
       let r = runs gs w p g in
       subst (λ (x : LentWorld). SameMax (decode (x .publisher)) (decode (x .follower))) (r .ends)
       (lent-demand3 is ok .closing-count es (quiets gs) (wide-quiets gs p) (r .grants) (subst (λ (n : ℕ). holdings (decode (w .publisher)) ≤ n) (sym (length-quiets gs)) h))
@@ -125,7 +126,7 @@ module _ (is : List ℕ) (ok : obeys (freshTable is) ≡ true) where
   -- So that in the end every Set record of the publisher has arrived, and the follower has no other.
   pub exchanges-arrive : (es : List Event) (gs : List Lending)
       → AllPlain gs
-      → let w = lentAfter es (lentStart is) in allExchanged gs (w .publisher) (w .follower) ≡ true
+      → let w = lentAfter plainWays es (lentStart is) in allExchanged gs (w .publisher) (w .follower) ≡ true
       → holdings (decode (w .publisher)) ≤ length gs
       → (i : ℕ) (p f : Node)
       → nodeOf i (decode (w .publisher)) ≡ some p
@@ -134,7 +135,7 @@ module _ (is : List ℕ) (ok : obeys (freshTable is) ≡ true) where
       → s .status ≡ Set
       → (Holds p s → Holds f s) × (Holds f s → Holds p s)
   exchanges-arrive es gs p g h i a b x y =
-      let w = lentAfter es (lentStart is) in
+      let w = lentAfter plainWays es (lentStart is) in
       let r = runs gs w p g in
-      let end = subst (LentSound is) (lent-append es (exchanges (quiets gs)) (lentStart is) ∙ r .ends) (lent-demand3 is ok .at-every-moment (es ++ exchanges (quiets gs))) in
+      let end = subst (LentSound is) (lent-append plainWays es (exchanges (quiets gs)) (lentStart is) ∙ r .ends) (lent-demand3 is ok .at-every-moment (es ++ exchanges (quiets gs))) in
       end .claims i a b x y .same-set (exchanges-close es gs p g h i a b x y)

@@ -6,6 +6,7 @@ use native.Mathlib.Omega.{arith}
 use lib.ListN.{length, take}
 use Rattle.fields.specs.Parts.{part}
 use Rattle.rules.specs.Given.{Given}
+use Rattle.rules.specs.Apply.{plainWays}
 use Rattle.rules.specs.Lent.{lentApply, lentCompute, lentDigest}
 use Rattle.rules.specs.declared.Refusal.{Refusal}
 use Rattle.rules.specs.declared.Written.{Written}
@@ -89,7 +90,7 @@ module _ (g : Lending) (publisher follower : List ℕ) where
     where
       taken : (ops bytes : ℕ) (d : List ℕ) (a : Applied) → lentApply (part 0 bytes d) (g .clock) (g .answers) follower .answer ≡ a → Leaves g follower (afterApplying ops bytes d (lentApply (part 0 bytes d) (g .clock) (g .answers) follower)) (takenAs ops bytes a)
       taken ops bytes d (applied.Nodes n) e = tt
-      taken ops bytes d (applied.Refused r at) e = lent-apply-refused (part 0 bytes d) (g .clock) (g .answers) follower r at e
+      taken ops bytes d (applied.Refused r at) e = lent-apply-refused plainWays (part 0 bytes d) (g .clock) (g .answers) follower r at e
 
       made-as : (n : ℕ) → let o = lentCompute (g .unsent) (g .ties) (g .mtu) 0 (part 0 n (told .lent)) (g .delta) publisher in (a : Computed) → o .answer ≡ a → let x = afterComputing (g .clock) (g .answers) follower (o .lent) a in Leaves g follower x (x .answer)
       made-as n (computed.Delta ops bytes) e =

@@ -12,6 +12,7 @@ use Rattle.rules.specs.Node.{KeyValue, Node}
 use Rattle.rules.specs.Table.{Table, nodeOf, numbersOf, obeys}
 use Rattle.rules.specs.Digest.{writeDigest}
 use Rattle.rules.specs.Compute.{compute}
+use Rattle.rules.specs.Apply.{Lawful, Ways, plainWays}
 use Rattle.rules.specs.Layout.{decode, encode}
 use Rattle.rules.specs.World.{Applying, Beating, Computing, DeltaSent, DigestSent, Digesting, Event, Exchange, Idle, Offering, Removing, World, Writing, after, freshTable, happen, possible, start}
 use Rattle.rules.specs.Demand3.{AllRise, Holds, Quiet, SameMax, Sound, Wide, allGranted, exchanges, granted, holdings, isApplied, isComputed, noRoom, wroteDelta, wroteDigest}
@@ -23,6 +24,7 @@ use Rattle.rules.specs.declared.Written.the-variants as written
 use Rattle.rules.specs.declared.Refusal.the-variants.{BadTable}
 use Rattle.rules.proofs.Closing.{closing}
 use Rattle.rules.proofs.Demand3.{never-falls, sound}
+use Rattle.rules.proofs.Keeps.{plain-lawful}
 use Rattle.rules.proofs.Moments.{InOrder, moment, moments, next-event}
 use Rattle.rules.proofs.Obeys.{facts-table}
 use Rattle.table.proofs.Tables.{decode-encode, valid-encode}
@@ -32,8 +34,8 @@ use Rattle.exchange.proofs.LentWorld.{after-lent, apply-encoded, from-e
 
 -- ---- the answers are the same
 
-module _ (w : World) (p : obeys (w .publisher) ≡ true) (f : obeys (w .follower) ≡ true) where
-  granted-lent : (e : Event) → lentGranted e (lent w) ≡ granted e w
+module _ (ways : Ways) (w : World) (p : obeys (w .publisher) ≡ true) (f : obeys (w .follower) ≡ true) where
+  granted-lent : (e : Event) → lentGranted ways e (lent w) ≡ granted ways e w
   granted-lent (Writing i k c) = refl
   granted-lent (Beating s i) = refl
   granted-lent (Offering s i h) = refl
@@ -51,20 +53,20 @@ module _ (w : World) (p : obeys (w .publisher) ≡ true) (f : obeys (w .follower
       go (DeltaSent b) = refl
   granted-lent (Applying now answers) = ap (λ (b : Bool). possible (Applying now answers) && b) (go (w .exchange))
     where
-      go : (x : Exchange) → lentIsApplied now answers (encode (w .follower)) x ≡ isApplied now answers (w .follower) x
+      go : (x : Exchange) → lentIsApplied ways now answers (encode (w .follower)) x ≡ isApplied ways now answers (w .follower) x
       go Idle = refl
       go (DigestSent b) = refl
-      go (DeltaSent b) = ap (λ (o : Given Applied TableAndList). noRoom (o .answer) (o .lent .list)) (apply-encoded (w .follower) f b now answers)
+      go (DeltaSent b) = ap (λ (o : Given Applied TableAndList). noRoom (o .answer) (o .lent .list)) (apply-encoded (w .follower) f ways b now answers)
 
-all-granted-lent : (is : List ℕ) (es : List Event) (w : World) → InOrder is w → allLentGranted es (lent w) ≡ allGranted es w
+all-granted-lent : (ways : Ways) → Lawful ways → (is : List ℕ) (es : List Event) (w : World) → InOrder is w → allLentGranted ways es (lent w) ≡ allGranted ways es w
 unfolding allLentGranted allGranted
-all-granted-lent is [] w o = refl
-all-granted-lent is (e ∷ es) w o =
+all-granted-lent ways law is [] w o = refl
+all-granted-lent ways law is (e ∷ es) w o =
     let p = facts-table (w .publisher) (o .publisher-ok) in
     let f = facts-table (w .follower) (o .follower-ok) in
-    ap (λ (b : Bool). b && allLentGranted es (lentHappen e (lent w))) (granted-lent w p f e)
-    ∙ ap (λ (x : LentWorld). granted e w && allLentGranted es x) (happen-lent w p f e)
-    ∙ ap (λ (b : Bool). granted e w && b) (all-granted-lent is es (happen e w) (next-event is w o e .order))
+    ap (λ (b : Bool). b && allLentGranted ways es (lentHappen ways e (lent w))) (granted-lent ways w p f e)
+    ∙ ap (λ (x : LentWorld). granted ways e w && allLentGranted ways es x) (happen-lent ways w p f e)
+    ∙ ap (λ (b : Bool). granted ways e w && b) (all-granted-lent ways law is es (happen ways e w) (next-event ways law is w o e .order))
 
 -- ---- the claims read in the bytes
 
@@ -84,10 +86,10 @@ sound-lent is w s =
     f : decode (encode (w .follower)) ≡ w .follower
     f = decode-encode (w .follower) (s .follower-obeys)
 
-pub lent-append : (es fs : List Event) (w : LentWorld) → lentAfter (es ++ fs) w ≡ lentAfter fs (lentAfter es w)
+pub lent-append : (ways : Ways) (es fs : List Event) (w : LentWorld) → lentAfter ways (es ++ fs) w ≡ lentAfter ways fs (lentAfter ways es w)
 unfolding lentAfter
-lent-append [] fs w = refl
-lent-append (e ∷ es) fs w = lent-append es fs (lentHappen e w)
+lent-append ways [] fs w = refl
+lent-append ways (e ∷ es) fs w = lent-append ways es fs (lentHappen ways e w)
 
 -- the tables that are read in the bytes of a world in order
 module _ (is : List ℕ) (w : World) (o : InOrder is w) where
@@ -97,33 +99,33 @@ module _ (is : List ℕ) (w : World) (o : InOrder is w) where
   follower-is : w .follower ≡ decode (lent w .follower)
   follower-is = sym (decode-encode (w .follower) (facts-table (w .follower) (o .follower-ok)))
 
-module _ (is : List ℕ) (ok : obeys (freshTable is) ≡ true) where
+module _ (ways : Ways) (law : Lawful ways) (is : List ℕ) (ok : obeys (freshTable is) ≡ true) where
   -- the world of tables after a run
   abbrev ran : List Event → World
-  ran es = after es (start is)
+  ran es = after ways es (start is)
 
   order : (es : List Event) → InOrder is (ran es)
-  order es = moment is ok es .order
+  order es = moment is ok ways law es .order
 
-  order-on : (es fs : List Event) → InOrder is (after fs (ran es))
-  order-on es fs = moments is fs (ran es) (moment is ok es) .order
+  order-on : (es fs : List Event) → InOrder is (after ways fs (ran es))
+  order-on es fs = moments ways law is fs (ran es) (moment is ok ways law es) .order
 
-  lent-on : (es fs : List Event) → lentAfter fs (lentAfter es (lentStart is)) ≡ lent (after fs (ran es))
-  lent-on es fs = ap (lentAfter fs) (lent-run is ok es) ∙ after-lent is fs (ran es) (moment is ok es .order)
+  lent-on : (es fs : List Event) → lentAfter ways fs (lentAfter ways es (lentStart is)) ≡ lent (after ways fs (ran es))
+  lent-on es fs = ap (lentAfter ways fs) (lent-run ways law is ok es) ∙ after-lent ways law is fs (ran es) (moment is ok ways law es .order)
 
-  lent-sound : (es : List Event) → LentSound is (lentAfter es (lentStart is))
-  lent-sound es = subst (LentSound is) (sym (lent-run is ok es)) (sound-lent is (ran es) (sound is ok es))
+  lent-sound : (es : List Event) → LentSound is (lentAfter ways es (lentStart is))
+  lent-sound es = subst (LentSound is) (sym (lent-run ways law is ok es)) (sound-lent is (ran es) (sound ways law is ok es))
 
   lent-never-falls : (es fs : List Event)
-      → AllRise (decode (lentAfter es (lentStart is) .publisher)) (decode (lentAfter fs (lentAfter es (lentStart is)) .publisher))
-      × AllRise (decode (lentAfter es (lentStart is) .follower)) (decode (lentAfter fs (lentAfter es (lentStart is)) .follower))
+      → AllRise (decode (lentAfter ways es (lentStart is) .publisher)) (decode (lentAfter ways fs (lentAfter ways es (lentStart is)) .publisher))
+      × AllRise (decode (lentAfter ways es (lentStart is) .follower)) (decode (lentAfter ways fs (lentAfter ways es (lentStart is)) .follower))
   lent-never-falls es fs =
-      let r = never-falls is ok es fs in
+      let r = never-falls ways law is ok es fs in
       let w = ran es in
-      let x = after fs w in
-      let a = ap (λ (y : LentWorld). decode (y .publisher)) (sym (lent-run is ok es)) in
+      let x = after ways fs w in
+      let a = ap (λ (y : LentWorld). decode (y .publisher)) (sym (lent-run ways law is ok es)) in
       let b = ap (λ (y : LentWorld). decode (y .publisher)) (sym (lent-on es fs)) in
-      let c = ap (λ (y : LentWorld). decode (y .follower)) (sym (lent-run is ok es)) in
+      let c = ap (λ (y : LentWorld). decode (y .follower)) (sym (lent-run ways law is ok es)) in
       let d = ap (λ (y : LentWorld). decode (y .follower)) (sym (lent-on es fs)) in (
         subst₂ AllRise (publisher-is is w (order es) ∙ a) (publisher-is is x (order-on es fs) ∙ b) (r .0),
         subst₂ AllRise (follower-is is w (order es) ∙ c) (follower-is is x (order-on es fs) ∙ d) (r .1),
@@ -131,36 +133,40 @@ module _ (is : List ℕ) (ok : obeys (freshTable is) ≡ true) where
 
   lent-closing : (es : List Event) (qs : List Quiet)
       → Wide qs
-      → allLentGranted (exchanges qs) (lentAfter es (lentStart is)) ≡ true
-      → holdings (decode (lentAfter es (lentStart is) .publisher)) ≤ length qs
-      → SameMax (decode (lentAfter (exchanges qs) (lentAfter es (lentStart is)) .publisher)) (decode (lentAfter (exchanges qs) (lentAfter es (lentStart is)) .follower))
+      → allLentGranted ways (exchanges qs) (lentAfter ways es (lentStart is)) ≡ true
+      → holdings (decode (lentAfter ways es (lentStart is) .publisher)) ≤ length qs
+      → SameMax (decode (lentAfter ways (exchanges qs) (lentAfter ways es (lentStart is)) .publisher)) (decode (lentAfter ways (exchanges qs) (lentAfter ways es (lentStart is)) .follower))
   lent-closing es qs wide g h =
       let w = ran es in
-      let x = after (exchanges qs) w in
-      let l = lent-run is ok es in
-      let granted-is = sym (all-granted-lent is (exchanges qs) w (order es)) ∙ ap (allLentGranted (exchanges qs)) (sym l) ∙ g in
+      let x = after ways (exchanges qs) w in
+      let l = lent-run ways law is ok es in
+      let granted-is = sym (all-granted-lent ways law is (exchanges qs) w (order es)) ∙ ap (allLentGranted ways (exchanges qs)) (sym l) ∙ g in
       let held = subst (λ (t : Table). holdings t ≤ length qs) (ap (λ (y : LentWorld). decode (y .publisher)) l ∙ sym (publisher-is is w (order es))) h in
       let z = sym (lent-on es (exchanges qs)) in
       subst₂ SameMax
       (publisher-is is x (order-on es (exchanges qs)) ∙ ap (λ (y : LentWorld). decode (y .publisher)) z)
       (follower-is is x (order-on es (exchanges qs)) ∙ ap (λ (y : LentWorld). decode (y .follower)) z)
-      (closing is ok es qs wide granted-is held)
+      (closing ways law is ok es qs wide granted-is held)
 
   -- The demand, of the bytes that the entry points leave.
-  pub lent-demand3 : LentDemand3 is
-  lent-demand3 = record { at-every-moment = lent-sound; between-moments = lent-never-falls; closing-count = lent-closing }
+  pub lent-demand3-as : LentDemand3 ways is
+  lent-demand3-as = record { at-every-moment = lent-sound; between-moments = lent-never-falls; closing-count = lent-closing }
 
   -- So that in the end every Set record of the publisher has arrived, and the follower has no other.
   pub lent-all-arrives : (es : List Event) (qs : List Quiet)
       → Wide qs
-      → allLentGranted (exchanges qs) (lentAfter es (lentStart is)) ≡ true
-      → holdings (decode (lentAfter es (lentStart is) .publisher)) ≤ length qs
+      → allLentGranted ways (exchanges qs) (lentAfter ways es (lentStart is)) ≡ true
+      → holdings (decode (lentAfter ways es (lentStart is) .publisher)) ≤ length qs
       → (i : ℕ) (p f : Node)
-      → nodeOf i (decode (lentAfter (exchanges qs) (lentAfter es (lentStart is)) .publisher)) ≡ some p
-      → nodeOf i (decode (lentAfter (exchanges qs) (lentAfter es (lentStart is)) .follower)) ≡ some f
+      → nodeOf i (decode (lentAfter ways (exchanges qs) (lentAfter ways es (lentStart is)) .publisher)) ≡ some p
+      → nodeOf i (decode (lentAfter ways (exchanges qs) (lentAfter ways es (lentStart is)) .follower)) ≡ some f
       → (s : KeyValue)
       → s .status ≡ Set
       → (Holds p s → Holds f s) × (Holds f s → Holds p s)
   lent-all-arrives es qs wide g h i p f a b =
-      let end = subst (LentSound is) (lent-append es (exchanges qs) (lentStart is)) (lent-sound (es ++ exchanges qs)) in
+      let end = subst (LentSound is) (lent-append ways es (exchanges qs) (lentStart is)) (lent-sound (es ++ exchanges qs)) in
       end .claims i p f a b .same-set (lent-closing es qs wide g h i p f a b)
+
+-- of the calls that the entry points promise
+pub lent-demand3 : (is : List ℕ) → obeys (freshTable is) ≡ true → LentDemand3 plainWays is
+lent-demand3 = lent-demand3-as plainWays plain-lawful

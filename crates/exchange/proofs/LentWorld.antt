@@ -11,9 +11,9 @@ use Rattle.rules.specs.Table.{Table, nodeOf, obeys}
 use Rattle.rules.specs.Local.{Outcome, call, gc, localBeat, offer}
 use Rattle.rules.specs.Digest.{writeDigest}
 use Rattle.rules.specs.Compute.{compute}
-use Rattle.rules.specs.Apply.{apply}
+use Rattle.rules.specs.Apply.{Lawful, Ways, apply}
 use Rattle.rules.specs.Layout.{decode, encode}
-use Rattle.rules.specs.Lent.{fromTable, lentApply, onTable, stored, storedApply}
+use Rattle.rules.specs.Lent.{fromTable, onTable, stored, storedApply, lentApplyAs}
 use Rattle.rules.specs.World.{Applying, Beating, Computing, DeltaSent, DigestSent, Digesting, Event, Exchange, Followers, Idle, Offering, Publishers, Removing, Side, World, Writing, after, afterDelta, afterDigest, calls, computedFor, appliedTo, freshTable, givenIn, happen, onSide, possible, start}
 use Rattle.rules.specs.declared.Answer.{Answer}
 use Rattle.rules.specs.declared.Answer.the-variants as plain
@@ -41,22 +41,22 @@ module _ (t : Table) (o : obeys t ≡ true) where
   unfolding fromTable
   from-encoded bad rule = ap (λ (b : Bool). pick b (rule (decode (encode t))) bad) (valid-encode t o) ∙ ap rule (decode-encode t o)
 
-  pub apply-encoded : (delta : List ℕ) (now : ℕ) (list : List ℕ) → lentApply delta now list (encode t) ≡ storedApply (apply delta now t list)
-  unfolding lentApply
-  apply-encoded delta now list = rw (valid-encode t o, decode-encode t o)
+  pub apply-encoded : (ways : Ways) (delta : List ℕ) (now : ℕ) (list : List ℕ) → lentApplyAs ways delta now list (encode t) ≡ storedApply (apply ways delta now t list)
+  unfolding lentApplyAs
+  apply-encoded ways delta now list = rw (valid-encode t o, decode-encode t o)
 
 -- ---- the bytes of a world of tables
 
 abbrev pub lent : World → LentWorld
 lent w = record { publisher = encode (w .publisher); follower = encode (w .follower); given = w .given; exchange = w .exchange }
 
-module _ (w : World) (p : obeys (w .publisher) ≡ true) (f : obeys (w .follower) ≡ true) where
+module _ (ways : Ways) (w : World) (p : obeys (w .publisher) ≡ true) (f : obeys (w .follower) ≡ true) where
   -- a call that changes the table of one side
   on-side : {A : Type 0} (s : Side) (bad : A) (rule : Table → Outcome A) → onLent s (λ l. onTable bad rule l .lent) (lent w) ≡ lent (onSide s (λ t. rule t .table) w)
   on-side {A} Publishers bad rule = ap (λ (o : Given A (List ℕ)). onLent Publishers (λ l. o .lent) (lent w)) (on-encoded (w .publisher) p bad rule)
   on-side {A} Followers bad rule = ap (λ (o : Given A (List ℕ)). onLent Followers (λ l. o .lent) (lent w)) (on-encoded (w .follower) f bad rule)
 
-  calls-lent : (e : Event) → lentCalls e (lent w) ≡ lent (calls e w)
+  calls-lent : (e : Event) → lentCalls ways e (lent w) ≡ lent (calls ways e w)
   calls-lent (Writing i k c) =
       let b = ap (λ (o : Given Answer (List ℕ)). o .lent) (on-encoded (w .publisher) p (plain.Refused BadTable) (call c i k)) in
       let d = decode-encode (w .publisher) p in
@@ -82,33 +82,33 @@ module _ (w : World) (p : obeys (w .publisher) ≡ true) (f : obeys (w .follower
       go (DeltaSent b) = refl
   calls-lent (Applying now answers) = ap (λ (l : List ℕ). onLent Followers (λ m. l) (lent w)) (go (w .exchange))
     where
-      go : (x : Exchange) → lentApplied now answers x (encode (w .follower)) ≡ encode (appliedTo now answers x (w .follower))
+      go : (x : Exchange) → lentApplied ways now answers x (encode (w .follower)) ≡ encode (appliedTo ways now answers x (w .follower))
       go Idle = refl
       go (DigestSent b) = refl
-      go (DeltaSent b) = ap (λ (o : Given Applied TableAndList). o .lent .table) (apply-encoded (w .follower) f b now answers)
+      go (DeltaSent b) = ap (λ (o : Given Applied TableAndList). o .lent .table) (apply-encoded (w .follower) f ways b now answers)
 
-  pub happen-lent : (e : Event) → lentHappen e (lent w) ≡ lent (happen e w)
+  pub happen-lent : (e : Event) → lentHappen ways e (lent w) ≡ lent (happen ways e w)
   unfolding lentHappen happen
   happen-lent e = go (possible e)
     where
-      go : (b : Bool) → pick b (lentCalls e (lent w)) (lent w) ≡ lent (pick b (calls e w) w)
+      go : (b : Bool) → pick b (lentCalls ways e (lent w)) (lent w) ≡ lent (pick b (calls ways e w) w)
       go true = calls-lent e
       go false = refl
 
 -- ---- a run
 
-module _ (is : List ℕ) where
-  pub after-lent : (es : List Event) (w : World) → InOrder is w → lentAfter es (lent w) ≡ lent (after es w)
+module _ (ways : Ways) (law : Lawful ways) (is : List ℕ) where
+  pub after-lent : (es : List Event) (w : World) → InOrder is w → lentAfter ways es (lent w) ≡ lent (after ways es w)
   unfolding lentAfter after
   after-lent [] w o = refl
   after-lent (e ∷ es) w o =
-      ap (lentAfter es) (happen-lent w (facts-table (w .publisher) (o .publisher-ok)) (facts-table (w .follower) (o .follower-ok)) e)
-      ∙ after-lent es (happen e w) (next-event is w o e .order)
+      ap (lentAfter ways es) (happen-lent ways w (facts-table (w .publisher) (o .publisher-ok)) (facts-table (w .follower) (o .follower-ok)) e)
+      ∙ after-lent es (happen ways e w) (next-event ways law is w o e .order)
 
   start-lent : lentStart is ≡ lent (start is)
   unfolding lentStart start
   start-lent = refl
 
   -- At every moment of every run, the bytes are those of the world of tables.
-  pub lent-run : obeys (freshTable is) ≡ true → (es : List Event) → lentAfter es (lentStart is) ≡ lent (after es (start is))
-  lent-run ok es = ap (lentAfter es) start-lent ∙ after-lent es (start is) (moment-start is ok .order)
+  pub lent-run : obeys (freshTable is) ≡ true → (es : List Event) → lentAfter ways es (lentStart is) ≡ lent (after ways es (start is))
+  lent-run ok es = ap (lentAfter ways es) start-lent ∙ after-lent es (start is) (moment-start is ok .order)

@@ -9,6 +9,7 @@ use Rattle.fields.specs.Choice.{pick}
 use Rattle.fields.specs.Parts.{part}
 use Rattle.rules.specs.Given.{Given}
 use Rattle.rules.specs.Sizes.{numbers}
+use Rattle.rules.specs.Apply.{plainWays}
 use Rattle.rules.specs.Lent.{lentApply, lentCompute, lentDigest}
 use Rattle.rules.specs.World.{Applying, Computing, DeltaSent, DigestSent, Digesting, Event, afterDelta, afterDigest}
 use Rattle.rules.specs.Demand3.{noRoom, wroteDelta, wroteDigest}
@@ -45,27 +46,27 @@ module _ (g : Lending) (w : LentWorld) (clock : g .clock < numbers) where
 
   -- ---- the three events
 
-  first : (n : ℕ) → told .answer ≡ written.Bytes n → lentHappen asking w ≡ onWay (DigestSent (part 0 n (told .lent))) w
+  first : (n : ℕ) → told .answer ≡ written.Bytes n → lentHappen plainWays asking w ≡ onWay (DigestSent (part 0 n (told .lent))) w
   unfolding lentHappen
   first n e = ap (λ (a : Written). onWay (afterDigest 0 (told .lent) a (w .exchange)) w) e
 
-  second : (b : List ℕ) (a : Computed) → made b .answer ≡ a → lentHappen answering (onWay (DigestSent b) w) ≡ onWay (afterDelta 0 (made b .lent) a (DigestSent b)) w
+  second : (b : List ℕ) (a : Computed) → made b .answer ≡ a → lentHappen plainWays answering (onWay (DigestSent b) w) ≡ onWay (afterDelta 0 (made b .lent) a (DigestSent b)) w
   unfolding lentHappen
   second b a e = ap (λ (x : Computed). onWay (afterDelta 0 (made b .lent) x (DigestSent b)) w) e
 
-  third : (b : List ℕ) → lentHappen taking-in (onWay (DeltaSent b) w) ≡ exchangedTo (lentApply b (g .clock) (g .answers) (w .follower) .lent .table) (DeltaSent b) w
+  third : (b : List ℕ) → lentHappen plainWays taking-in (onWay (DeltaSent b) w) ≡ exchangedTo (lentApply b (g .clock) (g .answers) (w .follower) .lent .table) (DeltaSent b) w
   unfolding lentHappen
-  third b = ap (λ (c : Bool). pick c (lentCalls taking-in (onWay (DeltaSent b) w)) (onWay (DeltaSent b) w)) (lt-ltb (g .clock) numbers clock)
+  third b = ap (λ (c : Bool). pick c (lentCalls plainWays taking-in (onWay (DeltaSent b) w)) (onWay (DeltaSent b) w)) (lt-ltb (g .clock) numbers clock)
 
   -- a digest that nobody answered
-  third-none : (b : List ℕ) → lentHappen taking-in (onWay (DigestSent b) w) ≡ exchangedTo (w .follower) (DigestSent b) w
+  third-none : (b : List ℕ) → lentHappen plainWays taking-in (onWay (DigestSent b) w) ≡ exchangedTo (w .follower) (DigestSent b) w
   unfolding lentHappen
-  third-none b = ap (λ (c : Bool). pick c (lentCalls taking-in (onWay (DigestSent b) w)) (onWay (DigestSent b) w)) (lt-ltb (g .clock) numbers clock)
+  third-none b = ap (λ (c : Bool). pick c (lentCalls plainWays taking-in (onWay (DigestSent b) w)) (onWay (DigestSent b) w)) (lt-ltb (g .clock) numbers clock)
 
   -- the three together
-  three : (b : List ℕ) (u v : LentWorld) → lentHappen asking w ≡ onWay (DigestSent b) w → lentHappen answering (onWay (DigestSent b) w) ≡ u → lentHappen taking-in u ≡ v → lentAfter (eventsOf g) w ≡ v
+  three : (b : List ℕ) (u v : LentWorld) → lentHappen plainWays asking w ≡ onWay (DigestSent b) w → lentHappen plainWays answering (onWay (DigestSent b) w) ≡ u → lentHappen plainWays taking-in u ≡ v → lentAfter plainWays (eventsOf g) w ≡ v
   unfolding lentAfter
-  three b u v p q r = ap (λ (x : LentWorld). lentHappen taking-in (lentHappen answering x)) p ∙ ap (lentHappen taking-in) q ∙ r
+  three b u v p q r = ap (λ (x : LentWorld). lentHappen plainWays taking-in (lentHappen plainWays answering x)) p ∙ ap (lentHappen plainWays taking-in) q ∙ r
 
   -- ---- the run
 
@@ -83,7 +84,7 @@ module _ (g : Lending) (w : LentWorld) (clock : g .clock < numbers) where
       answered n e (computed.Delta ops bytes) q =
           let b = part 0 n (told .lent) in
           let d = part 0 bytes (made b .lent) in
-          (DeltaSent d, ap (λ (es : List Event). lentAfter es w) (run-taken ops bytes (lentApply d (g .clock) (g .answers) (w .follower) .answer)) ∙ three b _ _ (first n e) (second b _ q) (third d))
+          (DeltaSent d, ap (λ (es : List Event). lentAfter plainWays es w) (run-taken ops bytes (lentApply d (g .clock) (g .answers) (w .follower) .answer)) ∙ three b _ _ (first n e) (second b _ q) (third d))
       answered n e (computed.Refused r) q = let b = part 0 n (told .lent) in (DigestSent b, three b _ _ (first n e) (second b _ q) (third-none b))
 
       asked : (a : Written) → told .answer ≡ a → IsRun g w (afterDigesting g (w .publisher) (w .follower) (told .lent) a)
@@ -93,16 +94,16 @@ module _ (g : Lending) (w : LentWorld) (clock : g .clock < numbers) where
   -- ---- nothing refused
 
   -- The call grants what its three events grant.
-  pub exchange-granted : allLentGranted (eventsOf g) w ≡ isGranted (lentExchange g (w .publisher) (w .follower))
+  pub exchange-granted : allLentGranted plainWays (eventsOf g) w ≡ isGranted (lentExchange g (w .publisher) (w .follower))
   unfolding lentExchange lentAnswer allLentGranted
   exchange-granted = asked (told .answer) refl
     where
       -- of an exchange that goes on with a digest of these bytes
       rest : LentWorld → Bool
-      rest u = lentGranted answering u && (lentGranted taking-in (lentHappen answering u) && true)
+      rest u = lentGranted plainWays answering u && (lentGranted plainWays taking-in (lentHappen plainWays answering u) && true)
 
       after-made : LentWorld → Bool
-      after-made u = lentGranted taking-in u && true
+      after-made u = lentGranted plainWays taking-in u && true
 
       clock-is : ltb (g .clock) numbers ≡ true
       clock-is = lt-ltb (g .clock) numbers clock
@@ -115,15 +116,15 @@ module _ (g : Lending) (w : LentWorld) (clock : g .clock < numbers) where
       answered b (computed.Delta ops bytes) q =
           let d = part 0 bytes (made b .lent) in
           let o = lentApply d (g .clock) (g .answers) (w .follower) in
-          ap (λ (a : Computed). wroteDelta a && after-made (lentHappen answering (onWay (DigestSent b) w))) q
+          ap (λ (a : Computed). wroteDelta a && after-made (lentHappen plainWays answering (onWay (DigestSent b) w))) q
           ∙ ap after-made (second b _ q)
-          ∙ ap (λ (c : Bool). (c && noRoom (o .answer) (o .lent)) && true) clock-is
-          ∙ taken ops bytes (o .answer) (o .lent)
-      answered b (computed.Refused r) q = ap (λ (a : Computed). wroteDelta a && after-made (lentHappen answering (onWay (DigestSent b) w))) q
+          ∙ ap (λ (c : Bool). (c && noRoom (o .answer) (o .lent .list)) && true) clock-is
+          ∙ taken ops bytes (o .answer) (o .lent .list)
+      answered b (computed.Refused r) q = ap (λ (a : Computed). wroteDelta a && after-made (lentHappen plainWays answering (onWay (DigestSent b) w))) q
 
-      asked : (a : Written) → told .answer ≡ a → (wroteDigest (told .answer) && rest (lentHappen asking w)) ≡ isGranted (afterDigesting g (w .publisher) (w .follower) (told .lent) a)
+      asked : (a : Written) → told .answer ≡ a → (wroteDigest (told .answer) && rest (lentHappen plainWays asking w)) ≡ isGranted (afterDigesting g (w .publisher) (w .follower) (told .lent) a)
       asked (written.Bytes n) e =
-          ap (λ (a : Written). wroteDigest a && rest (lentHappen asking w)) e
+          ap (λ (a : Written). wroteDigest a && rest (lentHappen plainWays asking w)) e
           ∙ ap rest (first n e)
           ∙ answered (part 0 n (told .lent)) (made (part 0 n (told .lent)) .answer) refl
-      asked (written.Refused r) e = ap (λ (a : Written). wroteDigest a && rest (lentHappen asking w)) e
+      asked (written.Refused r) e = ap (λ (a : Written). wroteDigest a && rest (lentHappen plainWays asking w)) e

@@ -9,8 +9,9 @@ use mathlib.Core.Option.{some}
 use lib.ListN.{length}
 use Rattle.rules.specs.Node.{Node}
 use Rattle.rules.specs.Table.{nodeOf, numbersOf}
+use Rattle.rules.specs.Apply.{Ways}
 use Rattle.rules.specs.Layout.{decode, valid}
-use Rattle.rules.specs.Lent.{lentDigest, lentCompute, lentApply}
+use Rattle.rules.specs.Lent.{lentDigest, lentCompute, lentApplyAs}
 use Rattle.rules.specs.World.{Exchange, Idle, DigestSent, DeltaSent, Event, Writing, Beating, Offering, Removing, Digesting, Computing, Applying, possible}
 use Rattle.rules.specs.Demand3.{Claims, AllRise, Quiet, exchanges, Wide, wroteDigest, wroteDelta, noRoom, holdings, SameMax}
 use Rattle.exchange.specs.LentWorld.{LentWorld, lentStart, lentHappen, lentAfter}
@@ -32,37 +33,37 @@ lentIsComputed excluded ties mtu place d l Idle = false
 lentIsComputed excluded ties mtu place d l (DigestSent b) = wroteDelta (lentCompute excluded ties mtu place b d l .answer)
 lentIsComputed excluded ties mtu place d l (DeltaSent b) = false
 
-abbrev pub lentIsApplied : ℕ → List ℕ → List ℕ → Exchange → Bool
-lentIsApplied now answers l Idle = false
-lentIsApplied now answers l (DigestSent b) = false
-lentIsApplied now answers l (DeltaSent b) = noRoom (lentApply b now answers l .answer) (lentApply b now answers l .lent .list)
+abbrev pub lentIsApplied : Ways → ℕ → List ℕ → List ℕ → Exchange → Bool
+lentIsApplied ways now answers l Idle = false
+lentIsApplied ways now answers l (DigestSent b) = false
+lentIsApplied ways now answers l (DeltaSent b) = noRoom (lentApplyAs ways b now answers l .answer) (lentApplyAs ways b now answers l .lent .list)
 
 -- whether a call of an exchange is made and not refused
-abbrev pub lentGranted : Event → LentWorld → Bool
-lentGranted (Writing i k c) w = true
-lentGranted (Beating s i) w = true
-lentGranted (Offering s i h) w = true
-lentGranted (Removing s now grace) w = true
-lentGranted (Digesting excluded place d) w = wroteDigest (lentDigest excluded place d (w .follower) .answer)
-lentGranted (Computing excluded ties mtu place d) w = lentIsComputed excluded ties mtu place d (w .publisher) (w .exchange)
-lentGranted (Applying now answers) w = possible (Applying now answers) && lentIsApplied now answers (w .follower) (w .exchange)
+abbrev pub lentGranted : Ways → Event → LentWorld → Bool
+lentGranted ways (Writing i k c) w = true
+lentGranted ways (Beating s i) w = true
+lentGranted ways (Offering s i h) w = true
+lentGranted ways (Removing s now grace) w = true
+lentGranted ways (Digesting excluded place d) w = wroteDigest (lentDigest excluded place d (w .follower) .answer)
+lentGranted ways (Computing excluded ties mtu place d) w = lentIsComputed excluded ties mtu place d (w .publisher) (w .exchange)
+lentGranted ways (Applying now answers) w = possible (Applying now answers) && lentIsApplied ways now answers (w .follower) (w .exchange)
 
-unfoldable pub allLentGranted : List Event → LentWorld → Bool
-allLentGranted [] w = true
-allLentGranted (e ∷ es) w = lentGranted e w && allLentGranted es (lentHappen e w)
+unfoldable pub allLentGranted : Ways → List Event → LentWorld → Bool
+allLentGranted ways [] w = true
+allLentGranted ways (e ∷ es) w = lentGranted ways e w && allLentGranted ways es (lentHappen ways e w)
 
 -- ---- the whole demand
 
--- Of the bytes of a publisher's table and a follower's that begin fresh with the nodes `is`. At every moment of every run of calls the claims hold;
--- between any two moments no node's pair falls in either table; and after any run, as many quiet exchanges as the publisher holds records and
--- nodes make every max equal.
-pub record LentDemand3 (is : List ℕ) : Type 0 where
-  pub at-every-moment : (es : List Event) → LentSound is (lentAfter es (lentStart is))
+-- Of the bytes of a publisher's table and a follower's that begin fresh with the nodes `is`, the follower in these ways. At every moment of every run
+-- of calls the claims hold; between any two moments no node's pair falls in either table; and after any run, as many quiet exchanges as the
+-- publisher holds records and nodes make every max equal.
+pub record LentDemand3 (ways : Ways) (is : List ℕ) : Type 0 where
+  pub at-every-moment : (es : List Event) → LentSound is (lentAfter ways es (lentStart is))
   pub between-moments : (es fs : List Event)
-      → AllRise (decode (lentAfter es (lentStart is) .publisher)) (decode (lentAfter fs (lentAfter es (lentStart is)) .publisher))
-      × AllRise (decode (lentAfter es (lentStart is) .follower)) (decode (lentAfter fs (lentAfter es (lentStart is)) .follower))
+      → AllRise (decode (lentAfter ways es (lentStart is) .publisher)) (decode (lentAfter ways fs (lentAfter ways es (lentStart is)) .publisher))
+      × AllRise (decode (lentAfter ways es (lentStart is) .follower)) (decode (lentAfter ways fs (lentAfter ways es (lentStart is)) .follower))
   pub closing-count : (es : List Event) (qs : List Quiet)
       → Wide qs
-      → allLentGranted (exchanges qs) (lentAfter es (lentStart is)) ≡ true
-      → holdings (decode (lentAfter es (lentStart is) .publisher)) ≤ length qs
-      → SameMax (decode (lentAfter (exchanges qs) (lentAfter es (lentStart is)) .publisher)) (decode (lentAfter (exchanges qs) (lentAfter es (lentStart is)) .follower))
+      → allLentGranted ways (exchanges qs) (lentAfter ways es (lentStart is)) ≡ true
+      → holdings (decode (lentAfter ways es (lentStart is) .publisher)) ≤ length qs
+      → SameMax (decode (lentAfter ways (exchanges qs) (lentAfter ways es (lentStart is)) .publisher)) (decode (lentAfter ways (exchanges qs) (lentAfter ways es (lentStart is)) .follower))

@@ -1,14 +1,16 @@
 -- Demand 3's world in lent bytes: the bytes of a publisher's table and of a follower's, and whatever a hub's calls do to them. What happens is
 -- given by the definitions that the entry points promise (Lent of `rules`) and by nothing else. The events are those of the world of tables
--- (World of `rules`), and so is what is on its way: there too it is bytes.
+-- (World of `rules`), and so is what is on its way: there too it is bytes. The follower applies in any ways (Apply of `rules`); those of an entry
+-- point are document 01's, `plainWays`.
 use Prim.Native.Nat.{ℕ}
 use mathlib.Core.List.{List, [], _∷_}
 use lib.Dec.{eqb}
 use Rattle.fields.specs.Choice.{pick}
 use Rattle.rules.specs.Node.{KeyValue}
 use Rattle.rules.specs.Table.{nodeOf}
+use Rattle.rules.specs.Apply.{Ways}
 use Rattle.rules.specs.Layout.{encode, decode}
-use Rattle.rules.specs.Lent.{lentAdd, lentCall, lentGc, lentOffer, lentBeat, lentDigest, lentCompute, lentApply}
+use Rattle.rules.specs.Lent.{lentAdd, lentCall, lentGc, lentOffer, lentBeat, lentDigest, lentCompute, lentApplyAs}
 use Rattle.rules.specs.World.{Exchange, Idle, DigestSent, DeltaSent, Side, Publishers, Followers, Event, Writing, Beating, Offering, Removing, Digesting, Computing, Applying, possible, givenIn, afterDigest, afterDelta, freshTable}
 
 -- ---- the world
@@ -42,10 +44,10 @@ lentComputed excluded ties mtu place d l (DigestSent b) =
 lentComputed excluded ties mtu place d l (DeltaSent b) = DeltaSent b
 
 -- only a delta that is on its way
-abbrev pub lentApplied : ℕ → List ℕ → Exchange → List ℕ → List ℕ
-lentApplied now answers Idle l = l
-lentApplied now answers (DigestSent b) l = l
-lentApplied now answers (DeltaSent b) l = lentApply b now answers l .lent .table
+abbrev pub lentApplied : Ways → ℕ → List ℕ → Exchange → List ℕ → List ℕ
+lentApplied ways now answers Idle l = l
+lentApplied ways now answers (DigestSent b) l = l
+lentApplied ways now answers (DeltaSent b) l = lentApplyAs ways b now answers l .lent .table
 
 -- ---- a run
 
@@ -58,26 +60,26 @@ abbrev pub onWay : Exchange → LentWorld → LentWorld
 onWay x w = record { publisher = w .publisher; follower = w .follower; given = w .given; exchange = x }
 
 -- what a write gives is told by the bytes that it finds
-abbrev pub lentCalls : Event → LentWorld → LentWorld
-lentCalls (Writing i k c) w =
+abbrev pub lentCalls : Ways → Event → LentWorld → LentWorld
+lentCalls ways (Writing i k c) w =
     record {
       publisher = lentCall c i k (w .publisher) .lent;
       follower = w .follower;
       given = λ j. pick (eqb j i) (givenIn k c (nodeOf i (decode (w .publisher))) (w .given j)) (w .given j);
       exchange = w .exchange;
     }
-lentCalls (Beating s i) w = onLent s (λ l. lentBeat i l .lent) w
-lentCalls (Offering s i h) w = onLent s (λ l. lentOffer i h l .lent) w
-lentCalls (Removing s now grace) w = onLent s (λ l. lentGc now grace l .lent) w
-lentCalls (Digesting excluded place d) w = onWay (lentDigested excluded place d (w .follower) (w .exchange)) w
-lentCalls (Computing excluded ties mtu place d) w = onWay (lentComputed excluded ties mtu place d (w .publisher) (w .exchange)) w
-lentCalls (Applying now answers) w = onLent Followers (lentApplied now answers (w .exchange)) w
+lentCalls ways (Beating s i) w = onLent s (λ l. lentBeat i l .lent) w
+lentCalls ways (Offering s i h) w = onLent s (λ l. lentOffer i h l .lent) w
+lentCalls ways (Removing s now grace) w = onLent s (λ l. lentGc now grace l .lent) w
+lentCalls ways (Digesting excluded place d) w = onWay (lentDigested excluded place d (w .follower) (w .exchange)) w
+lentCalls ways (Computing excluded ties mtu place d) w = onWay (lentComputed excluded ties mtu place d (w .publisher) (w .exchange)) w
+lentCalls ways (Applying now answers) w = onLent Followers (lentApplied ways now answers (w .exchange)) w
 
 -- the world after an event; one that is not possible changes nothing
-unfoldable pub lentHappen : Event → LentWorld → LentWorld
-lentHappen e w = pick (possible e) (lentCalls e w) w
+unfoldable pub lentHappen : Ways → Event → LentWorld → LentWorld
+lentHappen ways e w = pick (possible e) (lentCalls ways e w) w
 
 -- the world after a run
-unfoldable pub lentAfter : List Event → LentWorld → LentWorld
-lentAfter [] w = w
-lentAfter (e ∷ es) w = lentAfter es (lentHappen e w)
+unfoldable pub lentAfter : Ways → List Event → LentWorld → LentWorld
+lentAfter ways [] w = w
+lentAfter ways (e ∷ es) w = lentAfter ways es (lentHappen ways e w)

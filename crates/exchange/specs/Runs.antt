@@ -5,6 +5,7 @@ use mathlib.Core.Path.{_≡_}
 use mathlib.Core.Bool.{Bool, true, false, _&&_}
 use mathlib.Core.List.{List, [], _∷_}
 use Rattle.rules.specs.Sizes.{numbers}
+use Rattle.rules.specs.Apply.{plainWays}
 use Rattle.rules.specs.World.{Exchange, Event, Digesting, Computing, Applying}
 use Rattle.rules.specs.Demand3.{noRoom, leastWidth}
 use Rattle.rules.specs.declared.Applied.the-variants as applied
@@ -35,7 +36,7 @@ exchangedTo f x w = record { publisher = w .publisher; follower = f; given = w .
 
 -- a call is a run
 abbrev pub IsRun : Lending → LentWorld → LentExchange → Type 0
-IsRun g w o = (x : Exchange) × (lentAfter (runOf g (o .answer)) w ≡ exchangedTo (o .follower) x w)
+IsRun g w o = (x : Exchange) × (lentAfter plainWays (runOf g (o .answer)) w ≡ exchangedTo (o .follower) x w)
 
 -- nothing refused, read off the answer: no number, and no node answers Room
 abbrev pub grantedAs : Exchanged → List ℕ → Bool

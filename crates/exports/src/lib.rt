@@ -20,7 +20,7 @@ ghost use Rattle.rules.specs.Local.{call};
 ghost use Rattle.rules.specs.Table.{removeAll};
 ghost use Rattle.rules.specs.Compute as computing;
 ghost use Rattle.rules.specs.Delta.{deltaRead};
-ghost use Rattle.rules.specs.Apply.{applyNode, applyEach, codes};
+ghost use Rattle.rules.specs.Apply.{plainWays, applyNode, applyEach, codes};
 ghost use Rattle.rules.specs.Layout.{encode, decode, valid};
 ghost use Rattle.rules.specs.Lent.{lentCall, lentGc, lentDigest, lentCompute, lentApply};
 ghost use Rattle.lookup.specs.Lookup.{foundIn, lentFind, startOf};
@@ -262,8 +262,8 @@ pub extern "C" fn kev_apply(table: &mut [u8], delta: &[u8], clock: u64, answers:
 #[no_mangle]
 pub extern "C" fn kev_apply_good(table: &mut [u8], delta: &[u8], clock: u64, answers: &mut [u8])
     requires { ⌜ (valid (now table) ≡ true) × Accepted (now delta) × (length (partsFrom (now delta) 0) ≤ length (now answers)) ⌝ }
-    ensures { λ _. ⌜ (now (table .exit) ≡ encode (applyEach (applyNode clock) (partsFrom (now (delta .entry)) 0) (decode (now (table .entry))) .table))
-        × (now (answers .exit) ≡ put 0 (codes (applyEach (applyNode clock) (partsFrom (now (delta .entry)) 0) (decode (now (table .entry))) .answers)) (now (answers .entry))) ⌝ }
+    ensures { λ _. ⌜ (now (table .exit) ≡ encode (applyEach (applyNode plainWays clock) (partsFrom (now (delta .entry)) 0) (decode (now (table .entry))) .table))
+        × (now (answers .exit) ≡ put 0 (codes (applyEach (applyNode plainWays clock) (partsFrom (now (delta .entry)) 0) (decode (now (table .entry))) .answers)) (now (answers .entry))) ⌝ }
 {
     apply::apply_good(table, delta, clock, answers);
 }

@@ -7,27 +7,25 @@ use mathlib.Core.Logic.{_⊎_, inl, inr}
 use mathlib.Core.Option.{Option, none, some}
 use mathlib.Core.Path.{_≡_, ap, refl, subst, sym}
 use native.Mathlib.Omega.{arith}
-use lib.Dec.{eqb, leb, ltb}
+use lib.Dec.{eqb, ltb}
 use lib.ListN.{length}
 use borrow.Author.Tests.{eqb-false, eqb-true, ltb-false, ltb-true}
 use Rattle.fields.proofs.Choice.{in-cons, in-none}
 use Rattle.fields.specs.Choice.{_∈_, all, here, later, pick}
 use Rattle.fields.specs.Numbers.{AreBytes}
-use Rattle.fields.specs.Parts.{put}
 use Rattle.rules.proofs.Deltas.{delta-is}
 use Rattle.rules.proofs.Keeps.{ClockFits, offer-fits, ok-act, ok-fresh, ok-heartbeat, ok-remove, ok-taken}
 use Rattle.rules.proofs.Obeys.{Ascending, OkEntry, OkNode, OkTable, facts-table, number-in, table-facts}
 use Rattle.rules.proofs.Received.{OkDelta, parts-ok}
-use Rattle.rules.proofs.Tables.{numbers-remove, numbers-set}
-use Rattle.rules.specs.Apply.{ApplyOutcome, apply, applyEach, applyNode, applyOps, codes, onNode}
-use Rattle.rules.specs.Delta.{Faulty, Good, Op, Ops, Part, nothingRead, number, partsOf, readDelta}
+use Rattle.rules.proofs.Tables.{applied-table, numbers-remove, numbers-set}
+use Rattle.rules.specs.Apply.{Lawful, Ways, apply, applyEach, applyNode, onNode}
+use Rattle.rules.specs.Delta.{Part, nothingRead, number, partsOf}
 use Rattle.rules.specs.Local.{add, beatOn, call, callOn, gc, gives, localBeat, offer, offerOn, removeNode}
 use Rattle.rules.specs.Node.{Call, Node, Rec, act, beats, decide, due, fresh, offerOf, remove, withHeartbeat}
 use Rattle.rules.specs.Sizes.{maxNodes, numbers, top}
 use Rattle.rules.specs.Table.{Entry, Table, addNode, among, dropNode, nodeOf, numbersOf, obeys, removeAll, rising, setNode}
 use Rattle.rules.specs.declared.Heartbeat.{Heartbeat}
-use Rattle.rules.specs.declared.Refusal.the-variants.{Exhausted, NinthNode, NoNode, NoPlace}
-use Rattle.rules.specs.declared.Applied.the-variants as applied
+use Rattle.rules.specs.declared.Refusal.the-variants.{Exhausted, NinthNode, NoNode}
 use Rattle.rules.specs.declared.Answer.the-variants as plain
 
 -- ---- a node of the table
@@ -252,14 +250,14 @@ ok-remove-all due t ok =
 
 -- ---- a stream of node deltas
 
-pub ok-each : (now : ℕ) → now < numbers → (xs : List Part) (t : Table) → ((x : Part) → x ∈ xs → OkDelta (x .delta)) → OkTable t → OkTable (applyEach (applyNode now) xs t .table)
+pub ok-each : (ways : Ways) → Lawful ways → (now : ℕ) → now < numbers → (xs : List Part) (t : Table) → ((x : Part) → x ∈ xs → OkDelta (x .delta)) → OkTable t → OkTable (applyEach (applyNode ways now) xs t .table)
 unfolding applyEach
-ok-each now clock [] t f ok = ok
-ok-each now clock (x ∷ xs) t f ok = go (nodeOf (x .number) t) refl (λ u o. ok-each now clock xs u (λ y m. f y (later m)) o)
+ok-each ways law now clock [] t f ok = ok
+ok-each ways law now clock (x ∷ xs) t f ok = go (nodeOf (x .number) t) refl (λ u o. ok-each ways law now clock xs u (λ y m. f y (later m)) o)
   where
-    go : (o : Option Node) → nodeOf (x .number) t ≡ o → ((u : Table) → OkTable u → OkTable (applyEach (applyNode now) xs u .table)) → OkTable (onNode (applyNode now) x o t (applyEach (applyNode now) xs) .table)
+    go : (o : Option Node) → nodeOf (x .number) t ≡ o → ((u : Table) → OkTable u → OkTable (applyEach (applyNode ways now) xs u .table)) → OkTable (onNode (applyNode ways now) x o t (applyEach (applyNode ways now) xs) .table)
     go none q ih = ih t ok
-    go (some n) q ih = ih _ (ok-set (x .number) (applyNode now (x .delta) n .node) t ok (ok-taken now clock (x .delta) (f x (here refl)) n (node-ok-in (x .number) t ok q)))
+    go (some n) q ih = ih _ (ok-set (x .number) (applyNode ways now (x .delta) n .node) t ok (ok-taken ways law now clock (x .delta) (f x (here refl)) n (node-ok-in (x .number) t ok q)))
 
 -- ---- the calls
 
@@ -290,9 +288,14 @@ call-keeps c i k t h e = go (nodeOf i t) refl
         let ok = table-facts t e in
         facts-table (setNode i (act k (decide c k n) n) t) (ok-set i (act k (decide c k n) n) t ok (ok-act c k n (node-ok-in i t ok q) h))
 
+-- any removal of scheduled records, by node number and record
+pub remove-keeps : (due : ℕ → Rec → Bool) (t : Table) → obeys t ≡ true → obeys (removeAll due t) ≡ true
+remove-keeps due t e = facts-table _ (ok-remove-all due t (table-facts t e))
+
+-- document 01's clock is one
 pub gc-keeps : (now grace : ℕ) (t : Table) → obeys t ≡ true → obeys (gc now grace t .table) ≡ true
 unfolding gc
-gc-keeps now grace t e = facts-table _ (ok-remove-all (λ i. due now grace) t (table-facts t e))
+gc-keeps now grace t e = remove-keeps (λ i. due now grace) t e
 
 pub offer-keeps : (i : ℕ) (h : Heartbeat) (t : Table) → h .0 < numbers → obeys t ≡ true → obeys (offer i h t .table) ≡ true
 unfolding offer
@@ -321,19 +324,10 @@ beat-keeps i t e = go (nodeOf i t) refl
     go (some n) q = rise n q (ltb (n .heartbeat .0) top) refl
 
 -- an accepted delta of any origin
-pub apply-keeps : (bytes : List ℕ) (now : ℕ) (t : Table) (l : List ℕ) → AreBytes bytes → now < numbers → obeys t ≡ true → obeys (apply bytes now t l .table) ≡ true
-unfolding apply
-apply-keeps bytes now t l b h e = go (readDelta bytes) refl
-  where
-    parts : (ops : List Op) → readDelta bytes ≡ Good ops → (s : Bool) → obeys (pick {X = ApplyOutcome} s (record { answer = applied.Nodes (length (partsOf ops)); table = applyEach (applyNode now) (partsOf ops) t .table; list = put 0 (codes (applyEach (applyNode now) (partsOf ops) t .answers)) l }) (record { answer = applied.Refused NoPlace 0; table = t; list = l }) .table) ≡ true
-    parts ops q true =
-        let d = delta-is bytes ops b q .0 in
-        facts-table _ (ok-each now h (partsOf ops) t (parts-ok ops nothingRead (d .chain) (d .small)) (table-facts t e))
-    parts ops q false = e
-
-    go : (o : Ops) → readDelta bytes ≡ o → obeys (applyOps (applyNode now) o t l .table) ≡ true
-    go (Good ops) q = parts ops q (leb (length (partsOf ops)) (length l))
-    go (Faulty r at) q = e
+pub apply-keeps : (ways : Ways) → Lawful ways → (bytes : List ℕ) (now : ℕ) (t : Table) (l : List ℕ) → AreBytes bytes → now < numbers → obeys t ≡ true → obeys (apply ways bytes now t l .table) ≡ true
+apply-keeps ways law bytes now t l b h e =
+    applied-table ways bytes now t l (λ u. obeys u ≡ true) e
+    (λ ops q. let d = delta-is bytes ops b (law .reads-so bytes ops q) .0 in facts-table _ (ok-each ways law now h (partsOf ops) t (parts-ok ops nothingRead (d .chain) (d .small)) (table-facts t e)))
 
 -- a table without nodes
 pub none-obeys : obeys [] ≡ true

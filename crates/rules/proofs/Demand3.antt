@@ -1,6 +1,6 @@
 -- Demand 3: the theorem. Whatever happens to a publisher and a follower that began fresh with the same nodes, the claims of specs/Demand3 hold
 -- at every moment, no pair falls, and the closing count ends it. Nothing is assumed but that the fresh tables obey document 01's rules: at most
--- eight nodes, ascending numbers below 2^64.
+-- eight nodes, ascending numbers below 2^64. It is proved of a follower in any lawful ways (specs/Apply); document 01's are the plain ones.
 use Prim.Native.Nat.{_≤_, ℕ}
 use mathlib.Core.Bool.{true}
 use mathlib.Core.List.{List, _++_}
@@ -8,20 +8,21 @@ use mathlib.Core.Option.{some}
 use mathlib.Core.Path.{_≡_, ap, subst, subst₂}
 use lib.ListN.{length}
 use Rattle.rules.proofs.Closing.{after-append, closing}
-use Rattle.rules.proofs.EachNode.{at, nodeAt, orFresh}
-use Rattle.rules.proofs.Moments.{InOrder, Moment, moment, run-rises}
+use Rattle.rules.proofs.EachNode.{at, orFresh}
+use Rattle.rules.proofs.Keeps.{plain-lawful}
+use Rattle.rules.proofs.Moments.{InOrder, Moment, moment, moment-claims, run-rises}
 use Rattle.rules.proofs.Obeys.{facts-table}
-use Rattle.rules.proofs.OneNode.{claims-of}
+use Rattle.rules.specs.Apply.{Lawful, Ways, plainWays}
 use Rattle.rules.specs.Demand3.{AllRise, Claims, Demand3, Holds, Quiet, Rises, Sound, Wide, allGranted, exchanges, holdings}
 use Rattle.rules.specs.Node.{KeyValue, Node}
 use Rattle.rules.specs.Table.{nodeOf, obeys}
 use Rattle.rules.specs.World.{Event, World, after, freshTable, start}
 use Rattle.rules.specs.declared.Status.the-variants.{Set}
 
-module _ (is : List ℕ) (ok : obeys (freshTable is) ≡ true) where
+module _ (ways : Ways) (law : Lawful ways) (is : List ℕ) (ok : obeys (freshTable is) ≡ true) where
   -- At every moment: both tables hold their nodes and obey document 01's rules; the follower's max never passes the publisher's; and where they
   -- are equal, both hold the same Set records, and any other record of the follower carries the last version that its key was given.
-  pub sound : (es : List Event) → Sound is (after es (start is))
+  pub sound : (es : List Event) → Sound is (after ways es (start is))
   sound es =
       record {
         publisher-nodes = o .publisher-nodes;
@@ -29,46 +30,48 @@ module _ (is : List ℕ) (ok : obeys (freshTable is) ≡ true) where
         publisher-obeys = facts-table (w .publisher) (o .publisher-ok);
         follower-obeys = facts-table (w .follower) (o .follower-ok);
         claims =
-            λ i p f a b.
-            let c = claims-of (w .given i) (nodeAt i (w .publisher)) (nodeAt i (w .follower)) (m .facts i .publisher) (m .facts i .follower) in
-            subst₂ (Claims (w .given i)) (ap orFresh a) (ap orFresh b) c;
+            λ i p f a b. subst₂ (Claims (w .given i)) (ap orFresh a) (ap orFresh b) (moment-claims is w m i);
       }
     where
       w : World
-      w = after es (start is)
+      w = after ways es (start is)
 
       m : Moment is w
-      m = moment is ok es
+      m = moment is ok ways law es
 
       o : InOrder is w
       o = m .order
 
   -- Between any two moments: no node's pair (last_gc, max) falls, in either table.
   pub never-falls : (es fs : List Event)
-      → AllRise (after es (start is) .publisher) (after fs (after es (start is)) .publisher)
-      × AllRise (after es (start is) .follower) (after fs (after es (start is)) .follower)
+      → AllRise (after ways es (start is) .publisher) (after ways fs (after ways es (start is)) .publisher)
+      × AllRise (after ways es (start is) .follower) (after ways fs (after ways es (start is)) .follower)
   never-falls es fs = (λ i a b p q. subst₂ Rises (ap orFresh p) (ap orFresh q) (r i .0), λ i a b p q. subst₂ Rises (ap orFresh p) (ap orFresh q) (r i .1))
     where
       w : World
-      w = after es (start is)
+      w = after ways es (start is)
 
-      r : (i : ℕ) → Rises (at i w .ours) (at i (after fs w) .ours) × Rises (at i w .theirs) (at i (after fs w) .theirs)
-      r i = run-rises is fs w (moment is ok es .order) i
+      r : (i : ℕ) → Rises (at i w .ours) (at i (after ways fs w) .ours) × Rises (at i w .theirs) (at i (after ways fs w) .theirs)
+      r i = run-rises ways law is fs w (moment is ok ways law es .order) i
 
-  pub demand3 : Demand3 is
-  demand3 = record { at-every-moment = sound; between-moments = never-falls; closing-count = closing is ok }
+  pub demand3-as : Demand3 ways is
+  demand3-as = record { at-every-moment = sound; between-moments = never-falls; closing-count = closing ways law is ok }
 
   -- So that in the end every Set record of the publisher has arrived, and the follower has no other.
   pub all-arrives : (es : List Event) (qs : List Quiet)
       → Wide qs
-      → allGranted (exchanges qs) (after es (start is)) ≡ true
-      → holdings (after es (start is) .publisher) ≤ length qs
+      → allGranted ways (exchanges qs) (after ways es (start is)) ≡ true
+      → holdings (after ways es (start is) .publisher) ≤ length qs
       → (i : ℕ) (p f : Node)
-      → nodeOf i (after (exchanges qs) (after es (start is)) .publisher) ≡ some p
-      → nodeOf i (after (exchanges qs) (after es (start is)) .follower) ≡ some f
+      → nodeOf i (after ways (exchanges qs) (after ways es (start is)) .publisher) ≡ some p
+      → nodeOf i (after ways (exchanges qs) (after ways es (start is)) .follower) ≡ some f
       → (s : KeyValue)
       → s .status ≡ Set
       → (Holds p s → Holds f s) × (Holds f s → Holds p s)
   all-arrives es qs wide g h i p f a b =
-      let end = subst (Sound is) (after-append es (exchanges qs) (start is)) (sound (es ++ exchanges qs)) in
-      end .claims i p f a b .same-set (closing is ok es qs wide g h i p f a b)
+      let end = subst (Sound is) (after-append ways es (exchanges qs) (start is)) (sound (es ++ exchanges qs)) in
+      end .claims i p f a b .same-set (closing ways law is ok es qs wide g h i p f a b)
+
+-- of plain tables
+pub demand3 : (is : List ℕ) → obeys (freshTable is) ≡ true → Demand3 plainWays is
+demand3 = demand3-as plainWays plain-lawful

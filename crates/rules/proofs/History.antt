@@ -1,11 +1,12 @@
--- What a publisher gave to its keys: the last of a key's entries, and entries above a version. Assumes nothing.
-use Prim.Native.Nat.{_<_, _≤_, ℕ}
+-- What a publisher gave to its keys, the newest first: its versions, the last of a key's entries, and entries above a version. Assumes nothing.
+use Prim.Native.Nat.{_<_, _≤_, suc, ℕ}
 use mathlib.Core.Bool.{Bool, false, true}
 use mathlib.Core.List.{List, [], _∷_}
 use mathlib.Core.Logic.{_⊎_, inl, inr}
 use mathlib.Core.Path.{_∙_, _≡_, ap, refl, sym}
 use native.Mathlib.Omega.{arith}
 use lib.Dec.{leb}
+use lib.ListN.{length}
 use borrow.Author.Tests.{leb-false, leb-true}
 use Rattle.fields.proofs.Choice.{in-cons, in-none}
 use Rattle.fields.proofs.Ordered.{same-false, same-true}
@@ -13,6 +14,36 @@ use Rattle.fields.specs.Choice.{_∈_, here, later}
 use Rattle.fields.specs.Order.{sameBytes}
 use Rattle.rules.specs.Demand3.{Last}
 use Rattle.rules.specs.Node.{KeyValue}
+
+-- Versions are from 1 to the number of entries, and each was given once.
+pub record Numbered (h : List KeyValue) : Type 0 where
+  pub low : (s : KeyValue) → s ∈ h → 0 < s .version
+  pub high : (s : KeyValue) → s ∈ h → s .version ≤ length h
+  pub one : (s t : KeyValue) → s ∈ h → t ∈ h → s .version ≡ t .version → s ≡ t
+
+pub numbered-none : Numbered []
+numbered-none = record { low = λ s m. absurd (in-none m); high = λ s m. absurd (in-none m); one = λ s t m. absurd (in-none m) }
+
+-- the next entry has the next version
+pub numbered-grows : (h : List KeyValue) (w : KeyValue) → w .version ≡ suc (length h) → Numbered h → Numbered (w ∷ h)
+numbered-grows h w next x = record { low = λ s m. low s (in-cons m); high = λ s m. high s (in-cons m); one = λ s t m n. one s t (in-cons m) (in-cons n) }
+  where
+    is-next : (s : KeyValue) → s ≡ w → s .version ≡ suc (length h)
+    is-next s e = ap (λ (y : KeyValue). y .version) e ∙ next
+
+    low : (s : KeyValue) → (s ≡ w) ⊎ (s ∈ h) → 0 < s .version
+    low s (inl e) = let a = is-next s e in omega arith
+    low s (inr m) = x .low s m
+
+    high : (s : KeyValue) → (s ≡ w) ⊎ (s ∈ h) → s .version ≤ suc (length h)
+    high s (inl e) = let a = is-next s e in omega arith
+    high s (inr m) = let a = x .high s m in omega arith
+
+    one : (s t : KeyValue) → (s ≡ w) ⊎ (s ∈ h) → (t ≡ w) ⊎ (t ∈ h) → s .version ≡ t .version → s ≡ t
+    one s t (inl e) (inl f) q = e ∙ sym f
+    one s t (inl e) (inr m) q = let a = is-next s e in let b = x .high t m in absurd (omega arith)
+    one s t (inr m) (inl e) q = let a = is-next t e in let b = x .high s m in absurd (omega arith)
+    one s t (inr m) (inr n) q = x .one s t m n q
 
 -- the key was given a version above n
 pub record Newer (h : List KeyValue) (n : ℕ) (k : List ℕ) : Type 0 where

@@ -1,127 +1,173 @@
--- A node delta that a publisher computed: what is true of it at that moment, and what stays true of it ever after.
-use Prim.Native.Nat.{_+_, _<_, _≤_, ℕ}
-use mathlib.Core.Bool.{Bool, false, true}
+-- Honest: the one fact that demand 3 rests on, of a node wherever it stands and of a node delta whoever computed it. h is all that the publisher
+-- gave to the node's keys, the newest first, so that `length h` is the publisher's max. Here: the predicate, and that a fresh node has it, and
+-- that it outlives a write of the publisher, a removal and a heartbeat. That computing sends honest deltas is in Computing, that a node which takes
+-- one stays honest in Step. Clocks, digests and the age of a delta do not come in.
+use Prim.Native.Nat.{_<_, _≤_, max, suc, ℕ}
+use mathlib.Core.Bool.{Bool, false, not, true}
 use mathlib.Core.List.{List, _∷_}
 use mathlib.Core.Logic.{_⊎_, inl, inr}
 use mathlib.Core.Path.{_∙_, _≡_, ap, refl, subst, sym}
 use native.Mathlib.Omega.{arith}
-use lib.Dec.{leb, ltb}
-use borrow.Author.Tests.{leb-false, leb-true, ltb-false, ltb-true}
-use Rattle.fields.proofs.Choice.{in-cons}
+use lib.ListN.{length}
+use Rattle.fields.proofs.Choice.{and-left, in-cons, in-none, keep-from, keep-in}
 use Rattle.fields.proofs.Ordered.{same-false, same-true}
-use Rattle.fields.specs.Choice.{_∈_, here, later}
+use Rattle.fields.specs.Choice.{_∈_, here, keep, later}
 use Rattle.fields.specs.Order.{sameBytes}
-use Rattle.rules.proofs.History.{Latest, Newer, latest, newer-grows}
-use Rattle.rules.proofs.Publisher.{Publisher}
+use Rattle.rules.proofs.History.{Newer, newer-grows}
+use Rattle.rules.proofs.Records.{Sorted, gc-below, gc-covers, gc-rises, sorted-keep}
 use Rattle.rules.specs.Delta.{NodeDelta}
-use Rattle.rules.specs.Demand3.{Last}
-use Rattle.rules.specs.Node.{Change, KeyValue, Node, Rec, scheduled}
-use Rattle.rules.specs.World.{givenBy}
+use Rattle.rules.specs.Demand3.{Holds, Last}
+use Rattle.rules.specs.Node.{KeyValue, Node, Rec, fresh, goes, lastGc, remove, scheduled, withHeartbeat}
+use Rattle.rules.specs.declared.Heartbeat.{Heartbeat}
 
--- Honest: last_gc is the publisher's, and the records are exactly those of the publisher above from and not above the delta's max. Records up to a
--- cut, a SetMaxVersion alone and a Node left alone all are this.
-pub record Honest (p : Node) (d : NodeDelta) : Type 0 where
-  pub gc-is : d .last-gc ≡ p .last-gc
-  pub max-low : d .max ≤ p .max
-  pub held : (s : KeyValue) → s ∈ d .recs → (r : Rec) × (r ∈ p .recs) × (r .kv ≡ s)
-  pub within : (s : KeyValue) → s ∈ d .recs → s .version ≤ d .max
-  pub all : (r : Rec) → r ∈ p .recs → d .from < r .kv .version → r .kv .version ≤ d .max → r .kv ∈ d .recs
+-- ---- the predicate
 
--- why a delta need not bring an entry
-pub data Covered (d : NodeDelta) (u : KeyValue) : Type 0 where
-  delivered : u ∈ d .recs → Covered d u
-  beyond : d .max < u .version → Covered d u
-  before : u .version ≤ d .from → Covered d u
-  removed : scheduled (u .status) ≡ true → u .version ≤ d .last-gc → Covered d u
+-- scheduled, and at or below this last_gc: it may have been removed
+abbrev pub Removed : ℕ → KeyValue → Type 0
+Removed g s = (scheduled (s .status) ≡ true) × (s .version ≤ g)
 
--- for every entry of the history there is one of its key, not older, that the delta brings or need not bring
-pub record Cover (h : List KeyValue) (d : NodeDelta) (t : KeyValue) : Type 0 where
-  pub kv : KeyValue
-  pub told : kv ∈ h
-  pub same : kv .key ≡ t .key
-  pub above : t .version ≤ kv .version
-  pub why : Covered d kv
+-- the last that its key was given, or its key was given a version above n
+abbrev pub Current : List KeyValue → ℕ → KeyValue → Type 0
+Current h n s = Last h s ⊎ Newer h n (s .key)
 
--- `top` is the publisher's max at the moment of computing, `now` its max today
-pub record Sent (h : List KeyValue) (now : ℕ) (d : NodeDelta) : Type 0 where
-  pub top : ℕ
-  pub top-now : top ≤ now
-  pub max-top : d .max ≤ top
-  pub gc-top : d .last-gc ≤ top
-  pub told : (s : KeyValue) → s ∈ d .recs → s ∈ h
-  pub within : (s : KeyValue) → s ∈ d .recs → s .version ≤ d .max
-  pub one : (s t : KeyValue) → s ∈ d .recs → t ∈ d .recs → s .key ≡ t .key → s ≡ t
-  pub current : (s : KeyValue) → s ∈ d .recs → Last h s ⊎ Newer h top (s .key)
-  pub cover : (t : KeyValue) → t ∈ h → Cover h d t
+-- Records `has` under last_gc g and max m, complete above `from`. Neither number is above what was given. Each record was given, and is not above
+-- m. Each record is the last that its key was given, or its key was given a version above both g and m (after a reset g may exceed m). What a
+-- key was given last, above from and up to m, stands here, or is scheduled and at or below g.
+pub record Honest (h : List KeyValue) (from g m : ℕ) (has : KeyValue → Type 0) : Type 0 where
+  pub gc-low : g ≤ length h
+  pub max-low : m ≤ length h
+  pub told : (s : KeyValue) → has s → s ∈ h
+  pub within : (s : KeyValue) → has s → s .version ≤ m
+  pub current : (s : KeyValue) → has s → Current h (max g m) s
+  pub brings : (s : KeyValue) → s ∈ h → Last h s → from < s .version → s .version ≤ m → has s ⊎ Removed g s
 
-pub sent : (h : List KeyValue) (p : Node) (d : NodeDelta) → Publisher h p → Honest p d → Sent h (p .max) d
-sent h p d ok hon =
+-- a node: from 0, and one record a key
+pub record HonestNode (h : List KeyValue) (n : Node) : Type 0 where
+  pub sorted : Sorted (n .recs)
+  pub honest : Honest h 0 (n .last-gc) (n .max) (Holds n)
+
+-- a node delta: from its own from
+abbrev pub HonestDelta : List KeyValue → NodeDelta → Type 0
+HonestDelta h d = Honest h (d .from) (d .last-gc) (d .max) (λ s. s ∈ d .recs)
+
+-- ---- a fresh node
+
+pub fresh-honest : (h : List KeyValue) → HonestNode h fresh
+unfolding Sorted
+fresh-honest h =
     record {
-      top = p .max;
-      top-now = omega arith;
-      max-top = hon .max-low;
-      gc-top = let a = hon .gc-is in let b = ok .gc-max in omega arith;
-      told = told;
-      within = hon .within;
-      one =
-          λ s t m n e.
-          ok .one s t (told s m) (told t n) (let a = last s m t (told t n) (sym e) in let b = last t n s (told s m) e in omega arith);
-      current = λ s m. inl (last s m);
-      cover = λ t m. at t m (latest (t .key) h);
+      sorted = tt;
+      honest =
+          record {
+            gc-low = omega arith;
+            max-low = omega arith;
+            told = λ s x. absurd (in-none (x .1));
+            within = λ s x. absurd (in-none (x .1));
+            current = λ s x. absurd (in-none (x .1));
+            brings = λ s m l a b. absurd (omega arith);
+          };
     }
-  where
-    told : (s : KeyValue) → s ∈ d .recs → s ∈ h
-    told s m = let x = hon .held s m in subst (λ (y : KeyValue). y ∈ h) (x .2) (ok .told (x .0) (x .1))
 
-    last : (s : KeyValue) → s ∈ d .recs → Last h s
-    last s m = let x = hon .held s m in subst (λ (y : KeyValue). Last h y) (x .2) (ok .last (x .0) (x .1))
+-- ---- the next version is given
 
-    why : (u : KeyValue) → u ∈ h → Last h u → Covered d u
-    why u m l = by (ok .kept u m l)
+module _ (h : List KeyValue) (w : KeyValue) (next : w .version ≡ suc (length h)) where
+  honest-grows : (from g m : ℕ) (has : KeyValue → Type 0) → Honest h from g m has → Honest (w ∷ h) from g m has
+  honest-grows from g m has x =
+      record {
+        gc-low = let a = x .gc-low in omega arith;
+        max-low = let a = x .max-low in omega arith;
+        told = λ s n. later (x .told s n);
+        within = x .within;
+        current = λ s n. current s (sameBytes (s .key) (w .key)) refl (x .current s n);
+        brings = λ s n l a b. brings s (in-cons n) l a b;
+      }
+    where
+      current : (s : KeyValue) (b : Bool) → sameBytes (s .key) (w .key) ≡ b → Current h (max g m) s → Current (w ∷ h) (max g m) s
+      current s b q (inr n) = inr (newer-grows w n)
+      current s true q (inl l) =
+          inr (record { kv = w; told = here refl; same = sym (same-true _ _ q); above = let a = x .gc-low in let b = x .max-low in omega arith })
+      current s false q (inl l) = inl (λ t n e. at t (in-cons n) e)
+        where
+          at : (t : KeyValue) → (t ≡ w) ⊎ (t ∈ h) → t .key ≡ s .key → t .version ≤ s .version
+          at t (inl f) e = absurd (same-false _ _ q (sym e ∙ ap (λ (y : KeyValue). y .key) f))
+          at t (inr n) e = l t n e
+
+      brings : (s : KeyValue) → (s ≡ w) ⊎ (s ∈ h) → Last (w ∷ h) s → from < s .version → s .version ≤ m → has s ⊎ Removed g s
+      brings s (inl e) l a b = let v : s .version ≡ w .version = ap (λ (y : KeyValue). y .version) e in let c = x .max-low in absurd (omega arith)
+      brings s (inr n) l a b = x .brings s n (λ t o. l t (later o)) a b
+
+  pub node-grows : (n : Node) → HonestNode h n → HonestNode (w ∷ h) n
+  node-grows n x = record { sorted = x .sorted; honest = honest-grows 0 (n .last-gc) (n .max) (Holds n) (x .honest) }
+
+  pub delta-grows : (d : NodeDelta) → HonestDelta h d → HonestDelta (w ∷ h) d
+  delta-grows d x = honest-grows (d .from) (d .last-gc) (d .max) (λ s. s ∈ d .recs) x
+
+-- ---- a removal, a heartbeat
+
+module _ (h : List KeyValue) (n : Node) (ok : HonestNode h n) where
+  hon : Honest h 0 (n .last-gc) (n .max) (Holds n)
+  hon = ok .honest
+
+  pub node-beat : (b : Heartbeat) → HonestNode h (withHeartbeat b n)
+  node-beat b =
+      record {
+        sorted = ok .sorted;
+        honest =
+            record {
+              gc-low = hon .gc-low;
+              max-low = hon .max-low;
+              told = hon .told;
+              within = hon .within;
+              current = hon .current;
+              brings = hon .brings;
+            };
+      }
+
+  -- any removal of scheduled records
+  module _ (due : Rec → Bool) where
+    abbrev gc : ℕ
+    gc = lastGc due (n .last-gc) (n .recs)
+
+    -- last_gc rises to versions that are held, and no higher
+    pub gc-within : (b : ℕ) → n .last-gc ≤ b → n .max ≤ b → gc ≤ b
+    gc-within b g m = gc-below due (n .last-gc) b (n .recs) g (λ r i. let a = hon .within (r .kv) (r, i, refl) in omega arith)
+
+    pub node-remove : HonestNode h (remove due n)
+    unfolding remove
+    node-remove =
+        record {
+          sorted = sorted-keep _ _ (ok .sorted);
+          honest =
+              record {
+                gc-low = gc-within (length h) (hon .gc-low) (hon .max-low);
+                max-low = hon .max-low;
+                told = λ s x. hon .told s (was s x);
+                within = λ s x. hon .within s (was s x);
+                current = λ s x. current s (hon .current s (was s x));
+                brings = λ s m l a b. brings s (hon .brings s m l a b);
+              };
+        }
       where
-        test : (r : Rec) → r ∈ p .recs → r .kv ≡ u → (b : Bool) → ltb (d .from) (u .version) ≡ b → (c : Bool) → leb (u .version) (d .max) ≡ c → Covered d u
-        test r n e true b true c =
-            delivered (subst (λ (y : KeyValue). y ∈ d .recs) e (hon .all r n (subst (λ (y : KeyValue). d .from < y .version) (sym e) (ltb-true _ _ b)) (subst (λ (y : KeyValue). y .version ≤ d .max) (sym e) (leb-true _ _ c))))
-        test r n e true b false c = beyond (leb-false _ _ c)
-        test r n e false b c c′ = before (ltb-false _ _ b)
+        Has : KeyValue → Type 0
+        Has s = (r : Rec) × (r ∈ keep (λ r. not (goes due r)) (n .recs)) × (r .kv ≡ s)
 
-        by : ((r : Rec) × (r ∈ p .recs) × (r .kv ≡ u)) ⊎ ((scheduled (u .status) ≡ true) × (u .version ≤ p .last-gc)) → Covered d u
-        by (inl x) = test (x .0) (x .1) (x .2) (ltb (d .from) (u .version)) refl (leb (u .version) (d .max)) refl
-        by (inr x) = removed (x .0) (let a = hon .gc-is in let b = x .1 in omega arith)
+        was : (s : KeyValue) → Has s → Holds n s
+        was s x = (x .0, keep-from _ _ (x .1) .0, x .2)
 
-    at : (t : KeyValue) → t ∈ h → ((s : KeyValue) → s ∈ h → s .key ≡ t .key → ⊥) ⊎ Latest h (t .key) → Cover h d t
-    at t m (inl n) = absurd (n t m refl)
-    at t m (inr u) = record { kv = u .kv; told = u .told; same = u .same; above = u .last t m (sym (u .same)); why = why (u .kv) (u .told) (u .last) }
+        current : (s : KeyValue) → Current h (max (n .last-gc) (n .max)) s → Current h (max gc (n .max)) s
+        current s (inl l) = inl l
+        current s (inr x) =
+            let a = gc-within (max (n .last-gc) (n .max)) (omega arith) (omega arith) in
+            inr (record { kv = x .kv; told = x .told; same = x .same; above = let b = x .above in omega arith })
 
--- it stays so, whatever the publisher writes
-pub sent-write : (h : List KeyValue) (p : Node) (d : NodeDelta) (k : List ℕ) (c : Change) → Sent h (p .max) d → Sent (givenBy k c p ∷ h) (p .max + 1) d
-sent-write h p d k c x =
-    record {
-      top = x .top;
-      top-now = let a = x .top-now in omega arith;
-      max-top = x .max-top;
-      gc-top = x .gc-top;
-      told = λ s m. later (x .told s m);
-      within = x .within;
-      one = x .one;
-      current = λ s m. current s (sameBytes (s .key) k) refl (x .current s m);
-      cover = λ t m. cover t (in-cons m);
-    }
-  where
-    w : KeyValue
-    w = givenBy k c p
-
-    current : (s : KeyValue) (b : Bool) → sameBytes (s .key) k ≡ b → Last h s ⊎ Newer h (x .top) (s .key) → Last (w ∷ h) s ⊎ Newer (w ∷ h) (x .top) (s .key)
-    current s b q (inr n) = inr (newer-grows w n)
-    current s true q (inl l) = inr (record { kv = w; told = here refl; same = sym (same-true _ _ q); above = let a = x .top-now in omega arith })
-    current s false q (inl l) = inl (λ t m e. at t (in-cons m) e)
-      where
-        at : (t : KeyValue) → (t ≡ w) ⊎ (t ∈ h) → t .key ≡ s .key → t .version ≤ s .version
-        at t (inl g) e = absurd (same-false _ _ q (sym e ∙ ap (λ (y : KeyValue). y .key) g))
-        at t (inr m) e = l t m e
-
-    cover : (t : KeyValue) → (t ≡ w) ⊎ (t ∈ h) → Cover (w ∷ h) d t
-    cover t (inl e) =
-        let v : t .version ≡ p .max + 1 = ap (λ (y : KeyValue). y .version) e in
-        record { kv = t; told = here e; same = refl; above = omega arith; why = beyond (let a = x .top-now in let b = x .max-top in omega arith) }
-    cover t (inr m) = let c = x .cover t m in record { kv = c .kv; told = later (c .told); same = c .same; above = c .above; why = c .why }
+        brings : (s : KeyValue) → Holds n s ⊎ Removed (n .last-gc) s → Has s ⊎ Removed gc s
+        brings s (inr x) = inr (x .0, let g = gc-rises due (n .last-gc) (n .recs) in let a = x .1 in omega arith)
+        brings s (inl x) = go (goes due (x .0)) refl
+          where
+            go : (b : Bool) → goes due (x .0) ≡ b → Has s ⊎ Removed gc s
+            go true q =
+                inr (
+                  ap (λ (y : KeyValue). scheduled (y .status)) (sym (x .2)) ∙ and-left (scheduled (x .0 .kv .status)) (due (x .0)) q,
+                  subst (λ (y : KeyValue). y .version ≤ gc) (x .2) (gc-covers due (n .last-gc) (x .1) q),
+                )
+            go false q = inl (x .0, keep-in (λ r. not (goes due r)) (x .1) (ap not q), x .2)

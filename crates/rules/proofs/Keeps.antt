@@ -18,21 +18,17 @@ use Rattle.rules.proofs.Next.{Differ, Strict, versionOf}
 use Rattle.rules.proofs.Obeys.{OkNode, OkRec}
 use Rattle.rules.proofs.Received.{OkDelta}
 use Rattle.rules.proofs.Records.{Above, Sorted, gc-below, keyOf, sorted-keep, sorted-store, store-from}
-use Rattle.rules.proofs.Taking.{From, Judged, applies, judge, sorted-take, take-from, takes-above}
-use Rattle.rules.specs.Apply.{answered, applyNode, deltaStatus, outcome, stamp, startAt, takeAll, takenAs, takes}
+use Rattle.rules.proofs.Taking.{Came, From, came, left, reset, sorted-take, take-from, takes-above, took}
+use Rattle.rules.specs.Apply.{Lawful, Ways, applyNode, outcome, plainWays, stamp, startAt, takeAll, takes}
 use Rattle.rules.specs.Delta.{NodeDelta}
 use Rattle.rules.specs.Local.{gc}
 use Rattle.rules.specs.Node.{Call, Change, Decision, Deleting, DeletingAfterTtl, Give, KeyValue, Leave, Node, Rec, Refuse, Setting, SettingTtl, act, allowed, beat, beats, brought, decide, due, find, fresh, fullFor, goes, lastGc, offerOf, remove, sameStatus, scheduled, store, unlessSame, wish, withHeartbeat, write}
 use Rattle.rules.specs.Sizes.{maxKey, maxRecords, maxValue, numbers, top}
 use Rattle.rules.specs.World.{start}
-use Rattle.rules.specs.declared.DeltaStatus.{DeltaStatus}
-use Rattle.rules.specs.declared.DeltaStatus.the-variants.{Apply, ApplyAfterReset, Reject}
 use Rattle.rules.specs.declared.Heartbeat.{Heartbeat}
-use Rattle.rules.specs.declared.NodeAnswer.{NodeAnswer}
 use Rattle.rules.specs.declared.Refusal.{Refusal}
 use Rattle.rules.specs.declared.Refusal.the-variants.{Exhausted, NodeFull, TooLong}
 use Rattle.rules.specs.declared.Status.the-variants.{Set, Ttl}
-use Rattle.rules.specs.declared.NodeAnswer.the-variants as node
 
 pub ok-fresh : OkNode fresh
 unfolding Sorted Differ
@@ -219,14 +215,15 @@ ok-write k c n ok g =
     each x (inl e) = subst (OkRec (n .max + 1)) (sym e) new
     each x (inr m) = old x (ok .each x (m .0))
 
-pub ok-act : (c : Call) (k : List ℕ) (n : Node) → OkNode n → ClockFits c → OkNode (act k (decide c k n) n)
+-- any decision of this kind
+pub ok-decided : (k : List ℕ) (n : Node) (d : Decision) → OkNode n → Decided k n d → OkNode (act k d n)
 unfolding act
-ok-act c k n ok t = go (decided c k n ok t)
-  where
-    go : {d : Decision} → Decided k n d → OkNode (act k d n)
-    go (is-refused r) = ok
-    go is-left = ok
-    go (is-given c g) = ok-write k c n ok g
+ok-decided k n d ok (is-refused r) = ok
+ok-decided k n d ok is-left = ok
+ok-decided k n d ok (is-given c g) = ok-write k c n ok g
+
+pub ok-act : (c : Call) (k : List ℕ) (n : Node) → OkNode n → ClockFits c → OkNode (act k (decide c k n) n)
+ok-act c k n ok t = ok-decided k n (decide c k n) ok (decided c k n ok t)
 
 -- ---- removal and heartbeats
 
@@ -280,6 +277,10 @@ offer-fits held got h g = go (eqb (held .0) 0) (ltb (held .0) (got .0))
 
 -- ---- a node delta
 
+-- document 01's ways
+pub plain-lawful : Lawful plainWays
+plain-lawful = record { reads-so = λ b ops e. e; few = λ l e. leb-true (length l) maxRecords e }
+
 module _ (held gc now : ℕ) where
   take-differ : (m : ℕ) (ss : List KeyValue) (l : List Rec) → Sorted l → Differ l → Strict m ss → ((x : Rec) → x ∈ l → versionOf x ≤ max held m) → Differ (takeAll held gc now ss l)
   unfolding takeAll Strict
@@ -307,7 +308,7 @@ start-fits : (b : Bool) (now : ℕ) → now < numbers → startAt b now < number
 start-fits true now h = h
 start-fits false now h = omega arith
 
-module _ (now : ℕ) (clock : now < numbers) (d : NodeDelta) (od : OkDelta d) (n : Node) (ok : OkNode n) where
+module _ (ways : Ways) (law : Lawful ways) (now : ℕ) (clock : now < numbers) (d : NodeDelta) (od : OkDelta d) (n : Node) (ok : OkNode n) where
   -- all but the count of keys, for what is taken into l
   taken : (held g : ℕ) (beat : Heartbeat) (l : List Rec) → Sorted l → Differ l → ((r : Rec) → r ∈ l → OkRec held r) → held ≤ d .max → g < numbers → beat .0 < numbers
       → length (takeAll held g now (d .recs) l) ≤ maxRecords
@@ -342,19 +343,13 @@ module _ (now : ℕ) (clock : now < numbers) (d : NodeDelta) (od : OkDelta d) (n
       each r (inl x) = subst (OkRec (d .max)) (sym (x .3)) (new (x .0) (x .1) (x .2))
       each r (inr x) = old r (h r (x .0))
 
-  pub ok-taken : OkNode (applyNode now d n .node)
-  unfolding applyNode outcome Sorted Differ
-  ok-taken = by (deltaStatus n d) (judge n d)
+  pub ok-taken : OkNode (applyNode ways now d n .node)
+  unfolding outcome Sorted Differ
+  ok-taken = go _ (came ways now d n)
     where
-      with-room : (a : NodeAnswer) (o : Node) (b : Bool) → leb (length (o .recs)) maxRecords ≡ b → (length (o .recs) ≤ maxRecords → OkNode o) → OkNode (pick b (takenAs a o) (takenAs node.Room n) .node)
-      with-room a o true q f = f (leb-true _ _ q)
-      with-room a o false q f = ok
-
-      by : (v : DeltaStatus) → Judged n d v → OkNode (answered v (outcome v now d n) n .node)
-      by Reject j = ok
-      by ApplyAfterReset j =
-          with-room node.ApplyAfterReset (outcome ApplyAfterReset now d n) _ refl
-          (taken 0 (d .last-gc) (beats 0) [] tt tt (λ r m. absurd (in-none m)) (omega arith) (od .gc-fits) (omega arith))
-      by Apply (applies a e m) =
-          with-room node.Apply (outcome Apply now d n) _ refl
-          (taken (n .max) (n .last-gc) (n .heartbeat) (n .recs) (ok .sorted) (ok .differs) (ok .each) (omega arith) (ok .gc-fits) (ok .beat-fits))
+      go : (x : Node) → Came ways now d n x → OkNode x
+      go x left = ok
+      go x (reset r) = taken 0 (d .last-gc) (beats 0) [] tt tt (λ r m. absurd (in-none m)) (omega arith) (od .gc-fits) (omega arith) (law .few _ (r .roomy))
+      go x (took r) =
+          taken (n .max) (n .last-gc) (n .heartbeat) (n .recs) (ok .sorted) (ok .differs) (ok .each) (let a = r .newer in omega arith) (ok .gc-fits) (ok .beat-fits)
+          (law .few _ (r .roomy))

@@ -11,9 +11,8 @@ pub mod Obeys
 pub mod Keeps
 pub mod Digests
 pub mod History
-pub mod Publisher
-pub mod Follower
 pub mod Honest
+pub mod Publisher
 pub mod Step
 pub mod Sending
 pub mod Computing

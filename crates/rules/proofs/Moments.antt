@@ -6,45 +6,45 @@ use mathlib.Core.List.{List, [], _∷_}
 use mathlib.Core.Logic.{_⊎_, inl, inr}
 use mathlib.Core.Option.{Option, none, some}
 use mathlib.Core.Path.{_∙_, _≡_, ap, refl, subst, sym}
-use lib.Dec.{leb, ltb}
-use lib.ListN.{length}
+use lib.Dec.{ltb}
 use borrow.Author.Tests.{ltb-true}
-use Rattle.fields.specs.Choice.{here, pick}
-use Rattle.fields.specs.Parts.{put}
+use Rattle.fields.specs.Choice.{here, pick, _∈_}
 use Rattle.rules.specs.Given.{Given, given}
-use Rattle.rules.proofs.Accepted.{computed-chain, computed-small, read-computed}
-use Rattle.rules.proofs.Calls.{beat-keeps, call-keeps, gc-keeps, offer-keeps, ok-each}
+use Rattle.rules.proofs.Calls.{beat-keeps, call-keeps, offer-keeps, ok-each, ok-remove-all}
 use Rattle.rules.proofs.Deltas.{AllSmall, Chain, follow-node}
 use Rattle.rules.proofs.EachNode.{Seen, at, nodeAt, orFresh, partsIn, seen-applying, seen-beating, seen-digesting, seen-facts, seen-offering, seen-removing, seen-rises, seen-sent, seen-writing}
 use Rattle.rules.proofs.Keeps.{ClockFits}
 use Rattle.rules.proofs.Obeys.{OkTable, facts-table, in-among, table-facts}
-use Rattle.rules.proofs.OnTheWay.{Comes, comes, delta-written, refuses, writes}
+use Rattle.rules.proofs.OnTheWay.{Comes, Sendable, comes, computed-sendable, delta-written, refuses, writes}
 use Rattle.rules.proofs.OneNode.{Facts, facts-fresh, rises-same, rises-trans, stays}
-use Rattle.rules.proofs.Received.{parts-new, parts-ok}
-use Rattle.rules.proofs.Tables.{node-fresh, numbers-each, numbers-fresh, numbers-remove, numbers-set, part-in, partAt, present, repeated}
-use Rattle.rules.specs.Apply.{ApplyOutcome, apply, applyEach, applyNode, applyOps, codes}
-use Rattle.rules.specs.Compute.{deltaFor}
-use Rattle.rules.specs.Delta.{Good, KeyValueOp, NodeDelta, NodeOp, Op, Ops, Reading, SetMaxVersionOp, deltaBytes, nothingRead, partsOf, readDelta}
-use Rattle.rules.specs.Demand3.{Rises}
+use Rattle.rules.proofs.Publisher.{claims-of}
+use Rattle.rules.proofs.Received.{OkDelta, parts-new, parts-ok}
+use Rattle.rules.proofs.Tables.{applied-table, node-fresh, numbers-each, numbers-fresh, numbers-remove, numbers-set, part-in, partAt, present, repeated}
+use Rattle.rules.specs.Apply.{Lawful, Ways, apply, applyNode}
+use Rattle.rules.specs.Delta.{Good, KeyValueOp, NodeDelta, NodeOp, Op, Ops, Part, Reading, SetMaxVersionOp, deltaBytes, nothingRead, partsOf, readDelta}
+use Rattle.rules.specs.Demand3.{Claims, Rises}
 use Rattle.rules.specs.Digest.{writeDigest}
 use Rattle.rules.specs.Local.{beatOn, call, callOn, gc, gives, localBeat, offer, offerOn}
-use Rattle.rules.specs.Node.{Call, Deleting, DeletingAfterTtl, KeyValue, Node, Setting, SettingTtl, beats, due, fresh, withHeartbeat}
+use Rattle.rules.specs.Node.{Call, Deleting, DeletingAfterTtl, KeyValue, Node, Setting, SettingTtl, beats, due, fresh, withHeartbeat, Rec}
 use Rattle.rules.specs.Sizes.{numbers, top}
-use Rattle.rules.specs.Table.{Table, among, nodeOf, numbersOf, obeys, setNode}
-use Rattle.rules.specs.World.{Applying, Beating, Computing, DeltaSent, DigestSent, Digesting, Event, Exchange, Followers, Idle, Offering, Publishers, Removing, World, Writing, after, afterDelta, afterDigest, appliedTo, calls, computedFor, freshTable, happen, onExchange, onSide, possible, start, timeOf}
+use Rattle.rules.specs.Table.{Table, among, nodeOf, numbersOf, obeys, removeAll, setNode}
+use Rattle.rules.specs.World.{Applying, Beating, Computing, DeltaSent, DigestSent, Digesting, Event, Exchange, Followers, Idle, Offering, Publishers, Removing, Side, World, Writing, after, afterDelta, afterDigest, appliedTo, calls, computedFor, freshTable, happen, onExchange, onSide, possible, start, timeOf}
 use Rattle.rules.specs.declared.Answer.the-variants.{Done, Refused}
 use Rattle.rules.specs.declared.Computed.{Computed}
 use Rattle.rules.specs.declared.Heartbeat.{Heartbeat}
-use Rattle.rules.specs.declared.Refusal.the-variants.{Exhausted, NoPlace}
+use Rattle.rules.specs.declared.Refusal.the-variants.{Exhausted}
 use Rattle.rules.specs.declared.Written.{Written}
 use Rattle.rules.specs.declared.Written.the-variants as written
-use Rattle.rules.specs.declared.Applied.the-variants as applied
 
--- a delta on its way is read as operations that may follow each other and have their sizes
+-- bytes that are read as operations that may follow each other and have their sizes
+abbrev pub ReadsWell : List ℕ → Type 0
+ReadsWell b = (ops : List Op) × (readDelta b ≡ Good ops) × Chain nothingRead ops × AllSmall ops
+
+-- a delta on its way
 abbrev pub Readable : Exchange → Type 0
 Readable Idle = Unit {0}
 Readable (DigestSent d) = Unit {0}
-Readable (DeltaSent b) = (ops : List Op) × (readDelta b ≡ Good ops) × Chain nothingRead ops × AllSmall ops
+Readable (DeltaSent b) = ReadsWell b
 
 -- the tables and the exchange are in order
 pub record InOrder (is : List ℕ) (w : World) : Type 0 where
@@ -55,8 +55,8 @@ pub record InOrder (is : List ℕ) (w : World) : Type 0 where
   pub readable : Readable (w .exchange)
 
 -- what an event comes to
-pub record Next (is : List ℕ) (w x : World) : Type 0 where
-  pub seen : (i : ℕ) → Seen (at i w) (at i x)
+pub record Next (ways : Ways) (is : List ℕ) (w x : World) : Type 0 where
+  pub seen : (i : ℕ) → Seen ways (at i w) (at i x)
   pub order : InOrder is x
 
 -- ---- no node comes or goes
@@ -68,10 +68,6 @@ numbers-call c i k t = go (nodeOf i t)
     go : (o : Option Node) → numbersOf (callOn c i k o t .table) ≡ numbersOf t
     go none = refl
     go (some n) = numbers-set i _ t
-
-numbers-gc : (now grace : ℕ) (t : Table) → numbersOf (gc now grace t .table) ≡ numbersOf t
-unfolding gc
-numbers-gc now grace t = numbers-remove (λ i. due now grace) t
 
 numbers-beat : (i : ℕ) (t : Table) → numbersOf (localBeat i t .table) ≡ numbersOf t
 unfolding localBeat
@@ -114,17 +110,6 @@ read-once (NodeOp n g f ∷ ops) s c = go (partAt n (partsOf ops)) refl (read-on
 read-once (KeyValueOp r ∷ ops) s c = read-once ops (c .0) (c .2)
 read-once (SetMaxVersionOp m ∷ ops) s c = read-once ops (c .0) (c .2)
 
--- ---- a table after a delta that is read
-
--- a law of the table as it is and as its nodes have taken their parts
-applied-table : (P : Table → Type 0) (b : List ℕ) (ops : List Op) (now : ℕ) (t : Table) (l : List ℕ) → readDelta b ≡ Good ops → P t → P (applyEach (applyNode now) (partsOf ops) t .table) → P (apply b now t l .table)
-unfolding apply
-applied-table P b ops now t l e stay took = subst (λ (o : Ops). P (applyOps (applyNode now) o t l .table)) (sym e) (room (leb (length (partsOf ops)) (length l)))
-  where
-    room : (c : Bool) → P (pick {X = ApplyOutcome} c (record { answer = applied.Nodes (length (partsOf ops)); table = applyEach (applyNode now) (partsOf ops) t .table; list = put 0 (codes (applyEach (applyNode now) (partsOf ops) t .answers)) l }) (record { answer = applied.Refused NoPlace 0; table = t; list = l }) .table)
-    room true = took
-    room false = stay
-
 clock-fits : (c : Call) → timeOf c < numbers → ClockFits c
 clock-fits (Setting v) h = tt
 clock-fits (SettingTtl v now) h = h
@@ -137,7 +122,7 @@ kept t u f ok = table-facts u (f (facts-table t ok))
 
 -- ---- each event
 
-module _ (is : List ℕ) (w : World) (ok : InOrder is w) where
+module _ (ways : Ways) (law : Lawful ways) (is : List ℕ) (w : World) (ok : InOrder is w) where
   ours : (t : Table) → numbersOf t ≡ numbersOf (w .publisher) → OkTable t → (h : ℕ → List KeyValue) → InOrder is (record { publisher = t; follower = w .follower; given = h; exchange = w .exchange })
   ours t e o h =
       record { publisher-nodes = e ∙ ok .publisher-nodes; follower-nodes = ok .follower-nodes; publisher-ok = o; follower-ok = ok .follower-ok; readable = ok .readable }
@@ -156,100 +141,91 @@ module _ (is : List ℕ) (w : World) (ok : InOrder is w) where
         readable = r;
       }
 
-  stays-so : Next is w w
+  stays-so : Next ways is w w
   stays-so = record { seen = λ i. (_, stays, refl); order = ok }
 
-  next-computing : (excluded ties : List ℕ) (mtu place : ℕ) (l d : List ℕ) → w .exchange ≡ DigestSent d → (o : Given Computed (List ℕ)) → Comes excluded ties mtu place d (w .publisher) l o → Next is w (onExchange (afterDelta place (o .lent) (o .answer) (DigestSent d)) w)
-  next-computing excluded ties mtu place l d x o (refuses r) = subst (λ (y : Exchange). Next is w (onExchange y w)) x stays-so
-  next-computing excluded ties mtu place l d x o (writes ds rest e h g) =
-      subst (λ (y : Exchange). Next is w (onExchange y w)) (sym (delta-written excluded ties mtu place d (w .publisher) l ds g (DigestSent d))) sent
-    where
-      ob : obeys (w .publisher) ≡ true
-      ob = facts-table (w .publisher) (ok .publisher-ok)
-
-      ops : List Op
-      ops = deltaFor excluded ties mtu ds (w .publisher)
-
-      read : readDelta (deltaBytes ops) ≡ Good ops
-      read = read-computed excluded ties ds (w .publisher) ob mtu h
-
-      sent : Next is w (onExchange (DeltaSent (deltaBytes ops)) w)
-      sent =
-          record {
-            seen = λ i. seen-sent i w excluded ties mtu ds (deltaBytes ops) (ok .publisher-ok .ascending) read;
-            order = sent-out _ (ops, read, computed-chain excluded ties ds (w .publisher) ob mtu, computed-small excluded ties ds (w .publisher) ob mtu);
-          }
-
-  next-applying : (now : ℕ) (l b : List ℕ) → now < numbers → w .exchange ≡ DeltaSent b → Readable (DeltaSent b) → Next is w (onSide Followers (λ t. apply b now t l .table) w)
-  next-applying now l b clock x r =
+  -- a delta that may be sent
+  pub next-sending : (ops : List Op) → Sendable (w .publisher) ops → Next ways is w (onExchange (DeltaSent (deltaBytes ops)) w)
+  next-sending ops s =
       record {
-        seen = λ i. seen-applying i w now l b x (ap (λ (o : Ops). repeated (partsIn o)) (r .1) ∙ once);
-        order =
-            theirs _
-            (applied-table (λ t. numbersOf t ≡ numbersOf (w .follower)) b ops now (w .follower) l (r .1) refl (numbers-each (applyNode now) (partsOf ops) (w .follower)))
-            (applied-table OkTable b ops now (w .follower) l (r .1) (ok .follower-ok)
-            (ok-each now clock (partsOf ops) (w .follower) (parts-ok ops nothingRead (r .2) (r .3)) (ok .follower-ok)));
+        seen = λ i. seen-sent ways i w (deltaBytes ops) (λ d e. s .made i d (sym (ap (λ (o : Ops). partAt i (partsIn o)) (s .read)) ∙ e));
+        order = sent-out _ (ops, s .read, s .chain, s .small);
       }
+
+  next-computing : (excluded ties : List ℕ) (mtu place : ℕ) (l d : List ℕ) → w .exchange ≡ DigestSent d → (o : Given Computed (List ℕ)) → Comes excluded ties mtu place d (w .publisher) l o → Next ways is w (onExchange (afterDelta place (o .lent) (o .answer) (DigestSent d)) w)
+  next-computing excluded ties mtu place l d x o (refuses r) = subst (λ (y : Exchange). Next ways is w (onExchange y w)) x stays-so
+  next-computing excluded ties mtu place l d x o (writes ds rest e h g) =
+      subst (λ (y : Exchange). Next ways is w (onExchange y w)) (sym (delta-written excluded ties mtu place d (w .publisher) l ds g (DigestSent d)))
+      (next-sending _ (computed-sendable excluded ties mtu ds (w .publisher) (facts-table (w .publisher) (ok .publisher-ok)) h))
+
+  -- any such bytes are taken
+  pub taken-order : (now : ℕ) (l b : List ℕ) → now < numbers → ReadsWell b → InOrder is (onSide Followers (λ t. apply ways b now t l .table) w)
+  taken-order now l b clock r =
+      theirs _
+      (applied-table ways b now (w .follower) l (λ t. numbersOf t ≡ numbersOf (w .follower)) refl (λ os q. numbers-each (applyNode ways now) (partsOf os) (w .follower)))
+      (applied-table ways b now (w .follower) l OkTable (ok .follower-ok)
+      (λ os q. ok-each ways law now clock (partsOf os) (w .follower) (fine os (sym (law .reads-so b os q) ∙ r .1)) (ok .follower-ok)))
     where
-      ops : List Op
-      ops = r .0
+      fine : (os : List Op) → Good os ≡ Good (r .0) → (y : Part) → y ∈ partsOf os → OkDelta (y .delta)
+      fine os q = let e : os ≡ r .0 = cc in subst (λ (l : List Op). (y : Part) → y ∈ partsOf l → OkDelta (y .delta)) (sym e) (parts-ok (r .0) nothingRead (r .2) (r .3))
 
-      once : repeated (partsOf ops) ≡ false
-      once = read-once ops nothingRead (r .2)
+  -- those of the delta on its way
+  next-applying : (now : ℕ) (l b : List ℕ) → now < numbers → w .exchange ≡ DeltaSent b → ReadsWell b → Next ways is w (onSide Followers (λ t. apply ways b now t l .table) w)
+  next-applying now l b clock x r =
+      record { seen = λ i. seen-applying ways i w law now l b (r .0) x (r .1) (read-once (r .0) nothingRead (r .2)); order = taken-order now l b clock r }
 
-  next-calls : (e : Event) → possible e ≡ true → Next is w (calls e w)
+  -- any removal of scheduled records, by node number and record
+  pub next-removing : (s : Side) (due : ℕ → Rec → Bool) → Next ways is w (onSide s (removeAll due) w)
+  next-removing Publishers due =
+      record { seen = λ i. seen-removing ways i w Publishers due; order = ours _ (numbers-remove due (w .publisher)) (ok-remove-all due (w .publisher) (ok .publisher-ok)) _ }
+  next-removing Followers due =
+      record { seen = λ i. seen-removing ways i w Followers due; order = theirs _ (numbers-remove due (w .follower)) (ok-remove-all due (w .follower) (ok .follower-ok)) }
+
+  next-calls : (e : Event) → possible e ≡ true → Next ways is w (calls ways e w)
+  unfolding gc
   next-calls (Writing i k c) p =
       record {
-        seen = λ j. seen-writing j w i k c;
+        seen = λ j. seen-writing ways j w i k c;
         order = ours _ (numbers-call c i k (w .publisher)) (kept (w .publisher) _ (call-keeps c i k (w .publisher) (clock-fits c (ltb-true _ _ p))) (ok .publisher-ok)) _;
       }
   next-calls (Beating Publishers i) p =
-      record { seen = λ j. seen-beating j w Publishers i; order = ours _ (numbers-beat i (w .publisher)) (kept (w .publisher) _ (beat-keeps i (w .publisher)) (ok .publisher-ok)) _ }
+      record { seen = λ j. seen-beating ways j w Publishers i; order = ours _ (numbers-beat i (w .publisher)) (kept (w .publisher) _ (beat-keeps i (w .publisher)) (ok .publisher-ok)) _ }
   next-calls (Beating Followers i) p =
-      record { seen = λ j. seen-beating j w Followers i; order = theirs _ (numbers-beat i (w .follower)) (kept (w .follower) _ (beat-keeps i (w .follower)) (ok .follower-ok)) }
+      record { seen = λ j. seen-beating ways j w Followers i; order = theirs _ (numbers-beat i (w .follower)) (kept (w .follower) _ (beat-keeps i (w .follower)) (ok .follower-ok)) }
   next-calls (Offering Publishers i h) p =
       record {
-        seen = λ j. seen-offering j w Publishers i h;
+        seen = λ j. seen-offering ways j w Publishers i h;
         order = ours _ (numbers-offer i h (w .publisher)) (kept (w .publisher) _ (offer-keeps i h (w .publisher) (ltb-true _ _ p)) (ok .publisher-ok)) _;
       }
   next-calls (Offering Followers i h) p =
       record {
-        seen = λ j. seen-offering j w Followers i h;
+        seen = λ j. seen-offering ways j w Followers i h;
         order = theirs _ (numbers-offer i h (w .follower)) (kept (w .follower) _ (offer-keeps i h (w .follower) (ltb-true _ _ p)) (ok .follower-ok));
       }
-  next-calls (Removing Publishers now grace) p =
-      record {
-        seen = λ j. seen-removing j w Publishers now grace;
-        order = ours _ (numbers-gc now grace (w .publisher)) (kept (w .publisher) _ (gc-keeps now grace (w .publisher)) (ok .publisher-ok)) _;
-      }
-  next-calls (Removing Followers now grace) p =
-      record {
-        seen = λ j. seen-removing j w Followers now grace;
-        order = theirs _ (numbers-gc now grace (w .follower)) (kept (w .follower) _ (gc-keeps now grace (w .follower)) (ok .follower-ok));
-      }
-  next-calls (Digesting excluded place l) p = record { seen = λ j. seen-digesting j w excluded place l; order = sent-out _ (go (writeDigest excluded place (w .follower) l .answer)) }
+  next-calls (Removing s now grace) p = next-removing s (λ i. due now grace)
+  next-calls (Digesting excluded place l) p = record { seen = λ j. seen-digesting ways j w excluded place l; order = sent-out _ (go (writeDigest excluded place (w .follower) l .answer)) }
     where
       go : (a : Written) → Readable (afterDigest place (writeDigest excluded place (w .follower) l .lent) a (w .exchange))
       go (written.Bytes n) = tt
       go (written.Refused r) = ok .readable
   next-calls (Computing excluded ties mtu place l) p = go (w .exchange) refl
     where
-      go : (x : Exchange) → w .exchange ≡ x → Next is w (onExchange (computedFor excluded ties mtu place l (w .publisher) x) w)
-      go Idle q = subst (λ (y : Exchange). Next is w (onExchange y w)) q stays-so
+      go : (x : Exchange) → w .exchange ≡ x → Next ways is w (onExchange (computedFor excluded ties mtu place l (w .publisher) x) w)
+      go Idle q = subst (λ (y : Exchange). Next ways is w (onExchange y w)) q stays-so
       go (DigestSent d) q = next-computing excluded ties mtu place l d q _ (comes excluded ties mtu place d (w .publisher) l)
-      go (DeltaSent b) q = subst (λ (y : Exchange). Next is w (onExchange y w)) q stays-so
+      go (DeltaSent b) q = subst (λ (y : Exchange). Next ways is w (onExchange y w)) q stays-so
   next-calls (Applying now l) p = go (w .exchange) refl (ok .readable)
     where
-      go : (x : Exchange) → w .exchange ≡ x → Readable x → Next is w (onSide Followers (appliedTo now l x) w)
+      go : (x : Exchange) → w .exchange ≡ x → Readable x → Next ways is w (onSide Followers (appliedTo ways now l x) w)
       go Idle q r = stays-so
       go (DigestSent d) q r = stays-so
       go (DeltaSent b) q r = next-applying now l b (ltb-true _ _ p) q r
 
-  pub next-event : (e : Event) → Next is w (happen e w)
+  pub next-event : (e : Event) → Next ways is w (happen ways e w)
   unfolding happen
   next-event e = go (possible e) refl
     where
-      go : (b : Bool) → possible e ≡ b → Next is w (pick b (calls e w) w)
+      go : (b : Bool) → possible e ≡ b → Next ways is w (pick b (calls ways e w) w)
       go true q = next-calls e q
       go false q = stays-so
 
@@ -259,23 +235,26 @@ pub record Moment (is : List ℕ) (w : World) : Type 0 where
   pub order : InOrder is w
   pub facts : (i : ℕ) → Facts (at i w)
 
-pub moments : (is : List ℕ) (es : List Event) (w : World) → Moment is w → Moment is (after es w)
-unfolding after
-moments is [] w m = m
-moments is (e ∷ es) w m =
-    let n = next-event is w (m .order) e in
-    moments is es (happen e w) (record { order = n .order; facts = λ i. seen-facts (at i w) (at i (happen e w)) (n .seen i) (m .facts i) })
+pub moment-claims : (is : List ℕ) (w : World) → Moment is w → (i : ℕ) → Claims (w .given i) (nodeAt i (w .publisher)) (nodeAt i (w .follower))
+moment-claims is w m i = claims-of (w .given i) (nodeAt i (w .publisher)) (nodeAt i (w .follower)) (m .facts i .publisher) (m .facts i .follower)
 
-pub run-rises : (is : List ℕ) (es : List Event) (w : World) → InOrder is w → (i : ℕ) → Rises (at i w .ours) (at i (after es w) .ours) × Rises (at i w .theirs) (at i (after es w) .theirs)
+pub moments : (ways : Ways) → Lawful ways → (is : List ℕ) (es : List Event) (w : World) → Moment is w → Moment is (after ways es w)
 unfolding after
-run-rises is [] w o i = (rises-same (at i w .ours), rises-same (at i w .theirs))
-run-rises is (e ∷ es) w o i =
-    let n = next-event is w o e in
-    let x : World = happen e w in
-    let a = seen-rises (at i w) (at i x) (n .seen i) in
-    let b = run-rises is es x (n .order) i in (
-      rises-trans (at i w .ours) (at i x .ours) (at i (after es x) .ours) (a .0) (b .0),
-      rises-trans (at i w .theirs) (at i x .theirs) (at i (after es x) .theirs) (a .1) (b .1),
+moments ways law is [] w m = m
+moments ways law is (e ∷ es) w m =
+    let n = next-event ways law is w (m .order) e in
+    moments ways law is es (happen ways e w) (record { order = n .order; facts = λ i. seen-facts ways (at i w) (at i (happen ways e w)) (n .seen i) (m .facts i) })
+
+pub run-rises : (ways : Ways) → Lawful ways → (is : List ℕ) (es : List Event) (w : World) → InOrder is w → (i : ℕ) → Rises (at i w .ours) (at i (after ways es w) .ours) × Rises (at i w .theirs) (at i (after ways es w) .theirs)
+unfolding after
+run-rises ways law is [] w o i = (rises-same (at i w .ours), rises-same (at i w .theirs))
+run-rises ways law is (e ∷ es) w o i =
+    let n = next-event ways law is w o e in
+    let x : World = happen ways e w in
+    let a = seen-rises ways (at i w) (at i x) (n .seen i) in
+    let b = run-rises ways law is es x (n .order) i in (
+      rises-trans (at i w .ours) (at i x .ours) (at i (after ways es x) .ours) (a .0) (b .0),
+      rises-trans (at i w .theirs) (at i x .theirs) (at i (after ways es x) .theirs) (a .1) (b .1),
     )
 
 module _ (is : List ℕ) (ok : obeys (freshTable is) ≡ true) where
@@ -301,5 +280,5 @@ module _ (is : List ℕ) (ok : obeys (freshTable is) ≡ true) where
       go : (i : ℕ) → (nodeOf i (freshTable is) ≡ none) ⊎ (nodeOf i (freshTable is) ≡ some fresh) → Facts (at i (start is))
       go i x = let a = fresh-is i x in subst Facts (λ z. record { given = []; ours = sym a z; theirs = sym a z; flight = none }) facts-fresh
 
-  pub moment : (es : List Event) → Moment is (after es (start is))
-  moment es = moments is es (start is) moment-start
+  pub moment : (ways : Ways) → Lawful ways → (es : List Event) → Moment is (after ways es (start is))
+  moment ways law es = moments ways law is es (start is) moment-start

@@ -15,17 +15,14 @@ use Rattle.rules.proofs.Needed.{delta-falls, delta-stays, needed, neede
 use Rattle.rules.proofs.Obeys.{Ascending}
 use Rattle.rules.proofs.Sending.{emit, fitting, nodeDelta, partOf, recordSize}
 use Rattle.rules.proofs.Stale.{stale-from}
-use Rattle.rules.proofs.Step.{taken-node}
-use Rattle.rules.proofs.Tables.{Behind, SentPart, answer-each, behind-from, computed-once, mapped, node-each, node-entry, ordered-from, part-sent, partAt, repeated, taking}
-use Rattle.rules.specs.Apply.{applyEach, applyNode, deltaStatus, outcome}
+use Rattle.rules.proofs.Tables.{Behind, SentPart, behind-from, computed-once, mapped, node-each, node-entry, ordered-from, part-sent, partAt, repeated, taking}
+use Rattle.rules.specs.Apply.{Taking, applyEach, deltaStatus, outcome}
 use Rattle.rules.specs.Compute.{StaleNode, firstTie, fromFor, fromOf, ordered, otherTies, queue, sooner, stale, staleNode, staleNodes, staleOf, toldOf}
 use Rattle.rules.specs.Delta.{NodeDelta, Part, number}
 use Rattle.rules.specs.Demand3.{leastWidth}
 use Rattle.rules.specs.Digest.{NodeDigest, digestOf, digestOfNode}
 use Rattle.rules.specs.Node.{KeyValue, Node, Rec}
 use Rattle.rules.specs.Table.{Entry, Table, among, nodeOf, numbersOf}
-use Rattle.rules.specs.declared.NodeAnswer.{NodeAnswer}
-use Rattle.rules.specs.declared.NodeAnswer.the-variants as node
 
 -- ---- sums over a table
 
@@ -175,21 +172,18 @@ module _ (now mtu : ℕ) (ties : List ℕ) (ours theirs : Table) (asc : Ascendin
   unfolding sent queued
   once = computed-once [] ties mtu told ours asc
 
-  -- where no node answers Room
-  module _ (roomy : node.Room ∈ applyEach (applyNode now) sent theirs .answers → ⊥) where
+  -- where every node that has a part takes it, whatever else its ways may be: none answers Room
+  module _ (take : Taking) (took : (i : ℕ) (d : NodeDelta) (f : Node) → partAt i sent ≡ some d → nodeOf i theirs ≡ some f → take d f .node ≡ outcome (deltaStatus f d) now d f) where
     unfoldable pub next : Table
-    next = applyEach (applyNode now) sent theirs .table
+    next = applyEach take sent theirs .table
 
     -- the node after the exchange
-    became : (i : ℕ) (f : Node) → nodeOf i theirs ≡ some f → nodeAt i next ≡ taking (applyNode now) (partAt i sent) f
+    became : (i : ℕ) (f : Node) → nodeOf i theirs ≡ some f → nodeAt i next ≡ taking take (partAt i sent) f
     unfolding next
-    became i f h = ap orFresh (node-each (applyNode now) i sent theirs once) ∙ ap (λ (o : Option Node). orFresh (mapped (taking (applyNode now) (partAt i sent)) o)) h
+    became i f h = ap orFresh (node-each take i sent theirs once) ∙ ap (λ (o : Option Node). orFresh (mapped (taking take (partAt i sent)) o)) h
 
     takes-it : (i : ℕ) (d : NodeDelta) (f : Node) → partAt i sent ≡ some d → nodeOf i theirs ≡ some f → nodeAt i next ≡ outcome (deltaStatus f d) now d f
-    takes-it i d f p h =
-        became i f h
-        ∙ ap (λ (o : Option NodeDelta). taking (applyNode now) o f) p
-        ∙ taken-node now d f (λ e. roomy (subst (λ (a : NodeAnswer). a ∈ applyEach (applyNode now) sent theirs .answers) e (answer-each (applyNode now) i sent theirs d f p h)))
+    takes-it i d f p h = became i f h ∙ ap (λ (o : Option NodeDelta). taking take o f) p ∙ took i d f p h
 
     delta-of : (x : StaleNode) (e : Entry) (f : Node) (count : ℕ) (fits : Bool) → Matched x e f → nodeDelta (x .node) (x .told-gc) (x .told-max) count fits ≡ nodeDelta (e .node) (f .last-gc) (f .max) count fits
     delta-of x e f count fits m = λ z. nodeDelta (m .node-is z) (m .gc-is z) (m .max-is z) count fits
@@ -208,7 +202,7 @@ module _ (now mtu : ℕ) (ties : List ℕ) (ours theirs : Table) (asc : Ascendin
 
         go : (o : Option NodeDelta) → partAt (e .number) sent ≡ o → lack next e ≤ lack theirs e
         go none q =
-            let a : lack next e ≡ needed (e .node) f = ap (needed (e .node)) (became (e .number) f h ∙ ap (λ (o : Option NodeDelta). taking (applyNode now) o f) q) in
+            let a : lack next e ≡ needed (e .node) f = ap (needed (e .node)) (became (e .number) f h ∙ ap (λ (o : Option NodeDelta). taking take o f) q) in
             let b = before in
             omega arith
         go (some d) q = by (part-sent (e .number) mtu queued (unfold sent in q))

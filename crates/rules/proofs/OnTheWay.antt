@@ -1,8 +1,10 @@
--- What digest writing and computing leave on the way: the bytes of the digest, and those of the delta that the digest asks for.
+-- What digest writing and computing leave on the way: the bytes of the digest, and those of the delta that the digest asks for. And what demand 3 asks of a
+-- delta that is sent (`Sendable`), which is met by computing for any digest.
 use Prim.Native.Nat.{_+_, _-_, _≤_, ℕ}
 use mathlib.Core.Bool.{Bool, _&&_, false, false≢true, true}
 use mathlib.Core.List.{List}
-use mathlib.Core.Path.{_≡_, ap, refl}
+use mathlib.Core.Option.{some}
+use mathlib.Core.Path.{_∙_, _≡_, ap, refl, sym}
 use native.Mathlib.Omega.{arith}
 use lib.Dec.{eqb, leb}
 use lib.ListN.{length}
@@ -11,13 +13,19 @@ use Rattle.fields.proofs.Parts.{part-put}
 use Rattle.fields.specs.Choice.{pick}
 use Rattle.fields.specs.Parts.{put}
 use Rattle.rules.specs.Given.{Given, given}
-use Rattle.rules.proofs.Accepted.{cut-bytes}
-use Rattle.rules.specs.Compute.{allOps, compute, cut, deltaFor, onDigest, ordered, staleNodes, written}
-use Rattle.rules.specs.Delta.{deltaBytes}
+use Rattle.rules.proofs.Accepted.{cut-bytes, computed-chain, computed-small, read-computed}
+use Rattle.rules.specs.Compute.{allOps, compute, cut, deltaFor, onDigest, ordered, staleNodes, written, StaleNode}
+use Rattle.rules.specs.Delta.{deltaBytes, Good, NodeDelta, Op, nothingRead, partsOf, readDelta}
+use Rattle.rules.proofs.Deltas.{AllSmall, Chain}
+use Rattle.rules.proofs.EachNode.{nodeAt, orFresh}
+use Rattle.rules.proofs.Obeys.{table-facts}
+use Rattle.rules.proofs.Sending.{MadeOf, nodeDelta, sends}
+use Rattle.rules.proofs.Tables.{Behind, SentPart, behind-from, node-entry, ordered-from, part-sent, partAt}
 use Rattle.rules.specs.Demand3.{wroteDigest}
 use Rattle.rules.specs.Digest.{DigestRead, Entries, NodeDigest, Refused, digestBytes, digestOf, readDigest, writeDigest}
+use Rattle.rules.specs.Node.{Node}
 use Rattle.rules.specs.Sizes.{leastMtu, maxDelta}
-use Rattle.rules.specs.Table.{Table}
+use Rattle.rules.specs.Table.{Table, obeys}
 use Rattle.rules.specs.World.{DeltaSent, DigestSent, Exchange, afterDelta, afterDigest, digested}
 use Rattle.rules.specs.declared.Computed.{Computed}
 use Rattle.rules.specs.declared.Refusal.{Refusal}
@@ -86,3 +94,40 @@ module _ (excluded ties : List ℕ) (mtu place : ℕ) (d : List ℕ) (t : Table)
   delta-written ds h x =
       let g = cut-bytes mtu (allOps (ordered (staleNodes excluded ds ties t))) in
       ap DeltaSent (part-put place (deltaBytes (cut mtu (allOps (ordered (staleNodes excluded ds ties t))))) l (omega arith))
+
+-- ---- what may be sent
+
+-- operations that are read as they were written, and bring of each node what computing makes of it, for some digest and cut somewhere
+pub record Sendable (t : Table) (ops : List Op) : Type 0 where
+  pub read : readDelta (deltaBytes ops) ≡ Good ops
+  pub chain : Chain nothingRead ops
+  pub small : AllSmall ops
+  pub made : (i : ℕ) (d : NodeDelta) → partAt i (partsOf ops) ≡ some d → MadeOf (nodeAt i t) d
+
+pub computed-sendable : (excluded ties : List ℕ) (mtu : ℕ) (ds : List NodeDigest) (t : Table) → obeys t ≡ true → mtu ≤ maxDelta → Sendable t (deltaFor excluded ties mtu ds t)
+unfolding deltaFor
+computed-sendable excluded ties mtu ds t ok h =
+    record {
+      read = read-computed excluded ties ds t ok mtu h;
+      chain = computed-chain excluded ties ds t ok mtu;
+      small = computed-small excluded ties ds t ok mtu;
+      made = λ i d e. made i d (part-sent i mtu queued (sym (ap (partAt i) (sends mtu queued)) ∙ e));
+    }
+  where
+    queued : List StaleNode
+    queued = ordered (staleNodes excluded ds ties t)
+
+    made : (i : ℕ) (d : NodeDelta) → SentPart queued i d → MadeOf (nodeAt i t) d
+    made i d x =
+        let o : Behind ds t (x .of) = behind-from excluded ds ties t (ordered-from _ (x .queued)) in
+        let node-is : x .of .node ≡ nodeAt i t =
+        o .node-is
+        ∙ sym (ap orFresh (node-entry (o .entry) (table-facts t ok .ascending) (o .held)))
+        ∙ ap (λ (j : ℕ). nodeAt j t) (sym (x .number-is ∙ o .number-is)) in
+        record {
+          told-gc = x .of .told-gc;
+          told-max = x .of .told-max;
+          count = x .count;
+          fits = x .fits;
+          delta-is = x .delta-is ∙ ap (λ (n : Node). nodeDelta n (x .of .told-gc) (x .of .told-max) (x .count) (x .fits)) node-is;
+        }

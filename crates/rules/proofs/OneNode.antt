@@ -1,32 +1,30 @@
--- One node of a publisher and of a follower: whatever happens to it is one of a few steps, each step keeps the facts that demand 3 rests on,
--- and none makes a pair (last_gc, max) fall. A delta that is sent is any honest one, and a removal takes any scheduled records.
-use Prim.Native.Nat.{_≤_, max, ℕ}
-use mathlib.Core.Bool.{Bool, false, false≢true, true}
+-- One node at a publisher and at a follower. Whatever happens to it is one of a few steps; each step keeps the facts that demand 3 rests on, and
+-- none makes a pair (last_gc, max) fall. A step knows nothing of tables, bytes or clocks: a delta that is sent is computed for any digest and cut
+-- anywhere, a removal takes any scheduled records, a write is any decision about a key, and the follower takes deltas in any ways.
+use Prim.Native.Nat.{_≤_, max, suc, ℕ}
+use mathlib.Core.Bool.{Bool, false, true}
 use mathlib.Core.List.{List, [], _∷_}
-use mathlib.Core.Logic.{_⊎_, inl, inr}
+use mathlib.Core.Logic.{inl, inr}
 use mathlib.Core.Option.{Option, none, some}
-use mathlib.Core.Path.{_∙_, _≡_, ap, refl, subst, sym}
+use mathlib.Core.Path.{_∙_, _≡_, refl}
 use native.Mathlib.Omega.{arith}
 use lib.Dec.{ltb}
+use lib.ListN.{length}
 use borrow.Author.Tests.{ltb-false, ltb-true}
-use Rattle.fields.specs.Choice.{_∈_}
-use Rattle.rules.proofs.Follower.{Follower, follower-beat, follower-fresh, follower-remove, follower-stays, follower-write, unfenced-remove}
-use Rattle.rules.proofs.History.{Newer}
-use Rattle.rules.proofs.Honest.{Honest, Sent, sent, sent-write}
-use Rattle.rules.proofs.Publisher.{Publisher, publisher-beat, publisher-fresh, publisher-remove, publisher-write}
+use Rattle.rules.proofs.Computing.{computed-honest}
+use Rattle.rules.proofs.Honest.{HonestDelta, HonestNode, delta-grows, fresh-honest, gc-within, node-beat, node-grows, node-remove}
+use Rattle.rules.proofs.Publisher.{Publisher, next-version, publisher-beat, publisher-fresh, publisher-remove, publisher-write}
 use Rattle.rules.proofs.Records.{gc-rises}
-use Rattle.rules.proofs.Step.{applied-node, follower-apply}
+use Rattle.rules.proofs.Sending.{nodeDelta}
+use Rattle.rules.proofs.Step.{node-apply}
 use Rattle.rules.proofs.Tables.{taking}
-use Rattle.rules.proofs.Taking.{Judged, applies, resets}
-use Rattle.rules.specs.Apply.{applyNode, outcome}
+use Rattle.rules.proofs.Taking.{Came, came, left, reset, took}
+use Rattle.rules.specs.Apply.{Ways, applyNode, outcome}
 use Rattle.rules.specs.Delta.{NodeDelta}
-use Rattle.rules.specs.Demand3.{Claims, Holds, Last, Rises}
-use Rattle.rules.specs.Node.{Change, Decision, Give, KeyValue, Leave, Node, Rec, Refuse, act, due, fresh, lastGc, remove, scheduled, withHeartbeat, write}
+use Rattle.rules.specs.Demand3.{Rises}
+use Rattle.rules.specs.Node.{Change, Decision, Give, KeyValue, Leave, Node, Rec, Refuse, act, fresh, lastGc, remove, withHeartbeat, write}
 use Rattle.rules.specs.World.{givenAfter, givenBy}
-use Rattle.rules.specs.declared.DeltaStatus.{DeltaStatus}
-use Rattle.rules.specs.declared.DeltaStatus.the-variants.{Apply, ApplyAfterReset, Reject}
 use Rattle.rules.specs.declared.Heartbeat.{Heartbeat}
-use Rattle.rules.specs.declared.Status.the-variants.{Set}
 
 -- what the publisher gave, its node, the follower's, and the delta on its way
 pub record One : Type 0 where
@@ -38,16 +36,28 @@ pub record One : Type 0 where
 abbrev pub fresh-one : One
 fresh-one = record { given = []; ours = fresh; theirs = fresh; flight = none }
 
-pub data Step (w : One) : One → Type 0 where
-  stays : Step w w
-  we-write : (k : List ℕ) (x : Decision) → Step w (record { given = givenAfter k x (w .ours) (w .given); ours = act k x (w .ours); theirs = w .theirs; flight = w .flight })
-  we-remove : (due : Rec → Bool) → Step w (record { given = w .given; ours = remove due (w .ours); theirs = w .theirs; flight = w .flight })
-  they-remove : (due : Rec → Bool) → Step w (record { given = w .given; ours = w .ours; theirs = remove due (w .theirs); flight = w .flight })
-  we-beat : (b : Heartbeat) → Step w (record { given = w .given; ours = withHeartbeat b (w .ours); theirs = w .theirs; flight = w .flight })
-  they-beat : (b : Heartbeat) → Step w (record { given = w .given; ours = w .ours; theirs = withHeartbeat b (w .theirs); flight = w .flight })
-  we-send : (d : NodeDelta) → (Publisher (w .given) (w .ours) → Honest (w .ours) d) → Step w (record { given = w .given; ours = w .ours; theirs = w .theirs; flight = some d })
-  lost : Step w (record { given = w .given; ours = w .ours; theirs = w .theirs; flight = none })
-  they-take : (now : ℕ) → Step w (record { given = w .given; ours = w .ours; theirs = taking (applyNode now) (w .flight) (w .theirs); flight = w .flight })
+abbrev pub withWrite : List KeyValue → Node → One → One
+withWrite h p w = record { given = h; ours = p; theirs = w .theirs; flight = w .flight }
+
+abbrev pub withOurs : Node → One → One
+withOurs p w = record { given = w .given; ours = p; theirs = w .theirs; flight = w .flight }
+
+abbrev pub withTheirs : Node → One → One
+withTheirs f w = record { given = w .given; ours = w .ours; theirs = f; flight = w .flight }
+
+abbrev pub withFlight : Option NodeDelta → One → One
+withFlight x w = record { given = w .given; ours = w .ours; theirs = w .theirs; flight = x }
+
+pub data Step (ways : Ways) (w : One) : One → Type 0 where
+  stays : Step ways w w
+  we-write : (k : List ℕ) (x : Decision) → Step ways w (withWrite (givenAfter k x (w .ours) (w .given)) (act k x (w .ours)) w)
+  we-remove : (due : Rec → Bool) → Step ways w (withOurs (remove due (w .ours)) w)
+  they-remove : (due : Rec → Bool) → Step ways w (withTheirs (remove due (w .theirs)) w)
+  we-beat : (b : Heartbeat) → Step ways w (withOurs (withHeartbeat b (w .ours)) w)
+  they-beat : (b : Heartbeat) → Step ways w (withTheirs (withHeartbeat b (w .theirs)) w)
+  we-send : (g m count : ℕ) (fits : Bool) → Step ways w (withFlight (some (nodeDelta (w .ours) g m count fits)) w)
+  lost : Step ways w (withFlight none w)
+  they-take : (now : ℕ) → Step ways w (withTheirs (taking (applyNode ways now) (w .flight) (w .theirs)) w)
 
 -- ---- the pair does not fall
 
@@ -68,60 +78,67 @@ rises-remove due n = at (ltb (n .last-gc) (lastGc due (n .last-gc) (n .recs))) r
     at true e = inl (ltb-true _ _ e)
     at false e = inr (let a = gc-rises due (n .last-gc) (n .recs) in let b = ltb-false (n .last-gc) (lastGc due (n .last-gc) (n .recs)) e in omega arith, omega arith)
 
-pub rises-apply : (now : ℕ) (d : NodeDelta) (f : Node) → Rises f (applyNode now d f .node)
+pub rises-apply : (ways : Ways) (now : ℕ) (d : NodeDelta) (f : Node) → Rises f (applyNode ways now d f .node)
 unfolding outcome
-rises-apply now d f = applied-node (Rises f) now d f (rises-same f) by
+rises-apply ways now d f = go _ (came ways now d f)
   where
-    by : (v : DeltaStatus) → Judged f d v → Rises f (outcome v now d f)
-    by Reject j = rises-same f
-    by ApplyAfterReset (resets z a e) = inl a
-    by Apply (applies a e m) = inr (refl, omega arith)
+    go : (x : Node) → Came ways now d f x → Rises f x
+    go x left = rises-same f
+    go x (reset r) = inl (r .above-gc)
+    go x (took r) = inr (refl, let a = r .newer in omega arith)
 
-pub step-rises : (w x : One) → Step w x → Rises (w .ours) (x .ours) × Rises (w .theirs) (x .theirs)
+pub step-rises : (ways : Ways) (w x : One) → Step ways w x → Rises (w .ours) (x .ours) × Rises (w .theirs) (x .theirs)
 unfolding act write
-step-rises w x stays = (rises-same (w .ours), rises-same (w .theirs))
-step-rises w x (we-write k (Refuse r)) = (rises-same (w .ours), rises-same (w .theirs))
-step-rises w x (we-write k Leave) = (rises-same (w .ours), rises-same (w .theirs))
-step-rises w x (we-write k (Give c)) = (inr (refl, omega arith), rises-same (w .theirs))
-step-rises w x (we-remove due) = (rises-remove due (w .ours), rises-same (w .theirs))
-step-rises w x (they-remove due) = (rises-same (w .ours), rises-remove due (w .theirs))
-step-rises w x (we-beat b) = (inr (refl, omega arith), rises-same (w .theirs))
-step-rises w x (they-beat b) = (rises-same (w .ours), inr (refl, omega arith))
-step-rises w x (we-send d h) = (rises-same (w .ours), rises-same (w .theirs))
-step-rises w x lost = (rises-same (w .ours), rises-same (w .theirs))
-step-rises w x (they-take now) = (rises-same (w .ours), at (w .flight))
+step-rises ways w x stays = (rises-same (w .ours), rises-same (w .theirs))
+step-rises ways w x (we-write k (Refuse r)) = (rises-same (w .ours), rises-same (w .theirs))
+step-rises ways w x (we-write k Leave) = (rises-same (w .ours), rises-same (w .theirs))
+step-rises ways w x (we-write k (Give c)) = (inr (refl, omega arith), rises-same (w .theirs))
+step-rises ways w x (we-remove due) = (rises-remove due (w .ours), rises-same (w .theirs))
+step-rises ways w x (they-remove due) = (rises-same (w .ours), rises-remove due (w .theirs))
+step-rises ways w x (we-beat b) = (inr (refl, omega arith), rises-same (w .theirs))
+step-rises ways w x (they-beat b) = (rises-same (w .ours), inr (refl, omega arith))
+step-rises ways w x (we-send g m count fits) = (rises-same (w .ours), rises-same (w .theirs))
+step-rises ways w x lost = (rises-same (w .ours), rises-same (w .theirs))
+step-rises ways w x (they-take now) = (rises-same (w .ours), at (w .flight))
   where
-    at : (o : Option NodeDelta) → Rises (w .theirs) (taking (applyNode now) o (w .theirs))
+    at : (o : Option NodeDelta) → Rises (w .theirs) (taking (applyNode ways now) o (w .theirs))
     at none = rises-same (w .theirs)
-    at (some d) = rises-apply now d (w .theirs)
+    at (some d) = rises-apply ways now d (w .theirs)
 
 -- ---- the facts that every step keeps
 
--- a delta on its way
-abbrev Flies : List KeyValue → Node → Node → Option NodeDelta → Type 0
-Flies h p f none = Unit {0}
-Flies h p f (some d) = Sent h (p .max) d × (f .last-gc ≤ max (f .max) (d .last-gc)) × (d .last-gc ≤ p .last-gc)
+-- of a delta on its way, however old it is
+abbrev Flies : List KeyValue → Node → Option NodeDelta → Type 0
+Flies h p none = Unit {0}
+Flies h p (some d) = HonestDelta h d × (d .last-gc ≤ p .last-gc)
 
+-- its age, where it is applied before the next digest
+abbrev Prompt : Node → Option NodeDelta → Type 0
+Prompt f none = Unit {0}
+Prompt f (some d) = f .last-gc ≤ max (f .max) (d .last-gc)
+
+-- `bounded`: the follower's last_gc is above its max only by a reset, to what the publisher's last_gc then was, and that only rises
 pub record Facts (w : One) : Type 0 where
   pub publisher : Publisher (w .given) (w .ours)
-  pub follower : Follower (w .given) (w .ours) (w .theirs)
-  pub unfenced : w .theirs .last-gc ≤ max (w .theirs .max) (w .ours .last-gc)
-  pub flies : Flies (w .given) (w .ours) (w .theirs) (w .flight)
+  pub follower : HonestNode (w .given) (w .theirs)
+  pub bounded : w .theirs .last-gc ≤ max (w .theirs .max) (w .ours .last-gc)
+  pub flies : Flies (w .given) (w .ours) (w .flight)
+  pub prompt : Prompt (w .theirs) (w .flight)
 
 pub facts-fresh : Facts fresh-one
-facts-fresh = record { publisher = publisher-fresh; follower = follower-fresh; unfenced = omega arith; flies = tt }
+facts-fresh = record { publisher = publisher-fresh; follower = fresh-honest []; bounded = omega arith; flies = tt; prompt = tt }
 
--- the follower's last_gc stays within its max and the publisher's last_gc when a delta is taken
-unfenced-apply : (now : ℕ) (d : NodeDelta) (f : Node) (g : ℕ) → d .last-gc ≤ g → f .last-gc ≤ max (f .max) g → applyNode now d f .node .last-gc ≤ max (applyNode now d f .node .max) g
+-- last_gc stays within max and g, when a delta is taken
+pub bounded-apply : (ways : Ways) (now : ℕ) (d : NodeDelta) (f : Node) (g : ℕ) → d .last-gc ≤ g → f .last-gc ≤ max (f .max) g → applyNode ways now d f .node .last-gc ≤ max (applyNode ways now d f .node .max) g
 unfolding outcome
-unfenced-apply now d f g b u = applied-node (λ (n : Node). n .last-gc ≤ max (n .max) g) now d f u by
+bounded-apply ways now d f g b u = go _ (came ways now d f)
   where
-    by : (v : DeltaStatus) → Judged f d v → outcome v now d f .last-gc ≤ max (outcome v now d f .max) g
-    by Reject j = u
-    by ApplyAfterReset (resets z a e) = omega arith
-    by Apply (applies a e m) = omega arith
+    go : (x : Node) → Came ways now d f x → x .last-gc ≤ max (x .max) g
+    go x left = u
+    go x (reset r) = omega arith
+    go x (took r) = let a = r .newer in omega arith
 
-module _ (w : One) (ok : Facts w) where
+module _ (ways : Ways) (w : One) (ok : Facts w) where
   abbrev h : List KeyValue
   h = w .given
 
@@ -131,118 +148,107 @@ module _ (w : One) (ok : Facts w) where
   abbrev f : Node
   f = w .theirs
 
-  keeps-write : (k : List ℕ) (c : Change) → Facts (record { given = givenBy k c p ∷ h; ours = write k c p; theirs = f; flight = w .flight })
+  keeps-write : (k : List ℕ) (c : Change) → Facts (withWrite (givenBy k c p ∷ h) (write k c p) w)
   unfolding write
   keeps-write k c =
       record {
         publisher = publisher-write h p (ok .publisher) k c;
-        follower = follower-write h p f (ok .publisher) (ok .follower) k c;
-        unfenced = ok .unfenced;
+        follower = node-grows h (givenBy k c p) next f (ok .follower);
+        bounded = ok .bounded;
         flies = flies (w .flight) (ok .flies);
+        prompt = ok .prompt;
       }
     where
-      flies : (x : Option NodeDelta) → Flies h p f x → Flies (givenBy k c p ∷ h) (write k c p) f x
-      flies none o = tt
-      flies (some d) o = (sent-write h p d k c (o .0), o .1, o .2)
+      next : givenBy k c p .version ≡ suc (length h)
+      next = next-version h p (ok .publisher) k c
 
-  keeps-ours : (due : Rec → Bool) → Facts (record { given = h; ours = remove due p; theirs = f; flight = w .flight })
+      flies : (x : Option NodeDelta) → Flies h p x → Flies (givenBy k c p ∷ h) (write k c p) x
+      flies none o = tt
+      flies (some d) o = (delta-grows h (givenBy k c p) next d (o .0), o .1)
+
+  keeps-ours : (due : Rec → Bool) → Facts (withOurs (remove due p) w)
   unfolding remove
   keeps-ours due =
       record {
         publisher = publisher-remove h p (ok .publisher) due;
-        follower = follower-stays h p f (ok .publisher) (ok .follower) due;
-        unfenced = let a = gc-rises due (p .last-gc) (p .recs) in let b = ok .unfenced in omega arith;
+        follower = ok .follower;
+        bounded = let a = rises in let b = ok .bounded in omega arith;
         flies = flies (w .flight) (ok .flies);
+        prompt = ok .prompt;
       }
     where
-      flies : (x : Option NodeDelta) → Flies h p f x → Flies h (remove due p) f x
-      flies none o = tt
-      flies (some d) o = (o .0, o .1, let a = gc-rises due (p .last-gc) (p .recs) in let b = o .2 in omega arith)
+      rises : p .last-gc ≤ lastGc due (p .last-gc) (p .recs)
+      rises = gc-rises due (p .last-gc) (p .recs)
 
-  keeps-theirs : (due : Rec → Bool) → Facts (record { given = h; ours = p; theirs = remove due f; flight = w .flight })
+      flies : (x : Option NodeDelta) → Flies h p x → Flies h (remove due p) x
+      flies none o = tt
+      flies (some d) o = (o .0, let a = rises in let b = o .1 in omega arith)
+
+  keeps-theirs : (due : Rec → Bool) → Facts (withTheirs (remove due f) w)
   unfolding remove
   keeps-theirs due =
       record {
         publisher = ok .publisher;
-        follower = follower-remove h p f (ok .publisher) (ok .follower) due;
-        unfenced = unfenced-remove due f (p .last-gc) (ok .follower .within) (ok .unfenced);
-        flies = flies (w .flight) (ok .flies);
+        follower = node-remove h f (ok .follower) due;
+        bounded = gc-within h f (ok .follower) due (max (f .max) (p .last-gc)) (ok .bounded) (omega arith);
+        flies = ok .flies;
+        prompt = prompt (w .flight) (ok .prompt);
       }
     where
-      flies : (x : Option NodeDelta) → Flies h p f x → Flies h p (remove due f) x
-      flies none o = tt
-      flies (some d) o = (o .0, unfenced-remove due f (d .last-gc) (ok .follower .within) (o .1), o .2)
+      prompt : (x : Option NodeDelta) → Prompt f x → Prompt (remove due f) x
+      prompt none o = tt
+      prompt (some d) o = gc-within h f (ok .follower) due (max (f .max) (d .last-gc)) o (omega arith)
 
-  keeps-beats : (b c : Heartbeat) → Facts (record { given = h; ours = withHeartbeat b p; theirs = withHeartbeat c f; flight = w .flight })
-  keeps-beats b c =
-      record {
-        publisher = publisher-beat h p (ok .publisher) b;
-        follower = follower-beat h p f (ok .follower) b c;
-        unfenced = ok .unfenced;
-        flies = flies (w .flight) (ok .flies);
-      }
+  keeps-our-beat : (b : Heartbeat) → Facts (withOurs (withHeartbeat b p) w)
+  keeps-our-beat b =
+      record { publisher = publisher-beat h p (ok .publisher) b; follower = ok .follower; bounded = ok .bounded; flies = flies (w .flight) (ok .flies); prompt = ok .prompt }
     where
-      flies : (x : Option NodeDelta) → Flies h p f x → Flies h (withHeartbeat b p) (withHeartbeat c f) x
+      flies : (x : Option NodeDelta) → Flies h p x → Flies h (withHeartbeat b p) x
       flies none o = tt
       flies (some d) o = o
 
-  sent-flies : (d : NodeDelta) → Honest p d → Flies h p f (some d)
-  sent-flies d hon =
-      (sent h p d (ok .publisher) hon, subst (λ (n : ℕ). f .last-gc ≤ max (f .max) n) (sym (hon .gc-is)) (ok .unfenced), let e = hon .gc-is in omega arith)
+  keeps-their-beat : (b : Heartbeat) → Facts (withTheirs (withHeartbeat b f) w)
+  keeps-their-beat b =
+      record { publisher = ok .publisher; follower = node-beat h f (ok .follower) b; bounded = ok .bounded; flies = ok .flies; prompt = prompt (w .flight) (ok .prompt) }
+    where
+      prompt : (x : Option NodeDelta) → Prompt f x → Prompt (withHeartbeat b f) x
+      prompt none o = tt
+      prompt (some d) o = o
 
-  keeps-taken : (now : ℕ) (x : Option NodeDelta) → Flies h p f x → Facts (record { given = h; ours = p; theirs = taking (applyNode now) x f; flight = x })
-  keeps-taken now none o = record { publisher = ok .publisher; follower = ok .follower; unfenced = ok .unfenced; flies = o }
-  keeps-taken now (some d) o =
+  -- a new delta has the publisher's last_gc
+  keeps-sent : (g m count : ℕ) (fits : Bool) → Facts (withFlight (some (nodeDelta p g m count fits)) w)
+  unfolding nodeDelta
+  keeps-sent g m count fits =
       record {
         publisher = ok .publisher;
-        follower = follower-apply h p (ok .publisher) now d (o .0) f (ok .follower) (o .1);
-        unfenced = unfenced-apply now d f (p .last-gc) (o .2) (ok .unfenced);
-        flies = (o .0, unfenced-apply now d f (d .last-gc) (omega arith) (o .1), o .2);
+        follower = ok .follower;
+        bounded = ok .bounded;
+        flies = (computed-honest h (ok .publisher .numbered) p (ok .publisher .node) g m count fits, omega arith);
+        prompt = ok .bounded;
       }
 
-pub step-keeps : (w x : One) → Step w x → Facts w → Facts x
+  -- its age is what the step asks for, and what it keeps
+  keeps-taken : (now : ℕ) (x : Option NodeDelta) → Flies h p x → Prompt f x → Facts (withFlight x (withTheirs (taking (applyNode ways now) x f) w))
+  keeps-taken now none a b = record { publisher = ok .publisher; follower = ok .follower; bounded = ok .bounded; flies = a; prompt = b }
+  keeps-taken now (some d) a b =
+      record {
+        publisher = ok .publisher;
+        follower = node-apply h (ok .publisher .numbered) now d (a .0) f (ok .follower) ways (omega arith);
+        bounded = bounded-apply ways now d f (p .last-gc) (a .1) (ok .bounded);
+        flies = a;
+        prompt = bounded-apply ways now d f (d .last-gc) (omega arith) b;
+      }
+
+pub step-keeps : (ways : Ways) (w x : One) → Step ways w x → Facts w → Facts x
 unfolding act
-step-keeps w x stays ok = ok
-step-keeps w x (we-write k (Refuse r)) ok = ok
-step-keeps w x (we-write k Leave) ok = ok
-step-keeps w x (we-write k (Give c)) ok = keeps-write w ok k c
-step-keeps w x (we-remove due) ok = keeps-ours w ok due
-step-keeps w x (they-remove due) ok = keeps-theirs w ok due
-step-keeps w x (we-beat b) ok = keeps-beats w ok b (w .theirs .heartbeat)
-step-keeps w x (they-beat b) ok = keeps-beats w ok (w .ours .heartbeat) b
-step-keeps w x (we-send d hon) ok =
-    record { publisher = ok .publisher; follower = ok .follower; unfenced = ok .unfenced; flies = sent-flies w ok d (hon (ok .publisher)) }
-step-keeps w x lost ok = record { publisher = ok .publisher; follower = ok .follower; unfenced = ok .unfenced; flies = tt }
-step-keeps w x (they-take now) ok = keeps-taken w ok now (w .flight) (ok .flies)
-
--- ---- what they say of the node
-
-pub claims-of : (h : List KeyValue) (p f : Node) → Publisher h p → Follower h p f → Claims h p f
-claims-of h p f own fol =
-    record {
-      never-ahead = fol .max-low;
-      same-set = λ e s q. (there e s q, back e s q);
-      last-given = λ e s x. (told s x, last e s x);
-    }
-  where
-    told : (s : KeyValue) → Holds f s → s ∈ h
-    told s x = subst (λ (y : KeyValue). y ∈ h) (x .2) (fol .told (x .0) (x .1))
-
-    last : f .max ≡ p .max → (s : KeyValue) → Holds f s → Last h s
-    last e s x = subst (Last h) (x .2) (at (fol .current (x .0) (x .1)))
-      where
-        at : Last h (x .0 .kv) ⊎ Newer h (max (f .max) (f .last-gc)) (x .0 .kv .key) → Last h (x .0 .kv)
-        at (inl l) = l
-        at (inr n) = let a = n .above in let b = own .high (n .kv) (n .told) in absurd (omega arith)
-
-    there : f .max ≡ p .max → (s : KeyValue) → s .status ≡ Set → Holds p s → Holds f s
-    there e s q x =
-        let y = fol .live (x .0) (x .1) (ap (λ (z : KeyValue). scheduled (z .status)) (x .2) ∙ ap scheduled q) (let b = own .high (x .0 .kv) (own .told (x .0) (x .1)) in omega arith) in
-        (y .0, y .1, y .2 ∙ x .2)
-
-    back : f .max ≡ p .max → (s : KeyValue) → s .status ≡ Set → Holds f s → Holds p s
-    back e s q x = at (own .kept s (told s x) (last e s x))
-      where
-        at : Holds p s ⊎ ((scheduled (s .status) ≡ true) × (s .version ≤ p .last-gc)) → Holds p s
-        at (inl y) = y
-        at (inr y) = absurd (false≢true (sym (ap scheduled q) ∙ y .0))
+step-keeps ways w x stays ok = ok
+step-keeps ways w x (we-write k (Refuse r)) ok = ok
+step-keeps ways w x (we-write k Leave) ok = ok
+step-keeps ways w x (we-write k (Give c)) ok = keeps-write ways w ok k c
+step-keeps ways w x (we-remove due) ok = keeps-ours ways w ok due
+step-keeps ways w x (they-remove due) ok = keeps-theirs ways w ok due
+step-keeps ways w x (we-beat b) ok = keeps-our-beat ways w ok b
+step-keeps ways w x (they-beat b) ok = keeps-their-beat ways w ok b
+step-keeps ways w x (we-send g m count fits) ok = keeps-sent ways w ok g m count fits
+step-keeps ways w x lost ok = record { publisher = ok .publisher; follower = ok .follower; bounded = ok .bounded; flies = tt; prompt = tt }
+step-keeps ways w x (they-take now) ok = keeps-taken ways w ok now (w .flight) (ok .flies) (ok .prompt)

@@ -1,163 +1,149 @@
--- A publisher's node beside all that it gave to its keys: each write and each removal keeps these facts. A removal is any removal of scheduled
--- records; the clock of document 01 is one of them.
-use Prim.Native.Nat.{_+_, _<_, _≤_, ℕ}
-use mathlib.Core.Bool.{Bool, _&&_, false, not, true}
+-- The publisher's node beside all that it gave to its keys: an honest node that has got to the last version given. Each write, each removal and
+-- each heartbeat keeps this. And what demand 3 claims of the publisher's node and any honest node beside it.
+use Prim.Native.Nat.{_+_, _<_, _≤_, max, suc, ℕ}
+use mathlib.Core.Bool.{Bool, false≢true}
 use mathlib.Core.List.{List, [], _∷_}
 use mathlib.Core.Logic.{_⊎_, inl, inr}
 use mathlib.Core.Path.{_∙_, _≡_, ap, refl, subst, sym}
 use native.Mathlib.Omega.{arith}
-use Rattle.fields.proofs.Choice.{in-cons, in-none, keep-from, keep-in}
-use Rattle.fields.specs.Choice.{_∈_, here, keep, later}
-use Rattle.rules.proofs.Records.{Sorted, gc-below, gc-covers, gc-rises, keyOf, sorted-keep, sorted-store, store-from, store-new, store-old}
-use Rattle.rules.specs.Demand3.{Last}
-use Rattle.rules.specs.Node.{Change, KeyValue, Node, Rec, due, fresh, goes, lastGc, remove, scheduled, store, withHeartbeat, write}
-use Rattle.rules.specs.World.{givenBy, start}
+use lib.ListN.{length}
+use Rattle.fields.proofs.Choice.{in-cons}
+use Rattle.fields.specs.Choice.{_∈_, here, later}
+use Rattle.rules.proofs.History.{Numbered, numbered-grows, numbered-none}
+use Rattle.rules.proofs.Honest.{Current, Honest, HonestNode, Removed, fresh-honest, node-beat, node-remove}
+use Rattle.rules.proofs.Records.{keyOf, sorted-store, store-from, store-new, store-old}
+use Rattle.rules.specs.Demand3.{Claims, Holds, Last}
+use Rattle.rules.specs.Node.{Change, KeyValue, Node, Rec, fresh, remove, scheduled, store, withHeartbeat, write}
+use Rattle.rules.specs.World.{givenBy}
 use Rattle.rules.specs.declared.Heartbeat.{Heartbeat}
+use Rattle.rules.specs.declared.Status.the-variants.{Set}
 
--- Versions of what was given are 1 to max, each given once. Every record is the last that its key was given. What a key was given last stands in
--- the node, or was scheduled and removed, at or below last_gc. The publisher is never reset, so last_gc is not above max.
 pub record Publisher (h : List KeyValue) (p : Node) : Type 0 where
-  pub sorted : Sorted (p .recs)
-  pub low : (s : KeyValue) → s ∈ h → 0 < s .version
-  pub high : (s : KeyValue) → s ∈ h → s .version ≤ p .max
-  pub one : (s t : KeyValue) → s ∈ h → t ∈ h → s .version ≡ t .version → s ≡ t
-  pub told : (r : Rec) → r ∈ p .recs → r .kv ∈ h
-  pub last : (r : Rec) → r ∈ p .recs → Last h (r .kv)
-  pub kept : (s : KeyValue) → s ∈ h → Last h s → ((r : Rec) × (r ∈ p .recs) × (r .kv ≡ s)) ⊎ ((scheduled (s .status) ≡ true) × (s .version ≤ p .last-gc))
-  pub gc-max : p .last-gc ≤ p .max
+  pub numbered : Numbered h
+  pub node : HonestNode h p
+  pub top : p .max ≡ length h
 
 pub publisher-fresh : Publisher [] fresh
-unfolding Sorted
-publisher-fresh =
-    record {
-      sorted = tt;
-      low = λ s m. absurd (in-none m);
-      high = λ s m. absurd (in-none m);
-      one = λ s t m. absurd (in-none m);
-      told = λ r m. absurd (in-none m);
-      last = λ r m. absurd (in-none m);
-      kept = λ s m. absurd (in-none m);
-      gc-max = omega arith;
-    }
+publisher-fresh = record { numbered = numbered-none; node = fresh-honest []; top = refl }
 
--- the record that a change makes
-abbrev pub writtenBy : List ℕ → Change → Node → Rec
-writtenBy k c p = record { kv = givenBy k c p; start = c .start }
+-- a node that has got to the last version given holds of each key what it was given last
+pub all-current : (h : List KeyValue) (n : Node) → Numbered h → HonestNode h n → n .max ≡ length h → (s : KeyValue) → Holds n s → Last h s
+all-current h n num ok top s x = at (ok .honest .current s x)
+  where
+    at : Current h (max (n .last-gc) (n .max)) s → Last h s
+    at (inl l) = l
+    at (inr y) = let a = y .above in let b = num .high (y .kv) (y .told) in absurd (omega arith)
 
 module _ (h : List KeyValue) (p : Node) (ok : Publisher h p) where
+  pub next-version : (k : List ℕ) (c : Change) → givenBy k c p .version ≡ suc (length h)
+  next-version k c = let a = ok .top in omega arith
+
   module _ (k : List ℕ) (c : Change) where
     abbrev w : KeyValue
     w = givenBy k c p
 
-    abbrev From : Rec → Type 0
-    From r = (r ≡ writtenBy k c p) ⊎ ((r ∈ p .recs) × (keyOf r ≡ k → ⊥))
+    abbrev written : Rec
+    written = record { kv = w; start = c .start }
 
-    version-at : (s : KeyValue) → s ≡ w → s .version ≡ p .max + 1
-    version-at s e = ap (λ (y : KeyValue). y .version) e
-
-    last-new : (s t : KeyValue) → s ≡ w → (t ≡ w) ⊎ (t ∈ h) → t .version ≤ s .version
-    last-new s t e (inl f) = let a = version-at s e in let b = version-at t f in omega arith
-    last-new s t e (inr m) = let a = version-at s e in let b = ok .high t m in omega arith
-
-    last-old : (s : KeyValue) → Last h s → (s .key ≡ k → ⊥) → (t : KeyValue) → (t ≡ w) ⊎ (t ∈ h) → t .key ≡ s .key → t .version ≤ s .version
-    last-old s l n t (inl e) q = absurd (n (sym q ∙ ap (λ (y : KeyValue). y .key) e))
-    last-old s l n t (inr m) q = l t m q
+    abbrev hon : Honest h 0 (p .last-gc) (p .max) (Holds p)
+    hon = ok .node .honest
 
     pub publisher-write : Publisher (w ∷ h) (write k c p)
     unfolding write
     publisher-write =
         record {
-          sorted = sorted-store _ _ (ok .sorted);
-          low = λ s m. low s (in-cons m);
-          high = λ s m. high s (in-cons m);
-          one = λ s t m n. one s t (in-cons m) (in-cons n);
-          told = λ r m. told r (store-from _ _ (ok .sorted) m);
-          last = λ r m t n. last r (store-from _ _ (ok .sorted) m) t (in-cons n);
-          kept = λ s m l. kept s (in-cons m) l;
-          gc-max = let g = ok .gc-max in omega arith;
+          numbered = numbered-grows h w (next-version k c) (ok .numbered);
+          node =
+              record {
+                sorted = sorted-store _ _ (ok .node .sorted);
+                honest =
+                    record {
+                      gc-low = let a = hon .gc-low in omega arith;
+                      max-low = let a = ok .top in omega arith;
+                      told = λ s x. subst (λ (y : KeyValue). y ∈ w ∷ h) (x .2) (told (x .0) (from x));
+                      within = λ s x. subst (λ (y : KeyValue). y .version ≤ p .max + 1) (x .2) (within (x .0) (from x));
+                      current = λ s x. inl (subst (Last (w ∷ h)) (x .2) (last (x .0) (from x)));
+                      brings = λ s m l a b. brings s (in-cons m) l a;
+                    };
+              };
+          top = let a = ok .top in omega arith;
         }
       where
-        low : (s : KeyValue) → (s ≡ w) ⊎ (s ∈ h) → 0 < s .version
-        low s (inl e) = let a = version-at s e in omega arith
-        low s (inr m) = ok .low s m
+        Has : KeyValue → Type 0
+        Has s = (r : Rec) × (r ∈ store written (p .recs)) × (r .kv ≡ s)
 
-        high : (s : KeyValue) → (s ≡ w) ⊎ (s ∈ h) → s .version ≤ p .max + 1
-        high s (inl e) = let a = version-at s e in omega arith
-        high s (inr m) = let a = ok .high s m in omega arith
+        -- the new record, or one of another key
+        From : Rec → Type 0
+        From r = (r ≡ written) ⊎ ((r ∈ p .recs) × (keyOf r ≡ k → ⊥))
 
-        one : (s t : KeyValue) → (s ≡ w) ⊎ (s ∈ h) → (t ≡ w) ⊎ (t ∈ h) → s .version ≡ t .version → s ≡ t
-        one s t (inl e) (inl f) q = e ∙ sym f
-        one s t (inl e) (inr m) q = let a = version-at s e in let b = ok .high t m in absurd (omega arith)
-        one s t (inr m) (inl e) q = let a = version-at t e in let b = ok .high s m in absurd (omega arith)
-        one s t (inr m) (inr n) q = ok .one s t m n q
+        from : {s : KeyValue} (x : Has s) → From (x .0)
+        from x = store-from _ _ (ok .node .sorted) (x .1)
 
         told : (r : Rec) → From r → r .kv ∈ w ∷ h
         told r (inl e) = here (ap (λ (y : Rec). y .kv) e)
-        told r (inr m) = later (ok .told r (m .0))
+        told r (inr m) = later (hon .told (r .kv) (r, m .0, refl))
 
-        last : (r : Rec) → From r → (t : KeyValue) → (t ≡ w) ⊎ (t ∈ h) → t .key ≡ keyOf r → t .version ≤ r .kv .version
-        last r (inl e) t m q = last-new (r .kv) t (ap (λ (y : Rec). y .kv) e) m
-        last r (inr m) t n q = last-old (r .kv) (ok .last r (m .0)) (m .1) t n q
+        within : (r : Rec) → From r → r .kv .version ≤ p .max + 1
+        within r (inl e) = let a : r .kv .version ≡ p .max + 1 = ap (λ (y : Rec). y .kv .version) e in omega arith
+        within r (inr m) = let a = hon .within (r .kv) (r, m .0, refl) in omega arith
 
-        Kept : KeyValue → Type 0
-        Kept s = ((r : Rec) × (r ∈ store (writtenBy k c p) (p .recs)) × (r .kv ≡ s)) ⊎ ((scheduled (s .status) ≡ true) × (s .version ≤ p .last-gc))
-
-        kept : (s : KeyValue) → (s ≡ w) ⊎ (s ∈ h) → Last (w ∷ h) s → Kept s
-        kept s (inl e) l = inl (writtenBy k c p, store-new _ _, sym e)
-        kept s (inr m) l = at (ok .kept s m (λ t n. l t (later n)))
+        last : (r : Rec) → From r → Last (w ∷ h) (r .kv)
+        last r (inl e) t n q = at (in-cons n)
           where
-            other : s .key ≡ k → ⊥
-            other e = let a = l w (here refl) (sym e) in let b = ok .high s m in omega arith
+            at : (t ≡ w) ⊎ (t ∈ h) → t .version ≤ r .kv .version
+            at (inl f) = let a : r .kv .version ≡ t .version = ap (λ (y : Rec). y .kv .version) e ∙ sym (ap (λ (y : KeyValue). y .version) f) in omega arith
+            at (inr m) =
+                let a : r .kv .version ≡ p .max + 1 = ap (λ (y : Rec). y .kv .version) e in
+                let b = ok .numbered .high t m in
+                let d = ok .top in
+                omega arith
+        last r (inr m) t n q = at (in-cons n)
+          where
+            at : (t ≡ w) ⊎ (t ∈ h) → t .version ≤ r .kv .version
+            at (inl f) = absurd (m .1 (sym q ∙ ap (λ (y : KeyValue). y .key) f))
+            at (inr o) = all-current h p (ok .numbered) (ok .node) (ok .top) (r .kv) (r, m .0, refl) t o q
 
-            at : ((r : Rec) × (r ∈ p .recs) × (r .kv ≡ s)) ⊎ ((scheduled (s .status) ≡ true) × (s .version ≤ p .last-gc)) → Kept s
-            at (inl x) = inl (x .0, store-old (writtenBy k c p) (x .1) (λ q. other (ap (λ (y : KeyValue). y .key) (sym (x .2)) ∙ q)), x .2)
+        brings : (s : KeyValue) → (s ≡ w) ⊎ (s ∈ h) → Last (w ∷ h) s → 0 < s .version → Has s ⊎ Removed (p .last-gc) s
+        brings s (inl e) l a = inl (written, store-new _ _, sym e)
+        brings s (inr m) l a = at (hon .brings s m (λ t n. l t (later n)) a (let b = high in let d = ok .top in omega arith))
+          where
+            high : s .version ≤ length h
+            high = ok .numbered .high s m
+
+            other : s .key ≡ k → ⊥
+            other e = let b = l w (here refl) (sym e) in let d = high in let f = ok .top in omega arith
+
+            at : Holds p s ⊎ Removed (p .last-gc) s → Has s ⊎ Removed (p .last-gc) s
+            at (inl x) = inl (x .0, store-old written (x .1) (λ q. other (ap (λ (y : KeyValue). y .key) (sym (x .2)) ∙ q)), x .2)
             at (inr x) = inr x
 
   -- any removal of scheduled records
-  module _ (due : Rec → Bool) where
-    pub publisher-remove : Publisher h (remove due p)
-    unfolding remove
-    publisher-remove =
-        record {
-          sorted = sorted-keep _ _ (ok .sorted);
-          low = ok .low;
-          high = ok .high;
-          one = ok .one;
-          told = λ r m. ok .told r (keep-from _ _ m .0);
-          last = λ r m. ok .last r (keep-from _ _ m .0);
-          kept = λ s m l. at s (ok .kept s m l);
-          gc-max = gc-below due (p .last-gc) (p .max) (p .recs) (ok .gc-max) (λ r m. ok .high (r .kv) (ok .told r m));
-        }
-      where
-        Kept : KeyValue → Type 0
-        Kept s = ((r : Rec) × (r ∈ keep (λ r. not (goes due r)) (p .recs)) × (r .kv ≡ s)) ⊎ ((scheduled (s .status) ≡ true) × (s .version ≤ lastGc due (p .last-gc) (p .recs)))
+  pub publisher-remove : (due : Rec → Bool) → Publisher h (remove due p)
+  unfolding remove
+  publisher-remove due = record { numbered = ok .numbered; node = node-remove h p (ok .node) due; top = ok .top }
 
-        at : (s : KeyValue) → ((r : Rec) × (r ∈ p .recs) × (r .kv ≡ s)) ⊎ ((scheduled (s .status) ≡ true) × (s .version ≤ p .last-gc)) → Kept s
-        at s (inr x) = inr (x .0, let g = gc-rises due (p .last-gc) (p .recs) in let a = x .1 in omega arith)
-        at s (inl x) = go (goes due (x .0)) refl
-          where
-            first : (a b : Bool) → (a && b) ≡ true → a ≡ true
-            first true b e = refl
-            first false b e = e
-
-            go : (b : Bool) → goes due (x .0) ≡ b → Kept s
-            go true q =
-                inr (
-                  ap (λ (y : KeyValue). scheduled (y .status)) (sym (x .2)) ∙ first (scheduled (x .0 .kv .status)) (due (x .0)) q,
-                  subst (λ (y : KeyValue). y .version ≤ lastGc due (p .last-gc) (p .recs)) (x .2) (gc-covers due (p .last-gc) (x .1) q),
-                )
-            go false q = inl (x .0, keep-in (λ r. not (goes due r)) (x .1) (ap not q), x .2)
-
-  -- heartbeats do not matter
   pub publisher-beat : (b : Heartbeat) → Publisher h (withHeartbeat b p)
-  publisher-beat b =
-      record {
-        sorted = ok .sorted;
-        low = ok .low;
-        high = ok .high;
-        one = ok .one;
-        told = ok .told;
-        last = ok .last;
-        kept = ok .kept;
-        gc-max = ok .gc-max;
-      }
+  publisher-beat b = record { numbered = ok .numbered; node = node-beat h p (ok .node) b; top = ok .top }
+
+-- ---- the claims
+
+-- of two honest nodes that have got to the last version given, each holds the Set records of the other
+pub same-sets : (h : List KeyValue) (a b : Node) → Numbered h → HonestNode h a → HonestNode h b → a .max ≡ length h → b .max ≡ length h → (s : KeyValue) → s .status ≡ Set → Holds a s → Holds b s
+same-sets h a b num x y i j s q m =
+    let told = x .honest .told s m in
+    at (y .honest .brings s told (all-current h a num x i s m) (num .low s told) (let c = num .high s told in omega arith))
+  where
+    at : Holds b s ⊎ Removed (b .last-gc) s → Holds b s
+    at (inl z) = z
+    at (inr z) = absurd (false≢true (sym (ap scheduled q) ∙ z .0))
+
+pub claims-of : (h : List KeyValue) (p f : Node) → Publisher h p → HonestNode h f → Claims h p f
+claims-of h p f own ok =
+    record {
+      never-ahead = let a = own .top in let b = ok .honest .max-low in omega arith;
+      same-set = λ e s q. (same-sets h p f num (own .node) ok (own .top) (e ∙ own .top) s q, same-sets h f p num ok (own .node) (e ∙ own .top) (own .top) s q);
+      last-given = λ e s x. (ok .honest .told s x, all-current h f num ok (e ∙ own .top) s x);
+    }
+  where
+    num : Numbered h
+    num = own .numbered

@@ -13,12 +13,12 @@ use Rattle.fields.specs.Choice.{pick}
 use Rattle.fields.specs.Order.{sameBytes}
 use Rattle.fields.specs.Parts.{put}
 use Rattle.rules.specs.Given.{Given, given}
-use Rattle.rules.specs.Apply.{ApplyOutcome, apply, applyEach, applyNode, applyOps, codes}
+use Rattle.rules.specs.Apply.{ApplyOutcome, apply, applyEach, applyNode, applyOps, codes, Ways}
 use Rattle.rules.specs.Compute.{compute, onDigest, written}
-use Rattle.rules.specs.Delta.{Faulty, Good, Ops, Part, number, partsOf, readDelta}
+use Rattle.rules.specs.Delta.{Faulty, Good, Ops, Part, number, partsOf}
 use Rattle.rules.specs.Digest.{DigestRead, Entries, Refused, digestBytes, digestOf, fitsAt, readDigest, writeDigest}
 use Rattle.rules.specs.Layout.{decode, encode, valid}
-use Rattle.rules.specs.Lent.{TableAndList, both, lentApply, onTable, stored, storedApply}
+use Rattle.rules.specs.Lent.{TableAndList, both, onTable, stored, storedApply, lentApplyAs}
 use Rattle.rules.specs.Local.{Outcome, add, answerOf, beatOn, call, callOn, gives, listInto, localBeat, offer, offerOn, prefixOn, prefixed, removeNode, yesNo}
 use Rattle.rules.specs.Node.{Call, Decision, Give, Leave, Node, Refuse, act, beats, decide, hitsFrom, offerOf, withHeartbeat}
 use Rattle.rules.specs.Sizes.{leastMtu, maxDelta, maxKey, maxNodes, top}
@@ -165,20 +165,20 @@ compute-refused excluded ties mtu place digest t l r =
     go true true true (Entries ds rest) e = let z : _≡_ {A = ℕ} 0 1 = cc in absurd (omega arith)
     go true true true (Refused x) e = refl
 
-pub apply-refused : (bytes : List ℕ) (now : ℕ) (t : Table) (l : List ℕ) (r : Refusal) (at : ℕ) → apply bytes now t l .answer ≡ applied.Refused r at → (apply bytes now t l .table ≡ t) × (apply bytes now t l .list ≡ l)
+pub apply-refused : (ways : Ways) (bytes : List ℕ) (now : ℕ) (t : Table) (l : List ℕ) (r : Refusal) (at : ℕ) → apply ways bytes now t l .answer ≡ applied.Refused r at → (apply ways bytes now t l .table ≡ t) × (apply ways bytes now t l .list ≡ l)
 unfolding apply
-apply-refused bytes now t l r at = go (readDelta bytes)
+apply-refused ways bytes now t l r at = go (ways .reads bytes)
   where
     out : List Part → Bool → ApplyOutcome
     out xs b =
-        pick b (record { answer = applied.Nodes (length xs); table = applyEach (applyNode now) xs t .table; list = put 0 (codes (applyEach (applyNode now) xs t .answers)) l })
+        pick b (record { answer = applied.Nodes (length xs); table = applyEach (applyNode ways now) xs t .table; list = put 0 (codes (applyEach (applyNode ways now) xs t .answers)) l })
         (record { answer = applied.Refused NoPlace 0; table = t; list = l })
 
     room : (xs : List Part) (b : Bool) → out xs b .answer ≡ applied.Refused r at → (out xs b .table ≡ t) × (out xs b .list ≡ l)
     room xs true e = let z : _≡_ {A = ℕ} 0 1 = cc in absurd (omega arith)
     room xs false e = (refl, refl)
 
-    go : (o : Ops) → applyOps (applyNode now) o t l .answer ≡ applied.Refused r at → (applyOps (applyNode now) o t l .table ≡ t) × (applyOps (applyNode now) o t l .list ≡ l)
+    go : (o : Ops) → applyOps (applyNode ways now) o t l .answer ≡ applied.Refused r at → (applyOps (applyNode ways now) o t l .table ≡ t) × (applyOps (applyNode ways now) o t l .list ≡ l)
     go (Good ops) e = room (partsOf ops) (leb (length (partsOf ops)) (length l)) e
     go (Faulty x p) e = (refl, refl)
 
@@ -208,13 +208,13 @@ lent-refused {A} bad rule refuses f l = go (valid l) refl
     go true q e = ap encode (f (decode l) e) ∙ valid-bytes l q
     go false q e = refl
 
-pub lent-apply-refused : (delta : List ℕ) (now : ℕ) (list l : List ℕ) (r : Refusal) (at : ℕ) → lentApply delta now list l .answer ≡ applied.Refused r at → (lentApply delta now list l .lent .table ≡ l) × (lentApply delta now list l .lent .list ≡ list)
-unfolding lentApply
-lent-apply-refused delta now list l r at = go (valid l) refl
+pub lent-apply-refused : (ways : Ways) (delta : List ℕ) (now : ℕ) (list l : List ℕ) (r : Refusal) (at : ℕ) → lentApplyAs ways delta now list l .answer ≡ applied.Refused r at → (lentApplyAs ways delta now list l .lent .table ≡ l) × (lentApplyAs ways delta now list l .lent .list ≡ list)
+unfolding lentApplyAs
+lent-apply-refused ways delta now list l r at = go (valid l) refl
   where
     out : Bool → Given Applied TableAndList
-    out b = pick b (storedApply (apply delta now (decode l) list)) (given (applied.Refused BadTable 0) (both l list))
+    out b = pick b (storedApply (apply ways delta now (decode l) list)) (given (applied.Refused BadTable 0) (both l list))
 
     go : (b : Bool) → valid l ≡ b → out b .answer ≡ applied.Refused r at → (out b .lent .table ≡ l) × (out b .lent .list ≡ list)
-    go true q e = let x = apply-refused delta now (decode l) list r at e in (ap encode (x .0) ∙ valid-bytes l q, x .1)
+    go true q e = let x = apply-refused ways delta now (decode l) list r at e in (ap encode (x .0) ∙ valid-bytes l q, x .1)
     go false q e = (refl, refl)

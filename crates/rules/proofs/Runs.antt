@@ -7,7 +7,7 @@ use Rattle.fields.specs.Choice.{keep}
 use Rattle.fields.specs.Numbers.{bytesOf, natOf}
 use Rattle.fields.specs.Order.{lessBytes, sameBytes}
 use Rattle.fields.specs.Parts.{part, put}
-use Rattle.rules.specs.Apply.{apply, applyEach, applyNode, codes, deltaStatus, newerOf, outcome, statusOf, takeAll, takes}
+use Rattle.rules.specs.Apply.{apply, applyEach, applyNode, codes, deltaStatus, newerOf, outcome, plainWays, statusOf, takeAll, takes}
 use Rattle.rules.specs.Compute.{allOps, byVersion, compute, cut, deltaFor, fromOf, keyValueOps, ordered, queue, sooner, stale, staleNodes, toldOf}
 use Rattle.rules.specs.Delta.{deltaBytes, follow, maxOf, opBytes, partsOf, readDelta, readKeyValue, readNode, readOp, readOps, readSetMaxVersion, recsOf, sizeOf, textBytes}
 use Rattle.rules.specs.Demand3.{allGranted, exchanges, holdings}
@@ -21,10 +21,10 @@ use Rattle.rules.specs.World.{after, freshTable, happen, start}
 -- the publisher holds one record and one node; one exchange brings the follower to (3,1), the second to (3,3); nothing was refused
 pub tight : (pair (oneRecord .publisher) ≡ 3 ∷ 3 ∷ [])
     × (holdings (oneRecord .publisher) ≡ 2)
-    × (allGranted (exchanges (quiet ∷ quiet ∷ [])) oneRecord ≡ true)
-    × (pair (after (exchanges (quiet ∷ [])) oneRecord .publisher) ≡ 3 ∷ 3 ∷ [])
-    × (pair (after (exchanges (quiet ∷ [])) oneRecord .follower) ≡ 3 ∷ 1 ∷ [])
-    × (pair (after (exchanges (quiet ∷ quiet ∷ [])) oneRecord .follower) ≡ 3 ∷ 3 ∷ [])
+    × (allGranted plainWays (exchanges (quiet ∷ quiet ∷ [])) oneRecord ≡ true)
+    × (pair (after plainWays (exchanges (quiet ∷ [])) oneRecord .publisher) ≡ 3 ∷ 3 ∷ [])
+    × (pair (after plainWays (exchanges (quiet ∷ [])) oneRecord .follower) ≡ 3 ∷ 1 ∷ [])
+    × (pair (after plainWays (exchanges (quiet ∷ quiet ∷ [])) oneRecord .follower) ≡ 3 ∷ 3 ∷ [])
 unfolding holdings allGranted exchanges after happen start freshTable call gc nodeOf setNode removeAll decide wish find act write store remove lastGc keep sameBytes lessBytes among writeDigest digestOf digestBytes entryBytes entryOf readEntries readDigest tell tellAll compute deltaFor cut allOps ordered queue sooner staleNodes toldOf fromOf stale byVersion keyValueOps sizeOf deltaBytes opBytes textBytes bytesOf natOf part put flat unblock apply applyEach applyNode deltaStatus statusOf newerOf outcome takeAll takes codes readDelta readOps readOp readNode readKeyValue readSetMaxVersion follow partsOf recsOf maxOf
 tight = (refl, refl, refl, refl, refl, refl)
 

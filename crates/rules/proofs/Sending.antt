@@ -27,6 +27,14 @@ nodeDelta p g m count fits =
     let all : List KeyValue = stale from (p .recs) in
     record { from = from; last-gc = p .last-gc; recs = take count all; max = carried fits (p .max) all (take count all) }
 
+-- a delta that computing makes of this node, for some digest's pair and cut somewhere
+pub record MadeOf (p : Node) (d : NodeDelta) : Type 0 where
+  pub told-gc : ℕ
+  pub told-max : ℕ
+  pub count : ℕ
+  pub fits : Bool
+  pub delta-is : d ≡ nodeDelta p told-gc told-max count fits
+
 -- bytes of a record in a delta
 abbrev pub recordSize : KeyValue → ℕ
 recordSize s = 14 + length (s .key) + length (s .value)

@@ -1,67 +1,42 @@
--- The step that carries demand 3: a node delta is taken, and the follower's facts stay.
+-- The step that carries demand 3: an honest node takes an honest delta and stays honest. Without a reset it wants that the node's last_gc is within its
+-- own max, the delta's last_gc and the delta's max; a reset wants nothing. The delta's age gives that, where deltas are applied before the next
+-- digest (OneNode). Where they may be late, a test by the node must give it.
 use Prim.Native.Nat.{_<_, _≤_, max, ℕ}
-use mathlib.Core.Bool.{Bool, false, true, true≢false}
+use mathlib.Core.Bool.{Bool, false, true}
 use mathlib.Core.List.{List, []}
 use mathlib.Core.Logic.{_⊎_, inl, inr}
 use mathlib.Core.Path.{_∙_, _≡_, ap, refl, subst, sym}
 use native.Mathlib.Omega.{arith}
 use lib.Dec.{leb}
-use lib.ListN.{length}
 use borrow.Author.Tests.{leb-false, leb-true}
 use Rattle.fields.proofs.Choice.{in-none}
-use Rattle.fields.specs.Choice.{_∈_, pick}
-use Rattle.rules.proofs.Follower.{Follower}
-use Rattle.rules.proofs.History.{Newer}
-use Rattle.rules.proofs.Honest.{Cover, Covered, Sent, before, beyond, delivered, removed}
-use Rattle.rules.proofs.Publisher.{Publisher}
+use Rattle.fields.specs.Choice.{_∈_}
+use Rattle.rules.proofs.History.{Latest, Newer, Numbered, latest}
+use Rattle.rules.proofs.Honest.{Current, Honest, HonestDelta, HonestNode, Removed}
 use Rattle.rules.proofs.Records.{Sorted, keyOf}
-use Rattle.rules.proofs.Taking.{From, Judged, applies, judge, resets, sorted-take, take-from, take-new, take-old, takes-above, takes-high, takes-set}
-use Rattle.rules.specs.Apply.{answered, applyNode, deltaStatus, outcome, stamp, takeAll, takenAs, takes}
+use Rattle.rules.proofs.Taking.{Came, From, came, left, reset, sorted-take, take-from, take-new, take-old, takes-above, takes-high, takes-or-not, took}
+use Rattle.rules.specs.Apply.{Ways, applyNode, outcome, stamp, takeAll, takes}
 use Rattle.rules.specs.Delta.{NodeDelta}
-use Rattle.rules.specs.Demand3.{Last}
-use Rattle.rules.specs.Node.{KeyValue, Node, Rec, scheduled}
-use Rattle.rules.specs.Sizes.{maxRecords}
-use Rattle.rules.specs.declared.DeltaStatus.{DeltaStatus}
-use Rattle.rules.specs.declared.DeltaStatus.the-variants.{Apply, ApplyAfterReset, Reject}
-use Rattle.rules.specs.declared.NodeAnswer.{NodeAnswer}
-use Rattle.rules.specs.declared.NodeAnswer.the-variants as node
+use Rattle.rules.specs.Demand3.{Holds, Last}
+use Rattle.rules.specs.Node.{KeyValue, Node, Rec}
+use Rattle.rules.specs.declared.DeltaStatus.the-variants.{Apply, ApplyAfterReset}
 
--- what holds of a node and of what its status makes of it, holds of the node after a delta
-pub applied-node : (P : Node → Type 0) (now : ℕ) (d : NodeDelta) (n : Node) → P n → ((v : DeltaStatus) → Judged n d v → P (outcome v now d n)) → P (applyNode now d n .node)
-unfolding applyNode
-applied-node P now d n stay by = at (deltaStatus n d) (judge n d)
-  where
-    room : (a : NodeAnswer) (o : Node) (b : Bool) → P o → P (pick b (takenAs a o) (takenAs node.Room n) .node)
-    room a o true x = x
-    room a o false x = stay
+module _ (h : List KeyValue) (num : Numbered h) (now : ℕ) (d : NodeDelta) (x : HonestDelta h d) where
+  -- in the delta a key's last stands alone
+  alone : (s : KeyValue) → s ∈ h → s .version ≤ d .max → Last h s → (t : KeyValue) → t ∈ d .recs → t .key ≡ s .key → t ≡ s
+  alone s m b l t n k = at (x .current t n)
+    where
+      at : Current h (max (d .last-gc) (d .max)) t → t ≡ s
+      at (inl u) = num .one t s (x .told t n) m (let a = u s m (sym k) in let c = l t (x .told t n) k in omega arith)
+      at (inr y) = let a = l (y .kv) (y .told) (y .same ∙ k) in let c = y .above in absurd (omega arith)
 
-    at : (v : DeltaStatus) → Judged n d v → P (answered v (outcome v now d n) n .node)
-    at Reject j = stay
-    at Apply j = room node.Apply (outcome Apply now d n) (leb (length (outcome Apply now d n .recs)) maxRecords) (by Apply j)
-    at ApplyAfterReset j = room node.ApplyAfterReset (outcome ApplyAfterReset now d n) (leb (length (outcome ApplyAfterReset now d n .recs)) maxRecords) (by ApplyAfterReset j)
-
--- without Room it is what its status makes of it
-pub taken-node : (now : ℕ) (d : NodeDelta) (n : Node) → (applyNode now d n .answer ≡ node.Room → ⊥) → applyNode now d n .node ≡ outcome (deltaStatus n d) now d n
-unfolding applyNode outcome
-taken-node now d n h = at (deltaStatus n d) h
-  where
-    room : (a : NodeAnswer) (o : Node) (b : Bool) → (pick b (takenAs a o) (takenAs node.Room n) .answer ≡ node.Room → ⊥) → pick b (takenAs a o) (takenAs node.Room n) .node ≡ o
-    room a o true g = refl
-    room a o false g = absurd (g refl)
-
-    at : (v : DeltaStatus) → (answered v (outcome v now d n) n .answer ≡ node.Room → ⊥) → answered v (outcome v now d n) n .node ≡ outcome v now d n
-    at Reject g = refl
-    at Apply g = room node.Apply (outcome Apply now d n) (leb (length (outcome Apply now d n .recs)) maxRecords) g
-    at ApplyAfterReset g = room node.ApplyAfterReset (outcome ApplyAfterReset now d n) (leb (length (outcome ApplyAfterReset now d n .recs)) maxRecords) g
-
-module _ (h : List KeyValue) (p : Node) (ok : Publisher h p) (now : ℕ) (d : NodeDelta) (x : Sent h (p .max) d) where
   -- the records after the taking, from records `l` under `held` and `gc`
-  module _ (held last-gc : ℕ) (l : List Rec) where
-    abbrev after : List Rec
-    after = takeAll held last-gc now (d .recs) l
-
+  module _ (held gc : ℕ) (l : List Rec) where
     Out : Rec → Type 0
-    Out r = From held last-gc now (d .recs) l r
+    Out r = From held gc now (d .recs) l r
+
+    Has : KeyValue → Type 0
+    Has s = (r : Rec) × (r ∈ takeAll held gc now (d .recs) l) × (r .kv ≡ s)
 
     taken-told : ((r : Rec) → r ∈ l → r .kv ∈ h) → (r : Rec) → Out r → r .kv ∈ h
     unfolding Out
@@ -73,123 +48,135 @@ module _ (h : List KeyValue) (p : Node) (ok : Publisher h p) (now : ℕ) (d : No
     taken-within f r (inl s) = subst (λ (y : Rec). y .kv .version ≤ d .max) (sym (s .3)) (x .within (s .0) (s .1))
     taken-within f r (inr m) = f r (m .0)
 
-    -- a record that is taken is its key's last, or the last is later than all that the follower knows
-    new-current : last-gc ≤ max (d .max) (d .last-gc) → (s : KeyValue) → s ∈ d .recs → Last h s ⊎ Newer h (max (d .max) last-gc) (s .key)
+    -- a record that is taken is its key's last, or the last is above both numbers of the node afterwards
+    new-current : gc ≤ max (d .last-gc) (d .max) → (s : KeyValue) → s ∈ d .recs → Current h (max gc (d .max)) s
     new-current b s m = at (x .current s m)
       where
-        at : Last h s ⊎ Newer h (x .top) (s .key) → Last h s ⊎ Newer h (max (d .max) last-gc) (s .key)
-        at (inl l) = inl l
-        at (inr n) =
-            inr (record { kv = n .kv; told = n .told; same = n .same; above = let a = n .above in let c = x .max-top in let e = x .gc-top in omega arith })
+        at : Current h (max (d .last-gc) (d .max)) s → Current h (max gc (d .max)) s
+        at (inl y) = inl y
+        at (inr y) = inr (record { kv = y .kv; told = y .told; same = y .same; above = let a = y .above in omega arith })
 
-    -- a Set record of the publisher that the follower's max covers
-    live-new : (r : Rec) → r ∈ p .recs → scheduled (r .kv .status) ≡ false → r .kv .version ≤ d .max → d .from ≤ held → held < r .kv .version → (y : Rec) × (y ∈ after) × (y .kv ≡ r .kv)
-    live-new r m q b f g = at (x .cover (r .kv) (ok .told r m))
+    -- what a key was given last, above what was held
+    new-brings : d .from ≤ held → d .last-gc ≤ max held gc → (s : KeyValue) → s ∈ h → Last h s → held < s .version → s .version ≤ d .max → Has s ⊎ Removed gc s
+    unfolding Has
+    new-brings f g s m z a b = at (x .brings s m z (omega arith) b)
       where
-        at : Cover h d (r .kv) → (y : Rec) × (y ∈ after) × (y .kv ≡ r .kv)
-        at c = by (c .why)
+        at : (s ∈ d .recs) ⊎ Removed (d .last-gc) s → Has s ⊎ Removed gc s
+        at (inr y) = inr (y .0, let c = y .1 in omega arith)
+        at (inl y) = by (takes-or-not held gc s a)
           where
-            v : c .kv .version ≡ r .kv .version
-            v = let a = c .above in let b = ok .last r m (c .kv) (c .told) (c .same) in omega arith
+            by : (takes held gc s ≡ true) ⊎ Removed gc s → Has s ⊎ Removed gc s
+            by (inl q) = inl (stamp now s, take-new held gc now l y q (alone s m b z), refl)
+            by (inr q) = inr q
 
-            is : c .kv ≡ r .kv
-            is = ok .one (c .kv) (r .kv) (c .told) (ok .told r m) v
+  module _ (n : Node) (ok : HonestNode h n) where
+    hon : Honest h 0 (n .last-gc) (n .max) (Holds n)
+    hon = ok .honest
 
-            by : Covered d (c .kv) → (y : Rec) × (y ∈ after) × (y .kv ≡ r .kv)
-            by (delivered n) =
-                (stamp now (r .kv), take-new held last-gc now l (subst (λ (y : KeyValue). y ∈ d .recs) is n) (takes-set held last-gc (r .kv) g q) (x .one), refl)
-            by (beyond n) = let e = v in absurd (omega arith)
-            by (before n) = let e = v in absurd (omega arith)
-            by (removed s n) = absurd (true≢false (sym s ∙ ap (λ (y : KeyValue). scheduled (y .status)) is ∙ q))
-
-  module _ (f : Node) (fol : Follower h p f) where
-    -- after a reset
-    after-reset : d .from ≡ 0 → Follower h p (outcome ApplyAfterReset now d f)
-    unfolding outcome Sorted Out
+    after-reset : d .from ≡ 0 → HonestNode h (outcome ApplyAfterReset now d n)
+    unfolding outcome Sorted Out Has
     after-reset z =
         record {
           sorted = sorted-take 0 (d .last-gc) now (d .recs) [] tt;
-          max-low = let a = x .max-top in let b = x .top-now in omega arith;
-          gc-low = let a = x .gc-top in let b = x .top-now in omega arith;
-          told = λ r m. taken-told 0 (d .last-gc) [] (λ r m. absurd (in-none m)) r (from r m);
-          within = λ r m. taken-within 0 (d .last-gc) [] (λ r m. absurd (in-none m)) r (from r m);
-          current = λ r m. current r (from r m);
-          live = λ r m q b. live-new 0 (d .last-gc) [] r m q b (omega arith) (ok .low (r .kv) (ok .told r m));
+          honest =
+              record {
+                gc-low = x .gc-low;
+                max-low = x .max-low;
+                told = λ s y. subst (λ (t : KeyValue). t ∈ h) (y .2) (taken-told 0 (d .last-gc) [] (λ r m. absurd (in-none m)) (y .0) (from (y .0) (y .1)));
+                within = λ s y. subst (λ (t : KeyValue). t .version ≤ d .max) (y .2) (taken-within 0 (d .last-gc) [] (λ r m. absurd (in-none m)) (y .0) (from (y .0) (y .1)));
+                current = λ s y. subst Now (y .2) (current (y .0) (from (y .0) (y .1)));
+                brings = λ s m l a b. new-brings 0 (d .last-gc) [] (omega arith) (omega arith) s m l a b;
+              };
         }
       where
         from : (r : Rec) → r ∈ takeAll 0 (d .last-gc) now (d .recs) [] → Out 0 (d .last-gc) [] r
         from r m = take-from 0 (d .last-gc) now (d .recs) [] tt m
 
-        current : (r : Rec) → Out 0 (d .last-gc) [] r → Last h (r .kv) ⊎ Newer h (max (d .max) (d .last-gc)) (keyOf r)
-        current r (inl s) =
-            subst (λ (y : Rec). Last h (y .kv) ⊎ Newer h (max (d .max) (d .last-gc)) (keyOf y)) (sym (s .3)) (new-current 0 (d .last-gc) [] (omega arith) (s .0) (s .1))
+        Now : KeyValue → Type 0
+        Now s = Current h (max (d .last-gc) (d .max)) s
+
+        current : (r : Rec) → Out 0 (d .last-gc) [] r → Now (r .kv)
+        current r (inl s) = subst (λ (y : Rec). Now (y .kv)) (sym (s .3)) (new-current 0 (d .last-gc) [] (omega arith) (s .0) (s .1))
         current r (inr m) = absurd (in-none (m .0))
 
-    -- without one, where last_gc is within max and the delta's last_gc
-    after-apply : d .from ≤ f .max → d .last-gc ≤ max (f .last-gc) (f .max) → f .max < d .max → f .last-gc ≤ max (f .max) (d .last-gc) → Follower h p (outcome Apply now d f)
-    unfolding outcome Out
-    after-apply a g m u =
+    after-apply : d .from ≤ n .max → d .last-gc ≤ max (n .last-gc) (n .max) → n .max < d .max → n .last-gc ≤ max (n .max) (max (d .last-gc) (d .max)) → HonestNode h (outcome Apply now d n)
+    unfolding outcome Out Has
+    after-apply a g b u =
         record {
-          sorted = sorted-take (f .max) (f .last-gc) now (d .recs) (f .recs) (fol .sorted);
-          max-low = let a = x .max-top in let b = x .top-now in omega arith;
-          gc-low = fol .gc-low;
-          told = λ r n. taken-told (f .max) (f .last-gc) (f .recs) (fol .told) r (from r n);
-          within = λ r n. taken-within (f .max) (f .last-gc) (f .recs) (λ r o. let b = fol .within r o in omega arith) r (from r n);
-          current = λ r n. current r (from r n);
-          live = λ r n q b. live r n q b (leb (r .kv .version) (f .max)) refl;
+          sorted = sorted-take (n .max) (n .last-gc) now (d .recs) (n .recs) (ok .sorted);
+          honest =
+              record {
+                gc-low = hon .gc-low;
+                max-low = x .max-low;
+                told =
+                    λ s y.
+                    subst (λ (t : KeyValue). t ∈ h) (y .2)
+                    (taken-told (n .max) (n .last-gc) (n .recs) (λ r m. hon .told (r .kv) (r, m, refl)) (y .0) (from (y .0) (y .1)));
+                within =
+                    λ s y.
+                    subst (λ (t : KeyValue). t .version ≤ d .max) (y .2)
+                    (taken-within (n .max) (n .last-gc) (n .recs) (λ r m. let c = hon .within (r .kv) (r, m, refl) in omega arith) (y .0) (from (y .0) (y .1)));
+                current = λ s y. subst Now (y .2) (current (y .0) (from (y .0) (y .1)));
+                brings = λ s m l c e. brings s m l c e (leb (s .version) (n .max)) refl;
+              };
         }
       where
-        from : (r : Rec) → r ∈ takeAll (f .max) (f .last-gc) now (d .recs) (f .recs) → Out (f .max) (f .last-gc) (f .recs) r
-        from r n = take-from (f .max) (f .last-gc) now (d .recs) (f .recs) (fol .sorted) n
+        from : (r : Rec) → r ∈ takeAll (n .max) (n .last-gc) now (d .recs) (n .recs) → Out (n .max) (n .last-gc) (n .recs) r
+        from r m = take-from (n .max) (n .last-gc) now (d .recs) (n .recs) (ok .sorted) m
 
-        Current : List ℕ → KeyValue → Type 0
-        Current k s = Last h s ⊎ Newer h (max (d .max) (f .last-gc)) k
+        Now : KeyValue → Type 0
+        Now s = Current h (max (n .last-gc) (d .max)) s
 
-        -- an old record whose key was given a version above the follower's: the delta brings it or ends before it
-        old : (r : Rec) → ((s : KeyValue) → s ∈ d .recs → takes (f .max) (f .last-gc) s ≡ true → s .key ≡ keyOf r → ⊥) → Newer h (max (f .max) (f .last-gc)) (keyOf r) → Newer h (max (d .max) (f .last-gc)) (keyOf r)
-        old r gone n = at (x .cover (n .kv) (n .told))
+        -- an old record whose key was given a version above both numbers: the delta brings the last of them, or ends before it
+        old : (r : Rec) → ((s : KeyValue) → s ∈ d .recs → takes (n .max) (n .last-gc) s ≡ true → s .key ≡ keyOf r → ⊥) → Newer h (max (n .last-gc) (n .max)) (keyOf r) → Newer h (max (n .last-gc) (d .max)) (keyOf r)
+        old r gone y = at (latest (keyOf r) h)
           where
-            at : Cover h d (n .kv) → Newer h (max (d .max) (f .last-gc)) (keyOf r)
-            at c = by (c .why)
+            at : ((s : KeyValue) → s ∈ h → s .key ≡ keyOf r → ⊥) ⊎ Latest h (keyOf r) → Newer h (max (n .last-gc) (d .max)) (keyOf r)
+            at (inl f) = absurd (f (y .kv) (y .told) (y .same))
+            at (inr v) = by (leb (v .kv .version) (d .max)) refl
               where
-                high : max (f .max) (f .last-gc) < c .kv .version
-                high = let e = n .above in let b = c .above in omega arith
+                high : max (n .last-gc) (n .max) < v .kv .version
+                high = let e = y .above in let f = v .last (y .kv) (y .told) (y .same ∙ sym (v .same)) in omega arith
 
-                by : Covered d (c .kv) → Newer h (max (d .max) (f .last-gc)) (keyOf r)
-                by (delivered o) = absurd (gone (c .kv) o (takes-high (f .max) (f .last-gc) (c .kv) (let e = high in omega arith) (let e = high in omega arith)) (c .same ∙ n .same))
-                by (beyond o) = record { kv = c .kv; told = c .told; same = c .same ∙ n .same; above = let e = high in omega arith }
-                by (before o) = let e = high in absurd (omega arith)
-                by (removed s o) = let e = high in absurd (omega arith)
+                by : (c : Bool) → leb (v .kv .version) (d .max) ≡ c → Newer h (max (n .last-gc) (d .max)) (keyOf r)
+                by false q = record { kv = v .kv; told = v .told; same = v .same; above = let e = high in let f = leb-false (v .kv .version) (d .max) q in omega arith }
+                by true q = to (x .brings (v .kv) (v .told) (v .last) (let e = high in omega arith) (leb-true _ _ q))
+                  where
+                    to : (v .kv ∈ d .recs) ⊎ Removed (d .last-gc) (v .kv) → Newer h (max (n .last-gc) (d .max)) (keyOf r)
+                    to (inl o) = absurd (gone (v .kv) o (takes-high (n .max) (n .last-gc) (v .kv) (let e = high in omega arith) (let e = high in omega arith)) (v .same))
+                    to (inr o) = let e = high in let f = o .1 in absurd (omega arith)
 
-        current : (r : Rec) → Out (f .max) (f .last-gc) (f .recs) r → Last h (r .kv) ⊎ Newer h (max (d .max) (f .last-gc)) (keyOf r)
-        current r (inl s) =
-            subst (λ (y : Rec). Last h (y .kv) ⊎ Newer h (max (d .max) (f .last-gc)) (keyOf y)) (sym (s .3)) (new-current (f .max) (f .last-gc) (f .recs) (omega arith) (s .0) (s .1))
-        current r (inr n) = by (fol .current r (n .0))
+        current : (r : Rec) → Out (n .max) (n .last-gc) (n .recs) r → Now (r .kv)
+        current r (inl s) = subst (λ (y : Rec). Now (y .kv)) (sym (s .3)) (new-current (n .max) (n .last-gc) (n .recs) (omega arith) (s .0) (s .1))
+        current r (inr m) = by (hon .current (r .kv) (r, m .0, refl))
           where
-            by : Last h (r .kv) ⊎ Newer h (max (f .max) (f .last-gc)) (keyOf r) → Last h (r .kv) ⊎ Newer h (max (d .max) (f .last-gc)) (keyOf r)
+            by : Current h (max (n .last-gc) (n .max)) (r .kv) → Now (r .kv)
             by (inl l) = inl l
-            by (inr o) = inr (old r (n .1) o)
+            by (inr o) = inr (old r (m .1) o)
 
-        live : (r : Rec) → r ∈ p .recs → scheduled (r .kv .status) ≡ false → r .kv .version ≤ d .max → (b : Bool) → leb (r .kv .version) (f .max) ≡ b → (y : Rec) × (y ∈ takeAll (f .max) (f .last-gc) now (d .recs) (f .recs)) × (y .kv ≡ r .kv)
-        live r n q b false e = live-new (f .max) (f .last-gc) (f .recs) r n q b a (leb-false _ _ e)
-        live r n q b true e = stay (fol .live r n q (leb-true _ _ e))
+        Stands : KeyValue → Type 0
+        Stands s = (r : Rec) × (r ∈ takeAll (n .max) (n .last-gc) now (d .recs) (n .recs)) × (r .kv ≡ s)
+
+        brings : (s : KeyValue) → s ∈ h → Last h s → 0 < s .version → s .version ≤ d .max → (c : Bool) → leb (s .version) (n .max) ≡ c → Stands s ⊎ Removed (n .last-gc) s
+        brings s m l c e false q = new-brings (n .max) (n .last-gc) (n .recs) a (omega arith) s m l (leb-false _ _ q) e
+        brings s m l c e true q = at (hon .brings s m l c (leb-true _ _ q))
           where
-            stay : (y : Rec) × (y ∈ f .recs) × (y .kv ≡ r .kv) → (y : Rec) × (y ∈ takeAll (f .max) (f .last-gc) now (d .recs) (f .recs)) × (y .kv ≡ r .kv)
-            stay y = (y .0, take-old (f .max) (f .last-gc) now (d .recs) (f .recs) (y .1) (λ s o t k. absurd (never s o t k)), y .2)
+            at : Holds n s ⊎ Removed (n .last-gc) s → Stands s ⊎ Removed (n .last-gc) s
+            at (inr y) = inr y
+            at (inl y) = inl (y .0, take-old (n .max) (n .last-gc) now (d .recs) (n .recs) (y .1) (λ t o p k. absurd (never t o p k)), y .2)
               where
-                never : (s : KeyValue) → s ∈ d .recs → takes (f .max) (f .last-gc) s ≡ true → s .key ≡ keyOf (y .0) → ⊥
-                never s o t k =
-                    let i = ok .last r n s (x .told s o) (k ∙ ap (λ (z : KeyValue). z .key) (y .2)) in
-                    let j = takes-above (f .max) (f .last-gc) s t in
-                    let c = leb-true (r .kv .version) (f .max) e in
+                never : (t : KeyValue) → t ∈ d .recs → takes (n .max) (n .last-gc) t ≡ true → t .key ≡ keyOf (y .0) → ⊥
+                never t o p k =
+                    let i = l t (x .told t o) (k ∙ ap (λ (z : KeyValue). z .key) (y .2)) in
+                    let j = takes-above (n .max) (n .last-gc) t p in
+                    let f = leb-true (s .version) (n .max) q in
                     omega arith
 
-    -- whatever the status, and with Room too. The hypothesis holds of every delta that is applied before the next digest.
-    pub follower-apply : f .last-gc ≤ max (f .max) (d .last-gc) → Follower h p (applyNode now d f .node)
-    unfolding outcome
-    follower-apply u = applied-node (Follower h p) now d f fol by
+    -- in any ways
+    pub node-apply : (ways : Ways) → n .last-gc ≤ max (n .max) (max (d .last-gc) (d .max)) → HonestNode h (applyNode ways now d n .node)
+    node-apply ways u = go _ (came ways now d n)
       where
-        by : (v : DeltaStatus) → Judged f d v → Follower h p (outcome v now d f)
-        by Reject j = fol
-        by ApplyAfterReset (resets z a b) = after-reset z
-        by Apply (applies a g m) = after-apply a g m u
+        go : (x : Node) → Came ways now d n x → HonestNode h x
+        go x left = ok
+        go x (reset r) = after-reset (r .from-none)
+        go x (took r) = after-apply (r .from-held) (r .gc-held) (r .newer) u

@@ -11,15 +11,18 @@ use lib.ListN.{length, take}
 use borrow.Author.Tests.{eq-eqb, eqb-false, eqb-true, ltb-true, ne-eqb}
 use Rattle.fields.proofs.Choice.{in-cons, in-none}
 use Rattle.fields.specs.Choice.{_∈_, here, later, pick}
+use Rattle.fields.specs.Parts.{put}
 use Rattle.rules.proofs.Obeys.{Ascending, number-in}
 use Rattle.rules.proofs.Sending.{afterMax, emit, fitting, leftOver, nodeDelta, partOf}
-use Rattle.rules.specs.Apply.{Taking, applyEach, onNode}
+use Rattle.rules.specs.Apply.{ApplyOutcome, Taking, Ways, apply, applyEach, applyNode, applyOps, codes, onNode}
 use Rattle.rules.specs.Compute.{StaleNode, firstTie, ordered, otherTies, queue, sooner, staleNode, staleNodes, staleOf, toldOf}
-use Rattle.rules.specs.Delta.{NodeDelta, Part, number}
+use Rattle.rules.specs.Delta.{Faulty, Good, NodeDelta, Op, Ops, Part, number, partsOf}
 use Rattle.rules.specs.Digest.{NodeDigest}
 use Rattle.rules.specs.Node.{Node, Rec, due, fresh, remove}
 use Rattle.rules.specs.Table.{Entry, Table, among, nodeOf, numbersOf, removeAll, setNode}
 use Rattle.rules.specs.World.{freshTable}
+use Rattle.rules.specs.declared.Refusal.the-variants.{NoPlace}
+use Rattle.rules.specs.declared.Applied.the-variants as applied
 
 -- ---- a node of a table
 
@@ -217,6 +220,22 @@ numbers-each take (x ∷ xs) t = ap numbersOf (each-table take x xs t) ∙ numbe
     at : (o : Option Node) → numbersOf (afterPart take x o t) ≡ numbersOf t
     at none = refl
     at (some n) = numbers-set (x .number) (take (x .delta) n .node) t
+
+-- applying leaves the table, or each node takes its part of what was read
+pub applied-table : (ways : Ways) (b : List ℕ) (now : ℕ) (t : Table) (l : List ℕ) (P : Table → Type 0)
+    → P t
+    → ((ops : List Op) → ways .reads b ≡ Good ops → P (applyEach (applyNode ways now) (partsOf ops) t .table))
+    → P (apply ways b now t l .table)
+unfolding apply
+applied-table ways b now t l P stay took = go (ways .reads b) refl
+  where
+    room : (xs : List Part) → P (applyEach (applyNode ways now) xs t .table) → (c : Bool) → P (pick {X = ApplyOutcome} c (record { answer = applied.Nodes (length xs); table = applyEach (applyNode ways now) xs t .table; list = put 0 (codes (applyEach (applyNode ways now) xs t .answers)) l }) (record { answer = applied.Refused NoPlace 0; table = t; list = l }) .table)
+    room xs x true = x
+    room xs x false = stay
+
+    go : (o : Ops) → ways .reads b ≡ o → P (applyOps (applyNode ways now) o t l .table)
+    go (Good ops) q = room (partsOf ops) (took ops q) (leb (length (partsOf ops)) (length l))
+    go (Faulty r at) q = stay
 
 -- ---- what computing sends
 

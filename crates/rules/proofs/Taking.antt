@@ -1,4 +1,4 @@
--- What stands in a node's records after a delta. Assumes nothing.
+-- What a node delta does to a node: when it is taken, in any ways (`Came`), and what stands in the node's records then. Assumes nothing.
 use Prim.Native.Nat.{_<_, _≤_, max, ℕ}
 use mathlib.Core.Bool.{Bool, _&&_, false, false≢true, not, true, true≢false}
 use mathlib.Core.List.{List, [], _∷_}
@@ -6,26 +6,28 @@ use mathlib.Core.Logic.{_⊎_, inl, inr}
 use mathlib.Core.Path.{_∙_, _≡_, ap, refl, subst, sym}
 use native.Mathlib.Omega.{arith}
 use lib.Dec.{eqb, leb, ltb}
-use borrow.Author.Tests.{eq-eqb, eqb-true, le-ltb, lt-leb, lt-ltb, ltb-false, ltb-true}
+use borrow.Author.Tests.{eq-eqb, eqb-true, le-ltb, leb-true, lt-leb, lt-ltb, ltb-false, ltb-true}
 use Rattle.fields.proofs.Choice.{in-cons, in-none}
 use Rattle.fields.proofs.Ordered.{same-false, same-true}
 use Rattle.fields.specs.Choice.{_∈_, here, later, pick}
 use Rattle.fields.specs.Order.{sameBytes}
 use Rattle.rules.proofs.Records.{Sorted, keyOf, sorted-store, store-from, store-new, store-old}
-use Rattle.rules.specs.Apply.{deltaStatus, newerOf, stamp, statusOf, takeAll, takes}
+use Rattle.rules.specs.Apply.{Ways, answered, applyNode, deltaStatus, newerOf, outcome, stamp, statusOf, takeAll, takenAs, takes}
 use Rattle.rules.specs.Compute.{fromOf}
 use Rattle.rules.specs.Delta.{NodeDelta}
 use Rattle.rules.specs.Node.{KeyValue, Node, Rec, scheduled, store}
 use Rattle.rules.specs.declared.DeltaStatus.{DeltaStatus}
 use Rattle.rules.specs.declared.DeltaStatus.the-variants.{Apply, ApplyAfterReset, Reject}
+use Rattle.rules.specs.declared.NodeAnswer.{NodeAnswer}
+use Rattle.rules.specs.declared.NodeAnswer.the-variants as node
 
 -- why a deltaStatus was given
-pub data Judged (n : Node) (d : NodeDelta) : DeltaStatus → Type 0 where
+data Judged (n : Node) (d : NodeDelta) : DeltaStatus → Type 0 where
   rejected : Judged n d Reject
   resets : d .from ≡ 0 → n .last-gc < d .last-gc → n .max < d .last-gc → Judged n d ApplyAfterReset
   applies : d .from ≤ n .max → d .last-gc ≤ max (n .last-gc) (n .max) → n .max < d .max → Judged n d Apply
 
-pub judge : (n : Node) (d : NodeDelta) → Judged n d (deltaStatus n d)
+judge : (n : Node) (d : NodeDelta) → Judged n d (deltaStatus n d)
 unfolding deltaStatus statusOf newerOf
 judge n d = go (ltb (n .max) (d .from)) refl (ltb (n .last-gc) (d .last-gc)) refl (ltb (n .max) (d .last-gc)) refl (eqb (d .from) 0) refl (ltb (n .max) (d .max)) refl
   where
@@ -54,7 +56,61 @@ judge n d = go (ltb (n .max) (d .from)) refl (ltb (n .last-gc) (d .last-gc)) ref
         applies h (omega arith) (ltb-true _ _ e)
     go false a false b c c′ z z′ false e = rejected
 
--- and when each is given, for a from that the node has
+-- ---- the node afterwards
+
+-- why a delta is taken after a reset
+pub record Resets (ways : Ways) (now : ℕ) (d : NodeDelta) (n : Node) : Type 0 where
+  pub from-none : d .from ≡ 0
+  pub above-gc : n .last-gc < d .last-gc
+  pub above-max : n .max < d .last-gc
+  pub roomy : ways .roomy (outcome ApplyAfterReset now d n .recs) ≡ true
+
+-- and why without one
+pub record Applies (ways : Ways) (now : ℕ) (d : NodeDelta) (n : Node) : Type 0 where
+  pub from-held : d .from ≤ n .max
+  pub gc-held : d .last-gc ≤ max (n .last-gc) (n .max)
+  pub newer : n .max < d .max
+  pub roomy : ways .roomy (outcome Apply now d n .recs) ≡ true
+
+-- The node stays, or it takes the delta. This and `taken-node` are all that demand 3 sees of the ways.
+pub data Came (ways : Ways) (now : ℕ) (d : NodeDelta) (n : Node) : Node → Type 0 where
+  left : Came ways now d n n
+  reset : Resets ways now d n → Came ways now d n (outcome ApplyAfterReset now d n)
+  took : Applies ways now d n → Came ways now d n (outcome Apply now d n)
+
+module _ (ways : Ways) (now : ℕ) (d : NodeDelta) (n : Node) where
+  pub came : Came ways now d n (applyNode ways now d n .node)
+  unfolding applyNode
+  came = at (deltaStatus n d) (judge n d)
+    where
+      room : (a : NodeAnswer) (o : Node) → (ways .roomy (o .recs) ≡ true → Came ways now d n o) → (b : Bool) → ways .roomy (o .recs) ≡ b → Came ways now d n (pick b (takenAs a o) (takenAs node.Room n) .node)
+      room a o f true q = f q
+      room a o f false q = left
+
+      at : (v : DeltaStatus) → Judged n d v → Came ways now d n (answered ways v (outcome v now d n) n .node)
+      at Reject j = left
+      at ApplyAfterReset (resets z a b) =
+          room node.ApplyAfterReset (outcome ApplyAfterReset now d n) (λ q. reset (record { from-none = z; above-gc = a; above-max = b; roomy = q })) _ refl
+      at Apply (applies a g m) =
+          room node.Apply (outcome Apply now d n) (λ q. took (record { from-held = a; gc-held = g; newer = m; roomy = q })) _ refl
+
+  -- without Room it is what its status makes of it
+  pub taken-node : (applyNode ways now d n .answer ≡ node.Room → ⊥) → applyNode ways now d n .node ≡ outcome (deltaStatus n d) now d n
+  unfolding applyNode outcome
+  taken-node h = at (deltaStatus n d) h
+    where
+      room : (a : NodeAnswer) (o : Node) (b : Bool) → (pick b (takenAs a o) (takenAs node.Room n) .answer ≡ node.Room → ⊥) → pick b (takenAs a o) (takenAs node.Room n) .node ≡ o
+      room a o true g = refl
+      room a o false g = absurd (g refl)
+
+      at : (v : DeltaStatus) → (answered ways v (outcome v now d n) n .answer ≡ node.Room → ⊥) → answered ways v (outcome v now d n) n .node ≡ outcome v now d n
+      at Reject g = refl
+      at Apply g = room node.Apply (outcome Apply now d n) (ways .roomy (outcome Apply now d n .recs)) g
+      at ApplyAfterReset g = room node.ApplyAfterReset (outcome ApplyAfterReset now d n) (ways .roomy (outcome ApplyAfterReset now d n .recs)) g
+
+-- ---- when a status is given
+
+-- for a from that the node has
 pub status-reset : (n : Node) (d : NodeDelta) → d .from ≡ 0 → n .last-gc < d .last-gc → n .max < d .last-gc → deltaStatus n d ≡ ApplyAfterReset
 unfolding deltaStatus statusOf newerOf
 status-reset n d z a b = rw (le-ltb (n .max) (d .from) (omega arith), lt-ltb _ _ a, lt-ltb _ _ b, eq-eqb _ _ z)
@@ -75,7 +131,7 @@ pub status-reject : (n : Node) (d : NodeDelta) → d .from ≤ n .max → d .las
 unfolding deltaStatus statusOf newerOf
 status-reject n d a b c = rw (le-ltb _ _ a, not-both _ _ _ b, le-ltb _ _ c)
 
--- from is 0 where a reset is reset-due, else the digest's max
+-- from is 0 where a reset is due, else the digest's max
 pub data FromOf (p : Node) (g m : ℕ) : ℕ → Type 0 where
   reset-due : g < p .last-gc → m < p .last-gc → FromOf p g m 0
   no-reset : p .last-gc ≤ max g m → FromOf p g m m
@@ -93,6 +149,8 @@ pub from-no-reset : (p : Node) (g m : ℕ) → p .last-gc ≤ max g m → fromOf
 unfolding fromOf
 from-no-reset p g m h = rw (not-both _ _ _ h)
 
+-- ---- the records
+
 -- what is taken is above the max held before
 pub takes-above : (held last-gc : ℕ) (s : KeyValue) → takes held last-gc s ≡ true → held < s .version
 unfolding takes
@@ -102,11 +160,17 @@ takes-above held last-gc s e = go (ltb held (s .version)) refl e
     go true q e = ltb-true _ _ q
     go false q e = absurd (false≢true e)
 
--- a record above that max is taken, if it is Set, or above last_gc too
-pub takes-set : (held last-gc : ℕ) (s : KeyValue) → held < s .version → scheduled (s .status) ≡ false → takes held last-gc s ≡ true
+-- above that max a record is taken, or is scheduled and at or below last_gc
+pub takes-or-not : (held last-gc : ℕ) (s : KeyValue) → held < s .version → (takes held last-gc s ≡ true) ⊎ ((scheduled (s .status) ≡ true) × (s .version ≤ last-gc))
 unfolding takes
-takes-set held last-gc s h e = rw (lt-ltb _ _ h, e)
+takes-or-not held last-gc s h = rw (lt-ltb _ _ h) (go (scheduled (s .status)) refl (leb (s .version) last-gc) refl)
+  where
+    go : (b : Bool) → scheduled (s .status) ≡ b → (c : Bool) → leb (s .version) last-gc ≡ c → (not (b && c) ≡ true) ⊎ ((b ≡ true) × (s .version ≤ last-gc))
+    go true q true r = inr (refl, leb-true _ _ r)
+    go true q false r = inl refl
+    go false q c r = inl refl
 
+-- above last_gc too it is taken
 pub takes-high : (held last-gc : ℕ) (s : KeyValue) → held < s .version → last-gc < s .version → takes held last-gc s ≡ true
 unfolding takes
 takes-high held last-gc s h g = rw (lt-ltb _ _ h, lt-leb _ _ g) (go (scheduled (s .status)))
@@ -175,12 +239,11 @@ module _ (held last-gc now : ℕ) where
       go true q = at (sameBytes (s .key) (keyOf x)) refl q
       go false q = m
 
-  -- a record of the delta that is not skipped is taken, if no key stands twice in it
-  pub take-new : {s : KeyValue} {ss : List KeyValue} (l : List Rec) → s ∈ ss → takes held last-gc s ≡ true → ((a b : KeyValue) → a ∈ ss → b ∈ ss → a .key ≡ b .key → a ≡ b) → stamp now s ∈ takeAll held last-gc now ss l
+  -- a record of the delta that is not skipped stands there afterwards, if no other record of its key is in the delta
+  pub take-new : {s : KeyValue} {ss : List KeyValue} (l : List Rec) → s ∈ ss → takes held last-gc s ≡ true → ((t : KeyValue) → t ∈ ss → t .key ≡ s .key → t ≡ s) → stamp now s ∈ takeAll held last-gc now ss l
   unfolding takeAll
-  take-new {s} l (here {a = a} {l = ss} e) q one =
-      take-old ss _ put-in (λ t n p k. ap (stamp now) (e ∙ sym (one t a (later n) (here refl) (k ∙ ap (λ (y : KeyValue). y .key) e))))
+  take-new {s} l (here {a = a} {l = ss} e) q one = take-old ss _ put-in (λ t n p k. ap (stamp now) (sym (one t (later n) k)))
     where
       put-in : stamp now s ∈ pick (takes held last-gc a) (store (stamp now a) l) l
       put-in = rw (sym (ap (takes held last-gc) e) ∙ q) (subst (λ (y : KeyValue). stamp now y ∈ store (stamp now a) l) (sym e) (store-new (stamp now a) l))
-  take-new l (later {l = ss} m) q one = take-new _ m q (λ a b n o. one a b (later n) (later o))
+  take-new l (later {l = ss} m) q one = take-new _ m q (λ t n. one t (later n))

@@ -21,15 +21,15 @@ use Rattle.rules.proofs.Obeys.{among-not, facts-table}
 use Rattle.rules.proofs.OnTheWay.{Comes, comes, delta-written, digest-written, refuses, writes}
 use Rattle.rules.proofs.Sending.{emit, sends}
 use Rattle.rules.specs.Answers.{codeOf}
-use Rattle.rules.specs.Apply.{ApplyOutcome, Stream, Taking, apply, applyEach, applyNode, applyOps, codes, onNode}
+use Rattle.rules.specs.Apply.{ApplyOutcome, Lawful, Stream, Taking, Ways, apply, applyEach, applyNode, applyOps, codes, onNode}
 use Rattle.rules.specs.Compute.{deltaFor, ordered, staleNodes}
-use Rattle.rules.specs.Delta.{Good, Op, Ops, Part, deltaBytes, partsOf, readDelta}
+use Rattle.rules.specs.Delta.{Faulty, Good, Op, Ops, Part, deltaBytes, partsOf, readDelta}
 use Rattle.rules.specs.Demand3.{Quiet, allGranted, exchangeOf, granted, noRoom, wroteDelta}
 use Rattle.rules.specs.Digest.{Entries, NodeDigest, digestBytes, digestOf, readDigest}
 use Rattle.rules.specs.Node.{Node}
 use Rattle.rules.specs.Sizes.{maxDelta, numbers}
 use Rattle.rules.specs.Table.{Table, among, nodeOf}
-use Rattle.rules.specs.World.{Applying, Computing, DeltaSent, DigestSent, Digesting, Event, Exchange, World, after, afterDelta, happen, onExchange}
+use Rattle.rules.specs.World.{Applying, Computing, DeltaSent, DigestSent, Digesting, Event, Exchange, Followers, World, after, afterDelta, happen, onExchange, onSide}
 use Rattle.rules.specs.declared.Computed.{Computed}
 use Rattle.rules.specs.declared.NodeAnswer.{NodeAnswer}
 use Rattle.rules.specs.declared.Refusal.the-variants.{NoPlace}
@@ -63,7 +63,7 @@ front n vs l e h = subst (λ (k : ℕ). take k (put 0 vs l) ≡ vs) e (part-put 
 
 -- ---- the three calls
 
-module _ (is : List ℕ) (q : Quiet) (w : World) (ok : InOrder is w) where
+module _ (ways : Ways) (law : Lawful ways) (is : List ℕ) (q : Quiet) (w : World) (ok : InOrder is w) where
   abbrev told : List NodeDigest
   told = digestOf [] (w .follower)
 
@@ -87,19 +87,19 @@ module _ (is : List ℕ) (q : Quiet) (w : World) (ok : InOrder is w) where
 
   -- the follower's table afterwards, and the answers
   abbrev pub stream : Stream
-  stream = applyEach (applyNode (q .now)) (emit (q .mtu) (ordered (staleNodes [] told (q .ties) (w .publisher)))) (w .follower)
+  stream = applyEach (applyNode ways (q .now)) (emit (q .mtu) (ordered (staleNodes [] told (q .ties) (w .publisher)))) (w .follower)
 
   abbrev pub ended : World
-  ended = record { publisher = w .publisher; follower = stream .table; given = w .given; exchange = DeltaSent (deltaBytes ops) }
+  ended = onSide Followers (λ t. stream .table) answered
 
-  first : granted asking w ≡ true → happen asking w ≡ asked
+  first : granted ways asking w ≡ true → happen ways asking w ≡ asked
   unfolding happen
   first g = ap (λ (x : Exchange). onExchange x w) (digest-written [] (q .digest-place) (q .digest-datagram) (w .follower) (w .exchange) g)
 
   read-back : readDigest (digestBytes told) ≡ Entries told []
   read-back = ap readDigest (sym (append-nil (digestBytes told))) ∙ read-digest [] (w .follower) [] (facts-table (w .follower) (ok .follower-ok))
 
-  second : granted answering asked ≡ true → (happen answering asked ≡ answered) × (q .mtu ≤ maxDelta)
+  second : granted ways answering asked ≡ true → (happen ways answering asked ≡ answered) × (q .mtu ≤ maxDelta)
   unfolding happen
   second g = go _ (comes [] (q .ties) (q .mtu) (q .delta-place) (digestBytes told) (w .publisher) (q .delta-datagram)) g
     where
@@ -113,26 +113,29 @@ module _ (is : List ℕ) (q : Quiet) (w : World) (ok : InOrder is w) where
             h,
           )
 
-  third : q .mtu ≤ maxDelta → granted taking-in answered ≡ true → (happen taking-in answered ≡ ended) × (node.Room ∈ stream .answers → ⊥)
+  third : q .mtu ≤ maxDelta → granted ways taking-in answered ≡ true → (happen ways taking-in answered ≡ ended) × (node.Room ∈ stream .answers → ⊥)
   unfolding happen apply deltaFor
   third h g =
       rw (and-left (ltb (q .now) numbers) _ g)
-      (go (readDelta (deltaBytes ops)) (read-computed [] (q .ties) told (w .publisher) (facts-table (w .publisher) (ok .publisher-ok)) (q .mtu) h) (and-right (ltb (q .now) numbers) _ g))
+      (go (ways .reads (deltaBytes ops)) refl (and-right (ltb (q .now) numbers) _ g))
     where
+      read : readDelta (deltaBytes ops) ≡ Good ops
+      read = read-computed [] (q .ties) told (w .publisher) (facts-table (w .publisher) (ok .publisher-ok)) (q .mtu) h
+
       xs : List Part
       xs = partsOf ops
 
       made : Stream
-      made = applyEach (applyNode (q .now)) xs (w .follower)
+      made = applyEach (applyNode ways (q .now)) xs (w .follower)
 
       stream-is : made ≡ stream
-      stream-is = ap (λ (l : List Part). applyEach (applyNode (q .now)) l (w .follower)) (sends (q .mtu) (ordered (staleNodes [] told (q .ties) (w .publisher))))
+      stream-is = ap (λ (l : List Part). applyEach (applyNode ways (q .now)) l (w .follower)) (sends (q .mtu) (ordered (staleNodes [] told (q .ties) (w .publisher))))
 
       Out : Ops → ApplyOutcome
-      Out o = applyOps (applyNode (q .now)) o (w .follower) (q .answers)
+      Out o = applyOps (applyNode ways (q .now)) o (w .follower) (q .answers)
 
       End : Table → World
-      End t = record { publisher = w .publisher; follower = t; given = w .given; exchange = DeltaSent (deltaBytes ops) }
+      End t = onSide Followers (λ u. t) answered
 
       Done : ApplyOutcome → Type 0
       Done o = (End (o .table) ≡ ended) × (node.Room ∈ stream .answers → ⊥)
@@ -143,25 +146,26 @@ module _ (is : List ℕ) (q : Quiet) (w : World) (ok : InOrder is w) where
         λ m.
             let n : not (among 3 (take (length xs) (put 0 (codes (made .answers)) (q .answers)))) ≡ true = sym (ap (λ (x : ApplyOutcome). noRoom (x .answer) (x .list)) p) ∙ g in
             let k : take (length xs) (put 0 (codes (made .answers)) (q .answers)) ≡ codes (made .answers) =
-            front (length xs) (codes (made .answers)) (q .answers) (length-codes (made .answers) ∙ length-answers (applyNode (q .now)) xs (w .follower)) (leb-true _ _ e) in
+            front (length xs) (codes (made .answers)) (q .answers) (length-codes (made .answers) ∙ length-answers (applyNode ways (q .now)) xs (w .follower)) (leb-true _ _ e) in
             let no : among 3 (codes (made .answers)) ≡ false = not-true _ (sym (ap (λ (l : List ℕ). not (among 3 l)) k) ∙ n) in
             among-not 3 (codes (made .answers)) no (code-in (subst (λ (s : Stream). node.Room ∈ s .answers) (sym stream-is) m)),
       )
       room false e o p g = absurd (false≢true (sym (ap (λ (x : ApplyOutcome). noRoom (x .answer) (x .list)) p) ∙ g))
 
-      go : (o : Ops) → o ≡ Good ops → noRoom (Out o .answer) (Out o .list) ≡ true → Done (Out o)
-      go o e g = room (leb (length xs) (length (q .answers))) refl (Out o) (ap Out e) g
+      go : (o : Ops) → ways .reads (deltaBytes ops) ≡ o → noRoom (Out o .answer) (Out o .list) ≡ true → Done (Out o)
+      go (Good os) e g = room (leb (length xs) (length (q .answers))) refl (Out (Good os)) (ap Out (sym (law .reads-so (deltaBytes ops) os e) ∙ read)) g
+      go (Faulty r at) e g = absurd (false≢true g)
 
   -- the three together
-  pub undisturbed : allGranted (exchangeOf q) w ≡ true → (after (exchangeOf q) w ≡ ended) × (node.Room ∈ stream .answers → ⊥)
+  pub undisturbed : allGranted ways (exchangeOf q) w ≡ true → (after ways (exchangeOf q) w ≡ ended) × (node.Room ∈ stream .answers → ⊥)
   unfolding allGranted after
   undisturbed g =
-      let g₁ : granted asking w ≡ true = and-left (granted asking w) _ g in
+      let g₁ : granted ways asking w ≡ true = and-left (granted ways asking w) _ g in
       let e₁ = first g₁ in
-      let r₁ : (granted answering asked && (granted taking-in (happen answering asked) && true)) ≡ true =
-      subst (λ (x : World). (granted answering x && (granted taking-in (happen answering x) && true)) ≡ true) e₁ (and-right (granted asking w) _ g) in
-      let e₂ = second (and-left (granted answering asked) _ r₁) in
-      let r₂ : (granted taking-in answered && true) ≡ true =
-      subst (λ (x : World). (granted taking-in x && true) ≡ true) (e₂ .0) (and-right (granted answering asked) _ r₁) in
-      let e₃ = third (e₂ .1) (and-left (granted taking-in answered) true r₂) in
-      (ap (λ (x : World). happen taking-in (happen answering x)) e₁ ∙ ap (happen taking-in) (e₂ .0) ∙ e₃ .0, e₃ .1)
+      let r₁ : (granted ways answering asked && (granted ways taking-in (happen ways answering asked) && true)) ≡ true =
+      subst (λ (x : World). (granted ways answering x && (granted ways taking-in (happen ways answering x) && true)) ≡ true) e₁ (and-right (granted ways asking w) _ g) in
+      let e₂ = second (and-left (granted ways answering asked) _ r₁) in
+      let r₂ : (granted ways taking-in answered && true) ≡ true =
+      subst (λ (x : World). (granted ways taking-in x && true) ≡ true) (e₂ .0) (and-right (granted ways answering asked) _ r₁) in
+      let e₃ = third (e₂ .1) (and-left (granted ways taking-in answered) true r₂) in
+      (ap (λ (x : World). happen ways taking-in (happen ways answering x)) e₁ ∙ ap (happen ways taking-in) (e₂ .0) ∙ e₃ .0, e₃ .1)

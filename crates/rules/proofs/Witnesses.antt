@@ -12,7 +12,7 @@ use Rattle.fields.specs.Parts.{part, put}
 use Rattle.rules.proofs.EachNode.{nodeAt, orFresh}
 use Rattle.rules.proofs.Obeys.{among-not, version-in}
 use Rattle.rules.proofs.Runs.{late, tight}
-use Rattle.rules.specs.Apply.{apply, applyEach, applyNode, codes, deltaStatus, newerOf, outcome, statusOf, takeAll, takes}
+use Rattle.rules.specs.Apply.{apply, applyEach, applyNode, codes, deltaStatus, newerOf, outcome, plainWays, statusOf, takeAll, takes}
 use Rattle.rules.specs.Compute.{allOps, byVersion, compute, cut, deltaFor, fromOf, keyValueOps, ordered, queue, sooner, stale, staleNodes, toldOf}
 use Rattle.rules.specs.Delta.{deltaBytes, follow, maxOf, opBytes, partsOf, readDelta, readKeyValue, readNode, readOp, readOps, readSetMaxVersion, recsOf, sizeOf, textBytes}
 use Rattle.rules.specs.Demand3.{Holds, SameMax, Sound, exchanges}
@@ -29,9 +29,9 @@ with-pair none g m e = let z : _≡_ {A = ℕ} 0 1 = cc in absurd (omega arith)
 with-pair (some n) g m e = (refl, cc)
 
 -- one exchange is not enough
-pub one-too-few : SameMax (after (exchanges (quiet ∷ [])) oneRecord .publisher) (after (exchanges (quiet ∷ [])) oneRecord .follower) → ⊥
+pub one-too-few : SameMax (after plainWays (exchanges (quiet ∷ [])) oneRecord .publisher) (after plainWays (exchanges (quiet ∷ [])) oneRecord .follower) → ⊥
 one-too-few s =
-    let w : World = after (exchanges (quiet ∷ [])) oneRecord in
+    let w : World = after plainWays (exchanges (quiet ∷ [])) oneRecord in
     let p = with-pair (nodeOf 7 (w .publisher)) 3 3 (tight .3) in
     let f = with-pair (nodeOf 7 (w .follower)) 3 1 (tight .4) in
     let e : nodeAt 7 (w .follower) .max ≡ nodeAt 7 (w .publisher) .max = s 7 (nodeAt 7 (w .publisher)) (nodeAt 7 (w .follower)) (p .0) (f .0) in

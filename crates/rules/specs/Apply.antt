@@ -1,5 +1,7 @@
--- Applying a delta: what a node does with a node delta, and what a table does with a stream of them.
-use Prim.Native.Nat.{ℕ, suc, _+_}
+-- Applying a delta: what a node does with a node delta, and what a table does with a stream of them. What may differ from table to table is a
+-- parameter, `Ways`; document 01's value is `plainWays`.
+use Prim.Native.Nat.{ℕ, suc, _+_, _≤_}
+use mathlib.Core.Path.{_≡_}
 use mathlib.Core.Bool.{Bool, true, false, not, _&&_}
 use mathlib.Core.List.{List, [], _∷_}
 use mathlib.Core.Option.{Option, none, some}
@@ -20,6 +22,23 @@ use Rattle.rules.specs.declared.Refusal.{Refusal}
 use Rattle.rules.specs.declared.Refusal.the-variants.{NoPlace}
 use Rattle.rules.specs.declared.Applied.{Applied}
 use Rattle.rules.specs.declared.Applied.the-variants.{Nodes, Refused}
+
+-- ---- what may differ from table to table
+
+-- how bytes are read as a delta, and whether these records have room in a node
+pub record Ways : Type 0 where
+  pub reads : List ℕ → Ops
+  pub roomy : List Rec → Bool
+
+-- document 01: at most 32 records
+abbrev pub plainWays : Ways
+plainWays = record { reads = readDelta; roomy = λ l. leb (length l) maxRecords }
+
+-- What any ways keep to: a delta is refused, or read as document 01 reads it; and what has room has room by document 01. So a table keeps the
+-- rules that it obeys (number 14), and demand 3 holds.
+pub record Lawful (ways : Ways) : Type 0 where
+  pub reads-so : (bytes : List ℕ) (ops : List Op) → ways .reads bytes ≡ Good ops → readDelta bytes ≡ Good ops
+  pub few : (l : List Rec) → ways .roomy l ≡ true → length l ≤ maxRecords
 
 -- ---- one node
 
@@ -71,17 +90,17 @@ pub record Taken : Type 0 where
 abbrev pub takenAs : NodeAnswer → Node → Taken
 takenAs a n = record { answer = a; node = n }
 
--- Room, where the outcome would have over 32 keys: the node stays
-abbrev pub withRoom : NodeAnswer → Node → Node → Taken
-withRoom a o n = pick (leb (length (o .recs)) maxRecords) (takenAs a o) (takenAs node.Room n)
+-- Room, where the outcome's records have none (document 01: over 32 keys): the node stays
+abbrev pub withRoom : Ways → NodeAnswer → Node → Node → Taken
+withRoom ways a o n = pick (ways .roomy (o .recs)) (takenAs a o) (takenAs node.Room n)
 
-abbrev pub answered : DeltaStatus → Node → Node → Taken
-answered Reject o n = takenAs node.Reject n
-answered Apply o n = withRoom node.Apply o n
-answered ApplyAfterReset o n = withRoom node.ApplyAfterReset o n
+abbrev pub answered : Ways → DeltaStatus → Node → Node → Taken
+answered ways Reject o n = takenAs node.Reject n
+answered ways Apply o n = withRoom ways node.Apply o n
+answered ways ApplyAfterReset o n = withRoom ways node.ApplyAfterReset o n
 
-unfoldable pub applyNode : ℕ → NodeDelta → Node → Taken
-applyNode now d n = answered (deltaStatus n d) (outcome (deltaStatus n d) now d n) n
+unfoldable pub applyNode : Ways → ℕ → NodeDelta → Node → Taken
+applyNode ways now d n = answered ways (deltaStatus n d) (outcome (deltaStatus n d) now d n) n
 
 -- ---- a table
 
@@ -93,7 +112,7 @@ pub record Stream : Type 0 where
 abbrev pub answering : NodeAnswer → Stream → Stream
 answering a s = record { answers = a ∷ s .answers; table = s .table }
 
--- how a node takes a node delta: document 01's way is `applyNode now`
+-- how a node takes a node delta: document 01's way is `applyNode plainWays now`
 abbrev pub Taking : Type 0
 Taking = NodeDelta → Node → Taken
 
@@ -130,5 +149,5 @@ applyOps take (Good ops) t l = applyParts take (partsOf ops) t l
 applyOps take (Faulty r at) t l = record { answer = Refused r at; table = t; list = l }
 
 -- read, then node by node
-unfoldable pub apply : List ℕ → ℕ → Table → List ℕ → ApplyOutcome
-apply bytes now t l = applyOps (applyNode now) (readDelta bytes) t l
+unfoldable pub apply : Ways → List ℕ → ℕ → Table → List ℕ → ApplyOutcome
+apply ways bytes now t l = applyOps (applyNode ways now) (ways .reads bytes) t l

@@ -13,7 +13,7 @@ use Rattle.rules.specs.Table.{Entry, Table, versions}
 use Rattle.rules.specs.Digest.{NodeDigest}
 use Rattle.rules.specs.Delta.{Op, sizeOf, NodeDelta, Part, partsOf}
 use Rattle.rules.specs.Compute.{fromOf, deltaFor}
-use Rattle.rules.specs.Apply.{Taken, applyNode}
+use Rattle.rules.specs.Apply.{Taken, plainWays, applyNode}
 use Rattle.rules.specs.declared.Heartbeat.{Heartbeat}
 use Rattle.rules.specs.declared.Beat.{Beat}
 use Rattle.rules.specs.declared.Status.{Status}
@@ -47,7 +47,7 @@ abbrev told : Taken → List ℕ
 told x = codeOf (x .answer) ∷ x .node .heartbeat .0 ∷ x .node .last-gc ∷ x .node .max ∷ versions (x .node .recs)
 
 abbrev applied : Node → NodeDelta → List ℕ
-applied n d = told (applyNode 1000 d n)
+applied n d = told (applyNode plainWays 1000 d n)
 
 -- a tombstone of version 3 that starts at 100, under a grace of 50: last_gc afterwards, and the versions held
 abbrev tombstone : Rec

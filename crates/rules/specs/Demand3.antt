@@ -13,7 +13,7 @@ use Rattle.rules.specs.Node.{KeyValue, Rec, Node}
 use Rattle.rules.specs.Table.{Table, nodeOf, numbersOf, among, obeys}
 use Rattle.rules.specs.Digest.{writeDigest}
 use Rattle.rules.specs.Compute.{compute}
-use Rattle.rules.specs.Apply.{apply}
+use Rattle.rules.specs.Apply.{Ways, apply}
 use Rattle.rules.specs.World.{World, Exchange, Idle, DigestSent, DeltaSent, Event, Writing, Beating, Offering, Removing, Digesting, Computing, Applying, possible, happen, after, start}
 use Rattle.rules.specs.declared.Status.the-variants.{Set}
 use Rattle.rules.specs.declared.NodeAnswer.the-variants as node
@@ -111,24 +111,24 @@ isComputed excluded ties mtu place l t Idle = false
 isComputed excluded ties mtu place l t (DigestSent d) = wroteDelta (compute excluded ties mtu place d t l .answer)
 isComputed excluded ties mtu place l t (DeltaSent b) = false
 
-abbrev pub isApplied : ℕ → List ℕ → Table → Exchange → Bool
-isApplied now l t Idle = false
-isApplied now l t (DigestSent d) = false
-isApplied now l t (DeltaSent b) = noRoom (apply b now t l .answer) (apply b now t l .list)
+abbrev pub isApplied : Ways → ℕ → List ℕ → Table → Exchange → Bool
+isApplied ways now l t Idle = false
+isApplied ways now l t (DigestSent d) = false
+isApplied ways now l t (DeltaSent b) = noRoom (apply ways b now t l .answer) (apply ways b now t l .list)
 
 -- whether a call of an exchange is made and not refused
-abbrev pub granted : Event → World → Bool
-granted (Writing i k c) w = true
-granted (Beating s i) w = true
-granted (Offering s i h) w = true
-granted (Removing s now grace) w = true
-granted (Digesting excluded place l) w = wroteDigest (writeDigest excluded place (w .follower) l .answer)
-granted (Computing excluded ties mtu place l) w = isComputed excluded ties mtu place l (w .publisher) (w .exchange)
-granted (Applying now l) w = possible (Applying now l) && isApplied now l (w .follower) (w .exchange)
+abbrev pub granted : Ways → Event → World → Bool
+granted ways (Writing i k c) w = true
+granted ways (Beating s i) w = true
+granted ways (Offering s i h) w = true
+granted ways (Removing s now grace) w = true
+granted ways (Digesting excluded place l) w = wroteDigest (writeDigest excluded place (w .follower) l .answer)
+granted ways (Computing excluded ties mtu place l) w = isComputed excluded ties mtu place l (w .publisher) (w .exchange)
+granted ways (Applying now l) w = possible (Applying now l) && isApplied ways now l (w .follower) (w .exchange)
 
-unfoldable pub allGranted : List Event → World → Bool
-allGranted [] w = true
-allGranted (e ∷ es) w = granted e w && allGranted es (happen e w)
+unfoldable pub allGranted : Ways → List Event → World → Bool
+allGranted ways [] w = true
+allGranted ways (e ∷ es) w = granted ways e w && allGranted ways es (happen ways e w)
 
 -- what a table holds: records (tombstones and TTL records counted) and nodes together
 unfoldable pub holdings : Table → ℕ
@@ -141,15 +141,16 @@ SameMax t u = (i : ℕ) (a b : Node) → nodeOf i t ≡ some a → nodeOf i u �
 
 -- ---- the whole demand
 
--- Of a publisher and a follower that begin fresh with the nodes `is`. At every moment of every run the claims hold; between any two moments no
--- node's pair falls in either table; and after any run, as many quiet exchanges as the publisher holds records and nodes make every max equal.
-pub record Demand3 (is : List ℕ) : Type 0 where
-  pub at-every-moment : (es : List Event) → Sound is (after es (start is))
+-- Of a publisher and a follower that begin fresh with the nodes `is`, the follower in these ways (document 01: `plainWays`). At every moment of
+-- every run the claims hold; between any two moments no node's pair falls in either table; and after any run, as many quiet exchanges as the
+-- publisher holds records and nodes make every max equal.
+pub record Demand3 (ways : Ways) (is : List ℕ) : Type 0 where
+  pub at-every-moment : (es : List Event) → Sound is (after ways es (start is))
   pub between-moments : (es fs : List Event)
-      → AllRise (after es (start is) .publisher) (after fs (after es (start is)) .publisher)
-      × AllRise (after es (start is) .follower) (after fs (after es (start is)) .follower)
+      → AllRise (after ways es (start is) .publisher) (after ways fs (after ways es (start is)) .publisher)
+      × AllRise (after ways es (start is) .follower) (after ways fs (after ways es (start is)) .follower)
   pub closing-count : (es : List Event) (qs : List Quiet)
       → Wide qs
-      → allGranted (exchanges qs) (after es (start is)) ≡ true
-      → holdings (after es (start is) .publisher) ≤ length qs
-      → SameMax (after (exchanges qs) (after es (start is)) .publisher) (after (exchanges qs) (after es (start is)) .follower)
+      → allGranted ways (exchanges qs) (after ways es (start is)) ≡ true
+      → holdings (after ways es (start is) .publisher) ≤ length qs
+      → SameMax (after ways (exchanges qs) (after ways es (start is)) .publisher) (after ways (exchanges qs) (after ways es (start is)) .follower)

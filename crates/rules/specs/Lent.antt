@@ -11,7 +11,7 @@ use Rattle.rules.specs.Table.{Table}
 use Rattle.rules.specs.Local.{Outcome, Found, NotFound, add, removeNode, call, gc, offer, localBeat, lookup, prefixed}
 use Rattle.rules.specs.Digest.{writeDigest}
 use Rattle.rules.specs.Compute.{compute}
-use Rattle.rules.specs.Apply.{ApplyOutcome, apply}
+use Rattle.rules.specs.Apply.{Ways, plainWays, ApplyOutcome, apply}
 use Rattle.rules.specs.Layout.{encode, decode, valid}
 use Rattle.rules.specs.declared.Heartbeat.{Heartbeat}
 use Rattle.rules.specs.declared.Refusal.{Refusal}
@@ -84,12 +84,16 @@ pub record TableAndList : Type 0 where
 abbrev pub both : (table list : Bytes) → TableAndList
 both table list = record { table = table; list = list }
 
-abbrev pub storedApply : (o : ApplyOutcome) → Given Applied TableAndList
+abbrev pub storedApply : (outcome : ApplyOutcome) → Given Applied TableAndList
 storedApply o = given (o .answer) (both (encode (o .table)) (o .list))
 
-unfoldable pub lentApply : (delta : Bytes) (now : ℕ) (list table : Bytes) → Given Applied TableAndList
-lentApply delta now list table =
-    pick (valid table) (storedApply (apply delta now (decode table) list)) (given (applied.Refused BadTable 0) (both table list))
+-- in any ways; a table of document 01 has the plain ones
+unfoldable pub lentApplyAs : (ways : Ways) (delta : Bytes) (now : ℕ) (list table : Bytes) → Given Applied TableAndList
+lentApplyAs ways delta now list table =
+    pick (valid table) (storedApply (apply ways delta now (decode table) list)) (given (applied.Refused BadTable 0) (both table list))
+
+abbrev pub lentApply : (delta : Bytes) (now : ℕ) (list table : Bytes) → Given Applied TableAndList
+lentApply delta now list table = lentApplyAs plainWays delta now list table
 
 -- an empty table
 unfoldable pub lentNew : List ℕ

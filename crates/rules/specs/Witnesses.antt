@@ -7,6 +7,7 @@ use mathlib.Core.Option.{Option, none, some}
 use lib.ListN.{replicate}
 use Rattle.rules.specs.Node.{KeyValue, Rec, Node, Setting, Deleting}
 use Rattle.rules.specs.Table.{Table, nodeOf}
+use Rattle.rules.specs.Apply.{plainWays}
 use Rattle.rules.specs.World.{World, Publishers, Event, Writing, Removing, Digesting, Computing, Applying, onExchange, start, after}
 use Rattle.rules.specs.Demand3.{Quiet}
 use Rattle.rules.specs.declared.Status.the-variants.{Set}
@@ -55,7 +56,7 @@ exchange mtu = delta mtu ++ (Applying 50 (0 ∷ []) ∷ [])
 
 -- b is set at 1, a at 2; a is deleted at 3 and the tombstone removed: the publisher is at (3,3) with one record
 abbrev pub oneRecord : World
-oneRecord = after (Writing 7 b (Setting one) ∷ Writing 7 a (Setting one) ∷ Writing 7 a (Deleting 0) ∷ Removing Publishers 9 5 ∷ []) (start seven)
+oneRecord = after plainWays (Writing 7 b (Setting one) ∷ Writing 7 a (Setting one) ∷ Writing 7 a (Deleting 0) ∷ Removing Publishers 9 5 ∷ []) (start seven)
 
 abbrev pub quiet : Quiet
 quiet =
@@ -87,18 +88,18 @@ keys t = keysIn (nodeOf 7 t)
 -- the follower has k at 1; then b is set at 2, and k is deleted at 3 and removed
 abbrev pub removedThere : World
 removedThere =
-    after
+    after plainWays
     ((Writing 7 k (Setting one) ∷ []) ++ (exchange 300 ++ (Writing 7 b (Setting one) ∷ Writing 7 k (Deleting 0) ∷ Removing Publishers 9 5 ∷ [])))
     (start seven)
 
 abbrev pub forgotten : World
-forgotten = after (exchange 300) removedThere
+forgotten = after plainWays (exchange 300) removedThere
 
 -- ---- two nodes in one delta
 
 abbrev pub bothNodes : World
 bothNodes =
-    after
+    after plainWays
     (Writing 7 k (Setting one)
     ∷ Writing 9 b (Setting one)
     ∷ Writing 9 b (Setting [])
@@ -113,7 +114,7 @@ bothNodes =
 -- The follower is at (0,3). Then b is set at 4, with a long value, and k at 5, and a delta from 3 with last_gc 0 and max 5 is on its way.
 abbrev pub onItsWay : World
 onItsWay =
-    after
+    after plainWays
     ((Writing 7 (1 ∷ []) (Setting one) ∷ Writing 7 (2 ∷ []) (Setting one) ∷ Writing 7 a (Setting one) ∷ [])
     ++ (exchange 300 ++ ((Writing 7 b (Setting (replicate 40 49)) ∷ Writing 7 k (Setting one) ∷ []) ++ delta 300)))
     (start seven)
@@ -121,18 +122,18 @@ onItsWay =
 -- k is deleted at 8 and removed. The next exchange, whose MTU ends before b, resets the follower to (10,3).
 abbrev pub wasReset : World
 wasReset =
-    after
+    after plainWays
     ((Writing 7 m (Setting one) ∷ Writing 7 n (Setting one) ∷ Writing 7 k (Deleting 0) ∷ Writing 7 m (Deleting 0) ∷ Writing 7 n (Deleting 0) ∷ Removing Publishers 9 5 ∷ [])
     ++ exchange 100)
     onItsWay
 
 -- the first delta arrives
 abbrev pub tookLate : World
-tookLate = after (Applying 50 (0 ∷ []) ∷ []) (onExchange (onItsWay .exchange) wasReset)
+tookLate = after plainWays (Applying 50 (0 ∷ []) ∷ []) (onExchange (onItsWay .exchange) wasReset)
 
 -- and one more exchange makes the two max equal
 abbrev pub caughtUp : World
-caughtUp = after (exchange 300) tookLate
+caughtUp = after plainWays (exchange 300) tookLate
 
 -- what k was given at 5
 abbrev pub dead : KeyValue

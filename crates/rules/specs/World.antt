@@ -1,6 +1,7 @@
 -- Demand 3's world: a publisher's table and a follower's, all that may happen to them, and where their exchange stands. A run is a list of
 -- events, and `after` gives the world after it. Whatever happens is a call of document 01, as the files beside this one define it: local
--- calls and removal (Local), digest writing (Digest), computing (Compute), applying (Apply). Bytes go from one side to the other.
+-- calls and removal (Local), digest writing (Digest), computing (Compute), applying (Apply). Bytes go from one side to the other. `Ways` are the
+-- follower's (Apply); document 01's are `plainWays`.
 use Prim.Native.Nat.{ℕ, _+_}
 use mathlib.Core.Bool.{Bool, true}
 use mathlib.Core.List.{List, [], _∷_}
@@ -14,7 +15,7 @@ use Rattle.rules.specs.Table.{Table, nodeOf}
 use Rattle.rules.specs.Local.{call, gc, offer, localBeat}
 use Rattle.rules.specs.Digest.{writeDigest}
 use Rattle.rules.specs.Compute.{compute}
-use Rattle.rules.specs.Apply.{apply}
+use Rattle.rules.specs.Apply.{Ways, apply}
 use Rattle.rules.specs.declared.Heartbeat.{Heartbeat}
 use Rattle.rules.specs.declared.Written.{Written}
 use Rattle.rules.specs.declared.Written.the-variants as written
@@ -122,10 +123,10 @@ computedFor excluded ties mtu place l t (DigestSent d) =
 computedFor excluded ties mtu place l t (DeltaSent b) = DeltaSent b
 
 -- only a delta that is on its way
-abbrev pub appliedTo : ℕ → List ℕ → Exchange → Table → Table
-appliedTo now l Idle t = t
-appliedTo now l (DigestSent d) t = t
-appliedTo now l (DeltaSent b) t = apply b now t l .table
+abbrev pub appliedTo : Ways → ℕ → List ℕ → Exchange → Table → Table
+appliedTo ways now l Idle t = t
+appliedTo ways now l (DigestSent d) t = t
+appliedTo ways now l (DeltaSent b) t = apply ways b now t l .table
 
 -- ---- a run
 
@@ -137,26 +138,26 @@ onSide Followers f w = record { publisher = w .publisher; follower = f (w .follo
 abbrev pub onExchange : Exchange → World → World
 onExchange x w = record { publisher = w .publisher; follower = w .follower; given = w .given; exchange = x }
 
-abbrev pub calls : Event → World → World
-calls (Writing i k c) w =
+abbrev pub calls : Ways → Event → World → World
+calls ways (Writing i k c) w =
     record {
       publisher = call c i k (w .publisher) .table;
       follower = w .follower;
       given = λ j. pick (eqb j i) (givenIn k c (nodeOf i (w .publisher)) (w .given j)) (w .given j);
       exchange = w .exchange;
     }
-calls (Beating s i) w = onSide s (λ t. localBeat i t .table) w
-calls (Offering s i h) w = onSide s (λ t. offer i h t .table) w
-calls (Removing s now grace) w = onSide s (λ t. gc now grace t .table) w
-calls (Digesting excluded place l) w = onExchange (digested excluded place l (w .follower) (w .exchange)) w
-calls (Computing excluded ties mtu place l) w = onExchange (computedFor excluded ties mtu place l (w .publisher) (w .exchange)) w
-calls (Applying now l) w = onSide Followers (appliedTo now l (w .exchange)) w
+calls ways (Beating s i) w = onSide s (λ t. localBeat i t .table) w
+calls ways (Offering s i h) w = onSide s (λ t. offer i h t .table) w
+calls ways (Removing s now grace) w = onSide s (λ t. gc now grace t .table) w
+calls ways (Digesting excluded place l) w = onExchange (digested excluded place l (w .follower) (w .exchange)) w
+calls ways (Computing excluded ties mtu place l) w = onExchange (computedFor excluded ties mtu place l (w .publisher) (w .exchange)) w
+calls ways (Applying now l) w = onSide Followers (appliedTo ways now l (w .exchange)) w
 
 -- the world after an event; one that is not possible changes nothing
-unfoldable pub happen : Event → World → World
-happen e w = pick (possible e) (calls e w) w
+unfoldable pub happen : Ways → Event → World → World
+happen ways e w = pick (possible e) (calls ways e w) w
 
 -- the world after a run
-unfoldable pub after : List Event → World → World
-after [] w = w
-after (e ∷ es) w = after es (happen e w)
+unfoldable pub after : Ways → List Event → World → World
+after ways [] w = w
+after ways (e ∷ es) w = after ways es (happen ways e w)
