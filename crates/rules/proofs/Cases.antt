@@ -1,15 +1,153 @@
--- Every row of the table of bench cases holds. Assumes nothing.
-use mathlib.Core.Bool.{true}
+-- Evidence, and no part of a promise: document 01's bench cases as one table. In each row stands what the rules give, and what the paper says. The
+-- starred ones are marked; the others are here because they tell a wrong rule from the right one. That every row holds is one statement, `all-hold`.
+-- Assumes nothing.
+use Prim.Native.Nat.{ℕ, suc, _+_}
+use mathlib.Core.Bool.{Bool, true, false}
+use mathlib.Core.List.{List, [], _∷_, _++_}
 use mathlib.Core.Path.{_≡_, refl}
-use Rattle.fields.specs.Choice.{all, keep}
+use lib.ListN.{length, replicate}
+use Rattle.fields.specs.Choice.{pick, all, keep}
+use Rattle.fields.specs.Order.{sameBytes, lessBytes}
 use Rattle.fields.specs.Numbers.{bytesOf}
-use Rattle.fields.specs.Order.{lessBytes, sameBytes}
-use Rattle.rules.specs.Apply.{applyNode, deltaStatus, newerOf, outcome, statusOf, takeAll, takes}
-use Rattle.rules.specs.Cases.{cases, holds, numbersIn, sizesIn}
-use Rattle.rules.specs.Compute.{allOps, byVersion, cut, deltaFor, fromOf, keyValueOps, ordered, queue, sooner, stale, staleNodes, toldOf}
-use Rattle.rules.specs.Delta.{maxOf, opBytes, partsOf, recsOf, sizeOf, textBytes}
-use Rattle.rules.specs.Node.{lastGc, offerOf, remove, store}
-use Rattle.rules.specs.Table.{among, versions}
+use Rattle.rules.specs.Sizes.{maxDelta}
+use Rattle.rules.specs.Answers.{codeOf}
+use Rattle.rules.specs.Node.{KeyValue, Rec, Node, remove, due, beats, offerOf, lastGc, store}
+use Rattle.rules.specs.Table.{Entry, Table, versions, among}
+use Rattle.rules.specs.Digest.{NodeDigest}
+use Rattle.rules.specs.Delta.{Op, sizeOf, NodeDelta, Part, partsOf, maxOf, opBytes, recsOf, textBytes}
+use Rattle.rules.specs.Compute.{fromOf, deltaFor, allOps, byVersion, cut, keyValueOps, ordered, queue, sooner, stale, staleNodes, toldOf}
+use Rattle.rules.specs.Apply.{Taken, applyNode, deltaStatus, newerOf, outcome, statusOf, takeAll, takes}
+use Rattle.rules.specs.declared.Heartbeat.{Heartbeat}
+use Rattle.rules.specs.declared.Beat.{Beat}
+use Rattle.rules.specs.declared.Status.{Status}
+use Rattle.rules.specs.declared.Status.the-variants.{Set, Delete, Ttl}
+
+pub record Case : Type 0 where
+  pub rules : List ℕ
+  pub paper : List ℕ
+
+abbrev case : List ℕ → List ℕ → Case
+case r p = record { rules = r; paper = p }
+
+unfoldable pub holds : Case → Bool
+holds c = sameBytes (c .rules) (c .paper)
+
+-- ---- what the rows are made of
+
+-- a node at (last_gc, max) with these records
+abbrev node : ℕ → ℕ → List Rec → Node
+node g m rs = record { heartbeat = beats 7; max = m; last-gc = g; recs = rs }
+
+-- a key of one byte
+abbrev kv : ℕ → ℕ → Status → KeyValue
+kv k v st = record { key = k ∷ []; value = []; version = v; status = st }
+
+abbrev delta : ℕ → ℕ → List KeyValue → ℕ → NodeDelta
+delta g from rs m = record { from = from; last-gc = g; recs = rs; max = m }
+
+-- the answer's code, then heartbeat, last_gc and max afterwards, then the versions held
+abbrev told : Taken → List ℕ
+told x = codeOf (x .answer) ∷ x .node .heartbeat .0 ∷ x .node .last-gc ∷ x .node .max ∷ versions (x .node .recs)
+
+abbrev applied : Node → NodeDelta → List ℕ
+applied n d = told (applyNode plainWays 1000 d n)
+
+-- a tombstone of version 3 that starts at 100, under a grace of 50: last_gc afterwards, and the versions held
+abbrev tombstone : Rec
+tombstone = record { kv = kv 1 3 Delete; start = 100 }
+
+abbrev removed : ℕ → List ℕ
+removed now =
+    let n : Node = remove (due now 50) (node 0 3 (tombstone ∷ [])) in
+    n .last-gc ∷ versions (n .recs)
+
+abbrev live : ℕ → Rec
+live v = record { kv = kv v v Set; start = 0 }
+
+abbrev entry : ℕ → ℕ → List Rec → Entry
+entry i m rs = record { number = i; node = node 0 m rs }
+
+-- what a digest tells of node i: no last_gc, this max
+abbrev digest : ℕ → ℕ → NodeDigest
+digest i m = record { number = i; heartbeat = beats 0; last-gc = 0; max = m }
+
+unfoldable pub numbersIn : List Part → List ℕ
+numbersIn [] = []
+numbersIn (x ∷ xs) = x .number ∷ numbersIn xs
+
+unfoldable pub sizesIn : List Op → List ℕ
+sizesIn [] = []
+sizesIn (o ∷ ops) = sizeOf o ∷ sizesIn ops
+
+-- the nodes of a delta in their order, for a large MTU
+abbrev order : List ℕ → List NodeDigest → Table → List ℕ
+order ties ds t = numbersIn (partsOf (deltaFor [] ties maxDelta ds t))
+
+-- the sizes of the operations
+abbrev sizes : ℕ → Table → List ℕ
+sizes mtu t = sizesIn (deltaFor [] (replicate (length t) 0) mtu [] t)
+
+-- 32 bytes of key and 64 of value: 110 bytes
+abbrev largest : Rec
+largest = record { kv = record { key = replicate 32 107; value = replicate 64 118; version = 1; status = Set }; start = 0 }
+
+-- news of three offers to one who holds 0
+abbrev yes : Bool → ℕ
+yes true = 1
+yes false = 0
+
+abbrev offered : List ℕ
+offered =
+    let a : Beat = offerOf (beats 0) (beats 5) in
+    let b : Beat = offerOf (a .heartbeat) (beats 5) in
+    let c : Beat = offerOf (b .heartbeat) (beats 6) in
+    yes (a .news) ∷ yes (b .news) ∷ yes (c .news) ∷ c .heartbeat .0 ∷ []
+
+-- ---- the table
+
+unfoldable pub cases : List Case
+cases =
+    -- * own (0,5), delta last_gc 0: from 6 to 9 Reject; from 5 to 5 Reject; from 5 to 6 Apply
+    case (applied (node 0 5 []) (delta 0 6 [] 9)) (0 ∷ 7 ∷ 0 ∷ 5 ∷ [])
+    ∷ case (applied (node 0 5 []) (delta 0 5 [] 5)) (0 ∷ 7 ∷ 0 ∷ 5 ∷ [])
+    ∷ case (applied (node 0 5 []) (delta 0 5 [] 6)) (1 ∷ 7 ∷ 0 ∷ 6 ∷ [])
+    -- * own (0,5): last_gc 5, from 0, max 6 Apply; last_gc 6, from 0, max 6 ApplyAfterReset; last_gc 6, from 1, max 9 Reject
+    ∷ case (applied (node 0 5 []) (delta 5 0 [] 6)) (1 ∷ 7 ∷ 0 ∷ 6 ∷ [])
+    ∷ case (applied (node 0 5 []) (delta 6 0 [] 6)) (2 ∷ 0 ∷ 6 ∷ 6 ∷ [])
+    ∷ case (applied (node 0 5 []) (delta 6 1 [] 9)) (0 ∷ 7 ∷ 0 ∷ 5 ∷ [])
+    -- * own (0,5): last_gc 6, from 0, no records, max 0: reset to (6,0)
+    ∷ case (applied (node 0 5 []) (delta 6 0 [] 0)) (2 ∷ 0 ∷ 6 ∷ 0 ∷ [])
+    -- * start 100, grace 50: kept at 149, gone at 150
+    ∷ case (removed 149) (0 ∷ 3 ∷ [])
+    ∷ case (removed 150) (3 ∷ [])
+    -- * own (4,9): digest (0,3) gives from 0; (0,4) from 4; (4,3) from 3
+    ∷ case (fromOf 4 0 3 ∷ fromOf 4 0 4 ∷ fromOf 4 4 3 ∷ []) (0 ∷ 4 ∷ 3 ∷ [])
+    -- * from-0 nodes with max 9 and 4, others with 3 and 5 stale: order 4, 9, 5 stale, 3 stale
+    ∷ case
+    (order (0 ∷ 0 ∷ 0 ∷ 0 ∷ []) (digest 3 5 ∷ digest 4 4 ∷ [])
+    (entry 1 9 [] ∷ entry 2 4 [] ∷ entry 3 8 (live 6 ∷ live 7 ∷ live 8 ∷ []) ∷ entry 4 9 (live 5 ∷ live 6 ∷ live 7 ∷ live 8 ∷ live 9 ∷ []) ∷ []))
+    (2 ∷ 1 ∷ 4 ∷ 3 ∷ [])
+    -- * largest record (110 bytes) first: MTU 135 carries it; MTU 134 carries the Node alone
+    ∷ case (sizes 135 (entry 1 1 (largest ∷ []) ∷ [])) (25 ∷ 110 ∷ [])
+    ∷ case (sizes 134 (entry 1 1 (largest ∷ []) ∷ [])) (25 ∷ [])
+    -- heartbeat 0, offers 5, 5, 6: no, no, yes
+    ∷ case offered (0 ∷ 0 ∷ 1 ∷ 6 ∷ [])
+    -- ties: the smaller tie number, then the smaller node number
+    ∷ case (order (2 ∷ 1 ∷ []) [] (entry 1 4 [] ∷ entry 2 4 [] ∷ [])) (2 ∷ 1 ∷ [])
+    ∷ case (order (3 ∷ 3 ∷ []) [] (entry 1 4 [] ∷ entry 2 4 [] ∷ [])) (1 ∷ 2 ∷ [])
+    -- SetMaxVersion (9 bytes) is sent only where there are no records
+    ∷ case (sizes 16384 (entry 1 1 (live 1 ∷ []) ∷ entry 2 2 [] ∷ [])) (25 ∷ 15 ∷ 25 ∷ 9 ∷ [])
+    -- a record that does not fit ends the whole delta, though the next Node would fit; a SetMaxVersion that does not fit is dropped
+    ∷ case (sizes 134 (entry 1 1 (largest ∷ []) ∷ entry 2 2 (live 1 ∷ []) ∷ [])) (25 ∷ [])
+    ∷ case (sizes 33 (entry 1 1 [] ∷ entry 2 2 [] ∷ [])) (25 ∷ [])
+    ∷ case (sizes 108 (entry 1 1 (live 1 ∷ live 2 ∷ []) ∷ entry 2 2 [] ∷ [])) (25 ∷ 15 ∷ 15 ∷ 25 ∷ 9 ∷ [])
+    -- a reset takes a live record below last_gc, skips a scheduled one, and takes a scheduled one above it
+    ∷ case (applied (node 0 5 []) (delta 6 0 (kv 1 3 Set ∷ kv 2 4 Delete ∷ kv 3 7 Delete ∷ []) 7)) (2 ∷ 0 ∷ 6 ∷ 7 ∷ 3 ∷ 7 ∷ [])
+    -- without a reset, records up to own max are skipped
+    ∷ case (applied (node 0 5 (live 5 ∷ [])) (delta 0 0 (kv 1 4 Set ∷ kv 2 6 Ttl ∷ []) 6)) (1 ∷ 7 ∷ 0 ∷ 6 ∷ 6 ∷ 5 ∷ [])
+    -- a late delta is taken by the rule: own (10,3) takes last_gc 0, from 3, max 5
+    ∷ case (applied (node 10 3 []) (delta 0 3 (kv 1 5 Set ∷ []) 5)) (1 ∷ 7 ∷ 10 ∷ 5 ∷ 5 ∷ [])
+    ∷ []
 
 pub all-hold : all holds cases ≡ true
 unfolding all holds cases sameBytes lessBytes numbersIn sizesIn applyNode deltaStatus statusOf newerOf outcome takeAll takes store versions remove lastGc keep fromOf deltaFor cut allOps ordered queue sooner staleNodes toldOf among stale byVersion keyValueOps sizeOf opBytes textBytes bytesOf partsOf recsOf maxOf offerOf

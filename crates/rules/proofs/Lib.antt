@@ -1,4 +1,5 @@
 pub mod Cases
+pub mod FourRuns
 pub mod Runs
 pub mod Records
 pub mod Taking

@@ -1,4 +1,4 @@
--- The four runs of specs/Witnesses, computed through every byte. Assumes nothing.
+-- The four runs of FourRuns, computed through every byte. Assumes nothing.
 use mathlib.Core.Bool.{true}
 use mathlib.Core.List.{[], _∷_}
 use mathlib.Core.Path.{_≡_, refl}
@@ -15,7 +15,7 @@ use Rattle.rules.specs.Digest.{digestBytes, digestOf, entryBytes, entryO
 use Rattle.rules.specs.Local.{call, gc}
 use Rattle.rules.specs.Node.{act, decide, find, lastGc, remove, store, wish, write}
 use Rattle.rules.specs.Table.{among, nodeOf, removeAll, setNode}
-use Rattle.rules.specs.Witnesses.{bothNodes, caughtUp, forgotten, keys, keysOf, oneRecord, pair, pairAt, quiet, removedThere, tookLate, wasReset}
+use Rattle.rules.proofs.FourRuns.{bothNodes, caughtUp, forgotten, keys, keysOf, oneRecord, pair, pairAt, quiet, removedThere, tookLate, wasReset}
 use Rattle.rules.specs.World.{after, freshTable, happen, start}
 
 -- the publisher holds one record and one node; one exchange brings the follower to (3,1), the second to (3,3); nothing was refused

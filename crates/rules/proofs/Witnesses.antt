@@ -1,4 +1,4 @@
--- What the runs of specs/Witnesses show: one exchange too few does not end, and the claims fail of a late delta. Assumes nothing.
+-- What the runs of FourRuns show: one exchange too few does not end, and the claims fail of a late delta. Assumes nothing.
 use Prim.Native.Nat.{ℕ}
 use mathlib.Core.List.{[], _∷_}
 use mathlib.Core.Option.{Option, none, some}
@@ -20,7 +20,7 @@ use Rattle.rules.specs.Digest.{digestBytes, digestOf, entryBytes, entryO
 use Rattle.rules.specs.Local.{call, gc}
 use Rattle.rules.specs.Node.{KeyValue, Node, Rec, act, decide, find, lastGc, remove, store, wish, write}
 use Rattle.rules.specs.Table.{among, nodeOf, removeAll, setNode, versions}
-use Rattle.rules.specs.Witnesses.{caughtUp, dead, oneRecord, pairIn, quiet, seven}
+use Rattle.rules.proofs.FourRuns.{caughtUp, dead, oneRecord, pairIn, quiet, seven}
 use Rattle.rules.specs.World.{World, after, freshTable, happen, start}
 
 -- a node with this pair

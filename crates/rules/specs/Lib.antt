@@ -1,3 +1,4 @@
+-- What document 01 means, in the order of reading. Evidence stands apart: the bench cases in proofs/Cases, four runs of demand 3 in proofs/FourRuns.
 pub mod Sizes
 pub mod Answers
 pub mod Given
@@ -11,7 +12,5 @@ pub mod Compute
 pub mod Listing
 pub mod Layout
 pub mod Lent
-pub mod Cases
 pub mod World
 pub mod Demand3
-pub mod Witnesses

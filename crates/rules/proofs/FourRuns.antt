@@ -1,4 +1,4 @@
--- Four runs, computed in proofs/Witnesses. The first needs every exchange that the closing count grants. In the second a reset forgets a deleted
+-- Evidence, and no part of a promise: four runs. Runs computes them, Witnesses says what they show. The first needs every exchange that the closing count grants. In the second a reset forgets a deleted
 -- key and takes a live one below last_gc; in the third one delta brings two nodes. In the fourth a delta arrives late, after the next digest,
 -- which no run of demand 3's world has; it brings a deleted key back, so that the demand must not be carried over to late deltas.
 use Prim.Native.Nat.{ℕ}
