@@ -6,6 +6,7 @@
 #
 #   defined[id], lines_of[id]                     a definition, its lines with the comment above it
 #   cited_words[id], stated_words[id]             the words of its text, the words of its signature
+#   text_at[id]                                   its lines without comments
 #   owner[module, name]                           the definition that a module gives a name to; a constructor's is its data type
 #   function_of[n], is_public, has_requires ..    the functions, in order
 
@@ -103,8 +104,13 @@ function mixfix(module, name,    part, n, i) {
 # ---- antt
 
 # One line of an antt file. `module` is its module.
-function read_antt(module, line,    indent, text, mark, word, n, i, name, head) {
-    if (module != reading) { reading = module; block = 0; now = ""; pending = 0; header = "" }
+function read_antt(module, line) {
+    if (module != reading) { reading = module; block = 0; now = ""; pending = 0 }
+    read_line(module, line)
+    if (now != "" && line !~ /^ *(--|$)/ && line !~ /^ *infix[lr]? /) text_at[now] = text_at[now] plain(line) "\n"
+}
+
+function read_line(module, line,    indent, text, mark, word, n, i, name, head) {
     if (line ~ /^ *$/) { pending = 0; return }
     match(line, /^ */)
     indent = RLENGTH

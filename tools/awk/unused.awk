@@ -4,11 +4,26 @@
 FNR == 1 {
     file = FILENAME
     if (file ~ /\.md$/) kind = "page"
+    else if (file ~ /\.edit$/) { kind = "edit"; crate = file; sub(/^.*crates\//, "", crate); sub(/\/.*$/, "", crate) }
     else { kind = file ~ /\.rt$/ ? "rattle" : "antt"; module = module_of_file(file); module_file[module] = file; modules[++module_count] = module }
     clause_here = 0
 }
 
 kind == "page" { read_page($0); next }
+
+# a must-fail edit: what it puts in is a use, and a use line that it looks for stays as it is
+kind == "edit" {
+    if ($0 ~ /^file: /) module = module_of_file("crates/" crate "/" substr($0, 7))
+    else if ($0 ~ /^old: .*use /) { looked_for++; looked_module[looked_for] = module; looked_text[looked_for] = substr($0, 6) }
+    else if ($0 ~ /^new: / && $0 !~ /^new: .*use /) {
+        line = substr($0, 6)
+        take_words(plain(line))
+        gsub(/[^A-Za-z0-9_]/, " ", line)
+        n = split(line, word, " ")
+        for (i = 1; i <= n; i++) in_code[module, word[i]] = 1
+    }
+    next
+}
 
 kind == "antt" {
     read_antt(module, $0)
@@ -109,7 +124,9 @@ function judge(u,    line, module, head, list, tail, item, n, i, part, name, kep
     if (!((module SUBSEP name) in seen_word)) says(u, name, "")
 }
 
-function says(u, gone, text) {
+function says(u, gone, text,    i) {
+    for (i = 1; i <= looked_for; i++)
+        if (looked_module[i] == use_module[u] && index(use_line[u], looked_text[i]) && !index(text, looked_text[i])) return
     found++
     if (mode == "edit") print module_file[use_module[u]] "\t" use_place[u] "\t" text
     else print module_file[use_module[u]] ":" use_place[u] ": imported and not used: " gone

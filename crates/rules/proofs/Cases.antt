@@ -16,7 +16,7 @@ use Rattle.rules.specs.Table.{Entry, Table, versions, among}
 use Rattle.rules.specs.Digest.{NodeDigest}
 use Rattle.rules.specs.Delta.{Op, sizeOf, NodeDelta, Part, partsOf, maxOf, opBytes, recsOf, textBytes}
 use Rattle.rules.specs.Compute.{fromOf, deltaFor, allOps, byVersion, cut, keyValueOps, ordered, queue, sooner, stale, staleNodes, toldOf}
-use Rattle.rules.specs.Apply.{Taken, applyNode, deltaStatus, newerOf, outcome, statusOf, takeAll, takes}
+use Rattle.rules.specs.Apply.{Taken, applyNode, deltaStatus, newerOf, outcome, plainWays, statusOf, takeAll, takes}
 use Rattle.rules.specs.declared.Heartbeat.{Heartbeat}
 use Rattle.rules.specs.declared.Beat.{Beat}
 use Rattle.rules.specs.declared.Status.{Status}
