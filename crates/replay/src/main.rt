@@ -22,16 +22,12 @@ const DIGEST: usize = 258;
 
 const DELTA: usize = delta_read::LONGEST;
 
-// The longest datagram; one that is longer makes a line malformed.
-const DATAGRAM: usize = 32768;
-
 // The calls of an exchange that take bytes.
 fn bytes_call(
     desk: Desk,
     verb: usize,
     table: &mut [u8],
     delta: &mut [u8],
-    datagram: &mut [u8],
     bytes: &[u8],
     line: &[u8],
     out: &mut [u8],
@@ -46,7 +42,7 @@ fn bytes_call(
                 at,
                 len: desk.delta,
             };
-            let kept = replay_peers::compute(table, bytes, line, datagram, delta, held, out);
+            let kept = replay_peers::compute(table, bytes, line, delta, held, out);
             let mut after = desk.with_out(kept.at);
             after.delta = kept.len;
             after
@@ -54,19 +50,12 @@ fn bytes_call(
     }
 }
 
-fn digest_call(
-    desk: Desk,
-    table: &[u8],
-    digest: &mut [u8],
-    datagram: &mut [u8],
-    line: &[u8],
-    out: &mut [u8],
-) -> Desk {
+fn digest_call(desk: Desk, table: &[u8], digest: &mut [u8], line: &[u8], out: &mut [u8]) -> Desk {
     let held = Kept {
         at: desk.out,
         len: desk.digest,
     };
-    let kept = replay_peers::digest(table, line, datagram, digest, held, out);
+    let kept = replay_peers::digest(table, line, digest, held, out);
     let mut after = desk.with_out(kept.at);
     after.digest = kept.len;
     after
@@ -78,32 +67,22 @@ fn peer_call(
     table: &mut [u8],
     digest: &mut [u8],
     delta: &mut [u8],
-    datagram: &mut [u8],
-    given: &mut [u8],
     line: &[u8],
     out: &mut [u8],
 ) -> Desk {
     match verb {
-        verbs::DIGEST => digest_call(desk, table, digest, datagram, line, out),
+        verbs::DIGEST => digest_call(desk, table, digest, line, out),
         _ => {
+            let mut given = [0u8; replay_desk::TABLE];
             let Count::Is(n) = read::bytes_of(
                 read::word(line, 1),
                 read::front(digest, desk.digest),
                 read::front(delta, desk.delta),
-                given,
+                &mut given,
             ) else {
                 return desk;
             };
-            bytes_call(
-                desk,
-                verb,
-                table,
-                delta,
-                datagram,
-                read::front(given, n),
-                line,
-                out,
-            )
+            bytes_call(desk, verb, table, delta, read::front(&given, n), line, out)
         }
     }
 }
@@ -114,8 +93,6 @@ fn call(
     room: &mut [u8],
     digest: &mut [u8],
     delta: &mut [u8],
-    datagram: &mut [u8],
-    given: &mut [u8],
     line: &[u8],
     out: &mut [u8],
 ) -> Desk {
@@ -132,7 +109,7 @@ fn call(
         }
         verbs::DIGEST..=verbs::APPLY => {
             let table = read::front_mut(room, desk.lent());
-            peer_call(desk, verb, table, digest, delta, datagram, given, line, out)
+            peer_call(desk, verb, table, digest, delta, line, out)
         }
         verbs::NEW..=verbs::DUMP => replay_desk::shelf_call(
             desk,
@@ -140,7 +117,6 @@ fn call(
             room,
             read::front(digest, desk.digest),
             read::front(delta, desk.delta),
-            given,
             line,
             out,
         ),
@@ -149,26 +125,12 @@ fn call(
 }
 
 // Closes the answer by the table's checksum. Where nothing was answered, the line was malformed.
-fn closed(before: Desk, after: Desk, table: &[u8], out: &mut [u8]) -> Desk {
+fn closed(before: Desk, after: Desk, room: &[u8], out: &mut [u8]) -> Desk {
     if before.out == after.out {
         return after.with_out(print::text(out, after.out, b"malformed\n"));
     }
-    after.with_out(checksum::checksum(out, after.out, read::front(table, after.lent())))
-}
-
-// One line on the current table.
-fn step(
-    desk: Desk,
-    table: &mut [u8; replay_desk::TABLE],
-    digest: &mut [u8; DIGEST],
-    delta: &mut [u8; DELTA],
-    datagram: &mut [u8; DATAGRAM],
-    given: &mut [u8; replay_desk::TABLE],
-    line: &[u8],
-    out: &mut [u8; OUT],
-) -> Desk {
-    let after = call(desk, table, digest, delta, datagram, given, line, out);
-    closed(desk, after, table, out)
+    let table = read::front(room, after.lent());
+    after.with_out(checksum::checksum(out, after.out, table))
 }
 
 // Writes the output so far.
@@ -196,31 +158,23 @@ fn taken(line: &[u8; lines::LINE], n: usize) -> &[u8] {
 // One line, on the table of the hub that is current after it.
 fn on_line(
     before: Desk,
-    first: &mut [u8; replay_desk::TABLE],
-    second: &mut [u8; replay_desk::TABLE],
+    tables: &mut [u8],
     digest: &mut [u8; DIGEST],
     delta: &mut [u8; DELTA],
-    datagram: &mut [u8; DATAGRAM],
-    given: &mut [u8; replay_desk::TABLE],
     line: &[u8],
     out: &mut [u8; OUT],
 ) -> Desk {
     let desk = replay_desk::turned(before, line);
-    if desk.hub == 0 {
-        let after = step(desk, first, digest, delta, datagram, given, line, out);
-        return flushed(after, out);
-    }
-    let after = step(desk, second, digest, delta, datagram, given, line, out);
-    flushed(after, out)
+    let room = desk.room(tables);
+    let after = call(desk, room, digest, delta, line, out);
+    let told = closed(desk, after, room, out);
+    flushed(told, out)
 }
 
 fn main() {
-    let mut first = [0u8; replay_desk::TABLE];
-    let mut second = [0u8; replay_desk::TABLE];
+    let mut tables = [0u8; replay_desk::TABLES];
     let mut digest = [0u8; DIGEST];
     let mut delta = [0u8; DELTA];
-    let mut datagram = [0u8; DATAGRAM];
-    let mut given = [0u8; replay_desk::TABLE];
     let mut chunk = [0u8; lines::CHUNK];
     let mut room = [0u8; lines::LINE];
     let mut out = [0u8; OUT];
@@ -233,17 +187,7 @@ fn main() {
             break;
         }
         let line = taken(&room, source.len);
-        desk = on_line(
-            desk,
-            &mut first,
-            &mut second,
-            &mut digest,
-            &mut delta,
-            &mut datagram,
-            &mut given,
-            line,
-            &mut out,
-        );
+        desk = on_line(desk, &mut tables, &mut digest, &mut delta, line, &mut out);
         left -= 1;
     }
     write_out(desk, &out);

@@ -9,6 +9,9 @@ use table::layout;
 // Room for a table, good or not: a byte more than a good one has.
 pub const TABLE: usize = layout::TABLE + 1;
 
+// The rooms of the two hubs' tables, one behind the other.
+pub const TABLES: usize = 2 * TABLE;
+
 // The current hub, how many bytes of each hub's room are its lent table, the lengths of the last digest and the last delta, and the output so far.
 pub struct Desk {
     pub hub: u64,
@@ -38,6 +41,14 @@ impl Desk {
             return self.first;
         }
         self.second
+    }
+
+    // The room of the current table.
+    pub fn room(self, tables: &mut [u8]) -> &mut [u8] {
+        if self.hub == 0 {
+            return read::front_mut(tables, TABLE);
+        }
+        read::behind_mut(tables, TABLE)
     }
 
     fn with_lent(mut self, n: usize) -> Self {
@@ -90,12 +101,23 @@ fn new_table(desk: Desk, room: &mut [u8], out: &mut [u8]) -> Desk {
     desk.with_lent(layout::TABLE).with_out(next)
 }
 
-// From now on these bytes are the lent table, good or not.
-fn take_table(desk: Desk, room: &mut [u8], bytes: &[u8], out: &mut [u8]) -> Desk {
-    let Count::Is(n) = read::copy(bytes, room) else {
+// From now on the bytes that the word says are the lent table, good or not.
+fn take_table(
+    desk: Desk,
+    room: &mut [u8],
+    digest: &[u8],
+    delta: &[u8],
+    word: &[u8],
+    out: &mut [u8],
+) -> Desk {
+    let mut given = [0u8; TABLE];
+    let Count::Is(n) = read::bytes_of(word, digest, delta, &mut given) else {
         return desk;
     };
-    done(desk.with_lent(n), out)
+    let Count::Is(lent) = read::copy(read::front(&given, n), room) else {
+        return desk;
+    };
+    done(desk.with_lent(lent), out)
 }
 
 fn dump(desk: Desk, room: &[u8], out: &mut [u8]) -> Desk {
@@ -110,7 +132,6 @@ pub fn shelf_call(
     room: &mut [u8],
     digest: &[u8],
     delta: &[u8],
-    given: &mut [u8],
     line: &[u8],
     out: &mut [u8],
 ) -> Desk {
@@ -118,11 +139,6 @@ pub fn shelf_call(
         verbs::NEW => new_table(desk, room, out),
         verbs::HUB => hub(desk, line, out),
         verbs::DUMP => dump(desk, room, out),
-        _ => {
-            let Count::Is(n) = read::bytes_of(read::word(line, 1), digest, delta, given) else {
-                return desk;
-            };
-            take_table(desk, room, read::front(given, n), out)
-        }
+        _ => take_table(desk, room, digest, delta, read::word(line, 1), out),
     }
 }

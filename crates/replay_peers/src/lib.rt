@@ -15,6 +15,9 @@ use rules::Written;
 // The most numbers of a list, and the most answer places of applying.
 const LIST: usize = 16;
 
+// The longest datagram; one that is longer makes a line malformed.
+const DATAGRAM: usize = 32768;
+
 // The place behind the output so far, and how many bytes `@digest` or `@delta` stands for.
 pub struct Kept {
     pub at: usize,
@@ -163,7 +166,6 @@ fn digest_into(
     held: Kept,
     out: &mut [u8],
 ) -> Kept {
-    marks::mark(datagram);
     let written = digest_write::write_digest(table, excluded, datagram, place);
     match written {
         Written::Bytes(n) => keep_digest(datagram, place, end_of(place, n), kept, held, out),
@@ -176,7 +178,6 @@ fn digest_in(
     table: &[u8],
     excluded: &[u64],
     line: &[u8],
-    datagram: &mut [u8],
     kept: &mut [u8],
     held: Kept,
     out: &mut [u8],
@@ -188,21 +189,15 @@ fn digest_in(
         return held;
     };
     let n = len as usize;
-    if datagram.len() < n {
+    if DATAGRAM < n {
         return held;
     }
-    let lent = read::front_mut(datagram, n);
-    digest_into(table, excluded, place as usize, lent, kept, held, out)
+    let mut room = [marks::MARK; DATAGRAM];
+    let datagram = read::front_mut(&mut room, n);
+    digest_into(table, excluded, place as usize, datagram, kept, held, out)
 }
 
-pub fn digest(
-    table: &[u8],
-    line: &[u8],
-    datagram: &mut [u8],
-    kept: &mut [u8],
-    held: Kept,
-    out: &mut [u8],
-) -> Kept {
+pub fn digest(table: &[u8], line: &[u8], kept: &mut [u8], held: Kept, out: &mut [u8]) -> Kept {
     let mut excluded = [0u64; LIST];
     let Count::Is(n) = read::numbers(read::word(line, 1), &mut excluded) else {
         return held;
@@ -211,7 +206,6 @@ pub fn digest(
         table,
         read::front_numbers(&excluded, n),
         line,
-        datagram,
         kept,
         held,
         out,
@@ -255,7 +249,6 @@ fn compute_into(
     held: Kept,
     out: &mut [u8],
 ) -> Kept {
-    marks::mark(datagram);
     let computed = compute::compute(table, digest, mtu, excluded, ties, datagram, place);
     match computed {
         Computed::Delta { ops, bytes } => keep_delta(datagram, ops, place, bytes, kept, held, out),
@@ -270,7 +263,6 @@ fn compute_in(
     excluded: &[u64],
     ties: &[u64],
     line: &[u8],
-    datagram: &mut [u8],
     kept: &mut [u8],
     held: Kept,
     out: &mut [u8],
@@ -285,10 +277,11 @@ fn compute_in(
         return held;
     };
     let n = len as usize;
-    if datagram.len() < n {
+    if DATAGRAM < n {
         return held;
     }
-    let lent = read::front_mut(datagram, n);
+    let mut room = [marks::MARK; DATAGRAM];
+    let datagram = read::front_mut(&mut room, n);
     compute_into(
         table,
         digest,
@@ -296,7 +289,7 @@ fn compute_in(
         excluded,
         ties,
         place as usize,
-        lent,
+        datagram,
         kept,
         held,
         out,
@@ -307,7 +300,6 @@ pub fn compute(
     table: &[u8],
     digest: &[u8],
     line: &[u8],
-    datagram: &mut [u8],
     kept: &mut [u8],
     held: Kept,
     out: &mut [u8],
@@ -326,7 +318,6 @@ pub fn compute(
         read::front_numbers(&excluded, n),
         read::front_numbers(&ties, m),
         line,
-        datagram,
         kept,
         held,
         out,

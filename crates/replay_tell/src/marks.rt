@@ -4,15 +4,6 @@ use replay_words::read;
 // What lent memory is filled with before a call.
 pub const MARK: u8 = 238;
 
-// Marks all bytes.
-pub fn mark(bytes: &mut [u8]) {
-    let mut i = 0;
-    while i < bytes.len() {
-        bytes[i] = MARK;
-        i += 1;
-    }
-}
-
 // Whether all bytes are as they were marked.
 pub fn is_marked(bytes: &[u8]) -> bool {
     let mut differ: u8 = 0;

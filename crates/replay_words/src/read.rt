@@ -127,6 +127,16 @@ pub fn behind(bytes: &[u8], n: usize) -> &[u8]
     &bytes[n..]
 }
 
+// The bytes behind the first `n`, lent on; none where there are fewer.
+pub fn behind_mut(bytes: &mut [u8], n: usize) -> &mut [u8]
+    ensures { λ r. ⌜ now r ≡ drop n (now (bytes .entry)) ⌝ }
+{
+    if bytes.len() < n {
+        return &mut bytes[..0];
+    }
+    &mut bytes[n..]
+}
+
 // The first `n` numbers; all of them where there are fewer.
 pub fn front_numbers(numbers: &[u64], n: usize) -> &[u64]
     ensures { λ r. ⌜ now r ≡ take n (now (numbers .entry)) ⌝ }

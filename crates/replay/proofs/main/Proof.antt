@@ -1,14 +1,16 @@
 -- `replay::main` is safe and ends. Assumes nothing.
+use mathlib.Core.Path.{_≡_}
+use lib.ListN.{length}
 use borrow.Author.Needs.{needs}
 use Rattle.replay.proofs.main.Statement.{statement}
 use Rattle.replay.proofs.main.Tie as tie
 
 abbrev Inv-loop : tie.InvT-loop
-Inv-loop first₀ second₀ digest₀ delta₀ datagram₀ given₀ chunk₀ room₀ out₀ desk₀ source₀ left₀ first second digest delta datagram given chunk room out desk source left =
-    Unit {0}
+Inv-loop tables₀ digest₀ delta₀ chunk₀ room₀ out₀ desk₀ source₀ left₀ tables digest delta chunk room out desk source left =
+    length tables ≡ length tables₀
 
 abbrev μ-loop : tie.MeasureT-loop
-μ-loop first₀ second₀ digest₀ delta₀ datagram₀ given₀ chunk₀ room₀ out₀ desk₀ source₀ left₀ first second digest delta datagram given chunk room out desk source left =
+μ-loop tables₀ digest₀ delta₀ chunk₀ room₀ out₀ desk₀ source₀ left₀ tables digest delta chunk room out desk source left =
     left
 
 new-requires : tie.Need-new-requires Inv-loop μ-loop
@@ -25,6 +27,9 @@ next-requires c κs = search needs
 
 taken-requires : tie.Need-taken-requires Inv-loop μ-loop
 taken-requires c κs = search needs
+
+slice-aggregate-on-line : tie.Need-slice-aggregate-on-line Inv-loop μ-loop
+slice-aggregate-on-line c = search needs
 
 on-line-requires : tie.Need-on-line-requires Inv-loop μ-loop
 on-line-requires c κs = search needs
@@ -55,6 +60,7 @@ main-spec =
     loop-holds
     next-requires
     taken-requires
+    slice-aggregate-on-line
     on-line-requires
     sub-left
     loop-less
