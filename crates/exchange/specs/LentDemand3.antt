@@ -7,6 +7,7 @@ use mathlib.Core.Bool.{Bool, true, false, _&&_}
 use mathlib.Core.List.{List, [], _∷_}
 use mathlib.Core.Option.{some}
 use lib.ListN.{length}
+use Rattle.fields.specs.Numbers.{Bytes}
 use Rattle.rules.specs.Node.{Node}
 use Rattle.rules.specs.Table.{nodeOf, numbersOf}
 use Rattle.rules.specs.Apply.{Ways}
@@ -28,18 +29,18 @@ pub record LentSound (is : List ℕ) (w : LentWorld) : Type 0 where
 
 -- ---- nothing refused, read off the answers of the calls on lent bytes
 
-abbrev pub lentIsComputed : List ℕ → List ℕ → ℕ → ℕ → List ℕ → List ℕ → Exchange → Bool
+abbrev pub lentIsComputed : (excluded ties : List ℕ) (mtu place : ℕ) (datagram table : Bytes) (way : Exchange) → Bool
 lentIsComputed excluded ties mtu place d l Idle = false
 lentIsComputed excluded ties mtu place d l (DigestSent b) = wroteDelta (lentCompute excluded ties mtu place b d l .answer)
 lentIsComputed excluded ties mtu place d l (DeltaSent b) = false
 
-abbrev pub lentIsApplied : Ways → ℕ → List ℕ → List ℕ → Exchange → Bool
+abbrev pub lentIsApplied : (ways : Ways) (now : ℕ) (answers table : Bytes) (way : Exchange) → Bool
 lentIsApplied ways now answers l Idle = false
 lentIsApplied ways now answers l (DigestSent b) = false
 lentIsApplied ways now answers l (DeltaSent b) = noRoom (lentApplyAs ways b now answers l .answer) (lentApplyAs ways b now answers l .lent .list)
 
 -- whether a call of an exchange is made and not refused
-abbrev pub lentGranted : Ways → Event → LentWorld → Bool
+abbrev pub lentGranted : (ways : Ways) (event : Event) (world : LentWorld) → Bool
 lentGranted ways (Writing i k c) w = true
 lentGranted ways (Beating s i) w = true
 lentGranted ways (Offering s i h) w = true
@@ -48,7 +49,7 @@ lentGranted ways (Digesting excluded place d) w = wroteDigest (lentDigest exclud
 lentGranted ways (Computing excluded ties mtu place d) w = lentIsComputed excluded ties mtu place d (w .publisher) (w .exchange)
 lentGranted ways (Applying now answers) w = possible (Applying now answers) && lentIsApplied ways now answers (w .follower) (w .exchange)
 
-unfoldable pub allLentGranted : Ways → List Event → LentWorld → Bool
+unfoldable pub allLentGranted : (ways : Ways) (events : List Event) (world : LentWorld) → Bool
 allLentGranted ways [] w = true
 allLentGranted ways (e ∷ es) w = lentGranted ways e w && allLentGranted ways es (lentHappen ways e w)
 

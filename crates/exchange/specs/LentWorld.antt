@@ -5,6 +5,7 @@
 use Prim.Native.Nat.{ℕ}
 use mathlib.Core.List.{List, [], _∷_}
 use lib.Dec.{eqb}
+use Rattle.fields.specs.Numbers.{Bytes}
 use Rattle.fields.specs.Choice.{pick}
 use Rattle.rules.specs.Node.{KeyValue}
 use Rattle.rules.specs.Table.{nodeOf}
@@ -17,34 +18,34 @@ use Rattle.rules.specs.World.{Exchange, Idle, DigestSent, DeltaSent, Side, Publ
 
 -- The bytes of the two tables; what the publisher gave so far, node by node, the newest first; the exchange. No call looks at what was given.
 pub record LentWorld : Type 0 where
-  pub publisher : List ℕ
-  pub follower : List ℕ
+  pub publisher : Bytes
+  pub follower : Bytes
   pub given : ℕ → List KeyValue
   pub exchange : Exchange
 
 -- both tables fresh with the same nodes, and nothing given yet
-unfoldable pub lentStart : List ℕ → LentWorld
+unfoldable pub lentStart : (numbers : List ℕ) → LentWorld
 lentStart is = record { publisher = encode (freshTable is); follower = encode (freshTable is); given = λ i. []; exchange = Idle }
 
 -- The bytes that adding these nodes one after the other leaves. So the start is made of the new table (proofs/Start).
-unfoldable pub lentAdds : List ℕ → List ℕ → List ℕ
+unfoldable pub lentAdds : (numbers : List ℕ) (table : Bytes) → Bytes
 lentAdds [] l = l
 lentAdds (i ∷ is) l = lentAdds is (lentAdd i l .lent)
 
 -- ---- what is on its way after a call
 
-abbrev pub lentDigested : List ℕ → ℕ → List ℕ → List ℕ → Exchange → Exchange
+abbrev pub lentDigested : (excluded : List ℕ) (place : ℕ) (datagram table : Bytes) (way : Exchange) → Exchange
 lentDigested excluded place d l x = afterDigest place (lentDigest excluded place d l .lent) (lentDigest excluded place d l .answer) x
 
 -- only for a digest that is on its way
-abbrev pub lentComputed : List ℕ → List ℕ → ℕ → ℕ → List ℕ → List ℕ → Exchange → Exchange
+abbrev pub lentComputed : (excluded ties : List ℕ) (mtu place : ℕ) (datagram table : Bytes) (way : Exchange) → Exchange
 lentComputed excluded ties mtu place d l Idle = Idle
 lentComputed excluded ties mtu place d l (DigestSent b) =
     afterDelta place (lentCompute excluded ties mtu place b d l .lent) (lentCompute excluded ties mtu place b d l .answer) (DigestSent b)
 lentComputed excluded ties mtu place d l (DeltaSent b) = DeltaSent b
 
 -- only a delta that is on its way
-abbrev pub lentApplied : Ways → ℕ → List ℕ → Exchange → List ℕ → List ℕ
+abbrev pub lentApplied : (ways : Ways) (now : ℕ) (answers : Bytes) (way : Exchange) (table : Bytes) → Bytes
 lentApplied ways now answers Idle l = l
 lentApplied ways now answers (DigestSent b) l = l
 lentApplied ways now answers (DeltaSent b) l = lentApplyAs ways b now answers l .lent .table
@@ -52,15 +53,15 @@ lentApplied ways now answers (DeltaSent b) l = lentApplyAs ways b now answers l 
 -- ---- a run
 
 -- a call that changes the bytes of one side's table
-abbrev pub onLent : Side → (List ℕ → List ℕ) → LentWorld → LentWorld
+abbrev pub onLent : (side : Side) (f : Bytes → Bytes) (world : LentWorld) → LentWorld
 onLent Publishers f w = record { publisher = f (w .publisher); follower = w .follower; given = w .given; exchange = w .exchange }
 onLent Followers f w = record { publisher = w .publisher; follower = f (w .follower); given = w .given; exchange = w .exchange }
 
-abbrev pub onWay : Exchange → LentWorld → LentWorld
+abbrev pub onWay : (way : Exchange) (world : LentWorld) → LentWorld
 onWay x w = record { publisher = w .publisher; follower = w .follower; given = w .given; exchange = x }
 
 -- what a write gives is told by the bytes that it finds
-abbrev pub lentCalls : Ways → Event → LentWorld → LentWorld
+abbrev pub lentCalls : (ways : Ways) (event : Event) (world : LentWorld) → LentWorld
 lentCalls ways (Writing i k c) w =
     record {
       publisher = lentCall c i k (w .publisher) .lent;
@@ -76,10 +77,10 @@ lentCalls ways (Computing excluded ties mtu place d) w = onWay (lentComputed exc
 lentCalls ways (Applying now answers) w = onLent Followers (lentApplied ways now answers (w .exchange)) w
 
 -- the world after an event; one that is not possible changes nothing
-unfoldable pub lentHappen : Ways → Event → LentWorld → LentWorld
+unfoldable pub lentHappen : (ways : Ways) (event : Event) (world : LentWorld) → LentWorld
 lentHappen ways e w = pick (possible e) (lentCalls ways e w) w
 
 -- the world after a run
-unfoldable pub lentAfter : Ways → List Event → LentWorld → LentWorld
+unfoldable pub lentAfter : (ways : Ways) (events : List Event) (world : LentWorld) → LentWorld
 lentAfter ways [] w = w
 lentAfter ways (e ∷ es) w = lentAfter ways es (lentHappen ways e w)

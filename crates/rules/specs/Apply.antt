@@ -7,6 +7,7 @@ use mathlib.Core.List.{List, [], _∷_}
 use mathlib.Core.Option.{Option, none, some}
 use lib.ListN.{length}
 use lib.Dec.{leb, ltb, eqb}
+use Rattle.fields.specs.Numbers.{Bytes}
 use Rattle.fields.specs.Choice.{pick}
 use Rattle.fields.specs.Parts.{put}
 use Rattle.rules.specs.Sizes.{maxRecords}
@@ -27,7 +28,7 @@ use Rattle.rules.specs.declared.Applied.the-variants.{Nodes, Refused}
 
 -- how bytes are read as a delta, and whether these records have room in a node
 pub record Ways : Type 0 where
-  pub reads : List ℕ → Ops
+  pub reads : Bytes → Ops
   pub roomy : List Rec → Bool
 
 -- document 01: at most 32 records
@@ -38,44 +39,44 @@ plainWays = record { reads = readDelta; roomy = λ l. leb (length l) maxRecords 
 -- rules that it obeys (number 14), and demand 3 holds.
 pub record Lawful (ways : Ways) : Type 0 where
   pub reads-so : (bytes : List ℕ) (ops : List Op) → ways .reads bytes ≡ Good ops → readDelta bytes ≡ Good ops
-  pub few : (l : List Rec) → ways .roomy l ≡ true → length l ≤ maxRecords
+  pub few : (recs : List Rec) → ways .roomy recs ≡ true → length recs ≤ maxRecords
 
 -- ---- one node
 
 -- step 3, where no reset is due: Apply if own max < delta max, else Reject
-unfoldable pub newerOf : ℕ → ℕ → DeltaStatus
+unfoldable pub newerOf : (own-max max : ℕ) → DeltaStatus
 newerOf ownMax max = pick (ltb ownMax max) Apply Reject
 
 -- by the numbers alone: 1. from > own max: Reject. 2. delta last_gc above both own last_gc and own max: Reject if from is not 0, else
 -- ApplyAfterReset. 3. as above.
-unfoldable pub statusOf : ℕ → ℕ → ℕ → ℕ → ℕ → DeltaStatus
+unfoldable pub statusOf : (own-last-gc own-max from last-gc max : ℕ) → DeltaStatus
 statusOf ownGc ownMax from gc max =
     pick (ltb ownMax from) Reject
     (pick (ltb ownGc gc && ltb ownMax gc) (pick (eqb from 0) ApplyAfterReset Reject)
     (newerOf ownMax max))
 
-unfoldable pub deltaStatus : Node → NodeDelta → DeltaStatus
+unfoldable pub deltaStatus : (node : Node) (delta : NodeDelta) → DeltaStatus
 deltaStatus n d = statusOf (n .last-gc) (n .max) (d .from) (d .last-gc) (d .max)
 
 -- a record is taken if its version is above the max held before the first of them and, where it is scheduled, above last_gc
-unfoldable pub takes : ℕ → ℕ → KeyValue → Bool
+unfoldable pub takes : (held last-gc : ℕ) (kv : KeyValue) → Bool
 takes held gc r = ltb held (r .version) && not (scheduled (r .status) && leb (r .version) gc)
 
 -- a taken scheduled record starts at the receiver's now
-abbrev pub startAt : Bool → ℕ → ℕ
+abbrev pub startAt : (is-scheduled : Bool) (now : ℕ) → ℕ
 startAt true now = now
 startAt false now = 0
 
-abbrev pub stamp : ℕ → KeyValue → Rec
+abbrev pub stamp : (now : ℕ) (kv : KeyValue) → Rec
 stamp now r = record { kv = r; start = startAt (scheduled (r .status)) now }
 
 -- records are taken in order
-unfoldable pub takeAll : ℕ → ℕ → ℕ → List KeyValue → List Rec → List Rec
+unfoldable pub takeAll : (held last-gc now : ℕ) (kvs : List KeyValue) (recs : List Rec) → List Rec
 takeAll held gc now [] l = l
 takeAll held gc now (r ∷ rs) l = takeAll held gc now rs (pick (takes held gc r) (store (stamp now r) l) l)
 
 -- Reject changes nothing. A reset gives a fresh node with the delta's last_gc; then records are taken. At the end max is the delta's max.
-unfoldable pub outcome : DeltaStatus → ℕ → NodeDelta → Node → Node
+unfoldable pub outcome : (status : DeltaStatus) (now : ℕ) (delta : NodeDelta) (node : Node) → Node
 outcome Reject now d n = n
 outcome ApplyAfterReset now d n =
     record { heartbeat = beats 0; max = d .max; last-gc = d .last-gc; recs = takeAll 0 (d .last-gc) now (d .recs) [] }
@@ -87,19 +88,19 @@ pub record Taken : Type 0 where
   pub answer : NodeAnswer
   pub node : Node
 
-abbrev pub takenAs : NodeAnswer → Node → Taken
+abbrev pub takenAs : (answer : NodeAnswer) (node : Node) → Taken
 takenAs a n = record { answer = a; node = n }
 
 -- Room, where the outcome's records have none (document 01: over 32 keys): the node stays
-abbrev pub withRoom : Ways → NodeAnswer → Node → Node → Taken
+abbrev pub withRoom : (ways : Ways) (answer : NodeAnswer) (outcome node : Node) → Taken
 withRoom ways a o n = pick (ways .roomy (o .recs)) (takenAs a o) (takenAs node.Room n)
 
-abbrev pub answered : Ways → DeltaStatus → Node → Node → Taken
+abbrev pub answered : (ways : Ways) (status : DeltaStatus) (outcome node : Node) → Taken
 answered ways Reject o n = takenAs node.Reject n
 answered ways Apply o n = withRoom ways node.Apply o n
 answered ways ApplyAfterReset o n = withRoom ways node.ApplyAfterReset o n
 
-unfoldable pub applyNode : Ways → ℕ → NodeDelta → Node → Taken
+unfoldable pub applyNode : (ways : Ways) (now : ℕ) (delta : NodeDelta) (node : Node) → Taken
 applyNode ways now d n = answered ways (deltaStatus n d) (outcome (deltaStatus n d) now d n) n
 
 -- ---- a table
@@ -109,7 +110,7 @@ pub record Stream : Type 0 where
   pub answers : List NodeAnswer
   pub table : Table
 
-abbrev pub answering : NodeAnswer → Stream → Stream
+abbrev pub answering : (answer : NodeAnswer) (stream : Stream) → Stream
 answering a s = record { answers = a ∷ s .answers; table = s .table }
 
 -- how a node takes a node delta: document 01's way is `applyNode plainWays now`
@@ -117,11 +118,11 @@ abbrev pub Taking : Type 0
 Taking = NodeDelta → Node → Taken
 
 -- a node missing in the table answers Unknown and is never made
-abbrev pub onNode : Taking → Part → Option Node → Table → (Table → Stream) → Stream
+abbrev pub onNode : (take : Taking) (part : Part) (held : Option Node) (table : Table) (next : Table → Stream) → Stream
 onNode take x none t next = answering node.Unknown (next t)
 onNode take x (some n) t next = answering (take (x .delta) n .answer) (next (setNode (x .number) (take (x .delta) n .node) t))
 
-unfoldable pub applyEach : Taking → List Part → Table → Stream
+unfoldable pub applyEach : (take : Taking) (parts : List Part) (table : Table) → Stream
 applyEach take [] t = record { answers = []; table = t }
 applyEach take (x ∷ xs) t = onNode take x (nodeOf (x .number) t) t (applyEach take xs)
 
@@ -135,19 +136,19 @@ codes (a ∷ l) = codeOf a ∷ codes l
 pub record ApplyOutcome : Type 0 where
   pub answer : Applied
   pub table : Table
-  pub list : List ℕ
+  pub list : Bytes
 
 -- 8 where the list has too few places
-abbrev pub applyParts : Taking → List Part → Table → List ℕ → ApplyOutcome
+abbrev pub applyParts : (take : Taking) (parts : List Part) (table : Table) (list : Bytes) → ApplyOutcome
 applyParts take xs t l =
     pick (leb (length xs) (length l))
     (record { answer = Nodes (length xs); table = applyEach take xs t .table; list = put 0 (codes (applyEach take xs t .answers)) l })
     (record { answer = Refused NoPlace 0; table = t; list = l })
 
-abbrev pub applyOps : Taking → Ops → Table → List ℕ → ApplyOutcome
+abbrev pub applyOps : (take : Taking) (read : Ops) (table : Table) (list : Bytes) → ApplyOutcome
 applyOps take (Good ops) t l = applyParts take (partsOf ops) t l
 applyOps take (Faulty r at) t l = record { answer = Refused r at; table = t; list = l }
 
 -- read, then node by node
-unfoldable pub apply : Ways → List ℕ → ℕ → Table → List ℕ → ApplyOutcome
+unfoldable pub apply : (ways : Ways) (delta : Bytes) (now : ℕ) (table : Table) (list : Bytes) → ApplyOutcome
 apply ways bytes now t l = applyOps (applyNode ways now) (ways .reads bytes) t l

@@ -7,6 +7,7 @@ use mathlib.Core.Bool.{Bool, true, false, not, _&&_}
 use mathlib.Core.List.{List, [], _∷_, _++_}
 use mathlib.Core.Option.{some}
 use lib.ListN.{length, take}
+use Rattle.fields.specs.Numbers.{Bytes}
 use Rattle.fields.specs.Choice.{_∈_}
 use Rattle.rules.specs.Answers.{codeOf}
 use Rattle.rules.specs.Node.{KeyValue, Rec, Node}
@@ -27,11 +28,11 @@ use Rattle.rules.specs.declared.Applied.the-variants as applied
 -- ---- the claims at a moment
 
 -- the node holds a record with this key, value, version and status
-abbrev pub Holds : Node → KeyValue → Type 0
+abbrev pub Holds : (node : Node) (kv : KeyValue) → Type 0
 Holds n s = (r : Rec) × (r ∈ n .recs) × (r .kv ≡ s)
 
 -- no later version was given to its key
-abbrev pub Last : List KeyValue → KeyValue → Type 0
+abbrev pub Last : (given : List KeyValue) (kv : KeyValue) → Type 0
 Last h s = (t : KeyValue) → t ∈ h → t .key ≡ s .key → t .version ≤ s .version
 
 -- What is claimed of a node: p is the publisher's, which gave h so far, and f the follower's. The follower's max never passes the publisher's;
@@ -52,11 +53,11 @@ pub record Sound (is : List ℕ) (w : World) : Type 0 where
 -- ---- the claim between two moments
 
 -- the pair (last_gc, max) does not fall in lexicographic order
-abbrev pub Rises : Node → Node → Type 0
+abbrev pub Rises : (before later : Node) → Type 0
 Rises a b = (a .last-gc < b .last-gc) ⊎ ((a .last-gc ≡ b .last-gc) × (a .max ≤ b .max))
 
 -- no node's pair falls from the one table to the other
-abbrev pub AllRise : Table → Table → Type 0
+abbrev pub AllRise : (before later : Table) → Type 0
 AllRise t u = (i : ℕ) (a b : Node) → nodeOf i t ≡ some a → nodeOf i u ≡ some b → Rises a b
 
 -- ---- the closing count
@@ -64,16 +65,16 @@ AllRise t u = (i : ℕ) (a b : Node) → nodeOf i t ≡ some a → nodeOf i u �
 -- an exchange with nothing else in it: what its three calls are given
 pub record Quiet : Type 0 where
   pub digest-place : ℕ
-  pub digest-datagram : List ℕ
+  pub digest-datagram : Bytes
   pub ties : List ℕ
   pub mtu : ℕ
   pub delta-place : ℕ
-  pub delta-datagram : List ℕ
+  pub delta-datagram : Bytes
   pub now : ℕ
-  pub answers : List ℕ
+  pub answers : Bytes
 
 -- nothing is excluded, and the delta is applied once
-abbrev pub exchangeOf : Quiet → List Event
+abbrev pub exchangeOf : (quiet : Quiet) → List Event
 exchangeOf q =
     Digesting [] (q .digest-place) (q .digest-datagram)
     ∷ Computing [] (q .ties) (q .mtu) (q .delta-place) (q .delta-datagram)
@@ -102,22 +103,22 @@ wroteDelta (computed.Delta ops bytes) = true
 wroteDelta (computed.Refused r) = false
 
 -- the first n places of the list have the nodes' answers
-abbrev pub noRoom : Applied → List ℕ → Bool
+abbrev pub noRoom : (answer : Applied) (list : Bytes) → Bool
 noRoom (applied.Nodes n) l = not (among (codeOf node.Room) (take n l))
 noRoom (applied.Refused r at) l = false
 
-abbrev pub isComputed : List ℕ → List ℕ → ℕ → ℕ → List ℕ → Table → Exchange → Bool
+abbrev pub isComputed : (excluded ties : List ℕ) (mtu place : ℕ) (datagram : Bytes) (table : Table) (way : Exchange) → Bool
 isComputed excluded ties mtu place l t Idle = false
 isComputed excluded ties mtu place l t (DigestSent d) = wroteDelta (compute excluded ties mtu place d t l .answer)
 isComputed excluded ties mtu place l t (DeltaSent b) = false
 
-abbrev pub isApplied : Ways → ℕ → List ℕ → Table → Exchange → Bool
+abbrev pub isApplied : (ways : Ways) (now : ℕ) (answers : Bytes) (table : Table) (way : Exchange) → Bool
 isApplied ways now l t Idle = false
 isApplied ways now l t (DigestSent d) = false
 isApplied ways now l t (DeltaSent b) = noRoom (apply ways b now t l .answer) (apply ways b now t l .list)
 
 -- whether a call of an exchange is made and not refused
-abbrev pub granted : Ways → Event → World → Bool
+abbrev pub granted : (ways : Ways) (event : Event) (world : World) → Bool
 granted ways (Writing i k c) w = true
 granted ways (Beating s i) w = true
 granted ways (Offering s i h) w = true
@@ -126,7 +127,7 @@ granted ways (Digesting excluded place l) w = wroteDigest (writeDigest excluded 
 granted ways (Computing excluded ties mtu place l) w = isComputed excluded ties mtu place l (w .publisher) (w .exchange)
 granted ways (Applying now l) w = possible (Applying now l) && isApplied ways now l (w .follower) (w .exchange)
 
-unfoldable pub allGranted : Ways → List Event → World → Bool
+unfoldable pub allGranted : (ways : Ways) (events : List Event) (world : World) → Bool
 allGranted ways [] w = true
 allGranted ways (e ∷ es) w = granted ways e w && allGranted ways es (happen ways e w)
 
@@ -136,7 +137,7 @@ holdings [] = 0
 holdings (e ∷ t) = suc (length (e .node .recs)) + holdings t
 
 -- every node's max is the same in both tables
-abbrev pub SameMax : Table → Table → Type 0
+abbrev pub SameMax : (publisher follower : Table) → Type 0
 SameMax t u = (i : ℕ) (a b : Node) → nodeOf i t ≡ some a → nodeOf i u ≡ some b → b .max ≡ a .max
 
 -- ---- the whole demand

@@ -7,6 +7,7 @@ use mathlib.Core.Bool.{Bool, true}
 use mathlib.Core.List.{List, [], _∷_}
 use mathlib.Core.Option.{Option, none, some}
 use lib.Dec.{ltb, eqb}
+use Rattle.fields.specs.Numbers.{Bytes}
 use Rattle.fields.specs.Choice.{pick}
 use Rattle.fields.specs.Parts.{part}
 use Rattle.rules.specs.Sizes.{numbers}
@@ -44,7 +45,7 @@ freshTable [] = []
 freshTable (i ∷ is) = record { number = i; node = fresh } ∷ freshTable is
 
 -- both tables fresh with the same nodes, and nothing given yet
-unfoldable pub start : List ℕ → World
+unfoldable pub start : (numbers : List ℕ) → World
 start is = record { publisher = freshTable is; follower = freshTable is; given = λ i. []; exchange = Idle }
 
 -- ---- what may happen
@@ -88,42 +89,42 @@ possible (Applying now l) = ltb now numbers
 -- ---- what a call gives to its key
 
 -- the version that a change gives, with its key, value and status
-abbrev pub givenBy : List ℕ → Change → Node → KeyValue
+abbrev pub givenBy : (key : Bytes) (change : Change) (node : Node) → KeyValue
 givenBy k c n = record { key = k; value = c .value; version = n .max + 1; status = c .status }
 
 -- a refused call and one that has nothing to change give none
-abbrev pub givenAfter : List ℕ → Decision → Node → List KeyValue → List KeyValue
+abbrev pub givenAfter : (key : Bytes) (decision : Decision) (node : Node) (given : List KeyValue) → List KeyValue
 givenAfter k (Refuse r) n h = h
 givenAfter k Leave n h = h
 givenAfter k (Give c) n h = givenBy k c n ∷ h
 
-abbrev pub givenIn : List ℕ → Call → Option Node → List KeyValue → List KeyValue
+abbrev pub givenIn : (key : Bytes) (call : Call) (held : Option Node) (given : List KeyValue) → List KeyValue
 givenIn k c none h = h
 givenIn k c (some n) h = givenAfter k (decide c k n) n h
 
 -- ---- what is on its way after a call; a refused one sends nothing
 
 -- a digest of so many bytes from its place on
-abbrev pub afterDigest : ℕ → List ℕ → Written → Exchange → Exchange
+abbrev pub afterDigest : (place : ℕ) (datagram : Bytes) (answer : Written) (way : Exchange) → Exchange
 afterDigest place l (written.Bytes n) x = DigestSent (part place n l)
 afterDigest place l (written.Refused r) x = x
 
-abbrev pub afterDelta : ℕ → List ℕ → Computed → Exchange → Exchange
+abbrev pub afterDelta : (place : ℕ) (datagram : Bytes) (answer : Computed) (way : Exchange) → Exchange
 afterDelta place l (computed.Delta ops bytes) x = DeltaSent (part place bytes l)
 afterDelta place l (computed.Refused r) x = x
 
-abbrev pub digested : List ℕ → ℕ → List ℕ → Table → Exchange → Exchange
+abbrev pub digested : (excluded : List ℕ) (place : ℕ) (datagram : Bytes) (table : Table) (way : Exchange) → Exchange
 digested excluded place l t x = afterDigest place (writeDigest excluded place t l .lent) (writeDigest excluded place t l .answer) x
 
 -- only for a digest that is on its way
-abbrev pub computedFor : List ℕ → List ℕ → ℕ → ℕ → List ℕ → Table → Exchange → Exchange
+abbrev pub computedFor : (excluded ties : List ℕ) (mtu place : ℕ) (datagram : Bytes) (table : Table) (way : Exchange) → Exchange
 computedFor excluded ties mtu place l t Idle = Idle
 computedFor excluded ties mtu place l t (DigestSent d) =
     afterDelta place (compute excluded ties mtu place d t l .lent) (compute excluded ties mtu place d t l .answer) (DigestSent d)
 computedFor excluded ties mtu place l t (DeltaSent b) = DeltaSent b
 
 -- only a delta that is on its way
-abbrev pub appliedTo : Ways → ℕ → List ℕ → Exchange → Table → Table
+abbrev pub appliedTo : (ways : Ways) (now : ℕ) (answers : Bytes) (way : Exchange) (table : Table) → Table
 appliedTo ways now l Idle t = t
 appliedTo ways now l (DigestSent d) t = t
 appliedTo ways now l (DeltaSent b) t = apply ways b now t l .table
@@ -131,14 +132,14 @@ appliedTo ways now l (DeltaSent b) t = apply ways b now t l .table
 -- ---- a run
 
 -- a call that changes the table of one side
-abbrev pub onSide : Side → (Table → Table) → World → World
+abbrev pub onSide : (side : Side) (f : Table → Table) (world : World) → World
 onSide Publishers f w = record { publisher = f (w .publisher); follower = w .follower; given = w .given; exchange = w .exchange }
 onSide Followers f w = record { publisher = w .publisher; follower = f (w .follower); given = w .given; exchange = w .exchange }
 
-abbrev pub onExchange : Exchange → World → World
+abbrev pub onExchange : (way : Exchange) (world : World) → World
 onExchange x w = record { publisher = w .publisher; follower = w .follower; given = w .given; exchange = x }
 
-abbrev pub calls : Ways → Event → World → World
+abbrev pub calls : (ways : Ways) (event : Event) (world : World) → World
 calls ways (Writing i k c) w =
     record {
       publisher = call c i k (w .publisher) .table;
@@ -154,10 +155,10 @@ calls ways (Computing excluded ties mtu place l) w = onExchange (computedFor exc
 calls ways (Applying now l) w = onSide Followers (appliedTo ways now l (w .exchange)) w
 
 -- the world after an event; one that is not possible changes nothing
-unfoldable pub happen : Ways → Event → World → World
+unfoldable pub happen : (ways : Ways) (event : Event) (world : World) → World
 happen ways e w = pick (possible e) (calls ways e w) w
 
 -- the world after a run
-unfoldable pub after : Ways → List Event → World → World
+unfoldable pub after : (ways : Ways) (events : List Event) (world : World) → World
 after ways [] w = w
 after ways (e ∷ es) w = after ways es (happen ways e w)
