@@ -97,11 +97,45 @@ function gives(text, module, depth, parts,    factor, side, word, n, m, i, k, id
         if (!is_form(id, depth + 1)) return 0
         for (; k > 1; k--) {
             if (!((id SUBSEP k - 1) in form_gives)) rights = rights " " word[k]
-            else if (!give(depth, word[k], parts)) return 0
+            else if (!give_all(depth, word[k], module, parts)) return 0
         }
     }
     n = split(parts, word, "\n")
     for (i = 1; i <= n; i++) if ((depth SUBSEP word[i]) in given && stands_in(word[i], rights)) return 0
+    return 1
+}
+
+# A part, or several gathered by a definition that makes a record of its arguments, as in `both (now (x .exit)) (now (y .exit))`.
+function give_all(depth, text, module, parts,    word, n, i) {
+    if (index(parts, "\n" text "\n") > 0) return give(depth, text, parts)
+    n = arguments(text, word)
+    if (n < 2 || !gathers(resolve(module, word[1], 0), n - 1)) return 0
+    for (i = 2; i <= n; i++) if (!give_all(depth, word[i], module, parts)) return 0
+    return 1
+}
+
+# Whether a definition makes a record whose fields are its n parameters, each once.
+function gathers(id, n,    text, name, i, k, parameter, body, field) {
+    if (!(id in defined) || kind_at[id] != "definition") return 0
+    name = name_at[id]
+    text = text_at[id]
+    i = index(text, "\n" name " ")
+    body = substr(text, i + 1 + length(name))
+    k = index(body, " =")
+    if (i == 0 || k == 0 || split(substr(body, 1, k), parameter, " ") != n) return 0
+    body = substr(body, k + 2)
+    if (body !~ /^[ \n]*record \{.*\}[ \n]*$/) return 0
+    gsub(/\n/, " ", body)
+    sub(/^ *record \{ */, "", body)
+    sub(/;? *\} *$/, "", body)
+    if (split(body, field, ";") != n) return 0
+    for (i = 1; i <= n; i++) {
+        sub(/^[^=]*= */, "", field[i])
+        sub(/ *$/, "", field[i])
+        for (k = 1; k <= n && field[i] != parameter[k]; k++) ;
+        if (k > n) return 0
+        parameter[k] = ""
+    }
     return 1
 }
 

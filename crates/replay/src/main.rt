@@ -20,7 +20,7 @@ const ENOUGH: usize = 65000;
 // The longest digest and the longest delta.
 const DIGEST: usize = 258;
 
-const DELTA: usize = delta_read::LONGEST;
+const DELTA: usize = rules::sizes::LONGEST_DELTA;
 
 // The calls of an exchange that take bytes.
 fn bytes_call(
