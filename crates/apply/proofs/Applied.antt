@@ -15,20 +15,20 @@ use Rattle.fields.specs.Choice.{pick, _∈_, here, later}
 use Rattle.fields.specs.Numbers.{natOf, bytesOf, AreBytes}
 use Rattle.fields.specs.Blocks.{zeros}
 use Rattle.fields.specs.Parts.{part, put}
-use Rattle.fields.proofs.Lent.{seen, lent}
 use Rattle.fields.proofs.Choice.{in-none, in-at}
 use Rattle.fields.proofs.Blocks.{length-zeros}
 use Rattle.fields.proofs.Parts.{put-nil, put-cons}
 use borrow.Rule.Slice.PartMut.{putMid}
-use Rattle.rules.specs.Sizes.{maxNodes, maxRecords, numbers}
+use Rattle.rules.specs.Sizes.{maxRecords, numbers}
 use Rattle.rules.specs.Answers.{codeOf}
 use Rattle.rules.specs.Node.{Node}
-use Rattle.rules.specs.Table.{Entry, Table, nodeOf, keysRise, obeys}
+use Rattle.rules.specs.Table.{Entry, Table, nodeOf, setNode, keysRise, obeys}
 use Rattle.rules.specs.Delta as rule
 use Rattle.rules.specs.Apply.{Taken, Stream, takenAs, withRoom, answered, statusOf, deltaStatus, outcome, takeAll, applyNode, onNode, answering, applyEach, codes, apply, plainWays}
-use Rattle.rules.specs.Layout.{nodePlace, nodeWidth, encodeNode, decodeNode, encode, decode, valid}
+use Rattle.rules.specs.Layout.{nodeWidth, encodeNode, decodeNode, encode, decode, valid}
 use Rattle.rules.specs.Given.{Gives}
-use Rattle.rules.specs.Lent.{both, lentApply, lentApplyAs}
+use Rattle.rules.specs.Local.{gives}
+use Rattle.rules.specs.Lent.{stored, both, lentApply, lentApplyAs}
 use Rattle.rules.specs.declared.DeltaStatus.{DeltaStatus}
 use Rattle.rules.specs.declared.DeltaStatus.the-variants.{Reject, Apply, ApplyAfterReset}
 use Rattle.rules.specs.declared.NodeAnswer.{NodeAnswer}
@@ -48,19 +48,19 @@ use Rattle.delta_read.proofs.Plain.{good-plain}
 use Rattle.table.specs.Fits.{FitsEntry, LaidNode}
 use Rattle.table.specs.Changes.{withNode, withMax, withGc, withRecs, freshEntry}
 use Rattle.table.specs.Tests.{countOf, recsOf}
-use Rattle.table.proofs.Nodes.{length-node, laid-node, decode-encode-node}
+use Rattle.table.proofs.Nodes.{laid-node, decode-encode-node}
 use Rattle.table.proofs.Changed.{fresh-bytes}
-use Rattle.table.proofs.Places.{nodeBytes, nodeAt, length-recs}
-use Rattle.table_read.specs.Find.{findNode, headerOf}
-use Rattle.table_read.specs.declared.Place.the-variants.{At, Free}
-use Rattle.table_read.proofs.Searched.{node-in, node-found, node-missing, node-laid, node-rises}
-use Rattle.table_read.proofs.Placed.{node-changed}
+use Rattle.table.proofs.Places.{length-recs}
+use Rattle.table_read.specs.Find.{spanIn, headerOf}
+use Rattle.table_read.specs.declared.Span.the-variants.{Held, Missing}
+use Rattle.table_read.proofs.Held.{node-seen, held-laid, held-rises, held-node, held-gives, missing-node, stays-gives}
 use Rattle.rules.specs.declared.Header.{Header}
-use Rattle.table.proofs.Tables.{length-table, decode-encode, valid-encode, encode-decode, valid-obeys, valid-long, valid-few}
-use Rattle.apply_node.specs.declared.Heads.{Heads}
-use Rattle.apply_node.specs.Taking.{hasRoom, Rising, Tried, recsFrom, partsFrom, deltaOf, noPart, Gathered}
+use Rattle.table.proofs.Tables.{length-table, decode-encode, valid-encode, encode-decode, valid-obeys, valid-long}
+use Rattle.delta_read.specs.declared.Heads.{Heads}
+use Rattle.delta_read.specs.NodeDeltas.{recsFrom, partsFrom, deltaOf, noPart, Gathered}
+use Rattle.apply_node.specs.Taking.{hasRoom, Rising, Tried}
 use Rattle.apply_node.proofs.Taken.{takes-few}
-use Rattle.apply.specs.Applying.{emptied, begun, grown, Grown, Stored, rejects, resets, answerAs, Answered, partAnswer, partTable, Turned, Accepted, Told}
+use Rattle.apply.specs.Applying.{emptied, begun, grown, Grown, Stored, rejects, resets, answerAs, nodeTaken, nodeApplied, onHeld, partApplied, partsApplied, Accepted, HeadsFound}
 
 -- ---- a node
 
@@ -147,8 +147,8 @@ module _ (clock : ℕ) (s : List ℕ) (at max : ℕ) (e : Entry) (c₁ : List �
 
 -- the node is the outcome's, or what it was
 module _ (e : Entry) (b : List ℕ) (r : Bool) (b₁ : List ℕ) (g : Grown e r b₁) where
-  pub stored : r ≡ true → Stored e b true b₁
-  stored q = record { room = sym q ∙ g .room; bytes = g .bytes q }
+  pub has-stored : r ≡ true → Stored e b true b₁
+  has-stored q = record { room = sym q ∙ g .room; bytes = g .bytes q }
 
   pub kept : r ≡ false → (saved b′ : List ℕ) → saved ≡ b → b′ ≡ put 0 saved b₁ → length b₁ ≤ length saved → Stored e b false b′
   kept q saved b′ p k h = record { room = sym q ∙ g .room; bytes = k ∙ put-all saved b₁ h ∙ p }
@@ -174,89 +174,85 @@ module _ (clock : ℕ) (s : List ℕ) (gc from max at : ℕ) (b : List ℕ) (o :
   status-is h v e q = q ∙ ap (λ (x : Header). statusOf (x .«last_gc») (x .max) from gc max) e
 
   by-room : (a : NodeAnswer) (x : Node) (r : Bool) (b′ : List ℕ) → Stored (withNode x (decodeNode b)) b r b′ → (y : Taken) → y ≡ withRoom plainWays a x (decodeNode b .node)
-      → Answered y b (pick r a node.Room) b′
+      → Gives (nodeTaken y b) (pick r a node.Room) b′
   by-room a x true b′ t y e =
       let p : y ≡ takenAs a x = e ∙ ap (λ (q : Bool). pick q (takenAs a x) (takenAs node.Room (decodeNode b .node))) (sym (t .room)) in
-      record { answer = sym (ap (λ (z : Taken). z .answer) p); bytes = t .bytes ∙ ap (λ (z : Taken). encodeNode (withNode (z .node) (decodeNode b))) (sym p) }
+      (sym (ap (λ (z : Taken). z .answer) p), t .bytes ∙ ap (λ (z : Taken). encodeNode (withNode (z .node) (decodeNode b))) (sym p))
   by-room a x false b′ t y e =
       let p : y ≡ takenAs node.Room (decodeNode b .node) = e ∙ ap (λ (q : Bool). pick q (takenAs a x) (takenAs node.Room (decodeNode b .node))) (sym (t .room)) in
-      record { answer = sym (ap (λ (z : Taken). z .answer) p); bytes = t .bytes ∙ sym (o .is) ∙ ap (λ (z : Taken). encodeNode (withNode (z .node) (decodeNode b))) (sym p) }
+      (sym (ap (λ (z : Taken). z .answer) p), t .bytes ∙ sym (o .is) ∙ ap (λ (z : Taken). encodeNode (withNode (z .node) (decodeNode b))) (sym p))
 
   module _ (v : DeltaStatus) (is : v ≡ deltaStatus (decodeNode b .node) (deltaOf s gc from max at)) where
     by-status : (w : DeltaStatus) → v ≡ w → applyNode plainWays clock d n ≡ answered plainWays w (outcome w clock d n) n
     unfolding d n applyNode
     by-status w q = ap (λ (x : DeltaStatus). answered plainWays x (outcome x clock d n) n) (sym is ∙ q)
 
-    pub rejected : rejects v ≡ true → Answered (applyNode plainWays clock (deltaOf s gc from max at) (decodeNode b .node)) b node.Reject b
+    pub rejected : rejects v ≡ true → Gives (nodeApplied clock (deltaOf s gc from max at) b) node.Reject b
     unfolding d n
     rejected q = go v refl q
       where
-        go : (w : DeltaStatus) → v ≡ w → rejects w ≡ true → Answered (applyNode plainWays clock (deltaOf s gc from max at) (decodeNode b .node)) b node.Reject b
+        go : (w : DeltaStatus) → v ≡ w → rejects w ≡ true → Gives (nodeApplied clock (deltaOf s gc from max at) b) node.Reject b
         go Reject p q =
             let y = by-status Reject p in
-            record { answer = sym (ap (λ (z : Taken). z .answer) y); bytes = sym (o .is) ∙ ap (λ (z : Taken). encodeNode (withNode (z .node) (decodeNode b))) (sym y) }
+            (sym (ap (λ (z : Taken). z .answer) y), sym (o .is) ∙ ap (λ (z : Taken). encodeNode (withNode (z .node) (decodeNode b))) (sym y))
         go Apply p q = let z : _≡_ {A = ℕ} 0 1 = cc in absurd (omega arith)
         go ApplyAfterReset p q = let z : _≡_ {A = ℕ} 0 1 = cc in absurd (omega arith)
 
     pub concluded : rejects v ≡ false → (f : Bool) → f ≡ resets v → (r : Bool) (b′ : List ℕ) → Stored (grown clock s at max (begun f gc (decodeNode b))) b r b′ → (a : NodeAnswer) → a ≡ answerAs v r
-        → Answered (applyNode plainWays clock (deltaOf s gc from max at) (decodeNode b .node)) b a b′
+        → Gives (nodeApplied clock (deltaOf s gc from max at) b) a b′
     unfolding d n outcome
     concluded q f fe r b′ t a ae = go v refl q (fe) ae
       where
-        go : (w : DeltaStatus) → v ≡ w → rejects w ≡ false → f ≡ resets w → a ≡ answerAs w r → Answered (applyNode plainWays clock (deltaOf s gc from max at) (decodeNode b .node)) b a b′
+        go : (w : DeltaStatus) → v ≡ w → rejects w ≡ false → f ≡ resets w → a ≡ answerAs w r → Gives (nodeApplied clock (deltaOf s gc from max at) b) a b′
         go Reject p q fe ae = let z : _≡_ {A = ℕ} 0 1 = cc in absurd (omega arith)
         go Apply p q fe ae = rw ae (by-room node.Apply (outcome Apply clock d n) r b′ (rw fe at t) (applyNode plainWays clock d n) (by-status Apply p))
         go ApplyAfterReset p q fe ae =
             rw ae (by-room node.ApplyAfterReset (outcome ApplyAfterReset clock d n) r b′ (rw fe at t) (applyNode plainWays clock d n) (by-status ApplyAfterReset p))
 
 -- by the numbers that were read
-pub numbers-read : (clock : ℕ) (s : List ℕ) (gc gc′ from from′ max at : ℕ) → gc ≡ gc′ → from ≡ from′ → (n : Node) (b : List ℕ) (r : NodeAnswer) (b′ : List ℕ)
-    → Answered (applyNode plainWays clock (deltaOf s gc from max at) n) b r b′ → Answered (applyNode plainWays clock (deltaOf s gc′ from′ max at) n) b r b′
-numbers-read clock s gc gc′ from from′ max at p q n b r b′ t = rw (p, q) at t
+pub numbers-read : (clock : ℕ) (s : List ℕ) (gc gc′ from from′ max at : ℕ) → gc ≡ gc′ → from ≡ from′ → (b : List ℕ) (r : NodeAnswer) (b′ : List ℕ)
+    → Gives (nodeApplied clock (deltaOf s gc from max at) b) r b′ → Gives (nodeApplied clock (deltaOf s gc′ from′ max at) b) r b′
+numbers-read clock s gc gc′ from from′ max at p q b r b′ t = rw (p, q) at t
 
 -- ---- one node delta on a table
 
-module _ (l : List ℕ) (v : valid l ≡ true) (clock : ℕ) (x : rule.Part) (i : ℕ) where
-  pub turned-unknown : findNode (x .number) (decode l) ≡ Free i → Turned clock x (decode l) node.Unknown l
-  turned-unknown e =
-      let m = node-missing l v (x .number) i e in
-      record { answer = ap (partAnswer clock x) (sym m); bytes = sym (encode-decode l v) ∙ ap (λ (o : Option Node). encode (partTable clock x o (decode l))) (sym m) }
+module _ (l : List ℕ) (v : valid l ≡ true) (clock : ℕ) (x : rule.Part) where
+  pub part-missing : spanIn (x .number) l ≡ Missing → Gives (stored (partApplied clock x (decode l))) node.Unknown l
+  part-missing e =
+      stays-gives (x .number) l v (partApplied clock x (decode l)) node.Unknown (ap (λ (o : Option Node). onHeld clock x o (decode l)) (missing-node (x .number) l v e))
 
-  module _ (e : findNode (x .number) (decode l) ≡ At i) where
-    pub in-table : i < maxNodes
-    in-table = omega (arith, node-in l v (x .number) i e, valid-few l v)
+  module _ {start end : ℕ} (e : spanIn (x .number) l ≡ Held start end) where
+    -- what is lent to the node's rule
+    abbrev lent : List ℕ
+    lent = take (end - start) (drop start l)
 
-    pub rising-seen : Rising (take (nodePlace i + nodeWidth - nodePlace i) (drop (nodePlace i) l))
-    rising-seen =
-        let h = node-in l v (x .number) i e in
-        subst Rising (sym (seen (nodePlace i) nodeWidth l)) (record { laid = node-laid l v i h; keys = node-rises l v i h })
+    is-node : lent ≡ part start nodeWidth l
+    is-node = node-seen (x .number) l v e
 
-    pub turned : (r : NodeAnswer) (y : List ℕ)
-        → Answered (applyNode plainWays clock (x .delta) (decodeNode (take (nodePlace i + nodeWidth - nodePlace i) (drop (nodePlace i) l)) .node)) (take (nodePlace i + nodeWidth - nodePlace i) (drop (nodePlace i) l)) r y
-        → Turned clock x (decode l) r (putMid (nodePlace i) (nodePlace i + nodeWidth - nodePlace i) l y)
-    turned r y t =
-        let m = node-found l v (x .number) i e in
-        let a : Answered (applyNode plainWays clock (x .delta) (nodeAt i l .node)) (nodeBytes i l) r y =
-        subst (λ (b : List ℕ). Answered (applyNode plainWays clock (x .delta) (decodeNode b .node)) b r y) (seen (nodePlace i) nodeWidth l) t in
-        record {
-          answer = a .answer ∙ ap (partAnswer clock x) (sym m);
-          bytes =
-              node-changed l v (x .number) i e (applyNode plainWays clock (x .delta) (nodeAt i l .node) .node) (putMid (nodePlace i) (nodePlace i + nodeWidth - nodePlace i) l y)
-              (lent (nodePlace i) nodeWidth l y (encodeNode (withNode (applyNode plainWays clock (x .delta) (nodeAt i l .node) .node) (nodeAt i l))) (a .bytes) (ap length (a .bytes) ∙ length-node _))
-              ∙ ap (λ (o : Option Node). encode (partTable clock x o (decode l))) (sym m);
-        }
+    pub lent-rising : Rising lent
+    lent-rising = subst Rising (sym is-node) (record { laid = held-laid (x .number) l v e; keys = held-rises (x .number) l v e })
+
+    pub part-held : (r : NodeAnswer) (ys : List ℕ) → Gives (nodeApplied clock (x .delta) lent) r ys → Gives (stored (partApplied clock x (decode l))) r (putMid start (end - start) l ys)
+    part-held r ys g =
+        let b : List ℕ = part start nodeWidth l in
+        let n : Node = applyNode plainWays clock (x .delta) (decodeNode b .node) .node in
+        let w : Gives (nodeApplied clock (x .delta) b) r ys = subst (λ (y : List ℕ). Gives (nodeApplied clock (x .delta) y) r ys) is-node g in
+        held-gives (x .number) l v e (partApplied clock x (decode l)) r n ys
+        (ap (λ (o : Option Node). onHeld clock x o (decode l)) (held-node (x .number) l v e)
+        ∙ ap (λ (a : NodeAnswer). gives a (setNode (x .number) n (decode l))) (sym (w .0)))
+        (w .1)
 
 each-cons : (clock : ℕ) (x : rule.Part) (xs : List rule.Part) (t : Table)
-    → applyEach (applyNode plainWays clock) (x ∷ xs) t ≡ answering (partAnswer clock x (nodeOf (x .number) t)) (applyEach (applyNode plainWays clock) xs (partTable clock x (nodeOf (x .number) t) t))
+    → applyEach (applyNode plainWays clock) (x ∷ xs) t ≡ answering (partApplied clock x t .answer) (applyEach (applyNode plainWays clock) xs (partApplied clock x t .table))
 unfolding applyEach
 each-cons clock x xs t = go (nodeOf (x .number) t)
   where
-    go : (o : Option Node) → onNode (applyNode plainWays clock) x o t (applyEach (applyNode plainWays clock) xs) ≡ answering (partAnswer clock x o) (applyEach (applyNode plainWays clock) xs (partTable clock x o t))
+    go : (o : Option Node) → onNode (applyNode plainWays clock) x o t (applyEach (applyNode plainWays clock) xs) ≡ answering (onHeld clock x o t .answer) (applyEach (applyNode plainWays clock) xs (onHeld clock x o t .table))
     go none = refl
     go (some n) = refl
 
 -- a table that obeys still does
-part-ok : (clock : ℕ) → clock < numbers → (x : rule.Part) (t : Table) → OkDelta (x .delta) → OkTable t → OkTable (partTable clock x (nodeOf (x .number) t) t)
+part-ok : (clock : ℕ) → clock < numbers → (x : rule.Part) (t : Table) → OkDelta (x .delta) → OkTable t → OkTable (partApplied clock x t .table)
 unfolding applyEach
 part-ok clock h x t d ok =
     subst OkTable (ap (λ (y : Stream). y .table) (each-cons clock x [] t)) (ok-each plainWays plain-lawful clock h (x ∷ []) t (λ y m. one y m) ok)
@@ -304,47 +300,46 @@ module _ (clock : ℕ) (s t₀ l₀ : List ℕ) where
 
   module _ (i : ℕ) (t l : List ℕ) (inv : Stands clock s t₀ l₀ i t l) where
     pub stands-last : length (partsFrom s 0) ≤ i
-        → (t ≡ encode (applyEach (applyNode plainWays clock) (partsFrom s 0) (decode t₀) .table)) × (l ≡ put 0 (codes (applyEach (applyNode plainWays clock) (partsFrom s 0) (decode t₀) .answers)) l₀)
+        → both t l ≡ partsApplied clock (partsFrom s 0) l₀ t₀
     unfolding applyEach codes
     stands-last h =
         let e : drop i (partsFrom s 0) ≡ [] = drop-of-length-le (partsFrom s 0) {i = i} h in
-        let p : applyEach (applyNode plainWays clock) (drop i (partsFrom s 0)) (decode t) ≡ record { answers = []; table = decode t } = ap (λ (xs : List rule.Part). applyEach (applyNode plainWays clock) xs (decode t)) e in (
-          sym (encode-decode t (inv .good)) ∙ ap encode (sym (ap (λ (y : Stream). y .table) p) ∙ inv .table),
-          sym (put-nil i l) ∙ ap (λ (y : Stream). put i (codes (y .answers)) l) (sym p) ∙ inv .list,
-        )
+        let p : applyEach (applyNode plainWays clock) (drop i (partsFrom s 0)) (decode t) ≡ record { answers = []; table = decode t } = ap (λ (xs : List rule.Part). applyEach (applyNode plainWays clock) xs (decode t)) e in
+        ap₂ both (sym (encode-decode t (inv .good)) ∙ ap encode (sym (ap (λ (y : Stream). y .table) p) ∙ inv .table))
+        (sym (put-nil i l) ∙ ap (λ (y : Stream). put i (codes (y .answers)) l) (sym p) ∙ inv .list)
 
     module _ (h : i < length (partsFrom s 0)) (place : i < length l) where
       x : rule.Part
       x = getD (partsFrom s 0) i noPart
 
       u : Table
-      u = partTable clock x (nodeOf (x .number) (decode t)) (decode t)
+      u = partApplied clock x (decode t) .table
 
       left : drop i (partsFrom s 0) ≡ x ∷ drop (i + 1) (partsFrom s 0)
       unfolding x
       left = drop-cons (partsFrom s 0) i noPart h ∙ ap (λ (j : ℕ). getD (partsFrom s 0) i noPart ∷ drop j (partsFrom s 0)) (sym (add-one i))
 
-      pub stands-next : clock < numbers → Accepted s → AreBytes s → (r : NodeAnswer) (t′ l′ : List ℕ) → Turned clock (getD (partsFrom s 0) i noPart) (decode t) r t′ → l′ ≡ set l i (codeOf r)
+      pub stands-next : clock < numbers → Accepted s → AreBytes s → (r : NodeAnswer) (t′ l′ : List ℕ) → Gives (stored (partApplied clock (getD (partsFrom s 0) i noPart) (decode t))) r t′ → l′ ≡ set l i (codeOf r)
           → Stands clock s t₀ l₀ (i + 1) t′ l′
       unfolding x u codes
       stands-next k acc bytes r t′ l′ w q =
           let rest : List rule.Part = drop (i + 1) (partsFrom s 0) in
           let ok-u : OkTable u = part-ok clock k x (decode t) (all-ok s acc bytes x (in-at (partsFrom s 0) i noPart h)) (table-facts (decode t) (valid-obeys t (inv .good))) in
           let obeys-u : obeys u ≡ true = facts-table u ok-u in
-          let d : decode t′ ≡ u = ap decode (w .bytes) ∙ decode-encode u obeys-u in
-          let a : NodeAnswer = partAnswer clock x (nodeOf (x .number) (decode t)) in
+          let d : decode t′ ≡ u = ap decode (w .1) ∙ decode-encode u obeys-u in
+          let a : NodeAnswer = partApplied clock x (decode t) .answer in
           let p : applyEach (applyNode plainWays clock) (drop i (partsFrom s 0)) (decode t) ≡ answering a (applyEach (applyNode plainWays clock) rest (decode t′)) =
           ap (λ (xs : List rule.Part). applyEach (applyNode plainWays clock) xs (decode t)) left
           ∙ each-cons clock x rest (decode t)
           ∙ ap (λ (v : Table). answering a (applyEach (applyNode plainWays clock) rest v)) (sym d) in
           record {
-            good = ap valid (w .bytes) ∙ valid-encode u obeys-u;
-            same = ap length (w .bytes) ∙ length-table u ∙ sym (valid-long t (inv .good)) ∙ inv .same;
+            good = ap valid (w .1) ∙ valid-encode u obeys-u;
+            same = ap length (w .1) ∙ length-table u ∙ sym (valid-long t (inv .good)) ∙ inv .same;
             long = ap length q ∙ length-set l i (codeOf r) ∙ inv .long;
             table = sym (ap (λ (y : Stream). y .table) p) ∙ inv .table;
             list =
                 let others : List ℕ = codes (applyEach (applyNode plainWays clock) rest (decode t′) .answers) in
-                ap (put (i + 1) others) (q ∙ ap (λ (y : NodeAnswer). set l i (codeOf y)) (w .answer))
+                ap (put (i + 1) others) (q ∙ ap (λ (y : NodeAnswer). set l i (codeOf y)) (w .0))
                 ∙ ap (λ (j : ℕ). put j others (set l i (codeOf a))) (add-one i)
                 ∙ put-cons i (codeOf a) others l place
                 ∙ ap (λ (y : Stream). put i (codes (y .answers)) l) (sym p)
@@ -358,14 +353,9 @@ module _ (delta : List ℕ) (clock : ℕ) (list l : List ℕ) where
   abbrev Outcome : Applied → List ℕ → List ℕ → Type 0
   Outcome r l′ list′ = Gives (lentApply delta clock list l) r (both l′ list′)
 
-  -- from its three parts
-  parts : {r : Applied} {l′ list′ : List ℕ} → r ≡ lentApply delta clock list l .answer → l′ ≡ lentApply delta clock list l .lent .table
-      → list′ ≡ lentApply delta clock list l .lent .list → Outcome r l′ list′
-  parts p q s = (p, ap₂ both q s)
-
   pub bad-table : valid l ≡ false → Outcome (Refused BadTable 0) l list
   unfolding lentApplyAs
-  bad-table e = parts (rw (lentApplyAs, e)) (rw (lentApplyAs, e)) (rw (lentApplyAs, e))
+  bad-table e = (rw (lentApplyAs, e), rw (lentApplyAs, e))
 
   module _ (v : valid l ≡ true) where
     pub at-fault : (why : Refusal) (at : ℕ) → rule.deltaRead delta ≡ read.Refused why at → Outcome (Refused why at) l list
@@ -377,7 +367,7 @@ module _ (delta : List ℕ) (clock : ℕ) (list l : List ℕ) where
         go (rule.Faulty y b) q a =
             let p : y ≡ why = cc in
             let k : b ≡ at = cc in
-            parts (rw (lentApplyAs, v, apply, q, p, k)) (rw (lentApplyAs, v, apply, q) (sym (encode-decode l v))) (rw (lentApplyAs, v, apply, q))
+            (rw (lentApplyAs, v, apply, q, p, k), rw (lentApplyAs, v, apply, q) (ap (λ (t : List ℕ). both t list) (sym (encode-decode l v))))
 
     module _ (ops nodes : ℕ) (e : rule.deltaRead delta ≡ read.Good ops nodes) where
       pub accepted : (a : Accepted delta) × (nodes ≡ length (rule.partsOf (a .0)))
@@ -388,11 +378,11 @@ module _ (delta : List ℕ) (clock : ℕ) (list l : List ℕ) where
           go (rule.Good os) q a = let k : length (rule.partsOf os) ≡ nodes = cc in ((os, q), sym k)
           go (rule.Faulty y b) q a = let z : _≡_ {A = ℕ} 0 1 = cc in absurd (omega arith)
 
-      pub told : (r : Heads) → Gathered delta (r .at) (r .count) (r .max) → Told delta nodes r
-      told r g =
+      pub heads-found : (r : Heads) → Gathered delta (r .at) (r .count) (r .max) → HeadsFound delta nodes r
+      heads-found r g =
           record {
             all = accepted .1 ∙ ap length (sym (accepted-parts delta (accepted .0)));
-            few = omega (arith, g .few ops nodes (sym e));
+            few = g .few ops nodes (sym e);
             long-at = g .long-at;
             long-count = g .long-count;
             long-max = g .long-max;
@@ -404,13 +394,12 @@ module _ (delta : List ℕ) (clock : ℕ) (list l : List ℕ) where
       no-places h =
           let q = accepted .0 .1 in
           let n : leb (length (rule.partsOf (accepted .0 .0))) (length list) ≡ false = lt-leb (length (rule.partsOf (accepted .0 .0))) (length list) (omega (arith, accepted .1)) in
-          parts (rw (lentApplyAs, v, apply, q, n)) (rw (lentApplyAs, v, apply, q, n) (sym (encode-decode l v))) (rw (lentApplyAs, v, apply, q, n))
+          (rw (lentApplyAs, v, apply, q, n), rw (lentApplyAs, v, apply, q, n) (ap (λ (t : List ℕ). both t list) (sym (encode-decode l v))))
 
-      pub gives : nodes ≤ length list → (l′ list′ : List ℕ) → l′ ≡ encode (applyEach (applyNode plainWays clock) (partsFrom delta 0) (decode l) .table)
-          → list′ ≡ put 0 (codes (applyEach (applyNode plainWays clock) (partsFrom delta 0) (decode l) .answers)) list → Outcome (Nodes nodes) l′ list′
+      pub applied-all : nodes ≤ length list → (l′ list′ : List ℕ) → both l′ list′ ≡ partsApplied clock (partsFrom delta 0) list l → Outcome (Nodes nodes) l′ list′
       unfolding lentApplyAs apply
-      gives h l′ list′ p s =
+      applied-all h l′ list′ p =
           let q = accepted .0 .1 in
           let n : leb (length (rule.partsOf (accepted .0 .0))) (length list) ≡ true = le-leb (length (rule.partsOf (accepted .0 .0))) (length list) (omega (arith, accepted .1)) in
           let same : partsFrom delta 0 ≡ rule.partsOf (accepted .0 .0) = accepted-parts delta (accepted .0) in
-          parts (rw (lentApplyAs, v, apply, q, n) (ap Nodes (accepted .1))) (rw (lentApplyAs, v, apply, q, n) (rw same at p)) (rw (lentApplyAs, v, apply, q, n) (rw same at s))
+          (rw (lentApplyAs, v, apply, q, n) (ap Nodes (accepted .1)), rw (lentApplyAs, v, apply, q, n) (rw same at p))

@@ -1,26 +1,27 @@
 // Applying a delta to a lent table: each node delta in stream order, and one answer for each. Nothing is touched before the whole delta is known to be
 // good. A node is changed where it stands; where its records may be too many it is saved first and put back if they are, so that Room leaves it as it is.
-use apply_node::Heads;
+use delta_read::Heads;
 use rules::Applied;
 use rules::DeltaRead;
 use rules::DeltaStatus;
 use rules::Header;
 use rules::NodeAnswer;
 use rules::Refusal;
+use rules::wire;
 use table::layout;
-use table_read::Place;
+use table_read::Span;
 ghost use mathlib.Core.Bool.{true};
 ghost use mathlib.Core.Path.{_≡_};
-ghost use Prim.Native.Nat.{_+_, _≤_};
+ghost use Prim.Native.Nat.{_≤_};
 ghost use lib.ListN.{length};
-ghost use Rattle.fields.specs.Parts.{put};
 ghost use Rattle.rules.specs.Given.{Gives};
-ghost use Rattle.rules.specs.Apply.{applyNode, applyEach, codes, plainWays};
-ghost use Rattle.rules.specs.Layout.{encodeNode, encode, decode, decodeNode, valid};
-ghost use Rattle.rules.specs.Lent.{both, lentApply};
+ghost use Rattle.rules.specs.Layout.{encodeNode, decode, decodeNode, valid};
+ghost use Rattle.rules.specs.Lent.{stored, both, lentApply};
 ghost use Rattle.table.specs.Fits.{LaidNode};
-ghost use Rattle.apply_node.specs.Taking.{Rising, recsFrom, partsFrom, deltaOf, partAt};
-ghost use Rattle.apply.specs.Applying.{emptied, begun, grown, Grown, Stored, rejects, resets, answerAs, Answered, Turned, Accepted, Told};
+ghost use Rattle.delta_read.specs.NodeDeltas.{recsFrom, partsFrom, deltaOf, behindNode, partAt};
+ghost use Rattle.apply_node.specs.Taking.{Rising};
+ghost use Rattle.apply.specs.Applying.{emptied, begun, grown, Grown, Stored, rejects, resets, answerAs};
+ghost use Rattle.apply.specs.Applying.{nodeApplied, partApplied, partsApplied, Accepted, HeadsFound};
 
 // ---- one node
 
@@ -79,7 +80,9 @@ fn grow_or_keep(
     clock: u64,
 ) -> bool
     requires { ⌜ Rising (now node) × (at ≤ length (now delta)) ⌝ }
-    ensures { λ r. ⌜ Stored (grown clock (now (delta .entry)) at max (begun afresh «last_gc» (decodeNode (now (node .entry))))) (now (node .entry)) r (now (node .exit)) ⌝ }
+    ensures { λ r. ⌜ Stored
+        (grown clock (now (delta .entry)) at max (begun afresh «last_gc» (decodeNode (now (node .entry)))))
+        (now (node .entry)) r (now (node .exit)) ⌝ }
 {
     let mut saved = [0u8; layout::NODE];
     fields::copy_to(&mut saved, 0, node);
@@ -102,7 +105,9 @@ fn grow_in_place(
     clock: u64,
 ) -> bool
     requires { ⌜ Rising (now node) × (at ≤ length (now delta)) × (length (recsFrom (now delta) at) ≤ count) ⌝ }
-    ensures { λ r. ⌜ Stored (grown clock (now (delta .entry)) at max (begun afresh «last_gc» (decodeNode (now (node .entry))))) (now (node .entry)) r (now (node .exit)) ⌝ }
+    ensures { λ r. ⌜ Stored
+        (grown clock (now (delta .entry)) at max (begun afresh «last_gc» (decodeNode (now (node .entry)))))
+        (now (node .entry)) r (now (node .exit)) ⌝ }
 {
     let free = Header::RECORDS - fields::byte_at(node, layout::RECORD_COUNT);
     if count <= free {
@@ -166,7 +171,7 @@ fn apply_node(
     clock: u64,
 ) -> NodeAnswer
     requires { ⌜ Rising (now node) × (at ≤ length (now delta)) × (length (recsFrom (now delta) at) ≤ count) ⌝ }
-    ensures { λ r. ⌜ Answered (applyNode plainWays clock (deltaOf (now (delta .entry)) «last_gc» from max at) (decodeNode (now (node .entry)) .node)) (now (node .entry)) r (now (node .exit)) ⌝ }
+    ensures { λ r. ⌜ Gives (nodeApplied clock (deltaOf (now (delta .entry)) «last_gc» from max at) (now (node .entry))) r (now (node .exit)) ⌝ }
 {
     let own = table_read::read_header(node);
     let status = rules::check_delta_status(own.last_gc, own.max, from, last_gc, max);
@@ -197,28 +202,26 @@ fn apply_part(
     max: u64,
     clock: u64,
 ) -> NodeAnswer
-    requires { ⌜ (valid (now table) ≡ true) × (at + 25 ≤ length (now delta)) × (length (recsFrom (now delta) (at + 25)) ≤ count) ⌝ }
-    ensures { λ r. ⌜ Turned clock (partAt (now (delta .entry)) at max) (decode (now (table .entry))) r (now (table .exit)) ⌝ }
+    requires { ⌜ (valid (now table) ≡ true)
+        × (behindNode at ≤ length (now delta)) × (length (recsFrom (now delta) (behindNode at)) ≤ count) ⌝ }
+    ensures { λ r. ⌜ Gives (stored (partApplied clock (partAt (now (delta .entry)) at max) (decode (now (table .entry)))))
+        r (now (table .exit)) ⌝ }
 {
-    let number = fields::read_u64(delta, at + 1);
-    let gc = fields::read_u64(delta, at + 9);
-    let from = fields::read_u64(delta, at + 17);
-    match table_read::find_node(table, number) {
-        Place::At(i) => {
-            let a = layout::NODES + i * layout::NODE;
-            let e = a + layout::NODE;
-            apply_node(
-                &mut table[a..e],
-                delta,
-                at + 25,
-                count,
-                gc,
-                from,
-                max,
-                clock,
-            )
-        }
-        Place::Free(_) => NodeAnswer::Unknown,
+    let number = fields::read_u64(delta, at + wire::NODE_NUMBER);
+    let last_gc = fields::read_u64(delta, at + wire::NODE_LAST_GC);
+    let from = fields::read_u64(delta, at + wire::NODE_FROM);
+    match table_read::node_span(table, number) {
+        Span::Held { start, end } => apply_node(
+            &mut table[start..end],
+            delta,
+            at + wire::NODE_WIDTH,
+            count,
+            last_gc,
+            from,
+            max,
+            clock,
+        ),
+        Span::Missing => NodeAnswer::Unknown,
     }
 }
 
@@ -231,8 +234,9 @@ fn apply_each(
     clock: u64,
     answers: &mut [u8],
 )
-    requires { ⌜ (valid (now table) ≡ true) × Accepted (now delta) × Told (now delta) nodes heads × (nodes ≤ length (now answers)) ⌝ }
-    ensures { λ _. ⌜ (now (table .exit) ≡ encode (applyEach (applyNode plainWays clock) (partsFrom (now (delta .entry)) 0) (decode (now (table .entry))) .table)) × (now (answers .exit) ≡ put 0 (codes (applyEach (applyNode plainWays clock) (partsFrom (now (delta .entry)) 0) (decode (now (table .entry))) .answers)) (now (answers .entry))) ⌝ }
+    requires { ⌜ (valid (now table) ≡ true) × Accepted (now delta) × HeadsFound (now delta) nodes heads × (nodes ≤ length (now answers)) ⌝ }
+    ensures { λ _. ⌜ both (now (table .exit)) (now (answers .exit))
+        ≡ partsApplied clock (partsFrom (now (delta .entry)) 0) (now (answers .entry)) (now (table .entry)) ⌝ }
 {
     let places = heads.at;
     let counts = heads.count;
@@ -248,9 +252,10 @@ fn apply_each(
 // Applies an accepted delta to a good table, one answer for each node delta.
 pub fn apply_good(table: &mut [u8], delta: &[u8], clock: u64, answers: &mut [u8])
     requires { ⌜ (valid (now table) ≡ true) × Accepted (now delta) × (length (partsFrom (now delta) 0) ≤ length (now answers)) ⌝ }
-    ensures { λ _. ⌜ (now (table .exit) ≡ encode (applyEach (applyNode plainWays clock) (partsFrom (now (delta .entry)) 0) (decode (now (table .entry))) .table)) × (now (answers .exit) ≡ put 0 (codes (applyEach (applyNode plainWays clock) (partsFrom (now (delta .entry)) 0) (decode (now (table .entry))) .answers)) (now (answers .entry))) ⌝ }
+    ensures { λ _. ⌜ both (now (table .exit)) (now (answers .exit))
+        ≡ partsApplied clock (partsFrom (now (delta .entry)) 0) (now (answers .entry)) (now (table .entry)) ⌝ }
 {
-    let heads = apply_node::read_heads(delta);
+    let heads = delta_read::read_heads(delta);
     let read = heads.read;
     let DeltaRead::Good { ops: _, nodes } = read else {
         return;
@@ -265,7 +270,7 @@ pub fn apply(table: &mut [u8], delta: &[u8], clock: u64, answers: &mut [u8]) -> 
         r (both (now (table .exit)) (now (answers .exit))) ⌝ }
 {
     if table_check::check_table(table) {
-        let heads = apply_node::read_heads(delta);
+        let heads = delta_read::read_heads(delta);
         let read = heads.read;
         match read {
             DeltaRead::Refused { why, at } => Applied::Refused { why, at },

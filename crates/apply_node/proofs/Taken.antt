@@ -45,7 +45,8 @@ use Rattle.table_read.proofs.Halves.{half-more}
 use Rattle.table_read.proofs.Placed.{store-at, store-free, free-in}
 use Rattle.apply_node.specs.declared.Step.{Step}
 use Rattle.apply_node.specs.declared.Step.the-variants.{Taken, Full, Over}
-use Rattle.apply_node.specs.Taking.{takesAs, carried, hasRoom, Rising, Tried, takeOne, afterOp, stepOf, Stepped, recsFrom}
+use Rattle.apply_node.specs.Taking.{takesAs, carried, hasRoom, Rising, Tried, takeOne, afterOp, stepOf, Stepped}
+use Rattle.delta_read.specs.NodeDeltas.{recsFrom}
 
 -- ---- which are taken
 

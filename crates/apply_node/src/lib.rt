@@ -1,13 +1,9 @@
-// A node delta in the bytes of an accepted delta, and the taking of its records into the bytes of one node. Each record is taken or skipped as
+// The records of a node delta, as they stand in the bytes of an accepted delta, taken into the bytes of one node. Each record is taken or skipped as
 // document 01 says; a record that would be a 33rd key ends the taking with no room.
-use delta_read::Followed;
 use delta_read::Op;
 use delta_read::OpRead;
-use rules::DeltaRead;
 use rules::Header;
-use rules::Refusal;
 use rules::Status;
-use rules::sizes;
 use table::layout;
 use table_read::Place;
 ghost use mathlib.Core.Bool.{true};
@@ -17,13 +13,13 @@ ghost use lib.ListN.{length};
 ghost use Rattle.rules.specs.Sizes.{maxKey, maxValue};
 ghost use Rattle.rules.specs.Node.{scheduled, store};
 ghost use Rattle.rules.specs.Apply.{startAt, takeAll};
-ghost use Rattle.rules.specs.Delta.{deltaRead};
 ghost use Rattle.delta_read.specs.Places.{Inside, opOf};
+ghost use Rattle.delta_read.specs.NodeDeltas.{recsFrom};
 ghost use Rattle.table_read.specs.Find.{findKey};
 ghost use Rattle.table_read.specs.declared.Place.the-variants.{Free};
 ghost use Rattle.table.specs.Tests.{countOf, recsOf};
 ghost use Rattle.table.specs.Changes.{recOf};
-ghost use Rattle.apply_node.specs.Taking.{takesAs, carried, Rising, Tried, takeOne, Stepped, recsFrom, Gathered};
+ghost use Rattle.apply_node.specs.Taking.{takesAs, carried, Rising, Tried, takeOne, Stepped};
 
 // What an operation of a node delta comes to.
 pub enum Step {
@@ -33,15 +29,6 @@ pub enum Step {
     Full,
     // The next Node: the records are over.
     Over,
-}
-
-// A delta's verdict and, where it is accepted, each of its node deltas: where its Node stands, how many operations stand behind that Node at most, and
-// the running max at their end.
-pub struct Heads {
-    pub read: DeltaRead,
-    pub at: [usize; sizes::NODES],
-    pub count: [usize; sizes::NODES],
-    pub max: [u64; sizes::NODES],
 }
 
 // ---- one record
@@ -108,7 +95,9 @@ fn store_record(
     start: u64,
 ) -> bool
     requires { ⌜ Rising (now node) × (length (now key) ≤ maxKey) × (length (now value) ≤ maxValue) ⌝ }
-    ensures { λ r. ⌜ Tried (store (recOf (now (key .entry)) (now (value .entry)) version status start) (recsOf (now (node .entry)))) (now (node .entry)) r (now (node .exit)) ⌝ }
+    ensures { λ r. ⌜ Tried
+        (store (recOf (now (key .entry)) (now (value .entry)) version status start) (recsOf (now (node .entry))))
+        (now (node .entry)) r (now (node .exit)) ⌝ }
 {
     let found = find_key(node, key);
     match found {
@@ -126,7 +115,7 @@ fn store_record(
     }
 }
 
-// Takes or skips the record whose key and value stand at these places of `s`.
+// Takes or skips the record whose key and value stand at these places of the delta.
 fn take_record(
     node: &mut [u8],
     delta: &[u8],
@@ -140,8 +129,11 @@ fn take_record(
     last_gc: u64,
     clock: u64,
 ) -> bool
-    requires { ⌜ Rising (now node) × (keyat + keylen ≤ length (now delta)) × (valueat + valuelen ≤ length (now delta)) × (keylen ≤ maxKey) × (valuelen ≤ maxValue) ⌝ }
-    ensures { λ r. ⌜ Tried (takeOne held «last_gc» clock (carried (now (delta .entry)) keyat keylen valueat valuelen version status) (recsOf (now (node .entry)))) (now (node .entry)) r (now (node .exit)) ⌝ }
+    requires { ⌜ Rising (now node)
+        × (keyat + keylen ≤ length (now delta)) × (valueat + valuelen ≤ length (now delta)) × (keylen ≤ maxKey) × (valuelen ≤ maxValue) ⌝ }
+    ensures { λ r. ⌜ Tried
+        (takeOne held «last_gc» clock (carried (now (delta .entry)) keyat keylen valueat valuelen version status) (recsOf (now (node .entry))))
+        (now (node .entry)) r (now (node .exit)) ⌝ }
 {
     if takes(held, last_gc, version, status) {
         let keyend = keyat + keylen;
@@ -209,7 +201,9 @@ pub fn take_records(
     clock: u64,
 ) -> bool
     requires { ⌜ Rising (now node) × (at ≤ length (now delta)) ⌝ }
-    ensures { λ r. ⌜ Tried (takeAll held «last_gc» clock (recsFrom (now (delta .entry)) at) (recsOf (now (node .entry)))) (now (node .entry)) r (now (node .exit)) ⌝ }
+    ensures { λ r. ⌜ Tried
+        (takeAll held «last_gc» clock (recsFrom (now (delta .entry)) at) (recsOf (now (node .entry))))
+        (now (node .entry)) r (now (node .exit)) ⌝ }
 {
     let mut i = at;
     while i < delta.len() {
@@ -225,72 +219,4 @@ pub fn take_records(
         }
     }
     true
-}
-
-// ---- the node deltas of a delta
-
-// A delta that is refused.
-fn refused(why: Refusal, at: usize) -> Heads
-    ensures { λ r. ⌜ (r .read ≡ DeltaRead.Refused why at) × (length (r .at) ≡ 8) × (length (r .count) ≡ 8) × (length (r .max) ≡ 8) ⌝ }
-{
-    Heads {
-        read: DeltaRead::Refused { why, at },
-        at: [0usize; sizes::NODES],
-        count: [0usize; sizes::NODES],
-        max: [0u64; sizes::NODES],
-    }
-}
-
-// The verdict on a delta, and its node deltas. One pass: who applies the delta need not look for its node deltas again.
-pub fn read_heads(delta: &[u8]) -> Heads
-    ensures { λ r. ⌜ (r .read ≡ deltaRead (now (delta .entry))) × Gathered (now (delta .entry)) (r .at) (r .count) (r .max) ⌝ }
-{
-    if sizes::LONGEST_DELTA < delta.len() {
-        return refused(Refusal::TooMany, 0);
-    }
-    let mut places = [0usize; sizes::NODES];
-    let mut counts = [0usize; sizes::NODES];
-    let mut maxes = [0u64; sizes::NODES];
-    let mut seen = [0u64; sizes::NODES];
-    let mut nodes: usize = 0;
-    let mut running: u64 = 0;
-    let mut under: usize = 0;
-    let mut ops: usize = 0;
-    let mut at: usize = 0;
-    while at < delta.len() {
-        let read = delta_read::read_op(delta, at);
-        match read {
-            OpRead::Bad(why) => return refused(why, at),
-            OpRead::Got { op, next } => {
-                match delta_read::follow(&seen, nodes, running, op) {
-                    Followed::Fault(why) => return refused(why, at),
-                    Followed::Entered(number) => {
-                        seen[nodes] = number;
-                        places[nodes] = at;
-                        counts[nodes] = 0;
-                        maxes[nodes] = 0;
-                        nodes += 1;
-                        running = 0;
-                        under = 0;
-                        ops += 1;
-                        at = next;
-                    }
-                    Followed::Under(version) => {
-                        under += 1;
-                        counts[nodes - 1] = under;
-                        maxes[nodes - 1] = version;
-                        running = version;
-                        ops += 1;
-                        at = next;
-                    }
-                }
-            }
-        }
-    }
-    Heads {
-        read: DeltaRead::Good { ops, nodes },
-        at: places,
-        count: counts,
-        max: maxes,
-    }
 }

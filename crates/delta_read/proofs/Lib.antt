@@ -3,3 +3,4 @@ pub mod Steps
 pub mod Following
 pub mod Plain
 pub mod Counted
+pub mod NodeDeltas

@@ -1,12 +1,15 @@
-// Reading a delta: one operation at a place of the lent bytes, and a whole delta with its verdict. An operation holds its numbers, and where
-// its key and value stand in the caller's bytes; nothing is copied. What is read is what the definitions of `rules` say (specs/Places.antt).
+// Reading a delta: one operation at a place of the lent bytes, and a whole delta with its verdict and where its node deltas stand. An operation holds its
+// numbers, and where its key and value stand in the caller's bytes; nothing is copied. What is read is what the definitions of `rules` say
+// (specs/Places.antt, specs/NodeDeltas.antt).
 use rules::sizes;
 ghost use mathlib.Core.Path.{_≡_};
 ghost use Prim.Native.Nat.{_+_, _≤_, _<_};
 ghost use lib.ListN.{length};
+ghost use Rattle.rules.specs.Sizes.{maxNodes};
 ghost use Rattle.rules.specs.Delta.{deltaRead};
 ghost use Rattle.rules.specs.Table.{among};
 ghost use Rattle.delta_read.specs.Places.{textAt, statusOf, nodeAt, versionAt, valueAt, keyValueAt, setMaxVersionAt, opAt, seenOf, nodeFollows, recordFollows, maxFollows, followAt};
+ghost use Rattle.delta_read.specs.NodeDeltas.{Gathered};
 use rules::DeltaRead;
 use rules::Record;
 use rules::Refusal;
@@ -48,6 +51,15 @@ pub enum Followed {
     Entered(u64),
     Under(u64),
     Fault(Refusal),
+}
+
+// A delta's verdict and, where it is accepted, each of its node deltas: where its Node stands, how many operations stand behind that Node at most, and
+// the running max at their end.
+pub struct Heads {
+    pub read: DeltaRead,
+    pub at: [usize; sizes::NODES],
+    pub count: [usize; sizes::NODES],
+    pub max: [u64; sizes::NODES],
 }
 
 // ---- one operation
@@ -195,7 +207,7 @@ pub fn read_op(delta: &[u8], at: usize) -> OpRead
 
 // Whether the number is one of the first `nodes`, looked through from the newest back.
 fn is_seen(seen: &[u64; sizes::NODES], nodes: usize, number: u64) -> bool
-    requires { ⌜ nodes ≤ 8 ⌝ }
+    requires { ⌜ nodes ≤ maxNodes ⌝ }
     ensures { λ r. ⌜ r ≡ among number (seenOf nodes (now (seen .entry))) ⌝ }
 {
     let mut i = nodes;
@@ -210,7 +222,7 @@ fn is_seen(seen: &[u64; sizes::NODES], nodes: usize, number: u64) -> bool
 
 // A Node: not repeated, and not the ninth.
 fn follow_node(seen: &[u64; sizes::NODES], nodes: usize, number: u64) -> Followed
-    requires { ⌜ nodes ≤ 8 ⌝ }
+    requires { ⌜ nodes ≤ maxNodes ⌝ }
     ensures { λ r. ⌜ r ≡ nodeFollows nodes (now (seen .entry)) number ⌝ }
 {
     if is_seen(seen, nodes, number) {
@@ -249,8 +261,8 @@ fn follow_max(nodes: usize, running: u64, max: u64) -> Followed
 }
 
 // Whether the operation may follow, where `nodes` nodes are seen and the running max is `running`.
-pub fn follow(seen: &[u64; sizes::NODES], nodes: usize, running: u64, op: Op) -> Followed
-    requires { ⌜ nodes ≤ 8 ⌝ }
+fn follow(seen: &[u64; sizes::NODES], nodes: usize, running: u64, op: Op) -> Followed
+    requires { ⌜ nodes ≤ maxNodes ⌝ }
     ensures { λ r. ⌜ r ≡ followAt nodes (now (seen .entry)) running op ⌝ }
 {
     match op {
@@ -271,39 +283,56 @@ pub fn follow(seen: &[u64; sizes::NODES], nodes: usize, running: u64, op: Op) ->
     }
 }
 
-// How many operations and nodes the delta holds, or why it is refused and where the tag of the faulty operation stands. One pass.
-pub fn read_delta(delta: &[u8]) -> DeltaRead
-    ensures { λ r. ⌜ r ≡ deltaRead (now (delta .entry)) ⌝ }
+// A delta that is refused.
+fn refused(why: Refusal, at: usize) -> Heads
+    ensures { λ r. ⌜ (r .read ≡ DeltaRead.Refused why at)
+        × (length (r .at) ≡ maxNodes) × (length (r .count) ≡ maxNodes) × (length (r .max) ≡ maxNodes) ⌝ }
+{
+    Heads {
+        read: DeltaRead::Refused { why, at },
+        at: [0usize; sizes::NODES],
+        count: [0usize; sizes::NODES],
+        max: [0u64; sizes::NODES],
+    }
+}
+
+// The verdict on a delta, and its node deltas. One pass: who applies the delta need not look for its node deltas again.
+pub fn read_heads(delta: &[u8]) -> Heads
+    ensures { λ r. ⌜ (r .read ≡ deltaRead (now (delta .entry))) × Gathered (now (delta .entry)) (r .at) (r .count) (r .max) ⌝ }
 {
     if sizes::LONGEST_DELTA < delta.len() {
-        return DeltaRead::Refused {
-            why: Refusal::TooMany,
-            at: 0,
-        };
+        return refused(Refusal::TooMany, 0);
     }
+    let mut places = [0usize; sizes::NODES];
+    let mut counts = [0usize; sizes::NODES];
+    let mut maxes = [0u64; sizes::NODES];
     let mut seen = [0u64; sizes::NODES];
     let mut nodes: usize = 0;
     let mut running: u64 = 0;
+    let mut under: usize = 0;
     let mut ops: usize = 0;
     let mut at: usize = 0;
     while at < delta.len() {
         let read = read_op(delta, at);
         match read {
-            OpRead::Bad(why) => {
-                return DeltaRead::Refused { why, at };
-            }
+            OpRead::Bad(why) => return refused(why, at),
             OpRead::Got { op, next } => {
                 let followed = follow(&seen, nodes, running, op);
                 match followed {
-                    Followed::Fault(why) => {
-                        return DeltaRead::Refused { why, at };
-                    }
+                    Followed::Fault(why) => return refused(why, at),
                     Followed::Entered(number) => {
                         seen[nodes] = number;
+                        places[nodes] = at;
+                        counts[nodes] = 0;
+                        maxes[nodes] = 0;
                         nodes += 1;
                         running = 0;
+                        under = 0;
                     }
                     Followed::Under(version) => {
+                        under += 1;
+                        counts[nodes - 1] = under;
+                        maxes[nodes - 1] = version;
                         running = version;
                     }
                 }
@@ -312,5 +341,18 @@ pub fn read_delta(delta: &[u8]) -> DeltaRead
             }
         }
     }
-    DeltaRead::Good { ops, nodes }
+    Heads {
+        read: DeltaRead::Good { ops, nodes },
+        at: places,
+        count: counts,
+        max: maxes,
+    }
+}
+
+// How many operations and nodes the delta holds, or why it is refused and where the tag of the faulty operation stands. One pass.
+pub fn read_delta(delta: &[u8]) -> DeltaRead
+    ensures { λ r. ⌜ r ≡ deltaRead (now (delta .entry)) ⌝ }
+{
+    let heads = read_heads(delta);
+    heads.read
 }

@@ -2,13 +2,14 @@
 -- refused, make every max equal, and both tables then hold the same Set records.
 use Prim.Native.Nat.{ℕ, _≤_, suc}
 use mathlib.Core.Path.{_≡_, _∙_, ap, refl, subst, sym}
-use mathlib.Core.Bool.{false, false≢true, true}
+use mathlib.Core.Bool.{false≢true, true}
 use mathlib.Core.List.{List, [], _∷_, _++_}
 use mathlib.Core.Option.{some}
 use lib.ListN.{length}
 use Rattle.fields.proofs.Choice.{and-intro, and-left, and-right}
 use Rattle.rules.specs.Node.{KeyValue, Node}
 use Rattle.rules.specs.Table.{nodeOf, obeys}
+use Rattle.rules.specs.Given.{Given}
 use Rattle.rules.specs.Apply.{plainWays}
 use Rattle.rules.specs.Layout.{decode}
 use Rattle.rules.specs.World.{Applying, Computing, Digesting, Event, Exchange, freshTable}
@@ -18,7 +19,7 @@ use Rattle.exchange.specs.declared.Exchanged.{Exchanged}
 use Rattle.exchange.specs.declared.Exchanged.the-variants as exchanged
 use Rattle.exchange.specs.LentWorld.{LentWorld, lentAfter, lentHappen, lentStart}
 use Rattle.exchange.specs.LentDemand3.{LentSound, allLentGranted, lentGranted}
-use Rattle.exchange.specs.Exchanging.{Lending, LentExchange, lentExchange}
+use Rattle.exchange.specs.Exchanging.{Lending, ExchangeLent, lentExchange}
 use Rattle.exchange.specs.Runs.{AllPlain, Plain, afterExchanges, allExchanged, eventsOf, exchangedTo, grantedAs, isGranted, runOf}
 use Rattle.exchange.proofs.LentDemand3.{lent-append, lent-demand3}
 use Rattle.exchange.proofs.Runs.{exchange-granted, exchange-run}
@@ -74,16 +75,16 @@ granted-append (e ∷ es) fs w g h =
 
 -- a granted call
 module _ (c : Lending) (w : LentWorld) (p : Plain c) (g : isGranted (lentExchange c (w .publisher) (w .follower)) ≡ true) where
-  abbrev came-to : LentExchange
+  abbrev came-to : Given Exchanged ExchangeLent
   came-to = lentExchange c (w .publisher) (w .follower)
 
   -- the world that it leaves
   abbrev left : LentWorld
-  left = exchangedTo (came-to .follower) (exchange-run c w (p .clock-fits) .0) w
+  left = exchangedTo (came-to .lent .follower) (exchange-run c w (p .clock-fits) .0) w
 
   one : lentAfter plainWays (exchangeOf (quietOf c)) w ≡ left
   one =
-      ap (λ (x : List Event). lentAfter plainWays x w) (sym (granted-run c (came-to .answer) (came-to .answers) g ∙ events-quiet c p))
+      ap (λ (x : List Event). lentAfter plainWays x w) (sym (granted-run c (came-to .answer) (came-to .lent .answers) g ∙ events-quiet c p))
       ∙ exchange-run c w (p .clock-fits) .1
 
   one-granted : allLentGranted plainWays (exchangeOf (quietOf c)) w ≡ true

@@ -14,6 +14,7 @@ use Rattle.rules.specs.Digest.{writeDigest}
 use Rattle.rules.specs.Compute.{compute}
 use Rattle.rules.specs.Apply.{Lawful, Ways, plainWays}
 use Rattle.rules.specs.Layout.{decode, encode}
+use Rattle.rules.specs.Lent.{TableAndList}
 use Rattle.rules.specs.World.{Applying, Beating, Computing, DeltaSent, DigestSent, Digesting, Event, Exchange, Idle, Offering, Removing, World, Writing, after, freshTable, happen, possible, start}
 use Rattle.rules.specs.Demand3.{AllRise, Holds, Quiet, SameMax, Sound, Wide, allGranted, exchanges, granted, holdings, isApplied, isComputed, noRoom, wroteDelta, wroteDigest}
 use Rattle.rules.specs.declared.Status.the-variants.{Set}
@@ -21,6 +22,7 @@ use Rattle.rules.specs.declared.Computed.{Computed}
 use Rattle.rules.specs.declared.Computed.the-variants as computed
 use Rattle.rules.specs.declared.Written.{Written}
 use Rattle.rules.specs.declared.Written.the-variants as written
+use Rattle.rules.specs.declared.Applied.{Applied}
 use Rattle.rules.specs.declared.Refusal.the-variants.{BadTable}
 use Rattle.rules.proofs.Closing.{closing}
 use Rattle.rules.proofs.Demand3.{never-falls, sound}

@@ -13,7 +13,7 @@ use Rattle.rules.specs.Digest.{writeDigest}
 use Rattle.rules.specs.Compute.{compute}
 use Rattle.rules.specs.Apply.{Lawful, Ways, apply}
 use Rattle.rules.specs.Layout.{decode, encode}
-use Rattle.rules.specs.Lent.{fromTable, onTable, stored, storedApply, lentApplyAs}
+use Rattle.rules.specs.Lent.{TableAndList, fromTable, onTable, stored, storedApply, lentApplyAs}
 use Rattle.rules.specs.World.{Applying, Beating, Computing, DeltaSent, DigestSent, Digesting, Event, Exchange, Followers, Idle, Offering, Publishers, Removing, Side, World, Writing, after, afterDelta, afterDigest, calls, computedFor, appliedTo, freshTable, givenIn, happen, onSide, possible, start}
 use Rattle.rules.specs.declared.Answer.{Answer}
 use Rattle.rules.specs.declared.Answer.the-variants as plain
@@ -22,6 +22,7 @@ use Rattle.rules.specs.declared.Written.{Written}
 use Rattle.rules.specs.declared.Written.the-variants as written
 use Rattle.rules.specs.declared.Computed.{Computed}
 use Rattle.rules.specs.declared.Computed.the-variants as computed
+use Rattle.rules.specs.declared.Applied.{Applied}
 use Rattle.rules.specs.declared.Refusal.the-variants.{BadTable}
 use Rattle.rules.proofs.Moments.{InOrder, moment-start, next-event}
 use Rattle.rules.proofs.Obeys.{facts-table}

@@ -20,7 +20,7 @@ use Rattle.rules.specs.declared.Computed.the-variants as computed
 use Rattle.rules.specs.declared.Applied.{Applied}
 use Rattle.rules.specs.declared.Applied.the-variants as applied
 use Rattle.exchange.specs.LentWorld.{LentWorld, lentAfter, lentCalls, lentHappen, onWay}
-use Rattle.exchange.specs.Exchanging.{Lending, afterComputing, afterDigesting, lentAnswer, lentExchange, takenAs}
+use Rattle.exchange.specs.Exchanging.{Lending, afterComputing, afterDigesting, lentAnswer, lentExchange, exchangedAs, withDigest}
 use Rattle.exchange.specs.LentDemand3.{allLentGranted, lentGranted}
 use Rattle.exchange.specs.Runs.{IsRun, eventsOf, exchangedTo, grantedAs, isGranted, runOf}
 
@@ -71,7 +71,7 @@ module _ (g : Lending) (w : LentWorld) (clock : g .clock < numbers) where
   -- ---- the run
 
   -- applying's answer does not change which run it is
-  run-taken : (ops bytes : ℕ) (a : Applied) → runOf g (takenAs ops bytes a) ≡ eventsOf g
+  run-taken : (ops bytes : ℕ) (a : Applied) → runOf g (exchangedAs ops bytes a) ≡ eventsOf g
   run-taken ops bytes (applied.Nodes n) = refl
   run-taken ops bytes (applied.Refused r at) = refl
 
@@ -80,7 +80,7 @@ module _ (g : Lending) (w : LentWorld) (clock : g .clock < numbers) where
   unfolding lentExchange lentAnswer lentAfter
   exchange-run = asked (told .answer) refl
     where
-      answered : (n : ℕ) → told .answer ≡ written.Bytes n → let b = part 0 n (told .lent) in (a : Computed) → made b .answer ≡ a → IsRun g w (afterComputing (g .clock) (g .answers) (w .follower) (made b .lent) a)
+      answered : (n : ℕ) → told .answer ≡ written.Bytes n → let b = part 0 n (told .lent) in (a : Computed) → made b .answer ≡ a → IsRun g w (withDigest (told .lent) (afterComputing (g .clock) (g .answers) (w .follower) (made b .lent) a))
       answered n e (computed.Delta ops bytes) q =
           let b = part 0 n (told .lent) in
           let d = part 0 bytes (made b .lent) in
@@ -108,11 +108,11 @@ module _ (g : Lending) (w : LentWorld) (clock : g .clock < numbers) where
       clock-is : ltb (g .clock) numbers ≡ true
       clock-is = lt-ltb (g .clock) numbers clock
 
-      taken : (ops bytes : ℕ) (a : Applied) (l : List ℕ) → (noRoom a l && true) ≡ grantedAs (takenAs ops bytes a) l
+      taken : (ops bytes : ℕ) (a : Applied) (l : List ℕ) → (noRoom a l && true) ≡ grantedAs (exchangedAs ops bytes a) l
       taken ops bytes (applied.Nodes n) l = and-true _
       taken ops bytes (applied.Refused r at) l = refl
 
-      answered : (b : List ℕ) (a : Computed) → made b .answer ≡ a → rest (onWay (DigestSent b) w) ≡ isGranted (afterComputing (g .clock) (g .answers) (w .follower) (made b .lent) a)
+      answered : (b : List ℕ) (a : Computed) → made b .answer ≡ a → rest (onWay (DigestSent b) w) ≡ isGranted (withDigest (told .lent) (afterComputing (g .clock) (g .answers) (w .follower) (made b .lent) a))
       answered b (computed.Delta ops bytes) q =
           let d = part 0 bytes (made b .lent) in
           let o = lentApply d (g .clock) (g .answers) (w .follower) in

@@ -1,6 +1,6 @@
 -- The start of the world of lent bytes is what the calls make: a new table, and the nodes added one after the other. Assumes nothing but that the fresh table
 -- obeys.
-use Prim.Native.Nat.{ℕ, _+_, _<_}
+use Prim.Native.Nat.{ℕ, _<_}
 use mathlib.Core.Bool.{false, true}
 use mathlib.Core.List.{List, [], _++_, _∷_, append-assoc, append-nil}
 use mathlib.Core.Path.{_∙_, _≡_, ap, refl, subst, sym}

@@ -2,11 +2,11 @@
 -- calls promise (Lent of `rules`), one after the other; the first that is refused ends it.
 use Prim.Native.Nat.{ℕ}
 use mathlib.Core.Path.{_≡_}
-use mathlib.Core.List.{List, [], _∷_}
+use mathlib.Core.List.{List}
+use Rattle.fields.specs.Numbers.{Bytes}
 use Rattle.fields.specs.Parts.{part}
 use Rattle.rules.specs.Given.{Given, given}
-use Rattle.rules.specs.Answers.{Told, numberOf}
-use Rattle.rules.specs.Lent.{lentDigest, lentCompute, lentApply}
+use Rattle.rules.specs.Lent.{TableAndList, lentDigest, lentCompute, lentApply}
 use Rattle.rules.specs.declared.Written.{Written}
 use Rattle.rules.specs.declared.Written.the-variants as written
 use Rattle.rules.specs.declared.Computed.{Computed}
@@ -16,30 +16,32 @@ use Rattle.rules.specs.declared.Applied.the-variants as applied
 use Rattle.exchange.specs.declared.Exchanged.{Exchanged}
 use Rattle.exchange.specs.declared.Exchanged.the-variants as exchanged
 
--- the answer, and the bytes of the follower's table, of the delta's datagram and of the list of answers afterwards
-pub record LentExchange : Type 0 where
-  pub answer : Exchanged
-  pub follower : List ℕ
-  pub delta : List ℕ
-  pub answers : List ℕ
-
 -- ---- the second step and the third
 
--- what applying answers to a delta of so many operations and bytes
-abbrev pub takenAs : ℕ → ℕ → Applied → Exchanged
-takenAs ops bytes (applied.Nodes n) = exchanged.Done ops bytes n
-takenAs ops bytes (applied.Refused r at) = exchanged.NotApplied r at
+-- what is lent to them: the follower's table, the delta's datagram, the list of answers
+pub record AnswerLent : Type 0 where
+  pub follower : Bytes
+  pub delta : Bytes
+  pub answers : Bytes
 
-abbrev pub afterApplying : ℕ → ℕ → List ℕ → Given Applied TableAndList → LentExchange
-afterApplying ops bytes delta o = record { answer = takenAs ops bytes (o .answer); follower = o .lent; delta = delta; answers = o .lent }
+abbrev pub allThree : (follower delta answers : Bytes) → AnswerLent
+allThree follower delta answers = record { follower = follower; delta = delta; answers = answers }
+
+-- what applying answers to a delta of so many operations and bytes
+abbrev pub exchangedAs : (ops bytes : ℕ) (applied : Applied) → Exchanged
+exchangedAs ops bytes (applied.Nodes n) = exchanged.Done ops bytes n
+exchangedAs ops bytes (applied.Refused r at) = exchanged.NotApplied r at
+
+abbrev pub afterApplying : (ops bytes : ℕ) (delta : Bytes) (applied : Given Applied TableAndList) → Given Exchanged AnswerLent
+afterApplying ops bytes delta o = given (exchangedAs ops bytes (o .answer)) (allThree (o .lent .table) delta (o .lent .list))
 
 -- the delta is applied, where there is one
-abbrev pub afterComputing : ℕ → List ℕ → List ℕ → List ℕ → Computed → LentExchange
+abbrev pub afterComputing : (clock : ℕ) (answers follower delta : Bytes) (computed : Computed) → Given Exchanged AnswerLent
 afterComputing clock answers follower delta (computed.Delta ops bytes) = afterApplying ops bytes delta (lentApply (part 0 bytes delta) clock answers follower)
-afterComputing clock answers follower delta (computed.Refused r) = record { answer = exchanged.NoDelta r; follower = follower; delta = delta; answers = answers }
+afterComputing clock answers follower delta (computed.Refused r) = given (exchanged.NoDelta r) (allThree follower delta answers)
 
--- the publisher's delta for a digest, applied: nodes left out of the delta, ties, MTU, clock, the digest; the delta's datagram, answers, publisher, follower
-unfoldable pub lentAnswer : List ℕ → List ℕ → ℕ → ℕ → List ℕ → List ℕ → List ℕ → List ℕ → List ℕ → LentExchange
+-- the publisher's delta for a digest, applied
+unfoldable pub lentAnswer : (unsent ties : List ℕ) (mtu clock : ℕ) (told delta answers publisher follower : Bytes) → Given Exchanged AnswerLent
 lentAnswer unsent ties mtu clock told delta answers publisher follower =
     afterComputing clock answers follower
     (lentCompute unsent ties mtu 0 told delta publisher .lent)
@@ -55,53 +57,44 @@ pub record Lending : Type 0 where
   pub ties : List ℕ
   pub mtu : ℕ
   pub clock : ℕ
-  pub digest : List ℕ
-  pub delta : List ℕ
-  pub answers : List ℕ
+  pub digest : Bytes
+  pub delta : Bytes
+  pub answers : Bytes
 
-abbrev pub lending : List ℕ → List ℕ → List ℕ → ℕ → ℕ → List ℕ → List ℕ → List ℕ → Lending
+abbrev pub lending : (unasked unsent ties : List ℕ) (mtu clock : ℕ) (digest delta answers : Bytes) → Lending
 lending unasked unsent ties mtu clock digest delta answers =
     record { unasked = unasked; unsent = unsent; ties = ties; mtu = mtu; clock = clock; digest = digest; delta = delta; answers = answers }
 
-abbrev pub afterDigesting : Lending → List ℕ → List ℕ → List ℕ → Written → LentExchange
+-- what it may change: the follower's table, the datagrams of the digest and of the delta, the list of answers
+pub record ExchangeLent : Type 0 where
+  pub follower : Bytes
+  pub digest : Bytes
+  pub delta : Bytes
+  pub answers : Bytes
+
+abbrev pub allFour : (follower digest delta answers : Bytes) → ExchangeLent
+allFour follower digest delta answers = record { follower = follower; digest = digest; delta = delta; answers = answers }
+
+abbrev pub withDigest : (digest : Bytes) (answered : Given Exchanged AnswerLent) → Given Exchanged ExchangeLent
+withDigest digest o = given (o .answer) (allFour (o .lent .follower) digest (o .lent .delta) (o .lent .answers))
+
+-- the publisher answers the digest, where there is one
+abbrev pub afterDigesting : (lending : Lending) (publisher follower digest : Bytes) (written : Written) → Given Exchanged ExchangeLent
 afterDigesting g publisher follower digest (written.Bytes n) =
-    lentAnswer (g .unsent) (g .ties) (g .mtu) (g .clock) (part 0 n digest) (g .delta) (g .answers) publisher follower
-afterDigesting g publisher follower digest (written.Refused r) =
-    record { answer = exchanged.NoDigest r; follower = follower; delta = g .delta; answers = g .answers }
+    withDigest digest (lentAnswer (g .unsent) (g .ties) (g .mtu) (g .clock) (part 0 n digest) (g .delta) (g .answers) publisher follower)
+afterDigesting g publisher follower digest (written.Refused r) = given (exchanged.NoDigest r) (allFour follower digest (g .delta) (g .answers))
 
--- the digest's datagram afterwards
-abbrev pub lentDigestOf : Lending → List ℕ → List ℕ
-lentDigestOf g follower = lentDigest (g .unasked) 0 (g .digest) follower .lent
-
-unfoldable pub lentExchange : Lending → List ℕ → List ℕ → LentExchange
-lentExchange g publisher follower = afterDigesting g publisher follower (lentDigestOf g follower) (lentDigest (g .unasked) 0 (g .digest) follower .answer)
-
--- ---- what the code promises
-
--- the answer r, and the follower's table, the delta's datagram and the answers afterwards
-pub record ComesTo (o : LentExchange) (r : Exchanged) (follower delta answers : List ℕ) : Type 0 where
-  pub answer-is : r ≡ o .answer
-  pub follower-is : follower ≡ o .follower
-  pub delta-is : delta ≡ o .delta
-  pub answers-are : answers ≡ o .answers
-
--- and the digest's datagram
-pub record Exchanges (g : Lending) (publisher before : List ℕ) (r : Exchanged) (follower digest delta answers : List ℕ) : Type 0 where
-  pub comes-to : ComesTo (lentExchange g publisher before) r follower delta answers
-  pub digest-is : digest ≡ lentDigestOf g before
+unfoldable pub lentExchange : (lending : Lending) (publisher follower : Bytes) → Given Exchanged ExchangeLent
+lentExchange g publisher follower =
+    afterDigesting g publisher follower
+    (lentDigest (g .unasked) 0 (g .digest) follower .lent)
+    (lentDigest (g .unasked) 0 (g .digest) follower .answer)
 
 -- ---- what a refusal leaves
 
 -- Both tables and the answers are as they were. So is the datagram of a step that was refused or not come to; that of a step before it is not.
-abbrev pub Leaves : Lending → List ℕ → LentExchange → Exchanged → Type 0
-Leaves g follower o (exchanged.Done ops bytes nodes) = Unit {0}
-Leaves g follower o (exchanged.NoDigest r) = (o .follower ≡ follower) × (o .answers ≡ g .answers) × (o .delta ≡ g .delta) × (lentDigestOf g follower ≡ g .digest)
-Leaves g follower o (exchanged.NoDelta r) = (o .follower ≡ follower) × (o .answers ≡ g .answers) × (o .delta ≡ g .delta)
-Leaves g follower o (exchanged.NotApplied r at) = (o .follower ≡ follower) × (o .answers ≡ g .answers)
-
--- The number and the values of an answer. A refusal tells the step (1 the digest, 2 the delta, 3 the applying) and the place in the delta.
-abbrev pub exchangedTold : Exchanged → Told
-exchangedTold (exchanged.Done ops bytes nodes) = record { number = 0; values = ops ∷ bytes ∷ nodes ∷ [] }
-exchangedTold (exchanged.NoDigest r) = record { number = numberOf r; values = 1 ∷ 0 ∷ [] }
-exchangedTold (exchanged.NoDelta r) = record { number = numberOf r; values = 2 ∷ 0 ∷ [] }
-exchangedTold (exchanged.NotApplied r at) = record { number = numberOf r; values = 3 ∷ at ∷ [] }
+abbrev pub Leaves : (lending : Lending) (follower : Bytes) (left : ExchangeLent) (answer : Exchanged) → Type 0
+Leaves g follower m (exchanged.Done ops bytes nodes) = Unit {0}
+Leaves g follower m (exchanged.NoDigest r) = (m .follower ≡ follower) × (m .answers ≡ g .answers) × (m .delta ≡ g .delta) × (m .digest ≡ g .digest)
+Leaves g follower m (exchanged.NoDelta r) = (m .follower ≡ follower) × (m .answers ≡ g .answers) × (m .delta ≡ g .delta)
+Leaves g follower m (exchanged.NotApplied r at) = (m .follower ≡ follower) × (m .answers ≡ g .answers)

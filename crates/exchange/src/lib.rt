@@ -4,7 +4,8 @@ use rules::Applied;
 use rules::Computed;
 use rules::Refusal;
 use rules::Written;
-ghost use Rattle.exchange.specs.Exchanging.{ComesTo, Exchanges, lending, lentAnswer};
+ghost use Rattle.rules.specs.Given.{Gives};
+ghost use Rattle.exchange.specs.Exchanging.{allThree, lentAnswer, allFour, lending, lentExchange};
 
 // What an exchange came to.
 pub enum Exchanged {
@@ -37,12 +38,10 @@ fn answer_digest(
     delta: &mut [u8],
     answers: &mut [u8],
 ) -> Exchanged
-    ensures { λ r. ⌜ ComesTo
-        (lentAnswer (now (unsent .entry)) (now (ties .entry)) mtu clock (now (told .entry)) (now (delta .entry)) (now (answers .entry)) (now (publisher .entry)) (now (follower .entry)))
-        r
-        (now (follower .exit))
-        (now (delta .exit))
-        (now (answers .exit)) ⌝ }
+    ensures { λ r. ⌜ Gives
+        (lentAnswer (now (unsent .entry)) (now (ties .entry)) mtu clock
+        (now (told .entry)) (now (delta .entry)) (now (answers .entry)) (now (publisher .entry)) (now (follower .entry)))
+        r (allThree (now (follower .exit)) (now (delta .exit)) (now (answers .exit))) ⌝ }
 {
     let computed = compute::compute(publisher, told, mtu, unsent, ties, delta, 0);
     match computed {
@@ -57,9 +56,9 @@ fn answer_digest(
     }
 }
 
-// One exchange. The digest leaves out the nodes `unasked`, the delta the nodes `unsent`; each stands at the front of its datagram. The first step that is refused
-// ends it, with the number that its call gives, and leaves both tables and the answers as they were. Datagrams that the steps before it wrote stay
-// written: the digest's where the delta is refused, both where applying is.
+// One exchange. The digest leaves out the nodes `unasked`, the delta the nodes `unsent`; each stands at the front of its datagram. The first step that is
+// refused ends it, with the number that its call gives, and leaves both tables and the answers as they were. Datagrams that the steps before it wrote
+// stay written: the digest's where the delta is refused, both where applying is.
 pub fn exchange(
     publisher: &[u8],
     follower: &mut [u8],
@@ -72,15 +71,12 @@ pub fn exchange(
     delta: &mut [u8],
     answers: &mut [u8],
 ) -> Exchanged
-    ensures { λ r. ⌜ Exchanges
-        (lending (now (unasked .entry)) (now (unsent .entry)) (now (ties .entry)) mtu clock (now (digest .entry)) (now (delta .entry)) (now (answers .entry)))
-        (now (publisher .entry))
-        (now (follower .entry))
-        r
-        (now (follower .exit))
-        (now (digest .exit))
-        (now (delta .exit))
-        (now (answers .exit)) ⌝ }
+    ensures { λ r. ⌜ Gives
+        (lentExchange
+        (lending (now (unasked .entry)) (now (unsent .entry)) (now (ties .entry)) mtu clock
+        (now (digest .entry)) (now (delta .entry)) (now (answers .entry)))
+        (now (publisher .entry)) (now (follower .entry)))
+        r (allFour (now (follower .exit)) (now (digest .exit)) (now (delta .exit)) (now (answers .exit))) ⌝ }
 {
     let written = digest_write::write_digest(follower, unasked, digest, 0);
     match written {

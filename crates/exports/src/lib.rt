@@ -13,27 +13,25 @@ ghost use mathlib.Core.Path.{_≡_};
 ghost use mathlib.Core.Bool.{true};
 ghost use Prim.Native.Nat.{_≤_};
 ghost use lib.ListN.{length};
-ghost use Rattle.fields.specs.Parts.{put};
-ghost use Rattle.rules.specs.Answers.{answerTold};
+ghost use Rattle.rules.specs.Given.{Gives};
 ghost use Rattle.rules.specs.Node.{Setting, Deleting, due};
 ghost use Rattle.rules.specs.Local.{call};
 ghost use Rattle.rules.specs.Table.{removeAll};
 ghost use Rattle.rules.specs.Compute as computing;
 ghost use Rattle.rules.specs.Delta.{deltaRead};
-ghost use Rattle.rules.specs.Apply.{plainWays, applyNode, applyEach, codes};
 ghost use Rattle.rules.specs.Layout.{encode, decode, valid};
-ghost use Rattle.rules.specs.Lent.{lentCall, lentGc, lentDigest, lentCompute, lentApply};
+ghost use Rattle.rules.specs.Lent.{stored, lentCall, lentGc, lentDigest, lentCompute, both, lentApply};
 ghost use Rattle.lookup.specs.Lookup.{foundIn, lentFind, startOf};
 ghost use Rattle.digest_read.specs.Held.{digestIn};
-ghost use Rattle.apply_node.specs.Taking.{partsFrom};
-ghost use Rattle.apply.specs.Applying.{Accepted};
-ghost use Rattle.exports.specs.Numbers.{bytesWritten, bytesComputed, opsRead, nodesApplied, nodesTold};
+ghost use Rattle.delta_read.specs.NodeDeltas.{partsFrom};
+ghost use Rattle.apply.specs.Applying.{Accepted, partsApplied};
+ghost use Rattle.exports.specs.Numbers.{toldAs, answerNumber, bytesWritten, bytesComputed, opsRead, nodesApplied, nodesTold};
 
 // ---- one number for an answer
 
 // 0 where the call was accepted, else the number of the refusal.
 fn number_of(a: Answer) -> u64
-    ensures { λ r. ⌜ r ≡ answerTold a .number ⌝ }
+    ensures { λ r. ⌜ r ≡ answerNumber a ⌝ }
 {
     match a {
         Answer::Done => 0,
@@ -132,8 +130,8 @@ pub extern "C" fn kev_find_good(table: &[u8], number: u64, key: &[u8]) -> usize
 
 #[no_mangle]
 pub extern "C" fn kev_set(table: &mut [u8], number: u64, key: &[u8], value: &[u8]) -> u64
-    ensures { λ r. ⌜ (r ≡ answerTold (lentCall (Setting (now (value .entry))) number (now (key .entry)) (now (table .entry)) .answer) .number)
-        × (now (table .exit) ≡ lentCall (Setting (now (value .entry))) number (now (key .entry)) (now (table .entry)) .lent) ⌝ }
+    ensures { λ r. ⌜ Gives (toldAs answerNumber (lentCall (Setting (now (value .entry))) number (now (key .entry)) (now (table .entry))))
+        r (now (table .exit)) ⌝ }
 {
     number_of(local::set(table, number, key, value))
 }
@@ -141,16 +139,15 @@ pub extern "C" fn kev_set(table: &mut [u8], number: u64, key: &[u8], value: &[u8
 #[no_mangle]
 pub extern "C" fn kev_set_good(table: &mut [u8], number: u64, key: &[u8], value: &[u8]) -> u64
     requires { ⌜ valid (now table) ≡ true ⌝ }
-    ensures { λ r. ⌜ (r ≡ answerTold (call (Setting (now (value .entry))) number (now (key .entry)) (decode (now (table .entry))) .answer) .number)
-        × (now (table .exit) ≡ encode (call (Setting (now (value .entry))) number (now (key .entry)) (decode (now (table .entry))) .table)) ⌝ }
+    ensures { λ r. ⌜ Gives (toldAs answerNumber (stored (call (Setting (now (value .entry))) number (now (key .entry)) (decode (now (table .entry))))))
+        r (now (table .exit)) ⌝ }
 {
     number_of(local::write_good(table, number, Kind::Setting, key, value, 0))
 }
 
 #[no_mangle]
 pub extern "C" fn kev_delete(table: &mut [u8], number: u64, key: &[u8], clock: u64) -> u64
-    ensures { λ r. ⌜ (r ≡ answerTold (lentCall (Deleting clock) number (now (key .entry)) (now (table .entry)) .answer) .number)
-        × (now (table .exit) ≡ lentCall (Deleting clock) number (now (key .entry)) (now (table .entry)) .lent) ⌝ }
+    ensures { λ r. ⌜ Gives (toldAs answerNumber (lentCall (Deleting clock) number (now (key .entry)) (now (table .entry)))) r (now (table .exit)) ⌝ }
 {
     number_of(local::delete(table, number, key, clock))
 }
@@ -158,8 +155,8 @@ pub extern "C" fn kev_delete(table: &mut [u8], number: u64, key: &[u8], clock: u
 #[no_mangle]
 pub extern "C" fn kev_delete_good(table: &mut [u8], number: u64, key: &[u8], clock: u64) -> u64
     requires { ⌜ valid (now table) ≡ true ⌝ }
-    ensures { λ r. ⌜ (r ≡ answerTold (call (Deleting clock) number (now (key .entry)) (decode (now (table .entry))) .answer) .number)
-        × (now (table .exit) ≡ encode (call (Deleting clock) number (now (key .entry)) (decode (now (table .entry))) .table)) ⌝ }
+    ensures { λ r. ⌜ Gives (toldAs answerNumber (stored (call (Deleting clock) number (now (key .entry)) (decode (now (table .entry))))))
+        r (now (table .exit)) ⌝ }
 {
     number_of(local::write_good(table, number, Kind::Deleting, key, b"", clock))
 }
@@ -168,7 +165,7 @@ pub extern "C" fn kev_delete_good(table: &mut [u8], number: u64, key: &[u8], clo
 
 #[no_mangle]
 pub extern "C" fn kev_remove(table: &mut [u8], clock: u64, grace: u64) -> u64
-    ensures { λ r. ⌜ (r ≡ answerTold (lentGc clock grace (now (table .entry)) .answer) .number) × (now (table .exit) ≡ lentGc clock grace (now (table .entry)) .lent) ⌝ }
+    ensures { λ r. ⌜ Gives (toldAs answerNumber (lentGc clock grace (now (table .entry)))) r (now (table .exit)) ⌝ }
 {
     number_of(removal::remove_scheduled(table, clock, grace))
 }
@@ -190,8 +187,8 @@ pub extern "C" fn kev_write_digest(
     datagram: &mut [u8],
     place: usize,
 ) -> usize
-    ensures { λ r. ⌜ (r ≡ bytesWritten (lentDigest (now (excluded .entry)) place (now (datagram .entry)) (now (table .entry)) .answer))
-        × (now (datagram .exit) ≡ lentDigest (now (excluded .entry)) place (now (datagram .entry)) (now (table .entry)) .lent) ⌝ }
+    ensures { λ r. ⌜ Gives (toldAs bytesWritten (lentDigest (now (excluded .entry)) place (now (datagram .entry)) (now (table .entry))))
+        r (now (datagram .exit)) ⌝ }
 {
     bytes_written(digest_write::write_digest(table, excluded, datagram, place))
 }
@@ -224,9 +221,10 @@ pub extern "C" fn kev_compute(
     datagram: &mut [u8],
     place: usize,
 ) -> usize
-    ensures { λ r. ⌜ (r ≡ bytesComputed (lentCompute (now (excluded .entry)) (now (ties .entry)) mtu place (now (digest .entry)) (now (datagram .entry)) (now (table .entry)) .answer))
-        × (now (datagram .exit)
-        ≡ lentCompute (now (excluded .entry)) (now (ties .entry)) mtu place (now (digest .entry)) (now (datagram .entry)) (now (table .entry)) .lent) ⌝ }
+    ensures { λ r. ⌜ Gives
+        (toldAs bytesComputed
+        (lentCompute (now (excluded .entry)) (now (ties .entry)) mtu place (now (digest .entry)) (now (datagram .entry)) (now (table .entry))))
+        r (now (datagram .exit)) ⌝ }
 {
     bytes_computed(compute::compute(table, digest, mtu, excluded, ties, datagram, place))
 }
@@ -242,18 +240,19 @@ pub extern "C" fn kev_compute_good(
     place: usize,
 ) -> usize
     requires { ⌜ valid (now table) ≡ true ⌝ }
-    ensures { λ r. ⌜ (r ≡ bytesComputed (computing.compute (now (excluded .entry)) (now (ties .entry)) mtu place (now (digest .entry)) (decode (now (table .entry))) (now (datagram .entry)) .answer))
-        × (now (datagram .exit)
-        ≡ computing.compute (now (excluded .entry)) (now (ties .entry)) mtu place (now (digest .entry)) (decode (now (table .entry))) (now (datagram .entry)) .lent) ⌝ }
+    ensures { λ r. ⌜ Gives
+        (toldAs bytesComputed
+        (computing.compute (now (excluded .entry)) (now (ties .entry)) mtu place
+        (now (digest .entry)) (decode (now (table .entry))) (now (datagram .entry))))
+        r (now (datagram .exit)) ⌝ }
 {
     bytes_computed(compute::compute_good(table, digest, mtu, excluded, ties, datagram, place))
 }
 
 #[no_mangle]
 pub extern "C" fn kev_apply(table: &mut [u8], delta: &[u8], clock: u64, answers: &mut [u8]) -> usize
-    ensures { λ r. ⌜ (r ≡ nodesApplied (lentApply (now (delta .entry)) clock (now (answers .entry)) (now (table .entry)) .answer))
-        × (now (table .exit) ≡ lentApply (now (delta .entry)) clock (now (answers .entry)) (now (table .entry)) .lent .table)
-        × (now (answers .exit) ≡ lentApply (now (delta .entry)) clock (now (answers .entry)) (now (table .entry)) .lent .list) ⌝ }
+    ensures { λ r. ⌜ Gives (toldAs nodesApplied (lentApply (now (delta .entry)) clock (now (answers .entry)) (now (table .entry))))
+        r (both (now (table .exit)) (now (answers .exit))) ⌝ }
 {
     nodes_applied(apply::apply(table, delta, clock, answers))
 }
@@ -262,8 +261,8 @@ pub extern "C" fn kev_apply(table: &mut [u8], delta: &[u8], clock: u64, answers:
 #[no_mangle]
 pub extern "C" fn kev_apply_good(table: &mut [u8], delta: &[u8], clock: u64, answers: &mut [u8])
     requires { ⌜ (valid (now table) ≡ true) × Accepted (now delta) × (length (partsFrom (now delta) 0) ≤ length (now answers)) ⌝ }
-    ensures { λ _. ⌜ (now (table .exit) ≡ encode (applyEach (applyNode plainWays clock) (partsFrom (now (delta .entry)) 0) (decode (now (table .entry))) .table))
-        × (now (answers .exit) ≡ put 0 (codes (applyEach (applyNode plainWays clock) (partsFrom (now (delta .entry)) 0) (decode (now (table .entry))) .answers)) (now (answers .entry))) ⌝ }
+    ensures { λ _. ⌜ both (now (table .exit)) (now (answers .exit))
+        ≡ partsApplied clock (partsFrom (now (delta .entry)) 0) (now (answers .entry)) (now (table .entry)) ⌝ }
 {
     apply::apply_good(table, delta, clock, answers);
 }

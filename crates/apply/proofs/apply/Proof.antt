@@ -2,7 +2,7 @@
 use mathlib.Core.Path.{_≡_, sym, _∙_}
 use mathlib.Core.Bool.{true}
 use Rattle.rules.specs.Layout.{valid}
-use Rattle.apply.proofs.Applied.{bad-table, at-fault, no-places, accepted, told, gives}
+use Rattle.apply.proofs.Applied.{bad-table, at-fault, no-places, accepted, heads-found, applied-all}
 use borrow.Author.Needs.{needs}
 use Rattle.apply.proofs.apply.Statement.{statement}
 use Rattle.apply.proofs.apply.Tie as tie
@@ -45,7 +45,7 @@ apply-each-requires c κs =
     let e = sym (rd .read-heads .ensures .0) ∙ known .before .read2 .given .1 in (
       good rd,
       accepted (a .delta .now) (a .clock) (a .answers .now) (a .table .now) (good rd) _ _ e .0,
-      told (a .delta .now) (a .clock) (a .answers .now) (a .table .now) (good rd) _ _ e (rd .read-heads .result) (rd .read-heads .ensures .1),
+      heads-found (a .delta .now) (a .clock) (a .answers .now) (a .table .now) (good rd) _ _ e (rd .read-heads .result) (rd .read-heads .ensures .1),
       places .if2 .left,
     )
 
@@ -71,7 +71,7 @@ returns-3 c =
     let read = places .before .before in
     let rd = read .before .before in
     let a = entry (rd .before .before) .args in
-    gives (a .delta .now) (a .clock) (a .answers .now) (a .table .now) (good rd) _ _ (sym (rd .read-heads .ensures .0) ∙ read .read2 .given .1) (places .if2 .left) _ _ (call .apply-each .ensures .0) (call .apply-each .ensures .1)
+    applied-all (a .delta .now) (a .clock) (a .answers .now) (a .table .now) (good rd) _ _ (sym (rd .read-heads .ensures .0) ∙ read .read2 .given .1) (places .if2 .left) _ _ (call .apply-each .ensures)
 
 same-length-5 : tie.Need-same-length-5
 same-length-5 c = search needs

@@ -6,8 +6,10 @@ use native.Mathlib.Omega.{arith}
 use lib.ListN.{length, getD, set}
 use Rattle.rules.specs.Delta.{Part}
 use Rattle.rules.specs.Layout.{decode}
-use Rattle.apply_node.specs.Taking.{partsFrom, noPart, Head}
-use Rattle.apply.specs.Applying.{Turned}
+use Rattle.delta_read.specs.NodeDeltas.{partsFrom, noPart, Head}
+use Rattle.rules.specs.Given.{Gives}
+use Rattle.rules.specs.Lent.{stored}
+use Rattle.apply.specs.Applying.{partApplied}
 use Rattle.apply.proofs.Applied.{Stands, stands-first, stands-next, stands-last}
 use borrow.Author.Needs.{needs}
 use Rattle.apply.proofs.apply_each.Statement.{statement}
@@ -90,7 +92,7 @@ loop-again c =
     let st = entry q in (
       stands-next _ _ _ _ _ _ _ (q .before .loop .inv .0) (one-left q) (place-left q) (st .fits .clock .fits) (st .pre .1)
           (at-in (λ (b : ℕ). b < 256) (st .args .delta .now) 0 (λ i h. q .before .before .before .before .before .before .shared-slice-known .given i .fits)) _ _ _
-          (subst (λ (x : Part). Turned (st .args .clock) x (decode (q .before .loop .table)) (call .apply-part .result) (call .apply-part .last .0)) (sym (here q .is)) (call .apply-part .ensures))
+          (subst (λ (x : Part). Gives (stored (partApplied (st .args .clock) x (decode (q .before .loop .table)))) (call .apply-part .result) (call .apply-part .last .0)) (sym (here q .is)) (call .apply-part .ensures))
           (ap (λ (x : ℕ). set (q .before .loop .answers) (q .before .loop .i) x) (c .code .ensures)),
       omega (arith, q .loop-test .taken),
     )

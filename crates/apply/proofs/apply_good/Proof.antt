@@ -1,7 +1,7 @@
 -- `apply::apply_good` meets its contract: an accepted delta is read as one. Assumes nothing.
 use mathlib.Core.Path.{sym, _∙_}
 use native.Mathlib.Omega.{arith}
-use Rattle.apply.proofs.Applied.{not-refused, told}
+use Rattle.apply.proofs.Applied.{not-refused, heads-found}
 use borrow.Author.Needs.{needs}
 use Rattle.apply.proofs.apply_good.Statement.{statement}
 use Rattle.apply.proofs.apply_good.Tie as tie
@@ -29,7 +29,7 @@ apply-each-requires c κs =
     let rd = known .before .before .before in
     let st = entry rd in
     let a = st .args in
-    let t = told (a .delta .now) (a .clock) (a .answers .now) (a .table .now) (st .pre .0) _ _ (sym (rd .read-heads .ensures .0) ∙ known .before .read .given .1) (rd .read-heads .result) (rd .read-heads .ensures .1) in
+    let t = heads-found (a .delta .now) (a .clock) (a .answers .now) (a .table .now) (st .pre .0) _ _ (sym (rd .read-heads .ensures .0) ∙ known .before .read .given .1) (rd .read-heads .result) (rd .read-heads .ensures .1) in
     (st .pre .0, st .pre .1, t, omega (arith, t .all, st .pre .2))
 
 same-length : tie.Need-same-length

@@ -2,7 +2,7 @@
 use mathlib.Core.Path.{_≡_, sym, _∙_}
 use Rattle.rules.specs.Apply.{deltaStatus}
 use Rattle.rules.specs.Layout.{decodeNode}
-use Rattle.apply_node.specs.Taking.{deltaOf}
+use Rattle.delta_read.specs.NodeDeltas.{deltaOf}
 use Rattle.apply.proofs.Applied.{status-is, rejected, concluded}
 use borrow.Author.Needs.{needs}
 use Rattle.apply.proofs.apply_node.Statement.{statement}

@@ -1,37 +1,36 @@
--- `apply::apply_part` meets its contract: by the place of the node. Assumes nothing.
+-- `apply::apply_part` meets its contract: the node's part is lent to the node's rule, or the node is missing. Assumes nothing.
 use Prim.Native.Nat.{ℕ}
 use mathlib.Core.Path.{_≡_, ap, sym, _∙_}
 use native.Mathlib.Omega.{arith}
 use Rattle.rules.specs.Delta.{Part}
-use Rattle.rules.specs.Layout.{decode}
-use Rattle.table.proofs.Tables.{valid-long, valid-few}
-use Rattle.table_read.specs.Find.{findNode}
-use Rattle.table_read.specs.declared.Place.the-variants.{At}
-use Rattle.apply_node.specs.Taking.{partAt}
-use Rattle.apply.proofs.Applied.{in-table, rising-seen, turned, turned-unknown, numbers-read}
+use Rattle.table_read.specs.Find.{spanIn}
+use Rattle.table_read.specs.declared.Span.the-variants.{Held}
+use Rattle.table_read.proofs.Held.{node-end, node-fits}
+use Rattle.delta_read.specs.NodeDeltas.{partAt}
+use Rattle.apply.proofs.Applied.{lent-rising, part-held, part-missing, numbers-read}
 use borrow.Author.Needs.{needs}
 use Rattle.apply.proofs.apply_part.Statement.{statement}
 use Rattle.apply.proofs.apply_part.Tie as tie
 
 -- where the numbers are read, and where the function is entered
-abbrev read : tie.After-find-node → tie.After-read-u643
+abbrev read : tie.After-node-span → tie.After-read-u643
 read c = c .before .before
 
-abbrev entry : tie.After-find-node → tie.Start
+abbrev entry : tie.After-node-span → tie.Start
 entry c = read c .before .before .before .before .before
 
--- the node delta, and the place of its node
-abbrev part : tie.After-find-node → Part
+-- the node delta, and where its node stands
+abbrev part : tie.After-node-span → Part
 part c = partAt (entry c .args .delta .now) (entry c .args .at) (entry c .args .max)
 
-found : (c : tie.After-find-node) → findNode (part c .number) (decode (entry c .args .table .now)) ≡ c .find-node .result
-found c = ap (λ (n : ℕ). findNode n (decode (entry c .args .table .now))) (sym (read c .before .before .read-u64 .ensures)) ∙ sym (c .find-node .ensures)
+found : (c : tie.After-node-span) → spanIn (part c .number) (entry c .args .table .now) ≡ c .node-span .result
+found c = ap (λ (n : ℕ). spanIn n (entry c .args .table .now)) (sym (read c .before .before .read-u64 .ensures)) ∙ sym (c .node-span .ensures)
 
-abbrev sought : tie.After-known-told → tie.After-find-node
-sought c = c .before .before .before
+abbrev sought : tie.After-start → tie.After-node-span
+sought c = c .before .before
 
-place : (c : tie.After-known-told) → findNode (part (sought c) .number) (decode (entry (sought c) .args .table .now)) ≡ At (c .before .i .given .0 .0)
-place c = found (sought c) ∙ c .before .i .given .1
+held : (c : tie.After-start) → spanIn (part (sought c) .number) (entry (sought c) .args .table .now) ≡ Held (c .start .given .0 .0) (c .start .given .0 .1 .0)
+held c = found (sought c) ∙ c .start .given .1
 
 add-read-u64 : tie.Need-add-read-u64
 add-read-u64 c = search needs
@@ -51,40 +50,29 @@ add-read-u64-3 c = search needs
 read-u64-requires-3 : tie.Need-read-u64-requires-3
 read-u64-requires-3 c κs = search needs
 
-find-node-requires : tie.Need-find-node-requires
-find-node-requires c κs =
-    let st = c .before .before .before .before .before .before in
-    (valid-long _ (st .pre .0), valid-few _ (st .pre .0))
+node-span-requires : tie.Need-node-span-requires
+node-span-requires c κs = c .before .before .before .before .before .before .pre .0
 
-enum-known-i : tie.Need-enum-known-i
-enum-known-i c = search needs
-
-mul-a : tie.Need-mul-a
-mul-a c = omega (arith, in-table _ (entry (sought c) .pre .0) 0 (part (sought c)) _ (place c))
-
-add-a : tie.Need-add-a
-add-a c = omega (arith, in-table _ (entry (sought c) .pre .0) 0 (part (sought c)) _ (place c))
-
-add-e : tie.Need-add-e
-add-e c = omega (arith, in-table _ (entry (sought c) .pre .0) 0 (part (sought c)) _ (place c))
+enum-known-start : tie.Need-enum-known-start
+enum-known-start c = search needs
 
 sub-apply-node : tie.Need-sub-apply-node
-sub-apply-node c = search needs
+sub-apply-node c = omega (arith, node-end _ _ (entry (sought (c .before)) .pre .0) (held (c .before)))
 
 part-apply-node-start : tie.Need-part-apply-node-start
-part-apply-node-start c = search needs
+part-apply-node-start c = omega (arith, node-end _ _ (entry (sought (c .before)) .pre .0) (held (c .before)))
 
 part-apply-node-end : tie.Need-part-apply-node-end
-part-apply-node-end c = omega (arith, in-table _ (entry (sought c) .pre .0) 0 (part (sought c)) _ (place c), valid-long _ (entry (sought c) .pre .0))
+part-apply-node-end c = node-fits _ _ (entry (sought (c .before)) .pre .0) (held (c .before))
 
 add-apply-node : tie.Need-add-apply-node
 add-apply-node c = search needs
 
 apply-node-requires : tie.Need-apply-node-requires
 apply-node-requires c κs =
-    let f = sought (c .before) in
-    let st = entry f in
-    (rising-seen _ (st .pre .0) 0 (part f) _ (place (c .before)), st .pre .1, st .pre .2)
+    let h = c .before .before in
+    let st = entry (sought h) in
+    (lent-rising _ (st .pre .0) (st .args .clock) (part (sought h)) (held h), st .pre .1, st .pre .2)
 
 enum-told : tie.Need-enum-told
 enum-told c = search needs
@@ -95,12 +83,12 @@ same-length c = search needs
 returns : tie.Need-returns
 returns c =
     let call = c .before .before in
-    let told = call .before .before in
-    let f = sought told in
+    let h = call .before .before .before in
+    let f = sought h in
     let st = entry f in
     let a = st .args in
-    turned _ (st .pre .0) (a .clock) (part f) _ (place told) _ _
-    (numbers-read (a .clock) (a .delta .now) _ _ _ _ (a .max) _ (read f .before .read-u642 .ensures) (read f .read-u643 .ensures) _ _ _ _ (call .apply-node .ensures))
+    part-held _ (st .pre .0) (a .clock) (part f) (held h) _ _
+    (numbers-read (a .clock) (a .delta .now) _ _ _ _ (a .max) _ (read f .before .read-u642 .ensures) (read f .read-u643 .ensures) _ _ _ (call .apply-node .ensures))
 
 same-length-2 : tie.Need-same-length-2
 same-length-2 c = search needs
@@ -108,7 +96,7 @@ same-length-2 c = search needs
 returns-2 : tie.Need-returns-2
 returns-2 c =
     let f = c .before .before in
-    turned-unknown _ (entry f .pre .0) (entry f .args .clock) (part f) _ (found f ∙ c .enum-told .given .1)
+    part-missing _ (entry f .pre .0) (entry f .args .clock) (part f) (found f ∙ c .enum-told .given .1)
 
 pub apply-part-spec : {M : Type 1} → statement M
 apply-part-spec =
@@ -120,11 +108,8 @@ apply-part-spec =
     read-u64-requires-2
     add-read-u64-3
     read-u64-requires-3
-    find-node-requires
-    enum-known-i
-    mul-a
-    add-a
-    add-e
+    node-span-requires
+    enum-known-start
     sub-apply-node
     part-apply-node-start
     part-apply-node-end

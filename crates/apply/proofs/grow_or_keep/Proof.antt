@@ -2,7 +2,7 @@
 use mathlib.Core.Path.{_≡_, ap, _∙_}
 use native.Mathlib.Omega.{arith}
 use lib.ListN.{length}
-use Rattle.apply.proofs.Applied.{put-all, stored, kept}
+use Rattle.apply.proofs.Applied.{put-all, has-stored, kept}
 use borrow.Author.Needs.{needs}
 use Rattle.apply.proofs.grow_or_keep.Statement.{statement}
 use Rattle.apply.proofs.grow_or_keep.Tie as tie
@@ -32,7 +32,7 @@ same-length c = search needs
 returns : tie.Need-returns
 returns c =
     let call = c .before .before .before in
-    stored _ _ _ _ (call .grow .ensures) (c .if1 .taken)
+    has-stored _ _ _ _ (call .grow .ensures) (c .if1 .taken)
 
 slice-aggregate-copy-to-2 : tie.Need-slice-aggregate-copy-to-2
 slice-aggregate-copy-to-2 c = search needs

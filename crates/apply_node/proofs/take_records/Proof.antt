@@ -5,7 +5,7 @@ use native.Mathlib.Omega.{arith}
 use lib.ListN.{length}
 use Rattle.delta_read.proofs.Plain.{plain-end, plain-bad}
 use Rattle.delta_read.proofs.Reading.{Within, op-within}
-use Rattle.apply_node.proofs.Parts.{op-ends}
+use Rattle.delta_read.proofs.Counted.{ends}
 use Rattle.apply_node.proofs.Taken.{So-far, nothing-left, stops, has-none, goes}
 use borrow.Author.Needs.{needs}
 use Rattle.apply_node.proofs.take_records.Statement.{statement}
@@ -75,7 +75,7 @@ enum-told-4 c = search needs
 loop-less : tie.Need-loop-less Inv-loop μ-loop
 loop-less c =
     let r = c .before .before .before .before .before .before .before in
-    let w = op-ends _ _ _ _ (sym (r .before .before .read-op .ensures) ∙ r .read .given .1) in
+    let w = ends _ _ _ _ (sym (r .before .before .read-op .ensures) ∙ r .read .given .1) in
     omega (arith, w .0, w .1)
 
 loop-again : tie.Need-loop-again Inv-loop μ-loop

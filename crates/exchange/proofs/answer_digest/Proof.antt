@@ -4,7 +4,8 @@ use mathlib.Core.Path.{_≡_, _∙_, sym}
 use lib.ListN.{length}
 use lib.Seq.{length-take-le}
 use Rattle.rules.specs.declared.Applied.{Applied}
-use Rattle.exchange.specs.Exchanging.{ComesTo, lentAnswer, takenAs}
+use Rattle.rules.specs.Given.{Gives}
+use Rattle.exchange.specs.Exchanging.{allThree, exchangedAs, lentAnswer}
 use Rattle.exchange.proofs.Exchanging.{delta-taken, made-within, no-delta}
 use borrow.Author.Needs.{needs}
 use Rattle.exchange.proofs.answer_digest.Statement.{statement}
@@ -40,11 +41,13 @@ abbrev asked : tie.After-apply → tie.After-compute
 asked c = made c .before .before .before .before
 
 taken : (c : tie.After-apply) (r : Applied) → c .apply .result ≡ r → let a = entry (asked c) .args in
-    ComesTo (lentAnswer (a .unsent .now) (a .ties .now) (a .mtu) (a .clock) (a .told .now) (a .delta .now) (a .answers .now) (a .publisher .now) (a .follower .now)) (takenAs (made c .computed .given .0 .0) (made c .computed .given .0 .1 .0) r) (c .apply .last .0) (asked c .compute .last .1 .1 .1 .1 .1 .0) (c .apply .last .1 .1 .1 .0)
+    Gives (lentAnswer (a .unsent .now) (a .ties .now) (a .mtu) (a .clock) (a .told .now) (a .delta .now) (a .answers .now) (a .publisher .now) (a .follower .now))
+    (exchangedAs (made c .computed .given .0 .0) (made c .computed .given .0 .1 .0) r)
+    (allThree (c .apply .last .0) (asked c .compute .last .1 .1 .1 .1 .1 .0) (c .apply .last .1 .1 .1 .0))
 taken c r e =
     let a = entry (asked c) .args in
     let call = asked c .compute .ensures in
-    delta-taken (a .unsent .now) (a .ties .now) (a .mtu) (a .clock) (a .told .now) (a .delta .now) (a .answers .now) (a .publisher .now) (a .follower .now) _ _ _ (sym (call .0) ∙ made c .computed .given .1) (call .1) r _ _ (sym e ∙ c .apply .ensures .0) (c .apply .ensures .1) (c .apply .ensures .2)
+    delta-taken (a .unsent .now) (a .ties .now) (a .mtu) (a .clock) (a .told .now) (a .delta .now) (a .answers .now) (a .publisher .now) (a .follower .now) _ _ _ (sym (call .0) ∙ made c .computed .given .1) (call .1) r _ _ (sym e ∙ c .apply .ensures .0, c .apply .ensures .1)
 
 apply-requires : tie.Need-apply-requires
 apply-requires c κs = search needs

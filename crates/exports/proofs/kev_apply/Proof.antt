@@ -4,10 +4,6 @@ use Rattle.exports.specs.Numbers.{nodesApplied}
 use borrow.Author.Needs.{needs}
 use Rattle.exports.proofs.kev_apply.Statement.{statement}
 use Rattle.exports.proofs.kev_apply.Tie as tie
-use Rattle.exports.proofs.kev_apply.Reads as reads
-use Rattle.exports.proofs.kev_apply.Lts as lts
-use Rattle.apply.proofs.apply.Reads as apply-reads
-use Rattle.exports.proofs.nodes_applied.Reads as nodes-applied-reads
 
 apply-requires : tie.Need-apply-requires
 apply-requires c κs = search needs
@@ -24,7 +20,7 @@ same-length-2 c = search needs
 returns : tie.Need-returns
 returns c =
     let e = c .before .before .before .before .before .apply .ensures in
-    (c .nodes-applied .ensures ∙ ap nodesApplied (e .0), e .1, e .2)
+    (c .nodes-applied .ensures ∙ ap nodesApplied (e .0), e .1)
 
 pub kev-apply-spec : {M : Type 1} → statement M
 kev-apply-spec =

@@ -4,10 +4,6 @@ use Rattle.exports.specs.Numbers.{bytesComputed}
 use borrow.Author.Needs.{needs}
 use Rattle.exports.proofs.kev_compute.Statement.{statement}
 use Rattle.exports.proofs.kev_compute.Tie as tie
-use Rattle.exports.proofs.kev_compute.Reads as reads
-use Rattle.exports.proofs.kev_compute.Lts as lts
-use Rattle.compute.proofs.compute.Reads as compute-reads
-use Rattle.exports.proofs.bytes_computed.Reads as bytes-computed-reads
 
 compute-requires : tie.Need-compute-requires
 compute-requires c κs = search needs

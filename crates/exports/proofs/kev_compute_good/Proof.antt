@@ -4,10 +4,6 @@ use Rattle.exports.specs.Numbers.{bytesComputed}
 use borrow.Author.Needs.{needs}
 use Rattle.exports.proofs.kev_compute_good.Statement.{statement}
 use Rattle.exports.proofs.kev_compute_good.Tie as tie
-use Rattle.exports.proofs.kev_compute_good.Reads as reads
-use Rattle.exports.proofs.kev_compute_good.Lts as lts
-use Rattle.compute.proofs.compute_good.Reads as compute-good-reads
-use Rattle.exports.proofs.bytes_computed.Reads as bytes-computed-reads
 
 compute-good-requires : tie.Need-compute-good-requires
 compute-good-requires c κs = search needs

@@ -1,14 +1,9 @@
 -- `exports::kev_delete_good` meets its contract: the call, and its answer as a number. Assumes nothing.
 use mathlib.Core.Path.{ap, _∙_}
-use Rattle.rules.specs.Answers.{answerTold}
-use Rattle.rules.specs.declared.Answer.{Answer}
+use Rattle.exports.specs.Numbers.{answerNumber}
 use borrow.Author.Needs.{needs}
 use Rattle.exports.proofs.kev_delete_good.Statement.{statement}
 use Rattle.exports.proofs.kev_delete_good.Tie as tie
-use Rattle.exports.proofs.kev_delete_good.Reads as reads
-use Rattle.exports.proofs.kev_delete_good.Lts as lts
-use Rattle.exports.proofs.number_of.Reads as number-of-reads
-use Rattle.local.proofs.write_good.Reads as write-good-reads
 
 slice-aggregate-write-good : tie.Need-slice-aggregate-write-good
 slice-aggregate-write-good c = search needs
@@ -25,7 +20,7 @@ same-length c = search needs
 returns : tie.Need-returns
 returns c =
     let e = c .before .before .before .write-good .ensures in
-    (c .number-of .ensures ∙ ap (λ (a : Answer). answerTold a .number) (e .0), e .1)
+    (c .number-of .ensures ∙ ap answerNumber (e .0), e .1)
 
 pub kev-delete-good-spec : {M : Type 1} → statement M
 kev-delete-good-spec =

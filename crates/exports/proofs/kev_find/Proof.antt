@@ -4,10 +4,6 @@ use Rattle.lookup.specs.Lookup.{startOf}
 use borrow.Author.Needs.{needs}
 use Rattle.exports.proofs.kev_find.Statement.{statement}
 use Rattle.exports.proofs.kev_find.Tie as tie
-use Rattle.exports.proofs.kev_find.Reads as reads
-use Rattle.exports.proofs.kev_find.Lts as lts
-use Rattle.exports.proofs.start_of.Reads as start-of-reads
-use Rattle.lookup.proofs.find.Reads as find-reads
 
 find-requires : tie.Need-find-requires
 find-requires c κs = search needs

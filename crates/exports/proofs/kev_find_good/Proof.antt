@@ -4,10 +4,6 @@ use Rattle.lookup.specs.Lookup.{startOf}
 use borrow.Author.Needs.{needs}
 use Rattle.exports.proofs.kev_find_good.Statement.{statement}
 use Rattle.exports.proofs.kev_find_good.Tie as tie
-use Rattle.exports.proofs.kev_find_good.Reads as reads
-use Rattle.exports.proofs.kev_find_good.Lts as lts
-use Rattle.exports.proofs.start_of.Reads as start-of-reads
-use Rattle.lookup.proofs.find_good.Reads as find-good-reads
 
 find-good-requires : tie.Need-find-good-requires
 find-good-requires c κs = search needs

@@ -4,10 +4,6 @@ use Rattle.exports.specs.Numbers.{opsRead}
 use borrow.Author.Needs.{needs}
 use Rattle.exports.proofs.kev_read_delta.Statement.{statement}
 use Rattle.exports.proofs.kev_read_delta.Tie as tie
-use Rattle.exports.proofs.kev_read_delta.Reads as reads
-use Rattle.exports.proofs.kev_read_delta.Lts as lts
-use Rattle.delta_read.proofs.read_delta.Reads as read-delta-reads
-use Rattle.exports.proofs.ops_read.Reads as ops-read-reads
 
 read-delta-requires : tie.Need-read-delta-requires
 read-delta-requires c κs = search needs

@@ -5,10 +5,6 @@ use Rattle.exports.specs.Numbers.{nodesTold}
 use borrow.Author.Needs.{needs}
 use Rattle.exports.proofs.kev_read_digest.Statement.{statement}
 use Rattle.exports.proofs.kev_read_digest.Tie as tie
-use Rattle.exports.proofs.kev_read_digest.Reads as reads
-use Rattle.exports.proofs.kev_read_digest.Lts as lts
-use Rattle.digest_read.proofs.read_digest.Reads as read-digest-reads
-use Rattle.exports.proofs.nodes_told.Reads as nodes-told-reads
 
 read-digest-requires : tie.Need-read-digest-requires
 read-digest-requires c κs = search needs

@@ -4,10 +4,6 @@ use Rattle.exports.specs.Numbers.{bytesWritten}
 use borrow.Author.Needs.{needs}
 use Rattle.exports.proofs.kev_write_digest.Statement.{statement}
 use Rattle.exports.proofs.kev_write_digest.Tie as tie
-use Rattle.exports.proofs.kev_write_digest.Reads as reads
-use Rattle.exports.proofs.kev_write_digest.Lts as lts
-use Rattle.digest_write.proofs.write_digest.Reads as write-digest-reads
-use Rattle.exports.proofs.bytes_written.Reads as bytes-written-reads
 
 write-digest-requires : tie.Need-write-digest-requires
 write-digest-requires c κs = search needs

@@ -20,23 +20,20 @@ use Rattle.rules.specs.Delta as rule
 use Rattle.rules.specs.declared.Refusal.{Refusal}
 use Rattle.rules.specs.declared.Refusal.the-variants.{OutOfOrder, NodeTwice, TooMany}
 use Rattle.rules.specs.declared.DeltaRead.the-variants as read
 use Rattle.delta_read.specs.declared.Op.{Op}
 use Rattle.delta_read.specs.declared.Op.the-variants.{Node, KeyValue, SetMaxVersion}
 use Rattle.delta_read.specs.declared.OpRead.{OpRead}
 use Rattle.delta_read.specs.declared.OpRead.the-variants.{Got, Bad}
 use Rattle.delta_read.specs.declared.TextRead.{TextRead}
 use Rattle.delta_read.specs.declared.TextRead.the-variants as text
 use Rattle.delta_read.specs.declared.Followed.{Followed}
 use Rattle.delta_read.specs.declared.Followed.the-variants.{Entered, Under, Fault}
 use Rattle.delta_read.specs.Places.{opAt, onText, textAt, taggedAt, nodeAt, versionAt, valueAt, keyValueAt, setMaxVersionAt, seenOf, underNode, nodeFollows, recordFollows, maxFollows, followAt}
 use Rattle.delta_read.specs.Plain.{opsFrom}
 use Rattle.delta_read.proofs.Plain.{plain-end, plain-next}
-use Rattle.delta_read.proofs.Reading.{Within, op-within, le-or-lt}
-use Rattle.apply_node.specs.Taking.{recsFrom, partsFrom, partAt, noPart, Head, Gathered}
-
--- where an operation ends
-pub op-ends : (s : List ℕ) (at : ℕ) (o : Op) (next : ℕ) → opAt s at ≡ Got o next → (at < next) × (next ≤ length s)
-op-ends s at o next e = let w : Within (length s) at (Got o next) = subst (Within (length s) at) e (op-within s at) in (w .0, w .1)
+use Rattle.delta_read.proofs.Reading.{le-or-lt}
+use Rattle.delta_read.proofs.Counted.{ends}
+use Rattle.delta_read.specs.NodeDeltas.{recsFrom, partsFrom, behindNode, partAt, noPart, Head, Gathered}
 
 -- ---- a Node by its bytes
 
@@ -90,7 +87,7 @@ op-told s at =
 
 -- the node delta x stands at a place, and these operations are still to be read: they bring its max and some of its records
 pub record Heading (s : List ℕ) (x : rule.Part) (at count max : ℕ) (ops : List rule.Op) : Type 0 where
-  pub inside : at + 25 ≤ length s
+  pub inside : behindNode at ≤ length s
   pub is : x ≡ partAt s at (rule.maxOf max ops)
   pub few : length (x .delta .recs) ≤ count + length (rule.recsOf ops)
 
@@ -110,7 +107,7 @@ module _ (s : List ℕ) (at : ℕ) (h : at < length s) (n g f next : ℕ) (e : o
       let q : at + 1 + 8 ≡ at + 9 = omega arith in
       let r : at + 1 + 16 ≡ at + 17 = omega arith in
       let k : next ≡ at + 25 = t .0 ∙ p in
-      let w = op-ends s at (Node n g f) next e .1 in
+      let w = ends s at (Node n g f) next e .1 in
       record { inside = omega (arith, k, w); is = rw (t .1, t .2, t .3, q, r, k) refl; few = omega arith }
 
 module _ (s : List ℕ) (x : rule.Part) (at count max : ℕ) where
@@ -169,16 +166,16 @@ drop-head (a ∷ l) r (suc i) x d e = drop-head l r i x d e
 
 -- what holds at the head of the loop: of the last node delta some operations are still to be read, those before it are whole
 pub record Gathering (s places counts maxes : List ℕ) (nodes under at : ℕ) : Type 0 where
-  pub long-at : length places ≡ 8
-  pub long-count : length counts ≡ 8
-  pub long-max : length maxes ≡ 8
+  pub long-at : length places ≡ maxNodes
+  pub long-count : length counts ≡ maxNodes
+  pub long-max : length maxes ≡ maxNodes
   pub left : drop nodes (partsFrom s 0) ≡ partsFrom s at
   pub whole : (i : ℕ) → i + 1 < nodes → Head s (getD (partsFrom s 0) i noPart) (getD places i 0) (getD counts i 0) (getD maxes i 0)
   pub last : (i : ℕ) → i + 1 ≡ nodes → Heading s (getD (partsFrom s 0) i noPart) (getD places i 0) under (getD maxes i 0) (opsFrom s at)
   pub told : (i : ℕ) → i + 1 ≡ nodes → getD counts i 0 ≡ under
 
 module _ (s : List ℕ) where
-  pub gathering-first : (places counts maxes : List ℕ) → length places ≡ 8 → length counts ≡ 8 → length maxes ≡ 8 → Gathering s places counts maxes 0 0 0
+  pub gathering-first : (places counts maxes : List ℕ) → length places ≡ maxNodes → length counts ≡ maxNodes → length maxes ≡ maxNodes → Gathering s places counts maxes 0 0 0
   gathering-first places counts maxes p q r =
       record {
         long-at = p;
@@ -208,11 +205,11 @@ module _ (s : List ℕ) where
     gathering-last h = ended [] (plain-end s at h) (λ x p c m. closes s x p c m)
 
     module _ (h : at < length s) where
-      pub gathering-node : (n g f next : ℕ) → opAt s at ≡ Got (Node n g f) next → nodes < 8
+      pub gathering-node : (n g f next : ℕ) → opAt s at ≡ Got (Node n g f) next → nodes < maxNodes
           → Gathering s (set places nodes at) (set counts nodes 0) (set maxes nodes 0) (nodes + 1) 0 next
       gathering-node n g f next e few =
           let d = drop-head (partsFrom s 0) (partsFrom s next) nodes (x s at h n g f next e) noPart (inv .left ∙ parts s at h n g f next e) in
-          let same : (l : List ℕ) (v : ℕ) → length l ≡ 8 → (i : ℕ) → i + 1 ≡ nodes + 1 → getD (set l nodes v) i 0 ≡ v =
+          let same : (l : List ℕ) (v : ℕ) → length l ≡ maxNodes → (i : ℕ) → i + 1 ≡ nodes + 1 → getD (set l nodes v) i 0 ≡ v =
           λ l v k i q. let z : i ≡ nodes = omega arith in ap (λ (j : ℕ). getD (set l nodes v) j 0) z ∙ getD-set-same l nodes v 0 (omega arith) in
           let other : (l : List ℕ) (v i : ℕ) → i < nodes → getD (set l nodes v) i 0 ≡ getD l i 0 = λ l v i q. getD-set-other l nodes i v 0 (λ z. omega arith) in
           record {
@@ -231,7 +228,7 @@ module _ (s : List ℕ) where
           }
 
       -- one more operation of the last one
-      one-more : (next v : ℕ) → 0 < nodes → nodes ≤ 8 → partsFrom s at ≡ partsFrom s next
+      one-more : (next v : ℕ) → 0 < nodes → nodes ≤ maxNodes → partsFrom s at ≡ partsFrom s next
           → ((x : rule.Part) (p m : ℕ) → Heading s x p under m (opsFrom s at) → Heading s x p (under + 1) v (opsFrom s next))
           → Gathering s places (set counts (nodes - 1) (under + 1)) (set maxes (nodes - 1) v) nodes (under + 1) next
       one-more next v some few e go =
@@ -249,10 +246,17 @@ module _ (s : List ℕ) where
             told = λ i q. same counts (under + 1) (omega (arith, inv .long-count)) i q;
           }
 
-      pub gathering-under : (o : Op) (next v : ℕ) → opAt s at ≡ Got o next → nodes ≤ 8 → (a : List ℕ) (running : ℕ) → followAt nodes a running o ≡ Under v
-          → Gathering s places (set counts (nodes - 1) (under + 1)) (set maxes (nodes - 1) v) nodes (under + 1) next
+      pub gathering-under : (o : Op) (next v : ℕ) → opAt s at ≡ Got o next → nodes ≤ maxNodes → (a : List ℕ) (running : ℕ) → followAt nodes a running o ≡ Under v
+          → (places′ counts′ maxes′ : List ℕ) (nodes′ under′ : ℕ)
+          → places′ ≡ places
+          → counts′ ≡ set counts (nodes - 1) (under + 1)
+          → maxes′ ≡ set maxes (nodes - 1) v
+          → nodes′ ≡ nodes
+          → under′ ≡ under + 1
+          → Gathering s places′ counts′ maxes′ nodes′ under′ next
       unfolding partsFrom rule.partsOf
-      gathering-under o next v e few a running f = go o e (subst (Found nodes o) f (found nodes a running o))
+      gathering-under o next v e few a running f places′ counts′ maxes′ nodes′ under′ x₀ x₁ x₂ x₃ x₄ =
+          rw (x₀, x₁, x₂, x₃, x₄) (go o e (subst (Found nodes o) f (found nodes a running o)))
         where
           go : (o : Op) → opAt s at ≡ Got o next → Found nodes o (Under v) → Gathering s places (set counts (nodes - 1) (under + 1)) (set maxes (nodes - 1) v) nodes (under + 1) next
           go (Node n g f) e w = absurd w
@@ -265,8 +269,15 @@ module _ (s : List ℕ) where
               one-more next v (w .0) few (ap rule.partsOf p) (λ x q c y. rw (w .1) (carries-max s x q under c m (opsFrom s next) (subst (Heading s x q under c) p y)))
 
       pub gathering-entered : (o : Op) (next n : ℕ) → opAt s at ≡ Got o next → (a : List ℕ) (running : ℕ) → followAt nodes a running o ≡ Entered n
-          → Gathering s (set places nodes at) (set counts nodes 0) (set maxes nodes 0) (nodes + 1) 0 next
-      gathering-entered o next n e a running f = go o e (subst (Found nodes o) f (found nodes a running o))
+          → (places′ counts′ maxes′ : List ℕ) (nodes′ under′ : ℕ)
+          → places′ ≡ set places nodes at
+          → counts′ ≡ set counts nodes 0
+          → maxes′ ≡ set maxes nodes 0
+          → nodes′ ≡ nodes + 1
+          → under′ ≡ 0
+          → Gathering s places′ counts′ maxes′ nodes′ under′ next
+      gathering-entered o next n e a running f places′ counts′ maxes′ nodes′ under′ x₀ x₁ x₂ x₃ x₄ =
+          rw (x₀, x₁, x₂, x₃, x₄) (go o e (subst (Found nodes o) f (found nodes a running o)))
         where
           go : (o : Op) → opAt s at ≡ Got o next → Found nodes o (Entered n) → Gathering s (set places nodes at) (set counts nodes 0) (set maxes nodes 0) (nodes + 1) 0 next
           go (Node i g f) e w = gathering-node i g f next e w
@@ -283,7 +294,7 @@ some-node nodes a running o v f = go o (subst (Found nodes o) f (found nodes a r
 
 -- ---- the verdict
 
-module _ (s at count max : List ℕ) (p : length at ≡ 8) (q : length count ≡ 8) (r : length max ≡ 8) where
+module _ (s at count max : List ℕ) (p : length at ≡ maxNodes) (q : length count ≡ maxNodes) (r : length max ≡ maxNodes) where
   -- of a refused delta nothing is told
   pub gathered-none : (why : Refusal) (place : ℕ) → read.Refused why place ≡ rule.deltaRead s → Gathered s at count max
   gathered-none why place e = record { long-at = p; long-count = q; long-max = r; few = λ ops nodes g. no ops nodes g; heads = λ ops nodes g. no ops nodes g }
@@ -291,7 +302,7 @@ module _ (s at count max : List ℕ) (p : length at ≡ 8) (q : length count ≡
       no : {X : Type 0} (ops nodes : ℕ) → read.Good ops nodes ≡ rule.deltaRead s → X
       no ops nodes g = let z : read.Refused why place ≡ read.Good ops nodes = e ∙ sym g in let y : _≡_ {A = ℕ} 0 1 = cc in absurd (omega arith)
 
-  pub gathered : (ops nodes : ℕ) → read.Good ops nodes ≡ rule.deltaRead s → nodes ≤ 8
+  pub gathered : (ops nodes : ℕ) → read.Good ops nodes ≡ rule.deltaRead s → nodes ≤ maxNodes
       → ((i : ℕ) → i < nodes → Head s (getD (partsFrom s 0) i noPart) (getD at i 0) (getD count i 0) (getD max i 0)) → Gathered s at count max
   gathered ops nodes e f h =
       record {

@@ -1,17 +1,18 @@
--- `apply_node::read_heads` meets its contract: what is left to be read has the whole's answer, and brings the rest of the last node delta. Assumes nothing.
+-- `delta_read::read_heads` meets its contract: what is left to be read has the whole's answer, and brings the rest of the last node delta. Assumes nothing.
 use Prim.Native.Nat.{ℕ, _-_, _≤_, _<_}
 use mathlib.Core.Path.{_≡_, refl, sym, _∙_}
 use mathlib.Core.List.{List}
+use mathlib.Core.Logic.{⊎-elim}
 use native.Mathlib.Omega.{arith}
 use lib.ListN.{length}
 use Rattle.delta_read.specs.declared.OpRead.the-variants.{Got}
 use Rattle.delta_read.specs.Places.{opAt}
 use Rattle.delta_read.proofs.Counted.{So-far, too-long, start, done, bad, fault, ends, on-new, on-under}
 use Rattle.delta_read.proofs.Following.{entered}
-use Rattle.apply_node.proofs.Parts.{Gathering, gathering-first, gathering-entered, gathering-under, gathering-last, some-node, gathered-none, gathered}
+use Rattle.delta_read.proofs.NodeDeltas.{Gathering, gathering-first, gathering-entered, gathering-under, gathering-last, some-node, gathered-none, gathered}
 use borrow.Author.Needs.{needs}
-use Rattle.apply_node.proofs.read_heads.Statement.{statement}
-use Rattle.apply_node.proofs.read_heads.Tie as tie
+use Rattle.delta_read.proofs.read_heads.Statement.{statement}
+use Rattle.delta_read.proofs.read_heads.Tie as tie
 
 abbrev Inv-loop : tie.InvT-loop
 Inv-loop s places₀ counts₀ maxes₀ seen₀ nodes₀ running₀ under₀ ops₀ at₀ places counts maxes seen nodes running under ops at =
@@ -38,10 +39,10 @@ under-follow c = c .before .before .before
 below-eight : (c : tie.After-known-told4 Inv-loop μ-loop) → looping (node-follow c) .before .loop .nodes < 8
 below-eight c =
     let f = node-follow c in
-    entered (looping f .before .before .before .before .args .delta .now) _ _ _ _ _ (sym (f .follow .ensures) ∙ c .before .number .given .1) .1
+    entered (looping f .before .before .before .before .args .delta .now) _ _ _ _ _ (sym (f .follow .ensures) ∙ c .before .followed2 .given .1) .1
 
 from-one : (c : tie.After-known-told5 Inv-loop μ-loop) → 0 < looping (under-follow c) .before .loop .nodes
-from-one c = some-node _ _ _ _ _ (sym (under-follow c .follow .ensures) ∙ c .before .version .given .1)
+from-one c = some-node _ _ _ _ _ (sym (under-follow c .follow .ensures) ∙ c .before .followed3 .given .1)
 
 refused-requires : tie.Need-refused-requires Inv-loop μ-loop
 refused-requires c κs = search needs
@@ -80,8 +81,8 @@ enum-known-read-2 c = search needs
 follow-requires : tie.Need-follow-requires Inv-loop μ-loop
 follow-requires c κs = search needs
 
-enum-known-why : tie.Need-enum-known-why Inv-loop μ-loop
-enum-known-why c = search needs
+enum-known-followed : tie.Need-enum-known-followed Inv-loop μ-loop
+enum-known-followed c = search needs
 
 refused-requires-3 : tie.Need-refused-requires-3 Inv-loop μ-loop
 refused-requires-3 c κs = search needs
@@ -91,12 +92,12 @@ returns-3 c =
     let told = c .before in
     let f = told .before .before .before in
     let in-loop = looping f in
-    let e = fault _ _ _ _ _ _ (in-loop .before .loop .inv .0 .4) (in-loop .loop-test .taken) _ _ (got f) _ (sym (f .follow .ensures) ∙ told .before .why .given .1) in
+    let e = fault _ _ _ _ _ _ (in-loop .before .loop .inv .0 .4) (in-loop .loop-test .taken) _ _ (got f) _ (sym (f .follow .ensures) ∙ told .before .followed .given .1) in
     let r = c .refused3 .ensures in
     (r .0 ∙ e, gathered-none _ _ _ _ (r .1) (r .2) (r .3) _ _ e)
 
-enum-known-number : tie.Need-enum-known-number Inv-loop μ-loop
-enum-known-number c = search needs
+enum-known-followed-2 : tie.Need-enum-known-followed-2 Inv-loop μ-loop
+enum-known-followed-2 c = search needs
 
 mul-seen : tie.Need-mul-seen Inv-loop μ-loop
 mul-seen c = omega (arith, below-eight c)
@@ -129,24 +130,8 @@ add-nodes c = omega (arith, below-eight c)
 more-ops : (c : tie.In-loop Inv-loop μ-loop) → c .before .loop .ops < 16384
 more-ops c = omega (arith, c .loop-test .taken, c .before .loop .inv .0 .2, c .before .before .if1 .left)
 
-add-ops : tie.Need-add-ops Inv-loop μ-loop
-add-ops c = omega (arith, more-ops (looping (node-follow c)))
-
-loop-less : tie.Need-loop-less Inv-loop μ-loop
-loop-less c =
-    let n = ends _ _ _ _ (got (node-follow c)) in
-    omega (arith, n .0, n .1)
-
-loop-again : tie.Need-loop-again Inv-loop μ-loop
-loop-again c =
-    let f = node-follow c in
-    let in-loop = looping f in
-    let inv = in-loop .before .loop .inv in
-    let e = sym (f .follow .ensures) ∙ c .before .number .given .1 in
-    (on-new _ _ _ _ _ _ (inv .0) (in-loop .loop-test .taken) _ _ (got f) _ _ _ _ e refl refl refl, gathering-entered _ _ _ _ _ _ _ (inv .1) (in-loop .loop-test .taken) _ _ _ (got f) _ _ e, omega arith)
-
-enum-known-version : tie.Need-enum-known-version Inv-loop μ-loop
-enum-known-version c = search needs
+enum-known-followed-3 : tie.Need-enum-known-followed-3 Inv-loop μ-loop
+enum-known-followed-3 c = search needs
 
 add-under : tie.Need-add-under Inv-loop μ-loop
 add-under c =
@@ -171,21 +156,34 @@ mul-maxes-2 c = omega (arith, looping (under-follow c) .before .loop .inv .0 .1)
 array-write-maxes-2 : tie.Need-array-write-maxes-2 Inv-loop μ-loop
 array-write-maxes-2 c = omega (arith, from-one c, looping (under-follow c) .before .loop .inv .0 .1)
 
-add-ops-2 : tie.Need-add-ops-2 Inv-loop μ-loop
-add-ops-2 c = omega (arith, more-ops (looping (under-follow c)))
+add-ops : tie.Need-add-ops Inv-loop μ-loop
+add-ops c = omega (arith, more-ops (looping (c .before)))
 
-loop-less-2 : tie.Need-loop-less-2 Inv-loop μ-loop
-loop-less-2 c =
-    let n = ends _ _ _ _ (got (under-follow c)) in
+loop-less : tie.Need-loop-less Inv-loop μ-loop
+loop-less c =
+    let n = ends _ _ _ _ (got (c .before)) in
     omega (arith, n .0, n .1)
 
-loop-again-2 : tie.Need-loop-again-2 Inv-loop μ-loop
-loop-again-2 c =
-    let f = under-follow c in
+loop-again : tie.Need-loop-again Inv-loop μ-loop
+loop-again c =
+    let f = c .before in
     let in-loop = looping f in
     let inv = in-loop .before .loop .inv in
-    let e = sym (f .follow .ensures) ∙ c .before .version .given .1 in
-    (on-under _ _ _ _ _ _ (inv .0) (in-loop .loop-test .taken) _ _ (got f) _ _ _ _ e refl refl refl, gathering-under _ _ _ _ _ _ _ (inv .1) (in-loop .loop-test .taken) _ _ _ (got f) (inv .0 .1) _ _ e, omega (arith, inv .2))
+    let more = in-loop .loop-test .taken in
+    ⊎-elim
+    (λ w.
+    let e = sym (f .follow .ensures) ∙ w .1 .given .1 in (
+      on-new _ _ _ _ _ _ (inv .0) more _ _ (got f) _ _ _ _ e (w .6) (w .7) (w .8),
+      gathering-entered _ _ _ _ _ _ _ (inv .1) more _ _ _ (got f) _ _ e _ _ _ _ _ (w .3) (w .4) (w .5) (w .7) (w .9),
+      omega (arith, w .9),
+    ))
+    (λ w.
+    let e = sym (f .follow .ensures) ∙ w .1 .given .1 in (
+      on-under _ _ _ _ _ _ (inv .0) more _ _ (got f) _ _ _ _ e (w .6) (w .7) (w .8),
+      gathering-under _ _ _ _ _ _ _ (inv .1) more _ _ _ (got f) (inv .0 .1) _ _ e _ _ _ _ _ (w .3) (w .4) (w .5) (w .7) (w .9),
+      omega (arith, inv .2, w .9),
+    ))
+    (c .match2 .came)
 
 returns-4 : tie.Need-returns-4 Inv-loop μ-loop
 returns-4 c =
@@ -208,10 +206,10 @@ read-heads-spec =
     returns-2
     enum-known-read-2
     follow-requires
-    enum-known-why
+    enum-known-followed
     refused-requires-3
     returns-3
-    enum-known-number
+    enum-known-followed-2
     mul-seen
     array-write-seen
     mul-places
@@ -221,10 +219,7 @@ read-heads-spec =
     mul-maxes
     array-write-maxes
     add-nodes
-    add-ops
-    loop-less
-    loop-again
-    enum-known-version
+    enum-known-followed-3
     add-under
     sub-counts
     mul-counts-2
@@ -232,7 +227,7 @@ read-heads-spec =
     sub-maxes
     mul-maxes-2
     array-write-maxes-2
-    add-ops-2
-    loop-less-2
-    loop-again-2
+    add-ops
+    loop-less
+    loop-again
     returns-4)

@@ -1,0 +1,58 @@
+-- The node deltas as they stand in the bytes of a delta: where each begins, how many records it has at most, and the running max at its end.
+use Prim.Native.Nat.{ℕ, _+_, _≤_, _<_}
+use mathlib.Core.Path.{_≡_}
+use mathlib.Core.List.{List, [], _∷_}
+use lib.ListN.{length, getD}
+use Rattle.fields.specs.Numbers.{Bytes, natOf}
+use Rattle.fields.specs.Parts.{part}
+use Rattle.fields.specs.Widths.{offset, total}
+use Rattle.rules.specs.Sizes.{maxNodes}
+use Rattle.rules.specs.Node.{KeyValue}
+use Rattle.rules.specs.Delta as rule
+use Rattle.rules.specs.declared.DeltaRead.the-variants as read
+use Rattle.delta_read.specs.Plain.{opsFrom}
+
+-- the records from a place up to the next Node
+unfoldable pub recsFrom : (delta : Bytes) (at : ℕ) → List KeyValue
+recsFrom s at = rule.recsOf (opsFrom s at)
+
+-- the node deltas from a place on
+unfoldable pub partsFrom : (delta : Bytes) (at : ℕ) → List rule.Part
+partsFrom s at = rule.partsOf (opsFrom s at)
+
+-- a node delta by its numbers and the place of its records
+abbrev pub deltaOf : (delta : Bytes) (gc from max records : ℕ) → rule.NodeDelta
+deltaOf s gc from max records = record { from = from; last-gc = gc; recs = recsFrom s records; max = max }
+
+-- a Node: its tag, number, last_gc and from
+abbrev pub nodeFields : List ℕ
+nodeFields = 1 ∷ 8 ∷ 8 ∷ 8 ∷ []
+
+-- the place behind the Node at a place: there its records begin
+abbrev pub behindNode : (at : ℕ) → ℕ
+behindNode at = at + total nodeFields
+
+-- the node delta whose Node stands at a place, with the running max at its end
+abbrev pub partAt : (delta : Bytes) (at max : ℕ) → rule.Part
+partAt s at max =
+    record {
+      number = natOf (part (at + offset nodeFields 1) 8 s);
+      delta = deltaOf s (natOf (part (at + offset nodeFields 2) 8 s)) (natOf (part (at + offset nodeFields 3) 8 s)) max (behindNode at);
+    }
+
+-- the node delta x stands there, with no more than so many records
+pub record Head (s : Bytes) (x : rule.Part) (at count max : ℕ) : Type 0 where
+  pub inside : behindNode at ≤ length s
+  pub is : x ≡ partAt s at max
+  pub few : length (x .delta .recs) ≤ count
+
+abbrev pub noPart : rule.Part
+noPart = record { number = 0; delta = record { from = 0; last-gc = 0; recs = []; max = 0 } }
+
+-- the node deltas of an accepted delta, one behind the other: what stands in the lists behind them is of no use
+pub record Gathered (s : Bytes) (at count max : List ℕ) : Type 0 where
+  pub long-at : length at ≡ maxNodes
+  pub long-count : length count ≡ maxNodes
+  pub long-max : length max ≡ maxNodes
+  pub few : (ops nodes : ℕ) → read.Good ops nodes ≡ rule.deltaRead s → nodes ≤ maxNodes
+  pub heads : (ops nodes : ℕ) → read.Good ops nodes ≡ rule.deltaRead s → (i : ℕ) → i < nodes → Head s (getD (partsFrom s 0) i noPart) (getD at i 0) (getD count i 0) (getD max i 0)
