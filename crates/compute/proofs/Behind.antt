@@ -12,7 +12,8 @@ use Rattle.rules.specs.Digest.{NodeDigest}
 use Rattle.rules.specs.Compute.{toldOf, fromOf}
 use Rattle.digest_read.specs.Held.{pairOf}
 use Rattle.digest_read.specs.declared.Pair.{Pair}
-use Rattle.compute_order.specs.Line.{entryAt, goes}
+use Rattle.table_read.specs.Find.{entryAt}
+use Rattle.compute_order.specs.Line.{goes}
 use Rattle.compute.specs.Plan.{fromAt, stalenessOf}
 use Rattle.compute.specs.declared.Staleness.{Staleness}
 use Rattle.compute.specs.declared.Staleness.the-variants.{UpToDate, From}

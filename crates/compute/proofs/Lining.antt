@@ -1,9 +1,9 @@
 -- The line of the stale nodes grows by one node of the table after the other, from the last to the first. Assumes nothing.
-use Prim.Native.Nat.{ℕ, zero, suc, _+_, _-_, _≤_, _<_}
-use mathlib.Core.Path.{_≡_, refl, sym, ap, ap₂, _∙_, subst}
-use mathlib.Core.Bool.{Bool, true, false}
-use mathlib.Core.List.{List, []}
-use mathlib.Core.Logic.{_⊎_, ⊎-elim}
+use Prim.Native.Nat.{ℕ, _+_, _-_, _≤_, _<_}
+use mathlib.Core.Path.{_≡_, sym, ap, ap₂, _∙_, subst}
+use mathlib.Core.Bool.{true, false}
+use mathlib.Core.List.{List}
+use mathlib.Core.Logic.{⊎-elim}
 use native.Mathlib.Omega.{arith}
 use lib.ListN.{length, getD, set, length-set}
 use lib.Seq.{getD-set-same, getD-set-other}
@@ -11,13 +11,13 @@ use Rattle.fields.specs.Choice.{_∈_}
 use Rattle.fields.proofs.Choice.{in-none}
 use Rattle.rules.specs.Table.{Table}
 use Rattle.rules.specs.Digest.{NodeDigest}
-use Rattle.rules.specs.Compute.{StaleNode, stale, staleOf, sooner}
+use Rattle.rules.specs.Compute.{stale}
 use Rattle.compute_stale.specs.Arranged.{span, listed, insert, arranged}
 use Rattle.compute_stale.proofs.Arranged.{insert-in, insert-agree, arranged-start, arranged-takes, arranged-leaves, arranged-in}
-use Rattle.compute_order.specs.Line.{entryAt, Rank, rankOf, ahead, rankAt, aheadAt, staleAt, goes, soonerAt, lineOf}
+use Rattle.table_read.specs.Find.{entryAt}
+use Rattle.compute_order.specs.Line.{rankOf, ahead, rankAt, aheadAt, staleAt, goes, soonerAt}
 use Rattle.compute_order.proofs.Lined.{ahead-is}
 use Rattle.compute.specs.Plan.{fromAt, Planned}
-use Rattle.compute.specs.declared.Plan.{Plan}
 
 module _ (excluded : List ℕ) (ds : List NodeDigest) (ties : List ℕ) (t : Table) where
   abbrev countAt : ℕ → ℕ

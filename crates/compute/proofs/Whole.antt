@@ -1,6 +1,6 @@
 -- The operations of the line, written while they fit, are the delta of the rules. Assumes nothing.
-use Prim.Native.Nat.{ℕ, _+_, _-_, _≤_, _<_}
-use mathlib.Core.Path.{_≡_, refl, sym, ap, ap₂, _∙_, subst}
+use Prim.Native.Nat.{ℕ, _<_}
+use mathlib.Core.Path.{_≡_, refl, ap, ap₂, _∙_, subst}
 use mathlib.Core.List.{List, [], _∷_, _++_, map}
 use native.Mathlib.Nat.{zero-add, sub-zero}
 use lib.ListN.{length, getD}
@@ -12,10 +12,10 @@ use Rattle.rules.specs.Digest.{NodeDigest}
 use Rattle.rules.specs.Delta.{Op, NodeOp, deltaBytes}
 use Rattle.rules.specs.Compute.{stale, bodyOps, allOps, cut, ordered, staleNodes, deltaFor}
 use Rattle.compute_stale.specs.Arranged.{listed}
-use Rattle.compute_order.specs.Line.{entryAt, staleAt, lineOf}
+use Rattle.table_read.specs.Find.{entryAt}
+use Rattle.compute_order.specs.Line.{staleAt}
 use Rattle.compute_order.proofs.Lined.{line-nodes, line-in}
-use Rattle.compute_write.specs.Sending.{opsOfNode, opsAt, counts, behind, sending}
-use Rattle.compute_write.specs.declared.Sent.{Sent}
+use Rattle.compute_write.specs.Sending.{opsAt, counts, behind, sending}
 use Rattle.compute.specs.Plan.{fromAt, Planned}
 use Rattle.compute.specs.declared.Plan.{Plan}
 

@@ -1,6 +1,6 @@
 -- The numbers of a call to compute, before any byte is looked at: 7, 8, 15 in this order.
 use Prim.Native.Nat.{ℕ, _-_}
-use mathlib.Core.Bool.{Bool, true, false, _&&_}
+use mathlib.Core.Bool.{Bool, _&&_}
 use lib.Dec.{leb, eqb}
 use Rattle.fields.specs.Choice.{pick}
 use Rattle.rules.specs.Sizes.{leastMtu, maxDelta}

@@ -8,7 +8,8 @@ use Rattle.rules.specs.Table.{Table}
 use Rattle.rules.specs.Digest.{NodeDigest}
 use Rattle.rules.specs.Compute.{toldOf, fromOf}
 use Rattle.compute_stale.specs.Arranged.{listed}
-use Rattle.compute_order.specs.Line.{entryAt, goes, lineOf}
+use Rattle.table_read.specs.Find.{entryAt}
+use Rattle.compute_order.specs.Line.{goes, lineOf}
 use Rattle.compute.specs.declared.Staleness.{Staleness}
 use Rattle.compute.specs.declared.Staleness.the-variants.{UpToDate, From}
 use Rattle.compute.specs.declared.Plan.{Plan}

@@ -9,7 +9,7 @@ use rules::sizes;
 use table::layout;
 ghost use mathlib.Core.Path.{_≡_};
 ghost use mathlib.Core.Bool.{true};
-ghost use Prim.Native.Nat.{ℕ, _+_, _≤_, _<_};
+ghost use Prim.Native.Nat.{_+_, _≤_, _<_};
 ghost use lib.ListN.{length};
 ghost use Rattle.fields.specs.Parts.{put};
 ghost use Rattle.rules.specs.Given.{Gives};
@@ -56,16 +56,16 @@ fn stale_from(table: &[u8], p: usize, digest: Digest, excluded: &[u64]) -> Stale
     requires { ⌜ LaidTable (now table) × (p < nodesOf (now table)) ⌝ }
     ensures { λ r. ⌜ r ≡ stalenessOf (now (excluded .entry)) (entriesIn digest) (decode (now (table .entry))) p ⌝ }
 {
-    let number = compute_order::number_at(table, p);
-    if digest_write::is_excluded(excluded, number) {
+    let number = table_read::number_at(table, p);
+    if table_read::is_excluded(excluded, number) {
         return Staleness::UpToDate;
     }
     let told = digest_read::told(digest, number);
     let max = told.max;
-    if compute_order::max_at(table, p) <= max {
+    if table_read::max_at(table, p) <= max {
         return Staleness::UpToDate;
     }
-    Staleness::From(from_of(compute_order::last_gc_at(table, p), told.last_gc, max))
+    Staleness::From(from_of(table_read::last_gc_at(table, p), told.last_gc, max))
 }
 
 // The line of the stale nodes.

@@ -1,11 +1,10 @@
 -- The operations that are left of a line of nodes and of a node's records, one place after the other. Assumes nothing.
-use Prim.Native.Nat.{ℕ, zero, suc, _+_, _-_, _≤_, _<_}
-use mathlib.Core.Path.{_≡_, refl, sym, ap, _∙_, subst}
+use Prim.Native.Nat.{ℕ, _-_, _<_}
+use mathlib.Core.Path.{_≡_, sym, ap, _∙_, subst}
 use mathlib.Core.List.{List, [], _∷_, _++_, map}
-use native.Mathlib.Omega.{arith}
 use lib.ListN.{length, getD, length-map}
-use Rattle.fields.specs.Choice.{_∈_, here, later}
-use Rattle.rules.specs.Node.{KeyValue, Rec}
+use Rattle.fields.specs.Choice.{_∈_}
+use Rattle.rules.specs.Node.{Rec}
 use Rattle.rules.specs.Table.{Table, versions}
 use Rattle.rules.specs.Delta.{Op, KeyValueOp}
 use Rattle.rules.specs.Compute.{stale, keyValueOps, bodyOps}
@@ -17,9 +16,9 @@ use Rattle.compute_stale.specs.Arranged.{span, listed}
 use Rattle.compute_stale.specs.Above.{versionsIn, placesAbove}
 use Rattle.compute_stale.proofs.Arranged.{listed-first, length-span}
 use Rattle.compute_stale.proofs.Above.{length-versions, carried-above, above-in}
-use Rattle.compute_order.specs.Line.{entryAt}
+use Rattle.table_read.specs.Find.{entryAt}
 use Rattle.compute_write.specs.Sending.{nodeOpAt, recordAt, opsAt}
-use Rattle.compute_write.proofs.Located.{recs-are}
+use Rattle.table_read.proofs.Located.{recs-are}
 
 -- ---- nodes
 

@@ -1,11 +1,11 @@
 -- One step of writing leaves the whole outcome as it was: an operation that fits, one that ends the delta, a SetMaxVersion that is dropped. The
 -- writers' promises enter as they stand. Assumes nothing.
 use Prim.Native.Nat.{ℕ, zero, suc, _+_, _-_, _≤_, _<_}
-use mathlib.Core.Path.{_≡_, refl, sym, ap, ap₂, _∙_, subst}
+use mathlib.Core.Path.{_≡_, refl, sym, ap, _∙_, subst}
 use mathlib.Core.Bool.{Bool, true, false}
-use mathlib.Core.List.{List, [], _∷_, _++_, map, append-assoc}
+use mathlib.Core.List.{List, [], _∷_, _++_}
 use native.Mathlib.Omega.{arith}
-use native.Mathlib.Nat.{add-zero, zero-add}
+use native.Mathlib.Nat.{add-zero}
 use lib.ListN.{length, take, drop, length-append, length-drop, take-append-drop}
 use lib.Dec.{leb}
 use borrow.Author.Tests.{leb-true, leb-false, le-leb, lt-leb}
@@ -19,7 +19,7 @@ use Rattle.fields.proofs.Lent.{lent-rest, seen-rest}
 use Rattle.rules.specs.Given.{Given, given}
 use Rattle.rules.specs.Node.{KeyValue}
 use Rattle.rules.specs.Delta.{Op, NodeOp, KeyValueOp, SetMaxVersionOp, opBytes, sizeOf, deltaBytes}
-use Rattle.rules.specs.Compute.{keyValueOps, bodyOps, unlessMax, cut}
+use Rattle.rules.specs.Compute.{keyValueOps, bodyOps, cut}
 use Rattle.rules.proofs.Accepted.{cut-bytes}
 use Rattle.delta_write.specs.Written.{WritesOp, writeOp}
 use Rattle.delta_write.specs.declared.Wrote.{Wrote}

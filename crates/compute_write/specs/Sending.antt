@@ -1,7 +1,6 @@
 -- Writing the operations of a line of nodes while they fit. What is still to be written and what has been are told apart, so that each step of the
 -- loops leaves the whole outcome as it was.
 use Prim.Native.Nat.{ℕ, zero, suc, _+_, _-_}
-use mathlib.Core.Bool.{Bool, true, false}
 use mathlib.Core.List.{List, [], _∷_, _++_}
 use lib.ListN.{length, getD}
 use lib.Dec.{leb}
@@ -13,7 +12,7 @@ use Rattle.rules.specs.Table.{Table}
 use Rattle.rules.specs.Delta.{Op, NodeOp, SetMaxVersionOp, opBytes, sizeOf, deltaBytes}
 use Rattle.rules.specs.Compute.{stale, bodyOps, cut}
 use Rattle.rules.specs.Layout.{decodeRec}
-use Rattle.compute_order.specs.Line.{entryAt}
+use Rattle.table_read.specs.Find.{entryAt}
 use Rattle.compute_write.specs.declared.Sent.{Sent}
 
 -- ---- the operations of the nodes at some places, whose froms stand in a list by place

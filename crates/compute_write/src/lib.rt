@@ -10,9 +10,9 @@ ghost use Rattle.rules.specs.Delta.{KeyValueOp};
 ghost use Rattle.rules.specs.Layout.{decode};
 ghost use Rattle.table.specs.Fits.{LaidTable};
 ghost use Rattle.table.specs.Tests.{nodesOf};
-ghost use Rattle.delta_write.specs.Written.{WritesOp};
+ghost use Rattle.delta_write.specs.Written.{writeOp};
 ghost use Rattle.compute_stale.specs.Arranged.{listed};
-ghost use Rattle.compute_order.specs.Line.{entryAt};
+ghost use Rattle.table_read.specs.Find.{entryAt};
 ghost use Rattle.compute_write.specs.Sending.{nodeOpAt, recordAt, opsAt, sending, closed};
 
 // How many operations were written, in how many bytes.
@@ -24,12 +24,12 @@ pub struct Sent {
 // The Node operation of the node at `p`.
 fn send_node(table: &[u8], p: usize, from: u64, datagram: &mut [u8]) -> Wrote
     requires { ⌜ LaidTable (now table) × (p < nodesOf (now table)) ⌝ }
-    ensures { λ r. ⌜ WritesOp (nodeOpAt (decode (now (table .entry))) p from) (now (datagram .entry)) r (now (datagram .exit)) ⌝ }
+    ensures { λ r. ⌜ Gives (writeOp (nodeOpAt (decode (now (table .entry))) p from) (now (datagram .entry))) r (now (datagram .exit)) ⌝ }
 {
     delta_write::write_node(
         datagram,
-        compute_order::number_at(table, p),
-        compute_order::last_gc_at(table, p),
+        table_read::number_at(table, p),
+        table_read::last_gc_at(table, p),
         from,
     )
 }
@@ -37,7 +37,7 @@ fn send_node(table: &[u8], p: usize, from: u64, datagram: &mut [u8]) -> Wrote
 // Record `q` of the node at `p`.
 fn send_record(table: &[u8], p: usize, q: usize, datagram: &mut [u8]) -> Wrote
     requires { ⌜ LaidTable (now table) × (p < nodesOf (now table)) × (q < length (entryAt (decode (now table)) p .node .recs)) ⌝ }
-    ensures { λ r. ⌜ WritesOp (KeyValueOp (recordAt (decode (now (table .entry))) p q)) (now (datagram .entry)) r (now (datagram .exit)) ⌝ }
+    ensures { λ r. ⌜ Gives (writeOp (KeyValueOp (recordAt (decode (now (table .entry))) p q)) (now (datagram .entry))) r (now (datagram .exit)) ⌝ }
 {
     let b = table::record_of(table::node_of(table, p), q);
     let r = table_read::read_record(b);
@@ -59,7 +59,7 @@ fn send_max(table: &[u8], p: usize, stale: usize, datagram: &mut [u8]) -> Sent
     if stale != 0 {
         return Sent { ops: 0, bytes: 0 };
     }
-    match delta_write::write_set_max_version(datagram, compute_order::max_at(table, p)) {
+    match delta_write::write_set_max_version(datagram, table_read::max_at(table, p)) {
         Wrote::Bytes(bytes) => Sent { ops: 1, bytes },
         Wrote::NoFit => Sent { ops: 0, bytes: 0 },
     }

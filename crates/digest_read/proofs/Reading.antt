@@ -6,7 +6,8 @@ use mathlib.Core.List.{List, [], _∷_}
 use native.Mathlib.Omega.{arith}
 use lib.ListN.{length, drop}
 use Rattle.fields.proofs.Blocks.{length-unblock}
-use Rattle.rules.specs.Digest.{NodeDigest, DigestRead, Entries, Refused, entryOf, readDigest, tell, tellAll}
+use Rattle.rules.specs.Sizes.{maxNodes}
+use Rattle.rules.specs.Digest.{NodeDigest, DigestRead, Entries, Refused, countWidth, entryOf, entryWidth, readDigest, tell, tellAll}
 use Rattle.rules.specs.declared.Refusal.{Refusal}
 use Rattle.digest_read.specs.Held.{countIn, digestIn, entriesAt, entriesIn, entriesRead, heldOf, restOf}
 use Rattle.digest_read.specs.declared.Counted.{Counted}
@@ -27,16 +28,16 @@ unfolding digestIn
 entries-in l = go (countIn l) refl
   where
     -- at most eight entries are had back
-    few : (x : DigestRead) → length (entriesRead x) ≤ 8 → entriesIn (heldOf (length l) x) ≡ entriesRead x
-    few (Entries ds rest) h = backs-places 8 ds h
+    few : (x : DigestRead) → length (entriesRead x) ≤ maxNodes → entriesIn (heldOf (length l) x) ≡ entriesRead x
+    few (Entries ds rest) h = backs-places maxNodes ds h
     few (Refused r) h = refl
 
-    short : (n : ℕ) → countIn l ≡ counted.Entries n → length (entriesRead (readDigest l)) ≤ 8
+    short : (n : ℕ) → countIn l ≡ counted.Entries n → length (entriesRead (readDigest l)) ≤ maxNodes
     short n e =
         let k = ap (λ (x : DigestRead). length (entriesRead x)) (whole l n e) in
         let a = announced l n e .few in
         let t = tell-all-length (entriesAt n l) [] in
-        let u = length-unblock 32 entryOf n (drop 2 l) in
+        let u = length-unblock entryWidth entryOf n (drop countWidth l) in
         omega arith
 
     go : (c : Counted) → countIn l ≡ c → entriesIn (heldOf (length l) (readDigest l)) ≡ entriesRead (readDigest l)
@@ -44,7 +45,8 @@ entries-in l = go (countIn l) refl
     go (counted.Refused r) e = few (readDigest l) (let k = ap (λ (x : DigestRead). length (entriesRead x)) (none l r e) in omega arith)
 
 -- where the answer tells of nodes, the digest is read
-pub read-nodes : (l : List ℕ) (count rest : ℕ) → digestIn l .read ≡ answer.Nodes count rest → readDigest l ≡ Entries (entriesIn (digestIn l)) (restOf (readDigest l))
+pub read-nodes : (l : List ℕ) (count rest : ℕ) → digestIn l .read ≡ answer.Nodes count rest
+    → readDigest l ≡ Entries (entriesIn (digestIn l)) (restOf (readDigest l))
 unfolding digestIn
 read-nodes l count rest e = go (readDigest l) e ∙ ap (λ (ds : List NodeDigest). Entries ds (restOf (readDigest l))) (sym (entries-in l))
   where

@@ -1,12 +1,11 @@
 -- A digest as the code holds it: the answer, and eight places for the entries. What each function makes of the bytes, by the definitions of
 -- `rules`.
-use Prim.Native.Nat.{ℕ, zero, suc, _*_, _-_}
-use mathlib.Core.Bool.{Bool, true, _&&_}
+use Prim.Native.Nat.{ℕ, zero, suc, _+_, _*_, _-_, _≤_}
 use mathlib.Core.List.{List, [], _∷_}
 use lib.ListN.{length, take, drop}
-use lib.Dec.{leb, ltb}
+use lib.Dec.{leb}
 use Rattle.fields.specs.Choice.{pick}
-use Rattle.fields.specs.Numbers.{natOf}
+use Rattle.fields.specs.Numbers.{Bytes, natOf}
 use Rattle.fields.specs.Parts.{part}
 use Rattle.fields.specs.Blocks.{unblock}
 use Rattle.rules.specs.Sizes.{maxNodes}
@@ -25,36 +24,44 @@ use Rattle.digest_read.specs.declared.Gathered.{Gathered}
 -- ---- entries in places
 
 -- an entry in a place, and the entry of a place
-abbrev pub held : NodeDigest → Place
+abbrev pub held : (entry : NodeDigest) → Place
 held d = record { number = d .number; heartbeat = d .heartbeat; «last_gc» = d .last-gc; max = d .max }
 
-abbrev pub back : Place → NodeDigest
+abbrev pub back : (place : Place) → NodeDigest
 back p = record { number = p .number; heartbeat = p .heartbeat; last-gc = p .«last_gc»; max = p .max }
 
 abbrev pub unused : Place
 unused = record { number = 0; heartbeat = beats 0; «last_gc» = 0; max = 0 }
 
 -- n places: the entries in their order, the others unused
-unfoldable pub places : ℕ → List NodeDigest → List Place
+unfoldable pub places : (n : ℕ) (entries : List NodeDigest) → List Place
 places zero ds = []
 places (suc n) [] = unused ∷ places n []
 places (suc n) (d ∷ ds) = held d ∷ places n ds
 
-unfoldable pub backs : List Place → List NodeDigest
+unfoldable pub backs : (places : List Place) → List NodeDigest
 backs [] = []
 backs (p ∷ ps) = back p ∷ backs ps
 
 -- entries as they are gathered, and back
-abbrev pub gathered : List NodeDigest → Gathered
-gathered ds = record { count = length ds; entries = places maxNodes ds }
+abbrev pub inPlaces : (entries : List NodeDigest) → Gathered
+inPlaces ds = record { count = length ds; entries = places maxNodes ds }
 
-abbrev pub listOf : Gathered → List NodeDigest
+abbrev pub listOf : (gathered : Gathered) → List NodeDigest
 listOf g = backs (take (g .count) (g .entries))
 
 -- ---- bytes
 
+-- where entry i begins, and the rest behind i entries
+abbrev pub entryPlace : (i : ℕ) → ℕ
+entryPlace i = countWidth + i * entryWidth
+
+-- so many entries, eight at most, are there behind the count
+abbrev pub HasEntries : (n : ℕ) (digest : Bytes) → Type 0
+HasEntries n l = (n ≤ maxNodes) × (entryPlace n ≤ length l)
+
 -- how many entries follow the count, or the refusal
-unfoldable pub countIn : List ℕ → Counted
+unfoldable pub countIn : (digest : Bytes) → Counted
 countIn l =
     pick (leb countWidth (length l))
     (pick (leb (natOf (part 0 countWidth l)) maxNodes)
@@ -63,51 +70,50 @@ countIn l =
     (counted.Refused Cut)
 
 -- the first n entries behind the count, as they stand
-abbrev pub entriesAt : ℕ → List ℕ → List NodeDigest
+abbrev pub entriesAt : (n : ℕ) (digest : Bytes) → List NodeDigest
 entriesAt n l = unblock entryWidth entryOf n (drop countWidth l)
 
--- each number below the next
-unfoldable pub rises : List NodeDigest → Bool
-rises [] = true
-rises (a ∷ []) = true
-rises (a ∷ b ∷ l) = ltb (a .number) (b .number) && rises (b ∷ l)
+-- the numbers of the nodes that they tell of
+unfoldable pub numbersTold : (entries : List NodeDigest) → List ℕ
+numbersTold [] = []
+numbersTold (d ∷ ds) = d .number ∷ numbersTold ds
 
 -- ---- the digest
 
 -- what is held of a digest of so many bytes with its rest
-abbrev pub heldOf : ℕ → DigestRead → Digest
+abbrev pub heldOf : (n : ℕ) (read : DigestRead) → Digest
 heldOf n (Entries ds rest) = record { read = answer.Nodes (length ds) (n - length rest); entries = places maxNodes ds }
 heldOf n (Refused r) = record { read = answer.Refused r; entries = places maxNodes [] }
 
-unfoldable pub digestIn : List ℕ → Digest
+unfoldable pub digestIn : (digest : Bytes) → Digest
 digestIn l = heldOf (length l) (readDigest l)
 
 -- the unread rest, and where it begins
-abbrev pub restOf : DigestRead → List ℕ
+abbrev pub restOf : (read : DigestRead) → Bytes
 restOf (Entries ds rest) = rest
 restOf (Refused r) = []
 
-abbrev pub beginOf : ℕ → DigestRead → ℕ
+abbrev pub beginOf : (n : ℕ) (read : DigestRead) → ℕ
 beginOf n (Entries ds rest) = n - length rest
 beginOf n (Refused r) = 0
 
-unfoldable pub restAt : List ℕ → ℕ
+unfoldable pub restAt : (digest : Bytes) → ℕ
 restAt l = beginOf (length l) (readDigest l)
 
 -- ---- what a digest tells
 
-abbrev pub entriesOf : Answer → List Place → List NodeDigest
+abbrev pub entriesOf : (answer : Answer) (places : List Place) → List NodeDigest
 entriesOf (answer.Nodes count rest) ps = backs (take count ps)
 entriesOf (answer.Refused r) ps = []
 
-abbrev pub entriesIn : Digest → List NodeDigest
+abbrev pub entriesIn : (digest : Digest) → List NodeDigest
 entriesIn d = entriesOf (d .read) (d .entries)
 
 -- the entries of a digest that was read
-abbrev pub entriesRead : DigestRead → List NodeDigest
+abbrev pub entriesRead : (read : DigestRead) → List NodeDigest
 entriesRead (Entries ds rest) = ds
 entriesRead (Refused r) = []
 
 -- the digest pair
-abbrev pub pairOf : NodeDigest → Pair
+abbrev pub pairOf : (entry : NodeDigest) → Pair
 pairOf d = record { «last_gc» = d .last-gc; max = d .max }

@@ -6,9 +6,7 @@ use mathlib.Core.Bool.{true, false}
 use mathlib.Core.List.{List, [], _∷_, _++_, append-assoc}
 use native.Mathlib.Omega.{arith}
 use native.Mathlib.Numerals.{add-one}
-use lib.ListN.{length, drop, getD, length-append, drop-of-length-le}
-use lib.Seq.{drop-cons}
-use borrow.Author.Tests.{eq-eqb, ne-eqb}
+use lib.ListN.{length, drop, length-append, drop-of-length-le}
 use Rattle.fields.specs.Blocks.{flat}
 use Rattle.fields.specs.Choice.{pick}
 use Rattle.fields.specs.Numbers.{bytesOf, natOf}
@@ -24,22 +22,6 @@ use Rattle.rules.proofs.Digests.{entry-long}
 use Rattle.table.specs.Tests.{nodesOf}
 use Rattle.table.proofs.Places.{decode-drop, nodeAt, nodeBytes}
 use Rattle.table.proofs.Tables.{length-decode}
-
--- ---- a number among others, of which i are passed
-
-module _ (number : ℕ) (ns : List ℕ) (i : ℕ) where
-  pub among-none : length ns ≤ i → among number (drop i ns) ≡ false
-  unfolding among
-  among-none h = ap (among number) (drop-of-length-le ns h)
-
-  module _ (h : i < length ns) where
-    pub among-here : number ≡ getD ns i 0 → among number (drop i ns) ≡ true
-    unfolding among
-    among-here e = ap (among number) (drop-cons ns i 0 h) ∙ rw (eq-eqb number (getD ns i 0) e)
-
-    pub among-on : (number ≡ getD ns i 0 → ⊥) → among number (drop i ns) ≡ among number (drop (i + 1) ns)
-    unfolding among
-    among-on e = ap (among number) (drop-cons ns i 0 h) ∙ rw (add-one, ne-eqb number (getD ns i 0) e)
 
 -- ---- the nodes of a table, of which i are passed
 

@@ -8,7 +8,6 @@ ghost use Rattle.fields.specs.Parts.{put};
 ghost use Rattle.rules.specs.Digest.{digestBytes, digestOf, digestOfNode, entryBytes};
 ghost use Rattle.rules.specs.Layout.{decode, decodeNode, nodeWidth};
 ghost use Rattle.rules.specs.Sizes.{maxNodes};
-ghost use Rattle.rules.specs.Table.{among};
 ghost use Rattle.table.specs.Fits.{LaidTable};
 ghost use Rattle.digest_read.specs.Held.{back, held};
 ghost use Rattle.digest_write.specs.Digests.{Room, WritesDigest};
@@ -23,20 +22,6 @@ const COUNT: usize = 2;
 const NUMBER: usize = 8;
 
 const ENTRY: usize = 4 * NUMBER;
-
-// Whether a node is one of the excluded; repeats and strangers in the list do not matter.
-pub fn is_excluded(excluded: &[u64], number: u64) -> bool
-    ensures { λ r. ⌜ r ≡ among number (now (excluded .entry)) ⌝ }
-{
-    let mut i = 0;
-    while i < excluded.len() {
-        if number == excluded[i] {
-            return true;
-        }
-        i += 1;
-    }
-    false
-}
 
 // What the digest tells of the node in these bytes.
 fn entry_of(node: &[u8]) -> NodeDigest
@@ -63,7 +48,7 @@ fn count_written(table: &[u8], excluded: &[u64]) -> usize
     let mut i = 0;
     while i < nodes {
         let number = fields::read_u64(table::node_of(table, i), layout::NUMBER);
-        if is_excluded(excluded, number) {
+        if table_read::is_excluded(excluded, number) {
             i += 1;
         } else {
             count += 1;
@@ -94,7 +79,7 @@ fn write_entries(table: &[u8], excluded: &[u64], datagram: &mut [u8])
     let mut i = 0;
     while i < nodes {
         let e = entry_of(table::node_of(table, i));
-        if is_excluded(excluded, e.number) {
+        if table_read::is_excluded(excluded, e.number) {
             i += 1;
         } else {
             let end = at + ENTRY;

@@ -34,10 +34,14 @@ fn line_len(op: Op) -> usize
     ensures { λ r. ⌜ r ≡ lineLength op ⌝ }
 {
     match op {
-        Op::Node { number, gc, from } => {
+        Op::Node {
+            number,
+            last_gc,
+            from,
+        } => {
             22
                 + listing_text::decimal_len(number)
-                + listing_text::decimal_len(gc)
+                + listing_text::decimal_len(last_gc)
                 + listing_text::decimal_len(from)
         }
         Op::KeyValue {
@@ -81,7 +85,7 @@ fn put_node(out: &mut [u8], at: usize, number: u64, last_gc: u64, from: u64) -> 
     ensures { λ r. ⌜ Wrote at (opLine (NodeOp number «last_gc» from)) (now (out .entry)) (now (out .exit)) r ⌝ }
 {
     let a = listing_text::put_numbered(out, at, b"op=node id=", number);
-    let b = listing_text::put_numbered(out, a, b" last_gc=", last_gc);
+    let b = listing_text::put_numbered(out, a, b" gc=", last_gc);
     let c = listing_text::put_numbered(out, b, b" from=", from);
     listing_text::put_text(out, c, b"\n")
 }
@@ -135,7 +139,11 @@ fn put_line(delta: &[u8], op: Op, out: &mut [u8], at: usize) -> usize
     ensures { λ r. ⌜ Wrote at (opLine (opOf (now (delta .entry)) op)) (now (out .entry)) (now (out .exit)) r ⌝ }
 {
     match op {
-        Op::Node { number, gc, from } => put_node(out, at, number, gc, from),
+        Op::Node {
+            number,
+            last_gc,
+            from,
+        } => put_node(out, at, number, last_gc, from),
         Op::KeyValue {
             keyat,
             keylen,

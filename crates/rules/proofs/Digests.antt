@@ -1,7 +1,7 @@
 -- A digest and its bytes: reading what was written gives it back, what was read writes its bytes, and of an ascending digest every entry
 -- counts. Assumes nothing.
 -- the entry's numbers have eight bytes
-use Prim.Native.Nat.{_*_, _+_, _<_, _≤_, max, suc, zero, ℕ}
+use Prim.Native.Nat.{_*_, _+_, _<_, _≤_, suc, zero, ℕ}
 use mathlib.Core.Bool.{Bool, false, true}
 use mathlib.Core.List.{List, [], _++_, _∷_, append-assoc, append-nil}
 use mathlib.Core.Logic.{_⊎_, inl, inr}
@@ -22,7 +22,6 @@ use Rattle.fields.specs.Parts.{part}
 use Rattle.rules.proofs.Obeys.{Ascending, OkEntry, OkTable, number-in, table-facts}
 use Rattle.rules.proofs.Ops.{Number}
 use Rattle.rules.proofs.Received.{body}
-use Rattle.rules.specs.Delta.{number}
 use Rattle.rules.specs.Digest.{Entries, NodeDigest, Refused, countWidth, digestBytes, digestOf, digestOfNode, entryBytes, entryOf, entryWidth, gathered, readCount, readDigest, readEntries, tell, tellAll}
 use Rattle.rules.specs.Node.{beats}
 use Rattle.rules.specs.Sizes.{maxNodes}
@@ -206,7 +205,7 @@ tell-last d (a ∷ l) h =
     let g = h a (here refl) in
     rw (ne-eqb (d .number) (a .number) (λ e. omega arith), le-ltb (d .number) (a .number) (omega arith)) (ap (λ (r : List NodeDigest). a ∷ r) (tell-last d l (λ x m. h x (later m))))
 
-tell-all : (ds l : List NodeDigest) → Ascends ds → ((x y : NodeDigest) → x ∈ l → y ∈ ds → x .number < y .number) → tellAll ds l ≡ l ++ ds
+pub tell-all : (ds l : List NodeDigest) → Ascends ds → ((x y : NodeDigest) → x ∈ l → y ∈ ds → x .number < y .number) → tellAll ds l ≡ l ++ ds
 unfolding tellAll Ascends
 tell-all [] l a h = sym (append-nil l)
 tell-all (d ∷ ds) l a h =

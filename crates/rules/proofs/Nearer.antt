@@ -1,5 +1,5 @@
 -- One exchange with nothing else in it: what the nodes still need together falls, while it is not nothing.
-use Prim.Native.Nat.{_+_, _-_, _<_, _≤_, max, ℕ}
+use Prim.Native.Nat.{_+_, _-_, _<_, _≤_, ℕ}
 use mathlib.Core.Bool.{Bool, false, true}
 use mathlib.Core.List.{List, [], _∷_}
 use mathlib.Core.Option.{Option, none, some}
@@ -18,7 +18,7 @@ use Rattle.rules.proofs.Stale.{stale-from}
 use Rattle.rules.proofs.Tables.{Behind, SentPart, behind-from, computed-once, mapped, node-each, node-entry, ordered-from, part-sent, partAt, repeated, taking}
 use Rattle.rules.specs.Apply.{Taking, applyEach, deltaStatus, outcome}
 use Rattle.rules.specs.Compute.{StaleNode, firstTie, fromFor, fromOf, ordered, otherTies, queue, sooner, stale, staleNode, staleNodes, staleOf, toldOf}
-use Rattle.rules.specs.Delta.{NodeDelta, Part, number}
+use Rattle.rules.specs.Delta.{NodeDelta, Part, maxOpWidth, nodeOpWidth}
 use Rattle.rules.specs.Demand3.{leastWidth}
 use Rattle.rules.specs.Digest.{NodeDigest, digestOf, digestOfNode}
 use Rattle.rules.specs.Node.{KeyValue, Node, Rec}
@@ -117,9 +117,9 @@ unfolding fitting
 first-fits room [] h z = absurd (omega arith)
 first-fits room (s ∷ ss) h z = rw (le-leb (recordSize s) room (h s (here refl))) (omega arith)
 
-part-first : (mtu : ℕ) (x : StaleNode) (r : List StaleNode) → 25 ≤ mtu → partAt (x .number) (emit mtu (x ∷ r)) ≡ some (partOf mtu x .delta)
+part-first : (mtu : ℕ) (x : StaleNode) (r : List StaleNode) → nodeOpWidth ≤ mtu → partAt (x .number) (emit mtu (x ∷ r)) ≡ some (partOf mtu x .delta)
 unfolding partAt emit
-part-first mtu x r h = rw (le-leb 25 mtu h, eq-eqb (x .number) (x .number) refl)
+part-first mtu x r h = rw (le-leb nodeOpWidth mtu h, eq-eqb (x .number) (x .number) refl)
 
 -- ---- the exchange
 module _ (now mtu : ℕ) (ties : List ℕ) (ours theirs : Table) (asc : Ascending (numbersOf ours)) (both : (e : Entry) → e ∈ ours → (f : Node) × (nodeOf (e .number) theirs ≡ some f)) where
@@ -252,12 +252,12 @@ module _ (now mtu : ℕ) (ties : List ℕ) (ours theirs : Table) (asc : Ascendin
               ∙ part-first mtu x r (omega arith)
 
           count : ℕ
-          count = fitting (mtu - 25) (staleOf x)
+          count = fitting (mtu - nodeOpWidth) (staleOf x)
 
           stale-is : staleOf x ≡ stale (fromOf (e .node .last-gc) (f .last-gc) (f .max)) (e .node .recs)
           stale-is = λ z. stale (fromOf (mm .node-is z .last-gc) (mm .gc-is z) (mm .max-is z)) (mm .node-is z .recs)
 
-          sizes : (s : KeyValue) → s ∈ staleOf x → recordSize s ≤ mtu - 25
+          sizes : (s : KeyValue) → s ∈ staleOf x → recordSize s ≤ mtu - nodeOpWidth
           sizes s n =
               let y = stale-from (fromFor x) (x .node .recs) n in
               let a = small e m (y .0) (subst (λ (k : Node). y .0 ∈ k .recs) (mm .node-is) (y .1)) in
@@ -265,12 +265,12 @@ module _ (now mtu : ℕ) (ties : List ℕ) (ours theirs : Table) (asc : Ascendin
               omega arith
 
           delta-is : d ≡ nodeDelta (e .node) (f .last-gc) (f .max) count true
-          delta-is = ap (nodeDelta (x .node) (x .told-gc) (x .told-max) count) (le-leb 9 (mtu - 25) (omega arith)) ∙ delta-of x e f count true mm
+          delta-is = ap (nodeDelta (x .node) (x .told-gc) (x .told-max) count) (le-leb maxOpWidth (mtu - nodeOpWidth) (omega arith)) ∙ delta-of x e f count true mm
 
           fall : lack next e < lack theirs e
           fall =
               let k =
-              delta-falls now (e .node) f count (mm .behind) (λ z. first-fits (mtu - 25) (staleOf x) sizes (subst (λ (l : List KeyValue). 0 < length l) (sym stale-is) z)) d delta-is in
+              delta-falls now (e .node) f count (mm .behind) (λ z. first-fits (mtu - nodeOpWidth) (staleOf x) sizes (subst (λ (l : List KeyValue). 0 < length l) (sym stale-is) z)) d delta-is in
               let a : lack next e ≡ needed (e .node) (outcome (deltaStatus f d) now d f) = ap (needed (e .node)) (takes-it (e .number) d f is h) in
               let b : needed (e .node) f ≡ lack theirs e = ap (λ (o : Option Node). needed (e .node) (orFresh o)) (sym h) in
               omega arith

@@ -1,13 +1,15 @@
 -- The table rules as facts: what `obeys` tests is what these records say, and the other way round. Assumes nothing.
 -- ---- numbers in a list
-use Prim.Native.Nat.{_<_, _≤_, max, ℕ}
-use mathlib.Core.Bool.{Bool, false, false≢true, not, true, true≢false}
+use Prim.Native.Nat.{_+_, _<_, _≤_, max, suc, ℕ}
+use mathlib.Core.Bool.{Bool, _&&_, false, false≢true, not, true, true≢false}
 use mathlib.Core.List.{List, [], _∷_}
 use mathlib.Core.Logic.{_⊎_, inl, inr}
 use mathlib.Core.Path.{_∙_, _≡_, ap, refl, subst, sym}
+use native.Mathlib.Numerals.{add-one}
 use native.Mathlib.Omega.{arith}
 use lib.Dec.{eqb, leb, ltb}
-use lib.ListN.{length}
+use lib.ListN.{drop, getD, length, length-drop}
+use lib.Seq.{drop-cons}
 use borrow.Author.Tests.{eq-eqb, eqb-true, le-leb, leb-true, lt-ltb, ltb-true}
 use Rattle.fields.proofs.Choice.{all-from, all-in, and-intro, and-left, and-right, every-at, in-cons, in-none}
 use Rattle.fields.proofs.Ordered.{less-trans}
@@ -79,6 +81,23 @@ unfolding rising Ascending
 asc-rising [] s = refl
 asc-rising (a ∷ []) s = refl
 asc-rising (a ∷ b ∷ l) s = and-intro (ltb a b) (rising (b ∷ l)) (lt-ltb _ _ (s .0 b (here refl))) (asc-rising (b ∷ l) (s .1))
+
+-- a loop along the numbers, with i of them passed: the next two decide, and where one is left all are passed
+pub rising-turn : (l : List ℕ) (i x y : ℕ) → i + 1 < length l → x ≡ getD l i 0 → y ≡ getD l (i + 1) 0
+    → rising (drop i l) ≡ (ltb x y && rising (drop (i + 1) l))
+unfolding rising
+rising-turn l i x y h p q =
+    let e : y ≡ getD l (suc i) 0 = q ∙ ap (λ (k : ℕ). getD l k 0) (add-one i) in
+    rw (add-one i, drop-cons l i 0 (omega arith), drop-cons l (suc i) 0 (omega arith), p, e)
+
+pub rising-last : (l : List ℕ) (i : ℕ) → length l ≤ i + 1 → rising (drop i l) ≡ true
+unfolding rising
+rising-last l i h = short (drop i l) (rw length-drop (omega arith))
+  where
+    short : (l : List ℕ) → length l ≤ 1 → rising l ≡ true
+    short [] h = refl
+    short (a ∷ []) h = refl
+    short (a ∷ b ∷ l) h = absurd (omega arith)
 
 -- ---- keys and versions of records
 

@@ -59,12 +59,12 @@ status-read next Set = refl
 status-read next Delete = refl
 status-read next Ttl = refl
 
-status-byte : (st : Status) → statusByte st < 256 ^ 1
+pub status-byte : (st : Status) → statusByte st < 256 ^ 1
 status-byte Set = omega arith
 status-byte Delete = omega arith
 status-byte Ttl = omega arith
 
-one-byte : (b : ℕ) → b < 256 → bytesOf 1 b ≡ b ∷ []
+pub one-byte : (b : ℕ) → b < 256 → bytesOf 1 b ≡ b ∷ []
 unfolding bytesOf
 one-byte b h = ap (λ (n : ℕ). n ∷ []) (mod-eq-of-lt h)
 

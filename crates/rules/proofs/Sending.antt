@@ -11,7 +11,7 @@ use Rattle.fields.proofs.Numbers.{length-bytesOf}
 use Rattle.fields.specs.Choice.{all, pick}
 use Rattle.rules.proofs.Stale.{topOf}
 use Rattle.rules.specs.Compute.{StaleNode, allOps, bodyOps, cut, fromFor, fromOf, keyValueOps, stale, staleOf}
-use Rattle.rules.specs.Delta.{KeyValueOp, NodeDelta, NodeOp, Op, Part, SetMaxVersionOp, maxOf, number, opBytes, partsOf, recsOf, sizeOf, textBytes}
+use Rattle.rules.specs.Delta.{KeyValueOp, NodeDelta, NodeOp, Op, Part, SetMaxVersionOp, besideTexts, maxOf, maxOpWidth, nodeOpWidth, number, opBytes, partsOf, recsOf, sizeOf, textBytes}
 use Rattle.rules.specs.Local.{gc}
 use Rattle.rules.specs.Node.{KeyValue, Node}
 
@@ -37,7 +37,7 @@ pub record MadeOf (p : Node) (d : NodeDelta) : Type 0 where
 
 -- bytes of a record in a delta
 abbrev pub recordSize : KeyValue → ℕ
-recordSize s = 14 + length (s .key) + length (s .value)
+recordSize s = besideTexts + length (s .key) + length (s .value)
 
 -- how many of these fit, and the room that they leave
 unfoldable pub fitting : ℕ → List KeyValue → ℕ
@@ -50,27 +50,27 @@ leftOver room (s ∷ ss) = pick (leb (recordSize s) room) (leftOver (room - reco
 
 -- after a node without stale records: a SetMaxVersion, if it fits
 abbrev pub afterMax : List KeyValue → ℕ → ℕ
-afterMax [] room = pick (leb 9 room) (room - 9) room
+afterMax [] room = pick (leb maxOpWidth room) (room - maxOpWidth) room
 afterMax (s ∷ ss) room = room
 
 abbrev pub partOf : ℕ → StaleNode → Part
 partOf room o =
-    record { number = o .number; delta = nodeDelta (o .node) (o .told-gc) (o .told-max) (fitting (room - 25) (staleOf o)) (leb 9 (room - 25)) }
+    record { number = o .number; delta = nodeDelta (o .node) (o .told-gc) (o .told-max) (fitting (room - nodeOpWidth) (staleOf o)) (leb maxOpWidth (room - nodeOpWidth)) }
 
 -- the parts of a delta, while the Nodes and all their records fit
 unfoldable pub emit : ℕ → List StaleNode → List Part
 emit room [] = []
 emit room (o ∷ os) =
-    let rest : List Part = emit (afterMax (staleOf o) (leftOver (room - 25) (staleOf o))) os in
-    pick (leb 25 room) (partOf room o ∷ pick (eqb (fitting (room - 25) (staleOf o)) (length (staleOf o))) rest []) []
+    let rest : List Part = emit (afterMax (staleOf o) (leftOver (room - nodeOpWidth) (staleOf o))) os in
+    pick (leb nodeOpWidth room) (partOf room o ∷ pick (eqb (fitting (room - nodeOpWidth) (staleOf o)) (length (staleOf o))) rest []) []
 
 -- ---- sizes
 
-pub size-node : (n g f : ℕ) → sizeOf (NodeOp n g f) ≡ 25
+pub size-node : (n g f : ℕ) → sizeOf (NodeOp n g f) ≡ nodeOpWidth
 unfolding sizeOf opBytes
 size-node n g f = simp (length-append, length-bytesOf)
 
-pub size-max : (m : ℕ) → sizeOf (SetMaxVersionOp m) ≡ 9
+pub size-max : (m : ℕ) → sizeOf (SetMaxVersionOp m) ≡ maxOpWidth
 unfolding sizeOf opBytes
 size-max m = simp length-bytesOf
 
@@ -138,16 +138,16 @@ module _ (number gc from own : ℕ) (os : List StaleNode) (others : (room : ℕ)
 
   one-node : (room : ℕ) (all : List KeyValue)
       → partsOf (NodeOp number gc from ∷ cut room (bodyOps own all ++ allOps os))
-      ≡ onePart (take (fitting room all) all) (carried (leb 9 room) own all (take (fitting room all) all))
+      ≡ onePart (take (fitting room all) all) (carried (leb maxOpWidth room) own all (take (fitting room all) all))
       ∷ pick (eqb (fitting room all) (length all)) (emit (afterMax all (leftOver room all)) os) []
   unfolding partsOf cut fitting leftOver recsOf maxOf
-  one-node room [] = rw (size-max own) (go (leb 9 room))
+  one-node room [] = rw (size-max own) (go (leb maxOpWidth room))
     where
       go : (b : Bool)
-          → partsOf (NodeOp number gc from ∷ pick b (SetMaxVersionOp own ∷ cut (room - 9) (allOps os)) (cut room (allOps os)))
+          → partsOf (NodeOp number gc from ∷ pick b (SetMaxVersionOp own ∷ cut (room - maxOpWidth) (allOps os)) (cut room (allOps os)))
           ≡ onePart [] (pick b own 0)
-          ∷ emit (pick b (room - 9) room) os
-      go true = let r = recs-rest (room - 9) os in let m = max-rest own (room - 9) os in let t = others (room - 9) in λ i. onePart (r i) (m i) ∷ t i
+          ∷ emit (pick b (room - maxOpWidth) room) os
+      go true = let r = recs-rest (room - maxOpWidth) os in let m = max-rest own (room - maxOpWidth) os in let t = others (room - maxOpWidth) in λ i. onePart (r i) (m i) ∷ t i
       go false = let r = recs-rest room os in let m = max-rest 0 room os in let t = others room in λ i. onePart (r i) (m i) ∷ t i
   one-node room (s ∷ ss) = rw (cut-records room (s ∷ ss) (allOps os)) (go (eqb (fitting room (s ∷ ss)) (length (s ∷ ss))))
     where
@@ -172,8 +172,8 @@ module _ (number gc from own : ℕ) (os : List StaleNode) (others : (room : ℕ)
 pub sends : (room : ℕ) (os : List StaleNode) → partsOf (cut room (allOps os)) ≡ emit room os
 unfolding partsOf cut allOps emit nodeDelta
 sends room [] = refl
-sends room (o ∷ os) = rw (size-node (o .number) (o .node .last-gc) (fromFor o)) (go (leb 25 room) (λ r. sends r os))
+sends room (o ∷ os) = rw (size-node (o .number) (o .node .last-gc) (fromFor o)) (go (leb nodeOpWidth room) (λ r. sends r os))
   where
-    go : (b : Bool) → ((r : ℕ) → partsOf (cut r (allOps os)) ≡ emit r os) → partsOf (pick b (NodeOp (o .number) (o .node .last-gc) (fromFor o) ∷ cut (room - 25) (bodyOps (o .node .max) (staleOf o) ++ allOps os)) []) ≡ pick b (partOf room o ∷ pick (eqb (fitting (room - 25) (staleOf o)) (length (staleOf o))) (emit (afterMax (staleOf o) (leftOver (room - 25) (staleOf o))) os) []) []
-    go true ih = one-node (o .number) (o .node .last-gc) (fromFor o) (o .node .max) os ih (room - 25) (staleOf o)
+    go : (b : Bool) → ((r : ℕ) → partsOf (cut r (allOps os)) ≡ emit r os) → partsOf (pick b (NodeOp (o .number) (o .node .last-gc) (fromFor o) ∷ cut (room - nodeOpWidth) (bodyOps (o .node .max) (staleOf o) ++ allOps os)) []) ≡ pick b (partOf room o ∷ pick (eqb (fitting (room - nodeOpWidth) (staleOf o)) (length (staleOf o))) (emit (afterMax (staleOf o) (leftOver (room - nodeOpWidth) (staleOf o))) os) []) []
+    go true ih = one-node (o .number) (o .node .last-gc) (fromFor o) (o .node .max) os ih (room - nodeOpWidth) (staleOf o)
     go false ih = refl

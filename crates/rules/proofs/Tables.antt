@@ -16,7 +16,7 @@ use Rattle.rules.proofs.Obeys.{Ascending, number-in}
 use Rattle.rules.proofs.Sending.{afterMax, emit, fitting, leftOver, nodeDelta, partOf}
 use Rattle.rules.specs.Apply.{ApplyOutcome, Taking, Ways, apply, applyEach, applyNode, applyOps, codes, onNode}
 use Rattle.rules.specs.Compute.{StaleNode, firstTie, ordered, otherTies, queue, sooner, staleNode, staleNodes, staleOf, toldOf}
-use Rattle.rules.specs.Delta.{Faulty, Good, NodeDelta, Op, Ops, Part, number, partsOf}
+use Rattle.rules.specs.Delta.{Faulty, Good, NodeDelta, Op, Ops, Part, maxOpWidth, nodeOpWidth, partsOf}
 use Rattle.rules.specs.Digest.{NodeDigest}
 use Rattle.rules.specs.Node.{Node, Rec, due, fresh, remove}
 use Rattle.rules.specs.Table.{Entry, Table, among, nodeOf, numbersOf, removeAll, setNode}
@@ -319,10 +319,10 @@ pub part-sent : (i room : ℕ) (os : List StaleNode) {d : NodeDelta} → partAt 
 unfolding emit partAt
 part-sent i room [] q = let z : _≡_ {A = ℕ} 0 1 = cc in absurd (omega arith)
 part-sent i room (o ∷ os) {d} q =
-    go (leb 25 room) (eqb (fitting (room - 25) (staleOf o)) (length (staleOf o))) (eqb i (o .number)) refl q (part-sent i (afterMax (staleOf o) (leftOver (room - 25) (staleOf o))) os)
+    go (leb nodeOpWidth room) (eqb (fitting (room - nodeOpWidth) (staleOf o)) (length (staleOf o))) (eqb i (o .number)) refl q (part-sent i (afterMax (staleOf o) (leftOver (room - nodeOpWidth) (staleOf o))) os)
   where
     rest : List Part
-    rest = emit (afterMax (staleOf o) (leftOver (room - 25) (staleOf o))) os
+    rest = emit (afterMax (staleOf o) (leftOver (room - nodeOpWidth) (staleOf o))) os
 
     up : SentPart os i d → SentPart (o ∷ os) i d
     up x = record { of = x .of; queued = later (x .queued); number-is = x .number-is; count = x .count; fits = x .fits; delta-is = x .delta-is }
@@ -334,7 +334,7 @@ part-sent i room (o ∷ os) {d} q =
     go false b c e q ih = none-some q
     go true b true e q ih =
         let p : some (partOf room o .delta) ≡ some d = rw e at q in
-        record { of = o; queued = here refl; number-is = eqb-true _ _ e; count = fitting (room - 25) (staleOf o); fits = leb 9 (room - 25); delta-is = cc }
+        record { of = o; queued = here refl; number-is = eqb-true _ _ e; count = fitting (room - nodeOpWidth) (staleOf o); fits = leb maxOpWidth (room - nodeOpWidth); delta-is = cc }
     go true true false e q ih = up (ih (rw e at q))
     go true false false e q ih = none-some (rw e at q)
 
@@ -375,10 +375,10 @@ emit-no-two : (room : ℕ) (os : List StaleNode) → NoTwo os → repeated (emit
 unfolding emit repeated NoTwo partAt
 emit-no-two room [] h = refl
 emit-no-two room (o ∷ os) h =
-    go (leb 25 room) (eqb (fitting (room - 25) (staleOf o)) (length (staleOf o))) (emit-no-two (afterMax (staleOf o) (leftOver (room - 25) (staleOf o))) os (h .1))
+    go (leb nodeOpWidth room) (eqb (fitting (room - nodeOpWidth) (staleOf o)) (length (staleOf o))) (emit-no-two (afterMax (staleOf o) (leftOver (room - nodeOpWidth) (staleOf o))) os (h .1))
   where
     rest : List Part
-    rest = emit (afterMax (staleOf o) (leftOver (room - 25) (staleOf o))) os
+    rest = emit (afterMax (staleOf o) (leftOver (room - nodeOpWidth) (staleOf o))) os
 
     absent : (x : Option NodeDelta) → partAt (o .number) rest ≡ x → present x ≡ false
     absent none q = refl

@@ -1,12 +1,12 @@
 -- A delta is a list of operations. Their bytes, how one is read, how a whole delta is read, and the node deltas that it brings.
 use Prim.Native.Nat.{ℕ, zero, suc, _+_, _-_}
-use mathlib.Core.Bool.{Bool, true, false, not, _&&_}
 use mathlib.Core.List.{List, [], _∷_, _++_}
 use lib.ListN.{length, take, drop}
-use lib.Dec.{leb, ltb, eqb}
+use lib.Dec.{leb, ltb}
 use Rattle.fields.specs.Choice.{pick}
 use Rattle.fields.specs.Numbers.{Bytes, natOf, bytesOf}
 use Rattle.fields.specs.Blocks.{flat}
+use Rattle.fields.specs.Widths.{total}
 use Rattle.rules.specs.Sizes.{maxNodes, maxKey, maxValue, maxDelta}
 use Rattle.rules.specs.Node.{KeyValue}
 use Rattle.rules.specs.Table.{among}
@@ -23,6 +23,40 @@ pub data Op : Type 0 where
   KeyValueOp : KeyValue → Op
   SetMaxVersionOp : ℕ → Op
 
+-- ---- widths
+
+-- a tag or a status, the length of a text, a number
+abbrev pub byteWidth : ℕ
+byteWidth = 1
+
+abbrev pub lengthWidth : ℕ
+lengthWidth = 2
+
+abbrev pub numberWidth : ℕ
+numberWidth = 8
+
+-- a Node: tag, number, last_gc, from
+abbrev pub nodeOpWidths : List ℕ
+nodeOpWidths = byteWidth ∷ numberWidth ∷ numberWidth ∷ numberWidth ∷ []
+
+abbrev pub nodeOpWidth : ℕ
+nodeOpWidth = total nodeOpWidths
+
+-- a record behind its texts: version, status
+abbrev pub versionWidths : List ℕ
+versionWidths = numberWidth ∷ byteWidth ∷ []
+
+-- a record beside its texts: tag, two lengths, version, status
+abbrev pub besideTexts : ℕ
+besideTexts = byteWidth + lengthWidth + lengthWidth + total versionWidths
+
+-- a SetMaxVersion: tag, max
+abbrev pub maxOpWidths : List ℕ
+maxOpWidths = byteWidth ∷ numberWidth ∷ []
+
+abbrev pub maxOpWidth : ℕ
+maxOpWidth = total maxOpWidths
+
 -- ---- bytes: a tag, then the fields in this order
 
 abbrev pub statusByte : Status → ℕ
@@ -30,14 +64,15 @@ statusByte Set = 0
 statusByte Delete = 1
 statusByte Ttl = 2
 
--- a length of two bytes, then the text
+-- the length of a text, then the text
 unfoldable pub textBytes : (s : Bytes) → Bytes
-textBytes s = bytesOf 2 (length s) ++ s
+textBytes s = bytesOf lengthWidth (length s) ++ s
 
-unfoldable pub opBytes : Op → List ℕ
-opBytes (NodeOp n g f) = 0 ∷ (bytesOf 8 n ++ (bytesOf 8 g ++ bytesOf 8 f))
-opBytes (KeyValueOp r) = 1 ∷ (textBytes (r .key) ++ (textBytes (r .value) ++ (bytesOf 8 (r .version) ++ (statusByte (r .status) ∷ []))))
-opBytes (SetMaxVersionOp m) = 2 ∷ bytesOf 8 m
+unfoldable pub opBytes : (op : Op) → Bytes
+opBytes (NodeOp n g f) = 0 ∷ (bytesOf numberWidth n ++ (bytesOf numberWidth g ++ bytesOf numberWidth f))
+opBytes (KeyValueOp r) =
+    1 ∷ (textBytes (r .key) ++ (textBytes (r .value) ++ (bytesOf numberWidth (r .version) ++ (statusByte (r .status) ∷ []))))
+opBytes (SetMaxVersionOp m) = 2 ∷ bytesOf numberWidth m
 
 unfoldable pub sizeOf : (op : Op) → ℕ
 sizeOf o = length (opBytes o)
@@ -59,9 +94,9 @@ field w next l = pick (leb w (length l)) (next (take w l) (drop w l)) (Bad Cut)
 abbrev pub number : (width : ℕ) (next : ℕ → List ℕ → OpRead) (bytes : Bytes) → OpRead
 number w next l = field w (λ b. next (natOf b)) l
 
--- a length of two bytes, then so many bytes; an overlong length is 1 before its bytes are looked at
+-- a length, then so many bytes; an overlong length is 1 before its bytes are looked at
 abbrev pub text : (most : ℕ) (next : List ℕ → List ℕ → OpRead) (bytes : Bytes) → OpRead
-text most next l = number 2 (λ n rest. pick (leb n most) (field n next rest) (Bad TooLong)) l
+text most next l = number lengthWidth (λ n rest. pick (leb n most) (field n next rest) (Bad TooLong)) l
 
 -- a status above 2 is 10
 abbrev pub statusOr : (next : Status → OpRead) (byte : ℕ) → OpRead
@@ -71,18 +106,20 @@ statusOr next (suc (suc zero)) = next Ttl
 statusOr next (suc (suc (suc n))) = Bad BadTag
 
 unfoldable pub readNode : (bytes : Bytes) → OpRead
-readNode l = number 8 (λ n. number 8 (λ g. number 8 (λ f rest. Got (NodeOp n g f) rest))) l
+readNode l = number numberWidth (λ n. number numberWidth (λ g. number numberWidth (λ f rest. Got (NodeOp n g f) rest))) l
 
 unfoldable pub readKeyValue : (bytes : Bytes) → OpRead
 readKeyValue l =
     text maxKey
     (λ k.
     text maxValue
-    (λ v. number 8 (λ ver. number 1 (λ st rest. statusOr (λ s. Got (KeyValueOp (record { key = k; value = v; version = ver; status = s })) rest) st))))
+    (λ v.
+    number numberWidth
+    (λ ver. number byteWidth (λ st rest. statusOr (λ s. Got (KeyValueOp (record { key = k; value = v; version = ver; status = s })) rest) st))))
     l
 
 unfoldable pub readSetMaxVersion : (bytes : Bytes) → OpRead
-readSetMaxVersion l = number 8 (λ m rest. Got (SetMaxVersionOp m) rest) l
+readSetMaxVersion l = number numberWidth (λ m rest. Got (SetMaxVersionOp m) rest) l
 
 -- a tag above 2 is 10
 abbrev pub readTagged : (tag : ℕ) (bytes : Bytes) → OpRead
@@ -92,7 +129,7 @@ readTagged (suc (suc zero)) l = readSetMaxVersion l
 readTagged (suc (suc (suc n))) l = Bad BadTag
 
 unfoldable pub readOp : (bytes : Bytes) → OpRead
-readOp l = number 1 readTagged l
+readOp l = number byteWidth readTagged l
 
 -- ---- reading a whole delta
 

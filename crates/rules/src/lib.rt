@@ -17,6 +17,9 @@ pub enum Status {
 }
 
 impl Status {
+    // The largest byte that stands for one.
+    pub const LAST: usize = 2;
+
     // The byte that stands for it, in a table and in a delta.
     pub fn byte(self) -> usize
         ensures { λ r. ⌜ r ≡ statusByte self ⌝ }

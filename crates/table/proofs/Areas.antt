@@ -1,6 +1,6 @@
 -- Changes within one field of a structure, as the code makes them on the whole: a part of the field, a move within it, a block put in and a block
 -- taken out. Over the widths and the field, once for nodes and tables. Assumes nothing.
-use Prim.Native.Nat.{ℕ, zero, suc, _+_, _-_, _≤_, _<_}
+use Prim.Native.Nat.{ℕ, zero, suc, _+_, _≤_, _<_}
 use mathlib.Core.Path.{_≡_, refl, ap, sym, _∙_, subst}
 use mathlib.Core.List.{List, [], _∷_, _++_}
 use native.Mathlib.Omega.{arith}

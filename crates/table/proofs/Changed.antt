@@ -2,18 +2,17 @@
 -- Each law starts from the bytes of a node or table and ends at the bytes of the changed one, so that a writer's outcome is one equation.
 -- Assumes nothing.
 use Prim.Native.Nat.{ℕ, suc, _+_, _*_, _-_, _≤_, _<_}
-use mathlib.Core.Path.{_≡_, refl, ap, ap₂, sym, _∙_}
+use mathlib.Core.Path.{_≡_, refl, ap, sym, _∙_}
 use mathlib.Core.List.{List, [], append-nil}
 use native.Mathlib.Omega.{arith}
-use native.Mathlib.Numerals.{add-one}
 use lib.ListN.{length, getD, set, length-set}
 use Rattle.fields.specs.Numbers.{bytesOf}
 use Rattle.fields.specs.Parts.{part, put}
 use Rattle.fields.specs.Blocks.{zeros, flat, blocks, insertAt, removeAt}
 use Rattle.fields.specs.Widths.{joined, offset}
 use Rattle.fields.proofs.Numbers.{length-bytesOf}
-use Rattle.fields.proofs.Blocks.{length-zeros, zeros-add, bytes-zero, blocks-is, block, block-set, block-insert, block-remove, length-blocks, length-insert, length-remove}
-use Rattle.fields.proofs.Widths.{field-set, field-put, widths-set}
+use Rattle.fields.proofs.Blocks.{zeros-add, bytes-zero, blocks-is, block, block-set}
+use Rattle.fields.proofs.Widths.{field-set, field-put}
 use Rattle.rules.specs.Sizes.{maxNodes, maxRecords}
 use Rattle.rules.specs.Node.{Rec, beats}
 use Rattle.rules.specs.Table.{Entry, Table}
@@ -22,7 +21,8 @@ use Rattle.table.specs.Changes.{withBeat, withMax, withGc, withRecs, fre
 use Rattle.table.proofs.Records.{length-rec}
 use Rattle.table.proofs.Nodes.{node-widths, length-node}
 use Rattle.table.proofs.Tables.{table-widths}
-use Rattle.table.proofs.Areas.{part-in, move-put}
+use Rattle.table.proofs.Areas.{part-in}
+use Rattle.table.proofs.Rows.{row-insert, row-remove}
 
 -- ---- the numbers of a node's header
 
@@ -42,13 +42,6 @@ module _ (e : Entry) (v : ℕ) where
 -- ---- the records of a node
 
 module _ (e : Entry) (few : length (e .node .recs) ≤ maxRecords) where
-  -- record j as it stands
-  pub node-rec : (j : ℕ) (d : Rec) → j < length (e .node .recs) → part (recPlace j) recWidth (encodeNode e) ≡ encodeRec (getD (e .node .recs) j d)
-  unfolding encodeNode
-  node-rec j d h =
-      part-in nodeWidths (nodeFields e) (node-widths e) 5 (j * recWidth) recWidth (omega arith) (omega arith)
-      ∙ block encodeRec recWidth length-rec maxRecords (e .node .recs) few j d h
-
   -- record j replaced
   pub node-rec-set : (j : ℕ) (r : Rec) → j < length (e .node .recs)
       → put (recPlace j) (encodeRec r) (encodeNode e) ≡ encodeNode (withRecs (set (e .node .recs) j r) e)
@@ -64,22 +57,7 @@ module _ (e : Entry) (few : length (e .node .recs) ≤ maxRecords) where
       put (offset nodeWidths 4) (bytesOf 1 (n + 1)) (put (recPlace j) (encodeRec r) (put (recPlace j + recWidth) (part (recPlace j) ((n - j) * recWidth) l) l))
       ≡ encodeNode (withRecs (insertAt j r (e .node .recs)) e)
   unfolding encodeNode
-  node-rec-insert j r h g =
-      let n : ℕ = length (e .node .recs) in
-      let fs : List (List ℕ) = nodeFields e in
-      let b : List ℕ = blocks maxRecords recWidth encodeRec (e .node .recs) in
-      let i : ℕ = j * recWidth in
-      let m : ℕ = (n - j) * recWidth in
-      let c : List ℕ = put i (encodeRec r) (put (i + recWidth) (part i m b) b) in
-      let is : c ≡ blocks maxRecords recWidth encodeRec (insertAt j r (e .node .recs)) = block-insert encodeRec recWidth length-rec maxRecords (e .node .recs) few j r h g in
-      let long : length c ≡ maxRecords * recWidth = ap length is ∙ length-blocks encodeRec recWidth length-rec maxRecords (insertAt j r (e .node .recs)) in
-      let count : n + 1 ≡ length (insertAt j r (e .node .recs)) = add-one n ∙ sym (length-insert j r (e .node .recs) h) in
-      let p : recPlace j + recWidth ≡ 33 + (i + recWidth) = omega arith in
-      ap (λ (k : ℕ). put 32 (bytesOf 1 (n + 1)) (put (recPlace j) (encodeRec r) (put k (part (recPlace j) m (joined fs)) (joined fs)))) p
-      ∙ ap (put 32 (bytesOf 1 (n + 1)))
-      (move-put nodeWidths fs (node-widths e) 5 (omega arith) (i + recWidth) i m i (encodeRec r) (omega arith) (omega arith) (rw length-rec (omega arith)))
-      ∙ field-set nodeWidths (set fs 5 c) (widths-set nodeWidths fs (node-widths e) 5 c long) 4 (bytesOf 1 (n + 1)) (omega arith) (length-bytesOf 1 (n + 1))
-      ∙ rw (is, count)
+  node-rec-insert = row-insert encodeRec recWidth length-rec maxRecords (e .node .recs) few nodeWidths (nodeFields e) (node-widths e) 4 (omega arith) refl refl refl
 
   -- record j taken out: those behind it move down, the last place is zeroed, and the count falls
   pub node-rec-remove : (j : ℕ) (d : Rec) → j < length (e .node .recs)
@@ -89,23 +67,7 @@ module _ (e : Entry) (few : length (e .node .recs) ≤ maxRecords) where
       put (offset nodeWidths 4) (bytesOf 1 (n - 1)) (put (recPlace j + m) (zeros recWidth) (put (recPlace j) (part (recPlace j + recWidth) m l) l))
       ≡ encodeNode (withRecs (removeAt j (e .node .recs)) e)
   unfolding encodeNode
-  node-rec-remove j d h =
-      let n : ℕ = length (e .node .recs) in
-      let fs : List (List ℕ) = nodeFields e in
-      let b : List ℕ = blocks maxRecords recWidth encodeRec (e .node .recs) in
-      let i : ℕ = j * recWidth in
-      let m : ℕ = (n - suc j) * recWidth in
-      let c : List ℕ = put (i + m) (zeros recWidth) (put i (part (i + recWidth) m b) b) in
-      let is : c ≡ blocks maxRecords recWidth encodeRec (removeAt j (e .node .recs)) = block-remove encodeRec recWidth length-rec maxRecords (e .node .recs) few j d h in
-      let long : length c ≡ maxRecords * recWidth = ap length is ∙ length-blocks encodeRec recWidth length-rec maxRecords (removeAt j (e .node .recs)) in
-      let count : n - 1 ≡ length (removeAt j (e .node .recs)) = omega (arith, length-remove j (e .node .recs) h) in
-      let p : recPlace j + recWidth ≡ 33 + (i + recWidth) = omega arith in
-      let q : recPlace j + m ≡ 33 + (i + m) = omega arith in
-      ap₂ (λ (x y : ℕ). put 32 (bytesOf 1 (n - 1)) (put x (zeros recWidth) (put (recPlace j) (part y m (joined fs)) (joined fs)))) q p
-      ∙ ap (put 32 (bytesOf 1 (n - 1)))
-      (move-put nodeWidths fs (node-widths e) 5 (omega arith) i (i + recWidth) m (i + m) (zeros recWidth) (omega arith) (omega arith) (rw length-zeros (omega arith)))
-      ∙ field-set nodeWidths (set fs 5 c) (widths-set nodeWidths fs (node-widths e) 5 c long) 4 (bytesOf 1 (n - 1)) (omega arith) (length-bytesOf 1 (n - 1))
-      ∙ rw (is, count)
+  node-rec-remove = row-remove encodeRec recWidth length-rec maxRecords (e .node .recs) few nodeWidths (nodeFields e) (node-widths e) 4 (omega arith) refl refl refl
 
 -- a fresh node is its number, and zeros
 no-records : blocks maxRecords recWidth encodeRec [] ≡ zeros (maxRecords * recWidth)
@@ -119,7 +81,7 @@ zero-node = rw (encodeNode, joined, no-records, bytes-zero 8, bytes-zero 1, appe
 pub fresh-bytes : (i : ℕ) → put (offset nodeWidths 0) (bytesOf 8 i) (zeros nodeWidth) ≡ encodeNode (freshEntry i)
 unfolding encodeNode
 fresh-bytes i =
-    ap (put 0 (bytesOf 8 i)) (sym zero-node)
+    ap (put (offset nodeWidths 0) (bytesOf 8 i)) (sym zero-node)
     ∙ field-set nodeWidths (nodeFields (freshEntry 0)) (node-widths (freshEntry 0)) 0 (bytesOf 8 i) (omega arith) (length-bytesOf 8 i)
 
 -- ---- the nodes of a table
@@ -146,22 +108,7 @@ module _ (t : Table) (few : length t ≤ maxNodes) where
       put (offset tableWidths 0) (bytesOf 1 (n + 1)) (put (nodePlace i) (encodeNode e) (put (nodePlace i + nodeWidth) (part (nodePlace i) ((n - i) * nodeWidth) l) l))
       ≡ encode (insertAt i e t)
   unfolding encode
-  table-insert i e h g =
-      let n : ℕ = length t in
-      let fs : List (List ℕ) = tableFields t in
-      let b : List ℕ = blocks maxNodes nodeWidth encodeNode t in
-      let a : ℕ = i * nodeWidth in
-      let m : ℕ = (n - i) * nodeWidth in
-      let c : List ℕ = put a (encodeNode e) (put (a + nodeWidth) (part a m b) b) in
-      let is : c ≡ blocks maxNodes nodeWidth encodeNode (insertAt i e t) = block-insert encodeNode nodeWidth length-node maxNodes t few i e h g in
-      let long : length c ≡ maxNodes * nodeWidth = ap length is ∙ length-blocks encodeNode nodeWidth length-node maxNodes (insertAt i e t) in
-      let count : n + 1 ≡ length (insertAt i e t) = add-one n ∙ sym (length-insert i e t h) in
-      let p : nodePlace i + nodeWidth ≡ 1 + (a + nodeWidth) = omega arith in
-      ap (λ (k : ℕ). put 0 (bytesOf 1 (n + 1)) (put (nodePlace i) (encodeNode e) (put k (part (nodePlace i) m (joined fs)) (joined fs)))) p
-      ∙ ap (put 0 (bytesOf 1 (n + 1)))
-      (move-put tableWidths fs (table-widths t) 1 (omega arith) (a + nodeWidth) a m a (encodeNode e) (omega arith) (omega arith) (rw length-node (omega arith)))
-      ∙ field-set tableWidths (set fs 1 c) (widths-set tableWidths fs (table-widths t) 1 c long) 0 (bytesOf 1 (n + 1)) (omega arith) (length-bytesOf 1 (n + 1))
-      ∙ rw (is, count)
+  table-insert = row-insert encodeNode nodeWidth length-node maxNodes t few tableWidths (tableFields t) (table-widths t) 0 (omega arith) refl refl refl
 
   -- node i taken out
   pub table-remove : (i : ℕ) (d : Entry) → i < length t
@@ -171,20 +118,4 @@ module _ (t : Table) (few : length t ≤ maxNodes) where
       put (offset tableWidths 0) (bytesOf 1 (n - 1)) (put (nodePlace i + m) (zeros nodeWidth) (put (nodePlace i) (part (nodePlace i + nodeWidth) m l) l))
       ≡ encode (removeAt i t)
   unfolding encode
-  table-remove i d h =
-      let n : ℕ = length t in
-      let fs : List (List ℕ) = tableFields t in
-      let b : List ℕ = blocks maxNodes nodeWidth encodeNode t in
-      let a : ℕ = i * nodeWidth in
-      let m : ℕ = (n - suc i) * nodeWidth in
-      let c : List ℕ = put (a + m) (zeros nodeWidth) (put a (part (a + nodeWidth) m b) b) in
-      let is : c ≡ blocks maxNodes nodeWidth encodeNode (removeAt i t) = block-remove encodeNode nodeWidth length-node maxNodes t few i d h in
-      let long : length c ≡ maxNodes * nodeWidth = ap length is ∙ length-blocks encodeNode nodeWidth length-node maxNodes (removeAt i t) in
-      let count : n - 1 ≡ length (removeAt i t) = omega (arith, length-remove i t h) in
-      let p : nodePlace i + nodeWidth ≡ 1 + (a + nodeWidth) = omega arith in
-      let q : nodePlace i + m ≡ 1 + (a + m) = omega arith in
-      ap₂ (λ (x y : ℕ). put 0 (bytesOf 1 (n - 1)) (put x (zeros nodeWidth) (put (nodePlace i) (part y m (joined fs)) (joined fs)))) q p
-      ∙ ap (put 0 (bytesOf 1 (n - 1)))
-      (move-put tableWidths fs (table-widths t) 1 (omega arith) a (a + nodeWidth) m (a + m) (zeros nodeWidth) (omega arith) (omega arith) (rw length-zeros (omega arith)))
-      ∙ field-set tableWidths (set fs 1 c) (widths-set tableWidths fs (table-widths t) 1 c long) 0 (bytesOf 1 (n - 1)) (omega arith) (length-bytesOf 1 (n - 1))
-      ∙ rw (is, count)
+  table-remove = row-remove encodeNode nodeWidth length-node maxNodes t few tableWidths (tableFields t) (table-widths t) 0 (omega arith) refl refl refl

@@ -18,7 +18,7 @@ use Rattle.fields.proofs.Blocks.{length-flat, length-unblock, unblock-at, block
 use Rattle.fields.proofs.Widths.{joined-whole}
 use Rattle.rules.specs.Sizes.{maxNodes}
 use Rattle.rules.specs.Table.{Entry, Table, entryObeys, rising, numbersOf, obeys}
-use Rattle.rules.specs.Layout.{nodeWidth, tableWidths, tableWidth, encodeNode, decodeNode, encode, decode, valid}
+use Rattle.rules.specs.Layout.{nodePlace, nodeWidth, tableWidths, tableWidth, encodeNode, decodeNode, encode, decode, valid}
 use Rattle.table.specs.Tests.{nodeGood, nodesOf, tableTests, tableGood}
 use Rattle.table.proofs.Records.{every-no}
 use Rattle.table.proofs.Nodes.{obeys-entry, length-node, encode-decode-node, obeys-decode-node, node-good}
@@ -33,7 +33,7 @@ table-good t o =
     let d : Entry = decodeNode [] in
     let one : (i : ℕ) → i < n → nodeGood (part (i * nodeWidth) nodeWidth (blocks maxNodes nodeWidth encodeNode t)) ≡ true =
     λ i h. ap nodeGood (block encodeNode nodeWidth length-node maxNodes t (p .few) i d h) ∙ node-good (getD t i d) (node-obeys t p (getD t i d) (in-at t i d h)) in
-    let goods : allBlocks nodeGood nodeWidth n (drop 1 (encode t)) ≡ true = ap (allBlocks nodeGood nodeWidth n) (nodes-room t) ∙ at-all-blocks nodeGood nodeWidth n _ one in
+    let goods : allBlocks nodeGood nodeWidth n (drop (nodePlace 0) (encode t)) ≡ true = ap (allBlocks nodeGood nodeWidth n) (nodes-room t) ∙ at-all-blocks nodeGood nodeWidth n _ one in
     let fl : length (flat encodeNode t) ≡ n * nodeWidth = length-flat encodeNode nodeWidth length-node t in
     let rest : maxNodes * nodeWidth - n * nodeWidth ≡ (maxNodes - n) * nodeWidth = omega arith in
     let zs : allZero (part (1 + n * nodeWidth) ((maxNodes - n) * nodeWidth) (encode t)) ≡ true =
@@ -56,40 +56,40 @@ module _ (l : List ℕ) (h : AreBytes l) (good : tableGood l ≡ true) where
   few-nodes : nodesOf l ≤ maxNodes
   few-nodes = leb-true _ _ (at 0)
 
-  room-long : length (drop 1 l) ≡ maxNodes * nodeWidth
+  room-long : length (drop (nodePlace 0) l) ≡ maxNodes * nodeWidth
   room-long = rw (length-drop, long) refl
 
-  room-bytes : (i : ℕ) → AreBytes (part (i * nodeWidth) nodeWidth (drop 1 l))
-  room-bytes i = bytes-part (i * nodeWidth) nodeWidth (drop 1 l) (bytes-drop 1 l h)
+  room-bytes : (i : ℕ) → AreBytes (part (i * nodeWidth) nodeWidth (drop (nodePlace 0) l))
+  room-bytes i = bytes-part (i * nodeWidth) nodeWidth (drop (nodePlace 0) l) (bytes-drop (nodePlace 0) l h)
 
-  block-long : (i : ℕ) → i < nodesOf l → length (part (i * nodeWidth) nodeWidth (drop 1 l)) ≡ nodeWidth
-  block-long i g = length-part (i * nodeWidth) nodeWidth (drop 1 l) (omega (arith, few-nodes, room-long))
+  block-long : (i : ℕ) → i < nodesOf l → length (part (i * nodeWidth) nodeWidth (drop (nodePlace 0) l)) ≡ nodeWidth
+  block-long i g = length-part (i * nodeWidth) nodeWidth (drop (nodePlace 0) l) (omega (arith, few-nodes, room-long))
 
-  each-good : (i : ℕ) → i < nodesOf l → nodeGood (part (i * nodeWidth) nodeWidth (drop 1 l)) ≡ true
-  each-good i g = all-blocks-at nodeGood nodeWidth (nodesOf l) (drop 1 l) (at 1) i g
+  each-good : (i : ℕ) → i < nodesOf l → nodeGood (part (i * nodeWidth) nodeWidth (drop (nodePlace 0) l)) ≡ true
+  each-good i g = all-blocks-at nodeGood nodeWidth (nodesOf l) (drop (nodePlace 0) l) (at 1) i g
 
   good-back : encode (decode l) ≡ l
   unfolding encode decode
   good-back =
       let n : ℕ = nodesOf l in
-      let rest : allZero (part (n * nodeWidth) ((maxNodes - n) * nodeWidth) (drop 1 l)) ≡ true =
+      let rest : allZero (part (n * nodeWidth) ((maxNodes - n) * nodeWidth) (drop (nodePlace 0) l)) ≡ true =
       ap allZero (part-drop (n * nodeWidth) ((maxNodes - n) * nodeWidth) 1 l) ∙ at 3 in
-      let room : blocks maxNodes nodeWidth encodeNode (unblock nodeWidth decodeNode n (drop 1 l)) ≡ part 1 (maxNodes * nodeWidth) l =
-      blocks-back encodeNode decodeNode nodeWidth length-node maxNodes n (drop 1 l) room-long few-nodes
-      (λ i g. encode-decode-node (part (i * nodeWidth) nodeWidth (drop 1 l)) (block-long i g) (room-bytes i) (each-good i g)) rest
+      let room : blocks maxNodes nodeWidth encodeNode (unblock nodeWidth decodeNode n (drop (nodePlace 0) l)) ≡ part (nodePlace 0) (maxNodes * nodeWidth) l =
+      blocks-back encodeNode decodeNode nodeWidth length-node maxNodes n (drop (nodePlace 0) l) room-long few-nodes
+      (λ i g. encode-decode-node (part (i * nodeWidth) nodeWidth (drop (nodePlace 0) l)) (block-long i g) (room-bytes i) (each-good i g)) rest
       ∙ behind-count l long in
-      rw (length-unblock nodeWidth decodeNode n (drop 1 l), room, part-back 0 1 l h (omega (arith, long))) (joined-whole tableWidths l long)
+      rw (length-unblock nodeWidth decodeNode n (drop (nodePlace 0) l), room, part-back 0 1 l h (omega (arith, long))) (joined-whole tableWidths l long)
 
   good-obeys : obeys (decode l) ≡ true
   unfolding decode
   good-obeys =
       let n : ℕ = nodesOf l in
-      let t : Table = unblock nodeWidth decodeNode n (drop 1 l) in
+      let t : Table = unblock nodeWidth decodeNode n (drop (nodePlace 0) l) in
       let d : Entry = decodeNode [] in
-      let tl : length t ≡ n = length-unblock nodeWidth decodeNode n (drop 1 l) in
+      let tl : length t ≡ n = length-unblock nodeWidth decodeNode n (drop (nodePlace 0) l) in
       let one : (i : ℕ) → i < length t → entryObeys (getD t i d) ≡ true =
-      λ i g. ap entryObeys (unblock-at nodeWidth decodeNode i n (drop 1 l) d (omega arith))
-      ∙ obeys-entry _ (obeys-decode-node (part (i * nodeWidth) nodeWidth (drop 1 l)) (block-long i (omega arith)) (room-bytes i) (each-good i (omega arith))) in
+      λ i g. ap entryObeys (unblock-at nodeWidth decodeNode i n (drop (nodePlace 0) l) d (omega arith))
+      ∙ obeys-entry _ (obeys-decode-node (part (i * nodeWidth) nodeWidth (drop (nodePlace 0) l)) (block-long i (omega arith)) (room-bytes i) (each-good i (omega arith))) in
       obeys-table t (record { few = rw tl few-nodes; rise = at 2; each = all-in entryObeys t (at-in (λ e. entryObeys e ≡ true) t d one) })
 
 -- the check of number 14 as plain tests

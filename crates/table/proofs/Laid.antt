@@ -1,18 +1,19 @@
 -- What is known of bytes that are laid out: how long they are, how many records or nodes they hold, that each record's lengths are within the
 -- sizes, and that each node of a table is laid out itself. Assumes nothing.
-use Prim.Native.Nat.{ℕ, _-_, _≤_, _<_}
+use Prim.Native.Nat.{ℕ, _≤_, _<_}
 use mathlib.Core.Path.{_≡_, ap, sym, _∙_, subst}
 use mathlib.Core.List.{List, []}
 use native.Mathlib.Omega.{arith}
 use lib.ListN.{length, getD, length-take, length-drop}
 use Rattle.fields.specs.Choice.{_∈_}
 use Rattle.fields.specs.Parts.{part}
+use Rattle.fields.specs.Widths.{offset}
 use Rattle.fields.proofs.Choice.{in-at}
 use Rattle.fields.proofs.Parts.{length-part}
 use Rattle.rules.specs.Sizes.{maxKey, maxValue}
 use Rattle.rules.specs.Node.{Rec}
 use Rattle.rules.specs.Table.{Entry}
-use Rattle.rules.specs.Layout.{recPlace, nodePlace, recWidth, nodeWidth, decodeRec, decodeNode, encodeNode, decode}
+use Rattle.rules.specs.Layout.{recWidths, recPlace, nodePlace, recWidth, nodeWidth, decodeRec, decodeNode, encodeNode, decode}
 use Rattle.table.specs.Fits.{FitsRec, LaidNode, LaidTable}
 use Rattle.table.specs.Tests.{keyLength, valueLength, countOf, nodesOf, recsOf}
 use Rattle.table.proofs.Nodes.{laid-node}
@@ -24,13 +25,13 @@ use Rattle.table.proofs.Changed.{table-node}
 key-short : (x : List ℕ) → length x ≡ recWidth → length (decodeRec x .kv .key) ≤ maxKey → keyLength x ≤ maxKey
 unfolding decodeRec part
 key-short x e h =
-    let p : length (part 1 (keyLength x) x) ≤ maxKey = h in
+    let p : length (part (offset recWidths 1) (keyLength x) x) ≤ maxKey = h in
     omega (arith, simp (part, length-take, length-drop) at p)
 
 value-short : (x : List ℕ) → length x ≡ recWidth → length (decodeRec x .kv .value) ≤ maxValue → valueLength x ≤ maxValue
 unfolding decodeRec part
 value-short x e h =
-    let p : length (part 34 (valueLength x) x) ≤ maxValue = h in
+    let p : length (part (offset recWidths 3) (valueLength x) x) ≤ maxValue = h in
     omega (arith, simp (part, length-take, length-drop) at p)
 
 module _ (b : List ℕ) (o : LaidNode b) where

@@ -4,5 +4,6 @@ pub mod Tables
 pub mod Checked
 pub mod Places
 pub mod Areas
+pub mod Rows
 pub mod Changed
 pub mod Laid

@@ -22,7 +22,7 @@ use Rattle.fields.proofs.Widths.{field, length-joined, joined-whole}
 use Rattle.rules.specs.Sizes.{maxRecords, numbers}
 use Rattle.rules.specs.Node.{Rec, Node, beats}
 use Rattle.rules.specs.Table.{Entry, recObeys, nodeObeys, entryObeys, keysRise, versions, differ}
-use Rattle.rules.specs.Layout.{recWidth, nodeWidths, nodeWidth, nodeFields, encodeRec, decodeRec, encodeNode, decodeNode}
+use Rattle.rules.specs.Layout.{recPlace, recWidth, nodeWidths, nodeWidth, nodeFields, encodeRec, decodeRec, encodeNode, decodeNode}
 use Rattle.table.specs.Fits.{FitsEntry, LaidNode}
 use Rattle.table.specs.Tests.{recGood, nodeTests, nodeGood, countOf, maxOf, recsOf}
 use Rattle.table.proofs.Records.{ObeysRec, rec-obeys, obeys-rec, fits-rec, length-rec, decode-encode-rec, encode-decode-rec, obeys-decode-rec, rec-good, every-no}
@@ -130,8 +130,8 @@ module _ (e : Entry) (o : FitsEntry e) where
       let number = node-number e 0 8 (e .number) (omega arith) refl refl (o .number-high) in
       let beat = node-number e 1 8 (e .node .heartbeat .0) (omega arith) refl refl (o .beat-high) in
       let gc = node-number e 3 8 (e .node .last-gc) (omega arith) refl refl (o .gc-high) in
-      let recs : unblock recWidth decodeRec (natOf (part 32 1 (encodeNode e))) (drop 33 (encodeNode e)) ≡ e .node .recs =
-      ap (λ (k : ℕ). unblock recWidth decodeRec k (drop 33 (encodeNode e))) count-is
+      let recs : unblock recWidth decodeRec (natOf (part (offset nodeWidths 4) 1 (encodeNode e))) (drop (recPlace 0) (encodeNode e)) ≡ e .node .recs =
+      ap (λ (k : ℕ). unblock recWidth decodeRec k (drop (recPlace 0) (encodeNode e))) count-is
       ∙ ap (unblock recWidth decodeRec (length (e .node .recs))) room-is
       ∙ blocks-read encodeRec decodeRec recWidth length-rec maxRecords (e .node .recs) (o .few) (λ r m. decode-encode-rec r (o .each r m)) in
       λ i. record { number = number i; node = record { heartbeat = beats (beat i); max = max-is i; last-gc = gc i; recs = recs i } }
@@ -154,13 +154,13 @@ node-good e o =
     let p : ObeysRec (e .node .max) r = each-obeys e o r m in
     ap (recGood (e .node .max)) (block encodeRec recWidth length-rec maxRecords (e .node .recs) (o .few) i d h)
     ∙ rec-good r (f .each r m) (e .node .max) (p .version-low) (p .version-high) in
-    let goods : allBlocks (recGood (e .node .max)) recWidth n (drop 33 (encodeNode e)) ≡ true =
+    let goods : allBlocks (recGood (e .node .max)) recWidth n (drop (recPlace 0) (encodeNode e)) ≡ true =
     ap (allBlocks (recGood (e .node .max)) recWidth n) (room-is e f) ∙ at-all-blocks (recGood (e .node .max)) recWidth n _ one in
     let fl : length (flat encodeRec (e .node .recs)) ≡ n * recWidth = length-flat encodeRec recWidth length-rec (e .node .recs) in
     let rest : maxRecords * recWidth - n * recWidth ≡ (maxRecords - n) * recWidth = omega arith in
-    let zs : allZero (part (33 + n * recWidth) ((maxRecords - n) * recWidth) (encodeNode e)) ≡ true =
+    let zs : allZero (part (recPlace n) ((maxRecords - n) * recWidth) (encodeNode e)) ≡ true =
     rw (fl, rest) at
-    (fit-zeros (maxRecords * recWidth) 33 (flat encodeRec (e .node .recs)) (encodeNode e) (rw fl (omega (arith, o .few))) (node-field e 5 (omega arith)) (rw length-node (omega arith))) in
+    (fit-zeros (maxRecords * recWidth) (recPlace 0) (flat encodeRec (e .node .recs)) (encodeNode e) (rw fl (omega (arith, o .few))) (node-field e 5 (omega arith)) (rw length-node (omega arith))) in
     let rise : keysRise (recsOf (encodeNode e)) ≡ true = ap (λ (x : Entry). keysRise (x .node .recs)) (decode-encode-node e f) ∙ o .rise in
     let other : differ (versions (recsOf (encodeNode e))) ≡ true = ap (λ (x : Entry). differ (versions (x .node .recs))) (decode-encode-node e f) ∙ o .differing in
     rw (nodeGood, count-is e f, max-is e f, le-leb n maxRecords (o .few), goods, rise, other, zs)
@@ -180,17 +180,17 @@ module _ (b : List ℕ) (long : length b ≡ nodeWidth) (h : AreBytes b) (good :
   few-records : countOf b ≤ maxRecords
   few-records = leb-true _ _ (at 0)
 
-  room-long : length (drop 33 b) ≡ maxRecords * recWidth
+  room-long : length (drop (recPlace 0) b) ≡ maxRecords * recWidth
   room-long = rw (length-drop, long) refl
 
-  room-bytes : (i : ℕ) → AreBytes (part (i * recWidth) recWidth (drop 33 b))
-  room-bytes i = bytes-part (i * recWidth) recWidth (drop 33 b) (bytes-drop 33 b h)
+  room-bytes : (i : ℕ) → AreBytes (part (i * recWidth) recWidth (drop (recPlace 0) b))
+  room-bytes i = bytes-part (i * recWidth) recWidth (drop (recPlace 0) b) (bytes-drop (recPlace 0) b h)
 
-  block-long : (i : ℕ) → i < countOf b → length (part (i * recWidth) recWidth (drop 33 b)) ≡ recWidth
-  block-long i g = length-part (i * recWidth) recWidth (drop 33 b) (omega (arith, few-records, room-long))
+  block-long : (i : ℕ) → i < countOf b → length (part (i * recWidth) recWidth (drop (recPlace 0) b)) ≡ recWidth
+  block-long i g = length-part (i * recWidth) recWidth (drop (recPlace 0) b) (omega (arith, few-records, room-long))
 
-  each-good : (i : ℕ) → i < countOf b → recGood (maxOf b) (part (i * recWidth) recWidth (drop 33 b)) ≡ true
-  each-good i g = all-blocks-at (recGood (maxOf b)) recWidth (countOf b) (drop 33 b) (at 1) i g
+  each-good : (i : ℕ) → i < countOf b → recGood (maxOf b) (part (i * recWidth) recWidth (drop (recPlace 0) b)) ≡ true
+  each-good i g = all-blocks-at (recGood (maxOf b)) recWidth (countOf b) (drop (recPlace 0) b) (at 1) i g
 
   -- they are those of the node that is read in them
   pub encode-decode-node : encodeNode (decodeNode b) ≡ b
@@ -198,13 +198,13 @@ module _ (b : List ℕ) (long : length b ≡ nodeWidth) (h : AreBytes b) (good :
   encode-decode-node =
       let n : ℕ = countOf b in
       let number : (a m : ℕ) → a + m ≤ nodeWidth → bytesOf m (natOf (part a m b)) ≡ part a m b = λ a m g. part-back a m b h (omega arith) in
-      let rest : allZero (part (n * recWidth) ((maxRecords - n) * recWidth) (drop 33 b)) ≡ true =
-      ap allZero (part-drop (n * recWidth) ((maxRecords - n) * recWidth) 33 b) ∙ at 4 in
-      let room : blocks maxRecords recWidth encodeRec (unblock recWidth decodeRec n (drop 33 b)) ≡ part 33 (maxRecords * recWidth) b =
-      blocks-back encodeRec decodeRec recWidth length-rec maxRecords n (drop 33 b) room-long few-records
-      (λ i g. encode-decode-rec (maxOf b) (part (i * recWidth) recWidth (drop 33 b)) (block-long i g) (room-bytes i) (each-good i g)) rest
+      let rest : allZero (part (n * recWidth) ((maxRecords - n) * recWidth) (drop (recPlace 0) b)) ≡ true =
+      ap allZero (part-drop (n * recWidth) ((maxRecords - n) * recWidth) (recPlace 0) b) ∙ at 4 in
+      let room : blocks maxRecords recWidth encodeRec (unblock recWidth decodeRec n (drop (recPlace 0) b)) ≡ part (recPlace 0) (maxRecords * recWidth) b =
+      blocks-back encodeRec decodeRec recWidth length-rec maxRecords n (drop (recPlace 0) b) room-long few-records
+      (λ i g. encode-decode-rec (maxOf b) (part (i * recWidth) recWidth (drop (recPlace 0) b)) (block-long i g) (room-bytes i) (each-good i g)) rest
       ∙ behind-header b long in
-      rw (length-unblock recWidth decodeRec n (drop 33 b), room, number 0 8 (omega arith), number 8 8 (omega arith), number 16 8 (omega arith), number 24 8 (omega arith), number 32 1 (omega arith))
+      rw (length-unblock recWidth decodeRec n (drop (recPlace 0) b), room, number (offset nodeWidths 0) 8 (omega arith), number (offset nodeWidths 1) 8 (omega arith), number (offset nodeWidths 2) 8 (omega arith), number (offset nodeWidths 3) 8 (omega arith), number (offset nodeWidths 4) 1 (omega arith))
       (joined-whole nodeWidths b long)
 
   -- and it obeys the rules
@@ -212,14 +212,14 @@ module _ (b : List ℕ) (long : length b ≡ nodeWidth) (h : AreBytes b) (good :
   unfolding decodeNode
   obeys-decode-node =
       let n : ℕ = countOf b in
-      let l : List Rec = unblock recWidth decodeRec n (drop 33 b) in
+      let l : List Rec = unblock recWidth decodeRec n (drop (recPlace 0) b) in
       let below : (a : ℕ) → a + 8 ≤ nodeWidth → natOf (part a 8 b) < numbers = λ a g. nat-part a 8 b h (omega arith) in
       let d : Rec = decodeRec [] in
-      let ll : length l ≡ n = length-unblock recWidth decodeRec n (drop 33 b) in
+      let ll : length l ≡ n = length-unblock recWidth decodeRec n (drop (recPlace 0) b) in
       let one : (i : ℕ) → i < length l → recObeys (maxOf b) (getD l i d) ≡ true =
-      λ i g. ap (recObeys (maxOf b)) (unblock-at recWidth decodeRec i n (drop 33 b) d (omega arith))
+      λ i g. ap (recObeys (maxOf b)) (unblock-at recWidth decodeRec i n (drop (recPlace 0) b) d (omega arith))
       ∙ obeys-rec (maxOf b) _
-      (obeys-decode-rec (maxOf b) (part (i * recWidth) recWidth (drop 33 b)) (block-long i (omega arith)) (room-bytes i) (each-good i (omega arith))) in
+      (obeys-decode-rec (maxOf b) (part (i * recWidth) recWidth (drop (recPlace 0) b)) (block-long i (omega arith)) (room-bytes i) (each-good i (omega arith))) in
       record {
         number-high = below 0 (omega arith);
         few = rw ll few-records;

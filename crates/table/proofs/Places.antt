@@ -1,6 +1,6 @@
 -- What is read at a place of the bytes: record i of a node and node i of a table, and their fields, for bytes of the right length with any
 -- contents. Assumes nothing.
-use Prim.Native.Nat.{ℕ, suc, _+_, _*_, _-_, _≤_, _<_}
+use Prim.Native.Nat.{ℕ, suc, _+_, _*_, _≤_, _<_}
 use mathlib.Core.Path.{_≡_, ap, sym, _∙_}
 use mathlib.Core.Bool.{true}
 use mathlib.Core.List.{List, _∷_}
@@ -16,31 +16,25 @@ use Rattle.fields.proofs.Blocks.{unblock-drop, unblock-at, length-unblock, all-
 use Rattle.rules.specs.Sizes.{maxNodes, maxRecords}
 use Rattle.rules.specs.Node.{Rec}
 use Rattle.rules.specs.Table.{Entry}
-use Rattle.rules.specs.Layout.{nodePlace, recPlace, recWidths, recWidth, nodeWidths, nodeWidth, tableWidths, tableWidth, decodeRec, decodeNode, decode}
+use Rattle.rules.specs.Layout.{nodePlace, recPlace, recWidths, recWidth, nodeWidths, nodeWidth, tableWidth, decodeRec, decodeNode, decode}
 use Rattle.table.specs.Tests.{countOf, nodesOf, recsOf, recGood}
+pub use Rattle.table.specs.Places.{recBytes, recAt, nodeBytes, nodeAt}
 
 -- ---- in a node's bytes
 
--- the bytes of record i
-abbrev pub recBytes : ℕ → List ℕ → List ℕ
-recBytes i b = part (recPlace i) recWidth b
-
-abbrev pub recAt : ℕ → List ℕ → Rec
-recAt i b = decodeRec (recBytes i b)
-
 pub length-recs : (b : List ℕ) → length (recsOf b) ≡ countOf b
 unfolding decodeNode
-length-recs b = length-unblock recWidth decodeRec (countOf b) (drop 33 b)
+length-recs b = length-unblock recWidth decodeRec (countOf b) (drop (recPlace 0) b)
 
 pub recs-drop : (i : ℕ) (b : List ℕ) → i < countOf b → drop i (recsOf b) ≡ recAt i b ∷ drop (suc i) (recsOf b)
 unfolding decodeNode
 recs-drop i b h =
-    unblock-drop recWidth decodeRec i (countOf b) (drop 33 b) h
-    ∙ ap (λ (r : List ℕ). decodeRec r ∷ drop (suc i) (unblock recWidth decodeRec (countOf b) (drop 33 b))) (part-drop (i * recWidth) recWidth 33 b)
+    unblock-drop recWidth decodeRec i (countOf b) (drop (recPlace 0) b) h
+    ∙ ap (λ (r : List ℕ). decodeRec r ∷ drop (suc i) (unblock recWidth decodeRec (countOf b) (drop (recPlace 0) b))) (part-drop (i * recWidth) recWidth (recPlace 0) b)
 
 pub recs-at : (i : ℕ) (b : List ℕ) (d : Rec) → i < countOf b → getD (recsOf b) i d ≡ recAt i b
 unfolding decodeNode
-recs-at i b d h = unblock-at recWidth decodeRec i (countOf b) (drop 33 b) d h ∙ ap decodeRec (part-drop (i * recWidth) recWidth 33 b)
+recs-at i b d h = unblock-at recWidth decodeRec i (countOf b) (drop (recPlace 0) b) d h ∙ ap decodeRec (part-drop (i * recWidth) recWidth (recPlace 0) b)
 
 -- a part of record i
 pub in-rec : (i a n : ℕ) (b : List ℕ) → length b ≡ nodeWidth → i < maxRecords → a + n ≤ recWidth → part a n (recBytes i b) ≡ part (recPlace i + a) n b
@@ -53,22 +47,15 @@ good-at max i n b t h =
 
 -- ---- in a table's bytes
 
--- the bytes of node i
-abbrev pub nodeBytes : ℕ → List ℕ → List ℕ
-nodeBytes i l = part (nodePlace i) nodeWidth l
-
-abbrev pub nodeAt : ℕ → List ℕ → Entry
-nodeAt i l = decodeNode (nodeBytes i l)
-
 pub decode-drop : (i : ℕ) (l : List ℕ) → i < nodesOf l → drop i (decode l) ≡ nodeAt i l ∷ drop (suc i) (decode l)
 unfolding decode
 decode-drop i l h =
-    unblock-drop nodeWidth decodeNode i (nodesOf l) (drop 1 l) h
-    ∙ ap (λ (r : List ℕ). decodeNode r ∷ drop (suc i) (unblock nodeWidth decodeNode (nodesOf l) (drop 1 l))) (part-drop (i * nodeWidth) nodeWidth 1 l)
+    unblock-drop nodeWidth decodeNode i (nodesOf l) (drop (nodePlace 0) l) h
+    ∙ ap (λ (r : List ℕ). decodeNode r ∷ drop (suc i) (unblock nodeWidth decodeNode (nodesOf l) (drop (nodePlace 0) l))) (part-drop (i * nodeWidth) nodeWidth (nodePlace 0) l)
 
 pub decode-at : (i : ℕ) (l : List ℕ) (d : Entry) → i < nodesOf l → getD (decode l) i d ≡ nodeAt i l
 unfolding decode
-decode-at i l d h = unblock-at nodeWidth decodeNode i (nodesOf l) (drop 1 l) d h ∙ ap decodeNode (part-drop (i * nodeWidth) nodeWidth 1 l)
+decode-at i l d h = unblock-at nodeWidth decodeNode i (nodesOf l) (drop (nodePlace 0) l) d h ∙ ap decodeNode (part-drop (i * nodeWidth) nodeWidth (nodePlace 0) l)
 
 -- a part of node i
 pub in-node : (i a n : ℕ) (l : List ℕ) → length l ≡ tableWidth → i < maxNodes → a + n ≤ nodeWidth → part a n (nodeBytes i l) ≡ part (nodePlace i + a) n l

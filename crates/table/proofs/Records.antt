@@ -1,6 +1,6 @@
 -- A record's bytes and back. A record that keeps to the sizes is read again from its bytes; bytes that pass the tests are those of the record
 -- that is read in them, and it obeys the rules; and the bytes of a record that obeys pass the tests. Assumes nothing.
-use Prim.Native.Nat.{ℕ, zero, suc, _+_, _-_, _≤_, _<_, _^_}
+use Prim.Native.Nat.{ℕ, zero, suc, _+_, _≤_, _<_, _^_}
 use mathlib.Core.Path.{_≡_, refl, ap, sym, _∙_}
 use mathlib.Core.Bool.{Bool, true, false, _&&_, true≢false}
 use mathlib.Core.List.{List, [], _∷_}
@@ -25,7 +25,7 @@ use Rattle.rules.specs.Layout.{recWidths, recWidth, recFields, encodeRec, decod
 use Rattle.rules.specs.declared.Status.{Status}
 use Rattle.rules.specs.declared.Status.the-variants.{Set, Delete, Ttl}
 use Rattle.table.specs.Fits.{FitsRec}
-use Rattle.table.specs.Tests.{recTests, recGood, clean, keyLength, valueLength}
+use Rattle.table.specs.Tests.{recTests, recGood, clean, keyLength, valueLength, versionOf}
 
 -- ---- the fields of a record's bytes
 
@@ -129,22 +129,22 @@ module _ (r : Rec) (o : FitsRec r) where
   pub decode-encode-rec : decodeRec (encodeRec r) ≡ r
   unfolding decodeRec
   decode-encode-rec =
-      let key : part 1 (natOf (part 0 1 (encodeRec r))) (encodeRec r) ≡ r .kv .key =
-      ap (λ (n : ℕ). part 1 n (encodeRec r)) key-long
-      ∙ fit-front maxKey 1 (r .kv .key) (encodeRec r) (o .key-fits) (rec-field r 1 (omega arith)) (rw length-rec (omega arith)) in
-      let value : part 34 (natOf (part 33 1 (encodeRec r))) (encodeRec r) ≡ r .kv .value =
-      ap (λ (n : ℕ). part 34 n (encodeRec r)) value-long
-      ∙ fit-front maxValue 34 (r .kv .value) (encodeRec r) (o .value-fits) (rec-field r 3 (omega arith)) (rw length-rec (omega arith)) in
-      let status : statusOfByte (natOf (part 106 1 (encodeRec r))) ≡ r .kv .status = ap statusOfByte status-is ∙ status-back (r .kv .status) in
-      let start : natOf (part 107 8 (encodeRec r)) ≡ r .start = rec-number r 6 8 (r .start) (omega arith) refl refl (o .start-high) in
+      let key : part (offset recWidths 1) (keyLength (encodeRec r)) (encodeRec r) ≡ r .kv .key =
+      ap (λ (n : ℕ). part (offset recWidths 1) n (encodeRec r)) key-long
+      ∙ fit-front maxKey (offset recWidths 1) (r .kv .key) (encodeRec r) (o .key-fits) (rec-field r 1 (omega arith)) (rw length-rec (omega arith)) in
+      let value : part (offset recWidths 3) (valueLength (encodeRec r)) (encodeRec r) ≡ r .kv .value =
+      ap (λ (n : ℕ). part (offset recWidths 3) n (encodeRec r)) value-long
+      ∙ fit-front maxValue (offset recWidths 3) (r .kv .value) (encodeRec r) (o .value-fits) (rec-field r 3 (omega arith)) (rw length-rec (omega arith)) in
+      let status : statusOfByte (natOf (part (offset recWidths 5) 1 (encodeRec r))) ≡ r .kv .status = ap statusOfByte status-is ∙ status-back (r .kv .status) in
+      let start : natOf (part (offset recWidths 6) 8 (encodeRec r)) ≡ r .start = rec-number r 6 8 (r .start) (omega arith) refl refl (o .start-high) in
       λ i. record { kv = record { key = key i; value = value i; version = version-is i; status = status i }; start = start i }
 
   -- its bytes pass the tests where its version is one of the node's
   pub rec-good : (max : ℕ) → 1 ≤ r .kv .version → r .kv .version ≤ max → recGood max (encodeRec r) ≡ true
   unfolding recGood
   rec-good max low high =
-      let kz = fit-zeros maxKey 1 (r .kv .key) (encodeRec r) (o .key-fits) (rec-field r 1 (omega arith)) (rw length-rec (omega arith)) in
-      let vz = fit-zeros maxValue 34 (r .kv .value) (encodeRec r) (o .value-fits) (rec-field r 3 (omega arith)) (rw length-rec (omega arith)) in
+      let kz = fit-zeros maxKey (offset recWidths 1) (r .kv .key) (encodeRec r) (o .key-fits) (rec-field r 1 (omega arith)) (rw length-rec (omega arith)) in
+      let vz = fit-zeros maxValue (offset recWidths 3) (r .kv .value) (encodeRec r) (o .value-fits) (rec-field r 3 (omega arith)) (rw length-rec (omega arith)) in
       rw (recGood, key-long, value-long, version-is, status-is, le-leb _ maxKey (o .key-fits), le-leb _ maxValue (o .value-fits), le-leb 1 _ low, le-leb _ max high, le-leb _ 2 (status-below (r .kv .status)), kz, vz)
 
 -- ---- bytes that pass the tests
@@ -164,13 +164,13 @@ unfolding recGood
 rec-stop max b k e = sym (every-no (recTests max b) k e)
 
 record Tests (max : ℕ) (b : List ℕ) : Type 0 where
-  pub key-fits : natOf (part 0 1 b) ≤ maxKey
-  pub value-fits : natOf (part 33 1 b) ≤ maxValue
-  pub version-low : 1 ≤ natOf (part 98 8 b)
-  pub version-high : natOf (part 98 8 b) ≤ max
-  pub status : natOf (part 106 1 b) ≤ 2
-  pub key-clean : clean 1 maxKey (natOf (part 0 1 b)) b ≡ true
-  pub value-clean : clean 34 maxValue (natOf (part 33 1 b)) b ≡ true
+  pub key-fits : keyLength b ≤ maxKey
+  pub value-fits : valueLength b ≤ maxValue
+  pub version-low : 1 ≤ versionOf b
+  pub version-high : versionOf b ≤ max
+  pub status : natOf (part (offset recWidths 5) 1 b) ≤ 2
+  pub key-clean : clean (offset recWidths 1) maxKey (keyLength b) b ≡ true
+  pub value-clean : clean (offset recWidths 3) maxValue (valueLength b) b ≡ true
 
 tests : (max : ℕ) (b : List ℕ) → recGood max b ≡ true → Tests max b
 unfolding recGood
@@ -189,9 +189,6 @@ tests max b t =
 pub good-key : (max : ℕ) (b : List ℕ) → recGood max b ≡ true → keyLength b ≤ maxKey
 good-key max b t = tests max b t .key-fits
 
-pub good-value : (max : ℕ) (b : List ℕ) → recGood max b ≡ true → valueLength b ≤ maxValue
-good-value max b t = tests max b t .value-fits
-
 module _ (max : ℕ) (b : List ℕ) (long : length b ≡ recWidth) (h : AreBytes b) (good : recGood max b ≡ true) where
   -- they are those of the record that is read in them
   pub encode-decode-rec : encodeRec (decodeRec b) ≡ b
@@ -199,11 +196,11 @@ module _ (max : ℕ) (b : List ℕ) (long : length b ≡ recWidth) (h : AreBytes
   encode-decode-rec =
       let t : Tests max b = tests max b good in
       let number : (at n : ℕ) → at + n ≤ recWidth → bytesOf n (natOf (part at n b)) ≡ part at n b = λ at n g. part-back at n b h (omega arith) in
-      let kl : length (part 1 (natOf (part 0 1 b)) b) ≡ natOf (part 0 1 b) = length-part 1 _ b (omega arith) in
-      let vl : length (part 34 (natOf (part 33 1 b)) b) ≡ natOf (part 33 1 b) = length-part 34 _ b (omega arith) in
-      let key = fit-back _ maxKey 1 b (t .key-fits) (omega arith) (t .key-clean) in
-      let value = fit-back _ maxValue 34 b (t .value-fits) (omega arith) (t .value-clean) in
-      rw (kl, vl, number 0 1 (omega arith), key, number 33 1 (omega arith), value, number 98 8 (omega arith), status-byte (natOf (part 106 1 b)) (t .status), number 106 1 (omega arith), number 107 8 (omega arith))
+      let kl : length (part (offset recWidths 1) (keyLength b) b) ≡ keyLength b = length-part (offset recWidths 1) _ b (omega arith) in
+      let vl : length (part (offset recWidths 3) (valueLength b) b) ≡ valueLength b = length-part (offset recWidths 3) _ b (omega arith) in
+      let key = fit-back _ maxKey (offset recWidths 1) b (t .key-fits) (omega arith) (t .key-clean) in
+      let value = fit-back _ maxValue (offset recWidths 3) b (t .value-fits) (omega arith) (t .value-clean) in
+      rw (kl, vl, number (offset recWidths 0) 1 (omega arith), key, number (offset recWidths 2) 1 (omega arith), value, number (offset recWidths 4) 8 (omega arith), status-byte (natOf (part (offset recWidths 5) 1 b)) (t .status), number (offset recWidths 5) 1 (omega arith), number (offset recWidths 6) 8 (omega arith))
       (joined-whole recWidths b long)
 
   -- and it obeys the rules
@@ -212,9 +209,9 @@ module _ (max : ℕ) (b : List ℕ) (long : length b ≡ recWidth) (h : AreBytes
   obeys-decode-rec =
       let t : Tests max b = tests max b good in
       record {
-        key-fits = rw (length-part 1 (natOf (part 0 1 b)) b (omega arith)) (t .key-fits);
-        value-fits = rw (length-part 34 (natOf (part 33 1 b)) b (omega arith)) (t .value-fits);
+        key-fits = rw (length-part (offset recWidths 1) (keyLength b) b (omega arith)) (t .key-fits);
+        value-fits = rw (length-part (offset recWidths 3) (valueLength b) b (omega arith)) (t .value-fits);
         version-low = t .version-low;
         version-high = t .version-high;
-        start-high = nat-part 107 8 b h (omega arith);
+        start-high = nat-part (offset recWidths 6) 8 b h (omega arith);
       }

@@ -1,7 +1,7 @@
 -- A table's bytes and back. A table that obeys and its bytes determine each other: it is read again from them (`decode-encode`), they are valid
 -- (`valid-encode`, so that calls can be chained), and valid bytes are those of the table that is read in them (`encode-decode`), which obeys.
 -- Assumes nothing.
-use Prim.Native.Nat.{ℕ, _*_, _-_, _≤_, _<_}
+use Prim.Native.Nat.{ℕ, _*_, _≤_, _<_}
 use mathlib.Core.Path.{_≡_, ap, sym, _∙_, subst}
 use mathlib.Core.Bool.{Bool, true}
 use mathlib.Core.List.{List, [], _∷_}
@@ -23,7 +23,7 @@ use Rattle.fields.proofs.Widths.{field, length-joined}
 use Rattle.fields.proofs.Ordered.{same-true, same-self}
 use Rattle.rules.specs.Sizes.{maxNodes}
 use Rattle.rules.specs.Table.{Entry, Table, entryObeys, rising, numbersOf, obeys}
-use Rattle.rules.specs.Layout.{nodeWidth, tableWidths, tableWidth, tableFields, encodeNode, decodeNode, encode, decode, valid}
+use Rattle.rules.specs.Layout.{nodePlace, nodeWidth, tableWidths, tableWidth, tableFields, encodeNode, decodeNode, encode, decode, valid}
 use Rattle.table.specs.Fits.{FitsTable, LaidTable}
 use Rattle.table.specs.Tests.{nodesOf}
 use Rattle.table.proofs.Nodes.{ObeysEntry, entry-obeys, length-node, fits-entry, decode-encode-node}
@@ -54,7 +54,7 @@ nodes-count t h = ap natOf (table-field t 0 (omega arith)) ∙ nat-bytes 1 (leng
 
 pub length-decode : (l : List ℕ) → length (decode l) ≡ nodesOf l
 unfolding decode
-length-decode l = length-unblock nodeWidth decodeNode (nodesOf l) (drop 1 l)
+length-decode l = length-unblock nodeWidth decodeNode (nodesOf l) (drop (nodePlace 0) l)
 
 -- ---- a table that obeys
 
@@ -94,7 +94,7 @@ module _ (t : Table) (o : FitsTable t) where
   pub read-back : decode (encode t) ≡ t
   unfolding decode
   read-back =
-      ap (λ (k : ℕ). unblock nodeWidth decodeNode k (drop 1 (encode t))) (nodes-count t (o .few))
+      ap (λ (k : ℕ). unblock nodeWidth decodeNode k (drop (nodePlace 0) (encode t))) (nodes-count t (o .few))
       ∙ ap (unblock nodeWidth decodeNode (length t)) (nodes-room t)
       ∙ blocks-read encodeNode decodeNode nodeWidth length-node maxNodes t (o .few) (λ e m. decode-encode-node e (o .each e m))
 

@@ -1,10 +1,10 @@
 -- What fits into the layout, whether or not it obeys the rules: lengths within the sizes and numbers of eight bytes. A writer on a good table needs
 -- no more than this of what it finds, and a chain of writers may break a rule between its first step and its last.
-use Prim.Native.Nat.{ℕ, _≤_, _<_}
+use Prim.Native.Nat.{_≤_, _<_}
 use mathlib.Core.Path.{_≡_}
-use mathlib.Core.List.{List}
 use lib.ListN.{length}
 use Rattle.fields.specs.Choice.{_∈_}
+use Rattle.fields.specs.Numbers.{Bytes}
 use Rattle.rules.specs.Sizes.{maxNodes, maxRecords, maxKey, maxValue, numbers}
 use Rattle.rules.specs.Node.{Rec}
 use Rattle.rules.specs.Table.{Entry, Table}
@@ -30,14 +30,14 @@ pub record FitsTable (t : Table) : Type 0 where
   pub each : (e : Entry) → e ∈ t → FitsEntry e
 
 -- the bytes are those of the node that is read in them, and it fits
-pub record LaidNode (b : List ℕ) : Type 0 where
+pub record LaidNode (b : Bytes) : Type 0 where
   pub long : length b ≡ nodeWidth
   pub few : countOf b ≤ maxRecords
   pub fits : FitsEntry (decodeNode b)
   pub is : encodeNode (decodeNode b) ≡ b
 
 -- the bytes are those of the table that is read in them, and it fits
-pub record LaidTable (l : List ℕ) : Type 0 where
+pub record LaidTable (l : Bytes) : Type 0 where
   pub long : length l ≡ tableWidth
   pub few : nodesOf l ≤ maxNodes
   pub fits : FitsTable (decode l)

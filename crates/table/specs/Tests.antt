@@ -6,7 +6,7 @@ use mathlib.Core.List.{List, [], _∷_}
 use lib.ListN.{length, drop}
 use lib.Dec.{leb, eqb}
 use Rattle.fields.specs.Choice.{every}
-use Rattle.fields.specs.Numbers.{natOf}
+use Rattle.fields.specs.Numbers.{Bytes, natOf}
 use Rattle.fields.specs.Parts.{part}
 use Rattle.fields.specs.Blocks.{allZero, allBlocks}
 use Rattle.fields.specs.Widths.{offset}
@@ -17,21 +17,21 @@ use Rattle.rules.specs.Layout.{recWidths, recWidth, nodeWidths, nodeWidth, tabl
 
 -- ---- a record's bytes, in a node with this max
 
-abbrev pub keyLength : List ℕ → ℕ
+abbrev pub keyLength : (rec : Bytes) → ℕ
 keyLength b = natOf (part (offset recWidths 0) 1 b)
 
-abbrev pub valueLength : List ℕ → ℕ
+abbrev pub valueLength : (rec : Bytes) → ℕ
 valueLength b = natOf (part (offset recWidths 2) 1 b)
 
-abbrev pub versionOf : List ℕ → ℕ
+abbrev pub versionOf : (rec : Bytes) → ℕ
 versionOf b = natOf (part (offset recWidths 4) 8 b)
 
 -- zeros behind the text of k bytes that stands at `at` in room for n
-abbrev pub clean : ℕ → ℕ → ℕ → List ℕ → Bool
+abbrev pub clean : (at n k : ℕ) (rec : Bytes) → Bool
 clean at n k b = allZero (part (at + k) (n - k) b)
 
 -- lengths within the sizes, a version from 1 on and not above max, a status of the three, zeros behind key and value
-abbrev pub recTests : ℕ → List ℕ → List Bool
+abbrev pub recTests : (max : ℕ) (rec : Bytes) → List Bool
 recTests max b =
     leb (keyLength b) maxKey
     ∷ leb (valueLength b) maxValue
@@ -42,23 +42,23 @@ recTests max b =
     ∷ clean (offset recWidths 3) maxValue (valueLength b) b
     ∷ []
 
-unfoldable pub recGood : ℕ → List ℕ → Bool
+unfoldable pub recGood : (max : ℕ) (rec : Bytes) → Bool
 recGood max b = every (recTests max b)
 
 -- ---- a node's bytes
 
-abbrev pub maxOf : List ℕ → ℕ
+abbrev pub maxOf : (node : Bytes) → ℕ
 maxOf b = natOf (part (offset nodeWidths 2) 8 b)
 
-abbrev pub countOf : List ℕ → ℕ
+abbrev pub countOf : (node : Bytes) → ℕ
 countOf b = natOf (part (offset nodeWidths 4) 1 b)
 
 -- the records that stand in a node's bytes
-abbrev pub recsOf : List ℕ → List Rec
+abbrev pub recsOf : (node : Bytes) → List Rec
 recsOf b = decodeNode b .node .recs
 
 -- at most 32 records, each good, their keys rising, their versions different, zeros behind them
-abbrev pub nodeTests : List ℕ → List Bool
+abbrev pub nodeTests : (node : Bytes) → List Bool
 nodeTests b =
     leb (countOf b) maxRecords
     ∷ allBlocks (recGood (maxOf b)) recWidth (countOf b) (drop (offset nodeWidths 5) b)
@@ -67,16 +67,16 @@ nodeTests b =
     ∷ allZero (part (offset nodeWidths 5 + countOf b * recWidth) ((maxRecords - countOf b) * recWidth) b)
     ∷ []
 
-unfoldable pub nodeGood : List ℕ → Bool
+unfoldable pub nodeGood : (node : Bytes) → Bool
 nodeGood b = every (nodeTests b)
 
 -- ---- a table's bytes
 
-abbrev pub nodesOf : List ℕ → ℕ
+abbrev pub nodesOf : (table : Bytes) → ℕ
 nodesOf l = natOf (part (offset tableWidths 0) 1 l)
 
 -- at most 8 nodes, each good, their numbers rising, zeros behind them
-abbrev pub tableTests : List ℕ → List Bool
+abbrev pub tableTests : (table : Bytes) → List Bool
 tableTests l =
     leb (nodesOf l) maxNodes
     ∷ allBlocks nodeGood nodeWidth (nodesOf l) (drop (offset tableWidths 1) l)
@@ -84,5 +84,5 @@ tableTests l =
     ∷ allZero (part (offset tableWidths 1 + nodesOf l * nodeWidth) ((maxNodes - nodesOf l) * nodeWidth) l)
     ∷ []
 
-unfoldable pub tableGood : List ℕ → Bool
+unfoldable pub tableGood : (table : Bytes) → Bool
 tableGood l = eqb (length l) tableWidth && every (tableTests l)

@@ -1,10 +1,10 @@
 // The parts of a lent table: nodes, records, keys and values, each handed out as those very bytes.
 ghost use mathlib.Core.Path.{_≡_};
-ghost use Prim.Native.Nat.{_+_, _*_, _≤_, _<_};
+ghost use Prim.Native.Nat.{_≤_, _<_};
 ghost use lib.ListN.{length};
 ghost use Rattle.fields.specs.Parts.{part};
 ghost use Rattle.rules.specs.Sizes.{maxNodes, maxRecords, maxKey, maxValue};
-ghost use Rattle.rules.specs.Layout.{recWidth, nodeWidth, tableWidth, decodeRec};
+ghost use Rattle.rules.specs.Layout.{recPlace, nodePlace, recWidth, nodeWidth, tableWidth, decodeRec};
 ghost use Rattle.table.specs.Tests.{keyLength, valueLength};
 
 pub mod layout;
@@ -12,7 +12,7 @@ pub mod layout;
 // Node `i` of a table's bytes.
 pub fn node_of(table: &[u8], i: usize) -> &[u8]
     requires { ⌜ (length (now table) ≡ tableWidth) × (i < maxNodes) ⌝ }
-    ensures { λ r. ⌜ now r ≡ part (1 + i * nodeWidth) nodeWidth (now (table .entry)) ⌝ }
+    ensures { λ r. ⌜ now r ≡ part (nodePlace i) nodeWidth (now (table .entry)) ⌝ }
 {
     let a = layout::NODES + i * layout::NODE;
     let e = a + layout::NODE;
@@ -22,7 +22,7 @@ pub fn node_of(table: &[u8], i: usize) -> &[u8]
 // Record `j` of a node's bytes.
 pub fn record_of(node: &[u8], j: usize) -> &[u8]
     requires { ⌜ (length (now node) ≡ nodeWidth) × (j < maxRecords) ⌝ }
-    ensures { λ r. ⌜ now r ≡ part (33 + j * recWidth) recWidth (now (node .entry)) ⌝ }
+    ensures { λ r. ⌜ now r ≡ part (recPlace j) recWidth (now (node .entry)) ⌝ }
 {
     let a = layout::RECORDS + j * layout::RECORD;
     let e = a + layout::RECORD;

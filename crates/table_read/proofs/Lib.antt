@@ -4,3 +4,5 @@ pub mod Entry
 pub mod Placed
 pub mod Halves
 pub mod Held
+pub mod Located
+pub mod Among

@@ -1,8 +1,8 @@
--- Where something stands in a list that rises, or the place where it belongs; nodes are sought by their number and records by their key. The
--- numbers of a node and of a record as the code hands them out.
+-- Where something stands in a list that rises, or the place where it belongs; nodes are sought by their number and records by their key. What
+-- stands at a place, and the numbers of a node and of a record as the code hands them out.
 use Prim.Native.Nat.{ℕ, _+_}
 use mathlib.Core.List.{List, [], _∷_}
-use lib.ListN.{length}
+use lib.ListN.{length, getD}
 use lib.Dec.{eqb, ltb}
 use Rattle.fields.specs.Numbers.{Bytes}
 use Rattle.fields.specs.Choice.{pick}
@@ -14,6 +14,7 @@ use Rattle.rules.specs.Table.{Entry, Table}
 use Rattle.rules.specs.declared.Header.{Header}
 use Rattle.rules.specs.declared.Record.{Record}
 use Rattle.rules.specs.Layout.{nodeWidth, nodePlace, decode}
+use Rattle.table.specs.Changes.{freshEntry}
 use Rattle.table_read.specs.declared.Span.{Span}
 use Rattle.table_read.specs.declared.Span.the-variants.{Held, Missing}
 use Rattle.table_read.specs.declared.Place.{Place}
@@ -59,6 +60,10 @@ spanOf (Free i) = Missing
 -- where those of the node with this number stand
 abbrev pub spanIn : (number : ℕ) (table : Bytes) → Span
 spanIn number table = spanOf (findNode number (decode table))
+
+-- the node at a place, under its number
+abbrev pub entryAt : (table : Table) (place : ℕ) → Entry
+entryAt t p = getD t p (freshEntry 0)
 
 abbrev pub headerOf : Node → Header
 headerOf n = record { heartbeat = n .heartbeat; max = n .max; «last_gc» = n .last-gc }

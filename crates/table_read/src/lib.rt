@@ -1,4 +1,4 @@
-// Finding in a good table: where a node or a record stands, or where it belongs, and what its bytes say.
+// Finding in a table: where a node or a record stands, or where it belongs, and what its bytes say. Whether a number is one of a lent list.
 use rules::Header;
 use rules::Heartbeat;
 use rules::Record;
@@ -6,16 +6,14 @@ use rules::Status;
 use table::layout;
 ghost use mathlib.Core.Path.{_≡_};
 ghost use mathlib.Core.Bool.{true};
-ghost use Prim.Native.Nat.{_+_, _*_, _≤_, _<_};
+ghost use Prim.Native.Nat.{_+_, _≤_, _<_};
 ghost use lib.ListN.{length};
-ghost use Rattle.fields.specs.Numbers.{natOf};
-ghost use Rattle.fields.specs.Parts.{part};
-ghost use Rattle.rules.specs.Sizes.{maxNodes, maxRecords, maxKey, maxValue};
-ghost use Rattle.rules.specs.Table.{keysRise};
+ghost use Rattle.rules.specs.Sizes.{maxNodes, maxKey, maxValue};
+ghost use Rattle.rules.specs.Table.{keysRise, among};
 ghost use Rattle.rules.specs.Layout.{recWidth, nodeWidth, tableWidth, decodeRec, decodeNode, decode, valid};
-ghost use Rattle.table.specs.Tests.{keyLength, valueLength, countOf, nodesOf, recsOf};
+ghost use Rattle.table.specs.Tests.{keyLength, valueLength, nodesOf, recsOf};
 ghost use Rattle.table.specs.Fits.{LaidNode};
-ghost use Rattle.table_read.specs.Find.{findNode, findKey, spanIn, headerOf, recordOf};
+ghost use Rattle.table_read.specs.Find.{findNode, findKey, spanIn, entryAt, headerOf, recordOf};
 
 // Where something stands, or the place in the order where it belongs.
 pub enum Place {
@@ -55,6 +53,30 @@ pub fn read_header(node: &[u8]) -> Header
         max: fields::read_u64(node, layout::MAX),
         last_gc: fields::read_u64(node, layout::LAST_GC),
     }
+}
+
+// The number of the node at a place.
+pub fn number_at(table: &[u8], p: usize) -> u64
+    requires { ⌜ (length (now table) ≡ tableWidth) × (nodesOf (now table) ≤ maxNodes) × (p < nodesOf (now table)) ⌝ }
+    ensures { λ r. ⌜ r ≡ entryAt (decode (now (table .entry))) p .number ⌝ }
+{
+    fields::read_u64(table::node_of(table, p), layout::NUMBER)
+}
+
+// The max of the node at a place.
+pub fn max_at(table: &[u8], p: usize) -> u64
+    requires { ⌜ (length (now table) ≡ tableWidth) × (nodesOf (now table) ≤ maxNodes) × (p < nodesOf (now table)) ⌝ }
+    ensures { λ r. ⌜ r ≡ entryAt (decode (now (table .entry))) p .node .max ⌝ }
+{
+    fields::read_u64(table::node_of(table, p), layout::MAX)
+}
+
+// The last_gc of the node at a place.
+pub fn last_gc_at(table: &[u8], p: usize) -> u64
+    requires { ⌜ (length (now table) ≡ tableWidth) × (nodesOf (now table) ≤ maxNodes) × (p < nodesOf (now table)) ⌝ }
+    ensures { λ r. ⌜ r ≡ entryAt (decode (now (table .entry))) p .node .last-gc ⌝ }
+{
+    fields::read_u64(table::node_of(table, p), layout::LAST_GC)
 }
 
 // The place of the node with this number.
@@ -110,4 +132,18 @@ pub fn search_key(node: &[u8], key: &[u8]) -> Place
         }
     }
     Place::Free(low)
+}
+
+// Whether a node is one of the excluded; repeats and strangers in the list do not matter.
+pub fn is_excluded(excluded: &[u64], number: u64) -> bool
+    ensures { λ r. ⌜ r ≡ among number (now (excluded .entry)) ⌝ }
+{
+    let mut i = 0;
+    while i < excluded.len() {
+        if number == excluded[i] {
+            return true;
+        }
+        i += 1;
+    }
+    false
 }

@@ -5,25 +5,26 @@ use mathlib.Core.List.{List, [], _++_, append-nil, append-assoc}
 use native.Mathlib.Omega.{arith}
 use native.Mathlib.Nat.{zero-add}
 use native.Mathlib.Numerals.{add-one}
-use lib.ListN.{length, drop, set, length-append, drop-of-length-le}
+use lib.ListN.{length, drop, length-append, drop-of-length-le}
 use lib.Seq.{drop-at}
 use Rattle.fields.specs.Numbers.{bytesOf}
 use Rattle.fields.specs.Parts.{part, put}
 use Rattle.fields.specs.Blocks.{zeros, fit, insertAt, removeAt}
-use Rattle.fields.specs.Widths.{joined}
+use Rattle.fields.specs.Widths.{joined, offset}
 use Rattle.fields.proofs.Numbers.{length-bytesOf}
 use Rattle.fields.proofs.Parts.{put-put, put-behind, length-put, length-part}
 use Rattle.fields.proofs.Blocks.{length-zeros, zeros-add, length-fit, fit-pad}
-use Rattle.rules.specs.Sizes.{maxNodes, maxRecords}
+use Rattle.rules.specs.Sizes.{maxNodes, maxRecords, maxKey, maxValue}
 use Rattle.rules.specs.Node.{Rec}
 use Rattle.rules.specs.Delta.{statusByte}
-use Rattle.rules.specs.Layout.{recPlace, nodePlace, recWidth, nodeWidth, encodeRec, encodeNode, decodeNode, decodeRec, encode, decode}
+use Rattle.rules.specs.Layout.{recPlace, nodePlace, recWidths, recWidth, nodeWidths, nodeWidth, tableWidths, tableWidth, encodeRec, encodeNode, decodeNode, decodeRec, encode, decode}
 use Rattle.rules.specs.declared.Status.{Status}
 use Rattle.table.specs.Tests.{countOf, nodesOf, recsOf}
 use Rattle.table.specs.Fits.{LaidNode, LaidTable}
-use Rattle.table.specs.Changes.{withRecs, freshEntry, recOf}
+use Rattle.table.specs.Changes.{withRecAt, withNewRec, withoutRec, freshEntry, recOf}
 use Rattle.table.proofs.Tables.{length-decode}
 use Rattle.table.proofs.Places.{length-recs}
+use Rattle.table_write.specs.Rows.{blocksIn, blockPlace, behindBlock, lessBlock, withoutBlock}
 use Rattle.table.proofs.Changed.{node-rec-set, node-rec-insert, node-rec-remove, table-insert, table-remove, fresh-bytes}
 
 -- ---- a text in its room
@@ -70,58 +71,82 @@ put-whole : (vs l : List ℕ) → length vs ≡ length l → put 0 vs l ≡ vs
 unfolding put
 put-whole vs l e = ap (λ (r : List ℕ). vs ++ r) (drop-of-length-le l {i = 0 + length vs} (omega arith)) ∙ append-nil vs
 
+-- where field i of a record begins
+abbrev place : ℕ → ℕ
+place i = offset recWidths i
+
 pub record-steps : (l s1 s2 s3 s4 s5 k v : List ℕ) (n code start : ℕ) (s : Status) → length l ≡ recWidth → code ≡ statusByte s
-    → s1 ≡ put 0 (bytesOf 1 (length k) ++ fit 32 k) l → s2 ≡ put 33 (bytesOf 1 (length v) ++ fit 64 v) s1 → s3 ≡ put 98 (bytesOf 8 n) s2
-    → s4 ≡ put 106 (bytesOf 1 code) s3 → s5 ≡ put 107 (bytesOf 8 start) s4 → s5 ≡ encodeRec (recOf k v n s start)
+    → s1 ≡ put (place 0) (bytesOf 1 (length k) ++ fit maxKey k) l → s2 ≡ put (place 2) (bytesOf 1 (length v) ++ fit maxValue v) s1 → s3 ≡ put (place 4) (bytesOf 8 n) s2
+    → s4 ≡ put (place 5) (bytesOf 1 code) s3 → s5 ≡ put (place 6) (bytesOf 8 start) s4 → s5 ≡ encodeRec (recOf k v n s start)
 unfolding encodeRec joined
 record-steps l s1 s2 s3 s4 s5 k v n code start s e c e1 e2 e3 e4 e5 =
-    let a : List ℕ = bytesOf 1 (length k) ++ fit 32 k in
-    let b : List ℕ = bytesOf 1 (length v) ++ fit 64 v in
-    let al : length a ≡ 33 = simp (length-append, length-bytesOf, length-fit) in
-    let bl : length b ≡ 65 = simp (length-append, length-bytesOf, length-fit) in
+    let a : List ℕ = bytesOf 1 (length k) ++ fit maxKey k in
+    let b : List ℕ = bytesOf 1 (length v) ++ fit maxValue v in
+    let al : length a ≡ place 2 = simp (length-append, length-bytesOf, length-fit) in
+    let bl : length b ≡ 1 + maxValue = simp (length-append, length-bytesOf, length-fit) in
     let w1 : List ℕ = a ++ b in
-    let w1l : length w1 ≡ 98 = length-append a b ∙ rw (al, bl) in
+    let w1l : length w1 ≡ place 4 = length-append a b ∙ rw (al, bl) in
     let w2 : List ℕ = w1 ++ bytesOf 8 n in
-    let w2l : length w2 ≡ 106 = length-append w1 (bytesOf 8 n) ∙ rw (w1l, length-bytesOf 8 n) in
+    let w2l : length w2 ≡ place 5 = length-append w1 (bytesOf 8 n) ∙ rw (w1l, length-bytesOf 8 n) in
     let w3 : List ℕ = w2 ++ bytesOf 1 code in
-    let w3l : length w3 ≡ 107 = length-append w2 (bytesOf 1 code) ∙ rw (w2l, length-bytesOf 1 code) in
+    let w3l : length w3 ≡ place 6 = length-append w2 (bytesOf 1 code) ∙ rw (w2l, length-bytesOf 1 code) in
     let w4 : List ℕ = w3 ++ bytesOf 8 start in
-    let w4l : length w4 ≡ 115 = length-append w3 (bytesOf 8 start) ∙ rw (w3l, length-bytesOf 8 start) in
-    let p2 = behind 33 65 a b l s1 s2 e1 al bl (omega arith) e2 in
-    let p3 = behind 98 8 w1 (bytesOf 8 n) l s2 s3 p2 w1l (length-bytesOf 8 n) (omega arith) e3 in
-    let p4 = behind 106 1 w2 (bytesOf 1 code) l s3 s4 p3 w2l (length-bytesOf 1 code) (omega arith) e4 in
-    let p5 = behind 107 8 w3 (bytesOf 8 start) l s4 s5 p4 w3l (length-bytesOf 8 start) (omega arith) e5 in
+    let w4l : length w4 ≡ recWidth = length-append w3 (bytesOf 8 start) ∙ rw (w3l, length-bytesOf 8 start) in
+    let p2 = behind (place 2) (1 + maxValue) a b l s1 s2 e1 al bl (omega arith) e2 in
+    let p3 = behind (place 4) 8 w1 (bytesOf 8 n) l s2 s3 p2 w1l (length-bytesOf 8 n) (omega arith) e3 in
+    let p4 = behind (place 5) 1 w2 (bytesOf 1 code) l s3 s4 p3 w2l (length-bytesOf 1 code) (omega arith) e4 in
+    let p5 = behind (place 6) 8 w3 (bytesOf 8 start) l s4 s5 p4 w3l (length-bytesOf 8 start) (omega arith) e5 in
     p5 ∙ put-whole w4 l (w4l ∙ sym e) ∙ ap (λ (x : ℕ). w2 ++ bytesOf 1 x ++ bytesOf 8 start) c ∙ simp (encodeRec, joined, append-assoc, append-nil)
+
+-- ---- a block that goes from a row
+
+-- the blocks behind it end where the row ends
+pub row-end : (at w i n : ℕ) → i < n → blockPlace at w i + w + behindBlock w i n ≡ blockPlace at w n
+row-end at w i n h =
+    let e : i + 1 + (n - (i + 1)) ≡ n = omega arith in
+    more (n - (i + 1)) ∙ ap (blockPlace at w) e
+  where
+    more : (k : ℕ) → at + 1 + i * w + w + k * w ≡ at + 1 + (i + 1 + k) * w
+    more k = omega arith
+
+pub gone-steps : (l s1 s2 s3 : List ℕ) (at w i n : ℕ) → n ≡ blocksIn at l
+    → s1 ≡ put (blockPlace at w i) (part (blockPlace at w i + w) (behindBlock w i n) l) l → s2 ≡ put (blockPlace at w i + behindBlock w i n) (zeros w) s1
+    → s3 ≡ put at (bytesOf 1 (n - 1)) s2 → s3 ≡ withoutBlock at w i l
+gone-steps l s1 s2 s3 at w i n en e1 e2 e3 =
+    e3
+    ∙ ap (put at (bytesOf 1 (n - 1))) (e2 ∙ ap (put (blockPlace at w i + behindBlock w i n) (zeros w)) e1)
+    ∙ ap (λ (k : ℕ). lessBlock at w i k l) en
+
+-- as the laws of a node and of a table have it
+less-suc : (at w i n : ℕ) (l : List ℕ)
+    → let a : ℕ = blockPlace at w i in
+    let m : ℕ = (n - suc i) * w in
+    lessBlock at w i n l ≡ put at (bytesOf 1 (n - 1)) (put (a + m) (zeros w) (put a (part (a + w) m l) l))
+less-suc at w i n l =
+    let a : ℕ = blockPlace at w i in
+    ap (λ (q : ℕ). put at (bytesOf 1 (n - 1)) (put (a + (n - q) * w) (zeros w) (put a (part (a + w) ((n - q) * w) l) l))) (add-one i)
 
 -- ---- the records of a node
 
 module _ (b : List ℕ) (o : LaidNode b) (j : ℕ) (r : Rec) where
-  pub put-steps : (s : List ℕ) → j < countOf b → s ≡ put (recPlace j) (encodeRec r) b → s ≡ encodeNode (withRecs (set (recsOf b) j r) (decodeNode b))
+  pub put-steps : (s : List ℕ) → j < countOf b → s ≡ put (recPlace j) (encodeRec r) b → s ≡ encodeNode (withRecAt j r (decodeNode b))
   put-steps s h e =
       e ∙ ap (put (recPlace j) (encodeRec r)) (sym (o .is)) ∙ node-rec-set (decodeNode b) (o .fits .few) j r (rw length-recs h)
 
   pub insert-steps : (s1 s2 s3 : List ℕ) (n : ℕ) → n ≡ countOf b → j ≤ countOf b → countOf b < maxRecords
-      → s1 ≡ put (recPlace j + recWidth) (part (recPlace j) ((n - j) * recWidth) b) b → s2 ≡ put (recPlace j) (encodeRec r) s1 → s3 ≡ put 32 (bytesOf 1 (n + 1)) s2
-      → s3 ≡ encodeNode (withRecs (insertAt j r (recsOf b)) (decodeNode b))
+      → s1 ≡ put (recPlace j + recWidth) (part (recPlace j) ((n - j) * recWidth) b) b → s2 ≡ put (recPlace j) (encodeRec r) s1 → s3 ≡ put (offset nodeWidths 4) (bytesOf 1 (n + 1)) s2
+      → s3 ≡ encodeNode (withNewRec j r (decodeNode b))
   insert-steps s1 s2 s3 n en h g e1 e2 e3 =
-      let f : ℕ → List ℕ → List ℕ = λ m l. put 32 (bytesOf 1 (m + 1)) (put (recPlace j) (encodeRec r) (put (recPlace j + recWidth) (part (recPlace j) ((m - j) * recWidth) l) l)) in
-      let all : s3 ≡ f n b = e3 ∙ ap (put 32 (bytesOf 1 (n + 1))) (e2 ∙ ap (put (recPlace j) (encodeRec r)) e1) in
+      let f : ℕ → List ℕ → List ℕ = λ m l. put (offset nodeWidths 4) (bytesOf 1 (m + 1)) (put (recPlace j) (encodeRec r) (put (recPlace j + recWidth) (part (recPlace j) ((m - j) * recWidth) l) l)) in
+      let all : s3 ≡ f n b = e3 ∙ ap (put (offset nodeWidths 4) (bytesOf 1 (n + 1))) (e2 ∙ ap (put (recPlace j) (encodeRec r)) e1) in
       all
       ∙ ap₂ f (en ∙ sym (length-recs b)) (sym (o .is))
       ∙ node-rec-insert (decodeNode b) (o .fits .few) j r (rw length-recs h) (rw length-recs g)
 
-pub remove-steps : (b : List ℕ) → LaidNode b → (j : ℕ) (s1 s2 s3 : List ℕ) (n : ℕ) → n ≡ countOf b → j < countOf b
-    → let m : ℕ = (n - (j + 1)) * recWidth in
-    s1 ≡ put (recPlace j) (part (recPlace j + recWidth) m b) b → s2 ≡ put (recPlace j + m) (zeros recWidth) s1 → s3 ≡ put 32 (bytesOf 1 (n - 1)) s2
-    → s3 ≡ encodeNode (withRecs (removeAt j (recsOf b)) (decodeNode b))
-remove-steps b o j s1 s2 s3 n en h e1 e2 e3 =
-    let m : ℕ = (n - (j + 1)) * recWidth in
-    let f : ℕ → ℕ → List ℕ → List ℕ = λ k q l.
-    put 32 (bytesOf 1 (k - 1)) (put (recPlace j + (k - q) * recWidth) (zeros recWidth) (put (recPlace j) (part (recPlace j + recWidth) ((k - q) * recWidth) l) l)) in
-    let all : s3 ≡ f n (j + 1) b = e3 ∙ ap (put 32 (bytesOf 1 (n - 1))) (e2 ∙ ap (put (recPlace j + m) (zeros recWidth)) e1) in
-    all
-    ∙ ap (λ (q : ℕ). f n q b) (add-one j)
-    ∙ ap₂ (λ (k : ℕ) (l : List ℕ). f k (suc j) l) (en ∙ sym (length-recs b)) (sym (o .is))
+pub record-gone : (b : List ℕ) → LaidNode b → (j : ℕ) → j < countOf b → withoutBlock (offset nodeWidths 4) recWidth j b ≡ encodeNode (withoutRec j (decodeNode b))
+record-gone b o j h =
+    ap₂ (λ (n : ℕ) (l : List ℕ). lessBlock (offset nodeWidths 4) recWidth j n l) (sym (length-recs b)) (sym (o .is))
+    ∙ less-suc (offset nodeWidths 4) recWidth j (length (recsOf b)) (encodeNode (decodeNode b))
     ∙ node-rec-remove (decodeNode b) (o .fits .few) j (decodeRec []) (rw length-recs h)
 
 -- ---- the nodes of a table
@@ -129,33 +154,25 @@ remove-steps b o j s1 s2 s3 n en h e1 e2 e3 =
 module _ (l : List ℕ) (o : LaidTable l) (i : ℕ) where
   pub add-steps : (s1 s2 s3 s4 : List ℕ) (n k : ℕ) → n ≡ nodesOf l → i ≤ nodesOf l → nodesOf l < maxNodes
       → s1 ≡ put (nodePlace i + nodeWidth) (part (nodePlace i) ((n - i) * nodeWidth) l) l → s2 ≡ put (nodePlace i) (zeros nodeWidth) s1
-      → s3 ≡ put (nodePlace i) (bytesOf 8 k) s2 → s4 ≡ put 0 (bytesOf 1 (n + 1)) s3 → s4 ≡ encode (insertAt i (freshEntry k) (decode l))
+      → s3 ≡ put (nodePlace i) (bytesOf 8 k) s2 → s4 ≡ put (offset tableWidths 0) (bytesOf 1 (n + 1)) s3 → s4 ≡ encode (insertAt i (freshEntry k) (decode l))
   add-steps s1 s2 s3 s4 n k en h g e1 e2 e3 e4 =
-      let e : length l ≡ 29705 = o .long in
+      let e : length l ≡ tableWidth = o .long in
       let ml : length (part (nodePlace i) ((n - i) * nodeWidth) l) ≡ (n - i) * nodeWidth = length-part (nodePlace i) ((n - i) * nodeWidth) l (omega arith) in
-      let q : length s1 ≡ 29705 = ap length e1 ∙ length-put (nodePlace i + nodeWidth) (part (nodePlace i) ((n - i) * nodeWidth) l) l (rw ml (omega arith)) ∙ e in
+      let q : length s1 ≡ tableWidth = ap length e1 ∙ length-put (nodePlace i + nodeWidth) (part (nodePlace i) ((n - i) * nodeWidth) l) l (rw ml (omega arith)) ∙ e in
       let a : ℕ = nodePlace i in
       let node : s3 ≡ put a (encodeNode (freshEntry k)) s1 =
       e3
       ∙ ap (put a (bytesOf 8 k)) e2
       ∙ put-put a (bytesOf 8 k) (zeros nodeWidth) s1 (rw (length-bytesOf, length-zeros) (omega arith)) (rw length-zeros (omega arith))
       ∙ ap (λ (v : List ℕ). put a v s1) (fresh-bytes k) in
-      let f : ℕ → List ℕ → List ℕ = λ m x. put 0 (bytesOf 1 (m + 1)) (put a (encodeNode (freshEntry k)) (put (a + nodeWidth) (part a ((m - i) * nodeWidth) x) x)) in
-      let all : s4 ≡ f n l = e4 ∙ ap (put 0 (bytesOf 1 (n + 1))) (node ∙ ap (put a (encodeNode (freshEntry k))) e1) in
+      let f : ℕ → List ℕ → List ℕ = λ m x. put (offset tableWidths 0) (bytesOf 1 (m + 1)) (put a (encodeNode (freshEntry k)) (put (a + nodeWidth) (part a ((m - i) * nodeWidth) x) x)) in
+      let all : s4 ≡ f n l = e4 ∙ ap (put (offset tableWidths 0) (bytesOf 1 (n + 1))) (node ∙ ap (put a (encodeNode (freshEntry k))) e1) in
       all
       ∙ ap₂ f (en ∙ sym (length-decode l)) (sym (o .is))
       ∙ table-insert (decode l) (o .fits .few) i (freshEntry k) (rw length-decode h) (rw length-decode g)
 
-  pub drop-steps : (s1 s2 s3 : List ℕ) (n : ℕ) → n ≡ nodesOf l → i < nodesOf l
-      → let m : ℕ = (n - (i + 1)) * nodeWidth in
-      s1 ≡ put (nodePlace i) (part (nodePlace i + nodeWidth) m l) l → s2 ≡ put (nodePlace i + m) (zeros nodeWidth) s1 → s3 ≡ put 0 (bytesOf 1 (n - 1)) s2
-      → s3 ≡ encode (removeAt i (decode l))
-  drop-steps s1 s2 s3 n en h e1 e2 e3 =
-      let m : ℕ = (n - (i + 1)) * nodeWidth in
-      let f : ℕ → ℕ → List ℕ → List ℕ = λ k q x.
-      put 0 (bytesOf 1 (k - 1)) (put (nodePlace i + (k - q) * nodeWidth) (zeros nodeWidth) (put (nodePlace i) (part (nodePlace i + nodeWidth) ((k - q) * nodeWidth) x) x)) in
-      let all : s3 ≡ f n (i + 1) l = e3 ∙ ap (put 0 (bytesOf 1 (n - 1))) (e2 ∙ ap (put (nodePlace i + m) (zeros nodeWidth)) e1) in
-      all
-      ∙ ap (λ (q : ℕ). f n q l) (add-one i)
-      ∙ ap₂ (λ (k : ℕ) (x : List ℕ). f k (suc i) x) (en ∙ sym (length-decode l)) (sym (o .is))
+  pub node-gone : i < nodesOf l → withoutBlock (offset tableWidths 0) nodeWidth i l ≡ encode (removeAt i (decode l))
+  node-gone h =
+      ap₂ (λ (n : ℕ) (x : List ℕ). lessBlock (offset tableWidths 0) nodeWidth i n x) (sym (length-decode l)) (sym (o .is))
+      ∙ less-suc (offset tableWidths 0) nodeWidth i (length (decode l)) (encode (decode l))
       ∙ table-remove (decode l) (o .fits .few) i (decodeNode []) (rw length-decode h)

@@ -6,16 +6,17 @@ use rules::Status;
 use table::layout;
 ghost use mathlib.Core.Path.{_≡_};
 ghost use mathlib.Core.List.{_++_};
-ghost use Prim.Native.Nat.{_+_, _*_, _≤_, _<_};
-ghost use lib.ListN.{length, set};
+ghost use Prim.Native.Nat.{_+_, _≤_, _<_};
+ghost use lib.ListN.{length};
 ghost use Rattle.fields.specs.Numbers.{bytesOf};
 ghost use Rattle.fields.specs.Parts.{put};
 ghost use Rattle.fields.specs.Blocks.{fit, insertAt, removeAt};
 ghost use Rattle.rules.specs.Sizes.{maxNodes, maxRecords, maxKey, maxValue};
-ghost use Rattle.rules.specs.Layout.{recWidth, nodeWidth, encodeRec, encodeNode, decodeNode, encode, decode};
-ghost use Rattle.table.specs.Tests.{countOf, nodesOf, recsOf};
+ghost use Rattle.rules.specs.Layout.{recWidth, encodeRec, encodeNode, decodeNode, encode, decode};
+ghost use Rattle.table.specs.Tests.{countOf, nodesOf};
 ghost use Rattle.table.specs.Fits.{LaidNode, LaidTable};
-ghost use Rattle.table.specs.Changes.{withBeat, withMax, withGc, withRecs, freshEntry, recOf};
+ghost use Rattle.table.specs.Changes.{withBeat, withMax, withGc, withRecAt, withNewRec, withoutRec, freshEntry, recOf};
+ghost use Rattle.table_write.specs.Rows.{blocksIn, blockPlace, withoutBlock};
 
 // Stores the length of a text at `at`, and behind it the text in room for `room` bytes, the others zero.
 fn write_text(record: &mut [u8], at: usize, room: usize, text: &[u8])
@@ -58,7 +59,8 @@ pub fn put_record(
     start: u64,
 )
     requires { ⌜ LaidNode (now node) × (j < countOf (now node)) × (length (now key) ≤ maxKey) × (length (now value) ≤ maxValue) ⌝ }
-    ensures { λ _. ⌜ now (node .exit) ≡ encodeNode (withRecs (set (recsOf (now (node .entry))) j (recOf (now (key .entry)) (now (value .entry)) version status start)) (decodeNode (now (node .entry)))) ⌝ }
+    ensures { λ _. ⌜ now (node .exit) ≡ encodeNode
+        (withRecAt j (recOf (now (key .entry)) (now (value .entry)) version status start) (decodeNode (now (node .entry)))) ⌝ }
 {
     let a = layout::RECORDS + j * layout::RECORD;
     let e = a + layout::RECORD;
@@ -75,8 +77,10 @@ pub fn insert_record(
     status: Status,
     start: u64,
 )
-    requires { ⌜ LaidNode (now node) × (j ≤ countOf (now node)) × (countOf (now node) < maxRecords) × (length (now key) ≤ maxKey) × (length (now value) ≤ maxValue) ⌝ }
-    ensures { λ _. ⌜ now (node .exit) ≡ encodeNode (withRecs (insertAt j (recOf (now (key .entry)) (now (value .entry)) version status start) (recsOf (now (node .entry)))) (decodeNode (now (node .entry)))) ⌝ }
+    requires { ⌜ LaidNode (now node) × (j ≤ countOf (now node)) × (countOf (now node) < maxRecords)
+        × (length (now key) ≤ maxKey) × (length (now value) ≤ maxValue) ⌝ }
+    ensures { λ _. ⌜ now (node .exit) ≡ encodeNode
+        (withNewRec j (recOf (now (key .entry)) (now (value .entry)) version status start) (decodeNode (now (node .entry)))) ⌝ }
 {
     let n = fields::byte_at(node, layout::RECORD_COUNT);
     let a = layout::RECORDS + j * layout::RECORD;
@@ -86,17 +90,25 @@ pub fn insert_record(
     fields::write_byte(node, layout::RECORD_COUNT, n + 1);
 }
 
+// Block `i` goes from a row of blocks with its count at `at`: those behind it move down, and the place that falls free is cleared.
+fn remove_block(row: &mut [u8], at: usize, width: usize, i: usize)
+    requires { ⌜ (i < blocksIn at (now row)) × (blockPlace at width (blocksIn at (now row)) ≤ length (now row)) ⌝ }
+    ensures { λ _. ⌜ now (row .exit) ≡ withoutBlock at width i (now (row .entry)) ⌝ }
+{
+    let n = fields::byte_at(row, at);
+    let a = at + 1 + i * width;
+    let m = (n - (i + 1)) * width;
+    fields::move_down(row, a + width, a, m);
+    fields::clear(row, a + m, width);
+    fields::write_byte(row, at, n - 1);
+}
+
 // Record `j` of a node goes.
 pub fn remove_record(node: &mut [u8], j: usize)
     requires { ⌜ LaidNode (now node) × (j < countOf (now node)) ⌝ }
-    ensures { λ _. ⌜ now (node .exit) ≡ encodeNode (withRecs (removeAt j (recsOf (now (node .entry)))) (decodeNode (now (node .entry)))) ⌝ }
+    ensures { λ _. ⌜ now (node .exit) ≡ encodeNode (withoutRec j (decodeNode (now (node .entry)))) ⌝ }
 {
-    let n = fields::byte_at(node, layout::RECORD_COUNT);
-    let a = layout::RECORDS + j * layout::RECORD;
-    let m = (n - (j + 1)) * layout::RECORD;
-    fields::move_down(node, a + layout::RECORD, a, m);
-    fields::clear(node, a + m, layout::RECORD);
-    fields::write_byte(node, layout::RECORD_COUNT, n - 1);
+    remove_block(node, layout::RECORD_COUNT, layout::RECORD, j);
 }
 
 // A node's heartbeat becomes this one.
@@ -141,10 +153,5 @@ pub fn remove_node(table: &mut [u8], i: usize)
     requires { ⌜ LaidTable (now table) × (i < nodesOf (now table)) ⌝ }
     ensures { λ _. ⌜ now (table .exit) ≡ encode (removeAt i (decode (now (table .entry)))) ⌝ }
 {
-    let n = fields::byte_at(table, layout::NODE_COUNT);
-    let a = layout::NODES + i * layout::NODE;
-    let m = (n - (i + 1)) * layout::NODE;
-    fields::move_down(table, a + layout::NODE, a, m);
-    fields::clear(table, a + m, layout::NODE);
-    fields::write_byte(table, layout::NODE_COUNT, n - 1);
+    remove_block(table, layout::NODE_COUNT, layout::NODE, i);
 }

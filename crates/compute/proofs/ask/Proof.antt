@@ -8,10 +8,6 @@ use Rattle.compute.proofs.Calling.{asks}
 use borrow.Author.Needs.{needs}
 use Rattle.compute.proofs.ask.Statement.{statement}
 use Rattle.compute.proofs.ask.Tie as tie
-use Rattle.compute.proofs.ask.Reads as reads
-use Rattle.compute.proofs.ask.Lts as lts
-use Rattle.compute.proofs.is_free.Reads as is-free-reads
-use Rattle.compute.proofs.mtu_fits.Reads as mtu-fits-reads
 
 mtu-fits-requires : tie.Need-mtu-fits-requires
 mtu-fits-requires c κs = search needs

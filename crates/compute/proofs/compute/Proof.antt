@@ -1,6 +1,5 @@
 -- `compute::compute` meets its contract: 14 exactly where the table is not valid, else the rule on it. Assumes nothing.
-use mathlib.Core.Path.{_≡_, sym, ap, _∙_}
-use mathlib.Core.List.{List}
+use mathlib.Core.Path.{sym, ap, _∙_}
 use Rattle.fields.specs.Numbers.{Bytes}
 use Rattle.rules.specs.Given.{Given}
 use Rattle.rules.specs.declared.Computed.{Computed}
@@ -8,10 +7,6 @@ use Rattle.compute.proofs.Calling.{bad-table, good-table}
 use borrow.Author.Needs.{needs}
 use Rattle.compute.proofs.compute.Statement.{statement}
 use Rattle.compute.proofs.compute.Tie as tie
-use Rattle.compute.proofs.compute.Reads as reads
-use Rattle.compute.proofs.compute.Lts as lts
-use Rattle.compute.proofs.compute_good.Reads as compute-good-reads
-use Rattle.table_check.proofs.check_table.Reads as check-table-reads
 
 check-table-requires : tie.Need-check-table-requires
 check-table-requires c κs = search needs

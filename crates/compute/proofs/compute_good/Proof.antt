@@ -1,30 +1,23 @@
 -- `compute::compute_good` meets its contract: refused by its numbers, by the digest, or the delta is written. Assumes nothing.
-use Prim.Native.Nat.{ℕ, _+_, _-_, _≤_}
-use mathlib.Core.Path.{_≡_, refl, sym, ap, _∙_}
+use Prim.Native.Nat.{ℕ}
+use mathlib.Core.Path.{_≡_, sym, ap, _∙_}
 use mathlib.Core.List.{List}
 use native.Mathlib.Omega.{arith}
 use lib.ListN.{length}
-use Rattle.rules.specs.Given.{Given, given}
-use Rattle.rules.specs.Digest.{DigestRead, Entries, Refused, readDigest}
+use Rattle.rules.specs.Given.{Given}
+use Rattle.rules.specs.Digest.{Entries, readDigest}
 use Rattle.rules.specs.Layout.{decode}
 use Rattle.rules.specs.declared.Computed.{Computed}
 use Rattle.table.specs.Fits.{LaidTable}
 use Rattle.table.proofs.Tables.{length-decode, valid-laid}
-use Rattle.digest_read.specs.Held.{digestIn, entriesIn, restOf}
+use Rattle.digest_read.specs.Held.{entriesIn, restOf}
 use Rattle.digest_read.specs.declared.Digest.{Digest}
 use Rattle.digest_read.proofs.Reading.{read-nodes, read-refused}
 use Rattle.compute.specs.Asking.{askedOf}
-use Rattle.compute.specs.declared.Asked.the-variants.{Good}
 use Rattle.compute.proofs.Calling.{Granted, granted, by-refused, by-digest, by-part}
 use borrow.Author.Needs.{needs}
 use Rattle.compute.proofs.compute_good.Statement.{statement}
 use Rattle.compute.proofs.compute_good.Tie as tie
-use Rattle.compute.proofs.compute_good.Reads as reads
-use Rattle.compute.proofs.compute_good.Lts as lts
-use Rattle.compute.proofs.ask.Reads as ask-reads
-use Rattle.compute.proofs.write_delta.Reads as write-delta-reads
-use Rattle.digest_read.proofs.read_digest.Reads as read-digest-reads
-use Rattle.fields.proofs.byte_at.Reads as byte-at-reads
 
 laid : (c : tie.Start) → LaidTable (c .args .table .now)
 laid c = valid-laid (c .args .table .now) (c .pre)

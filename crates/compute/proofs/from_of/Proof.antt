@@ -2,8 +2,6 @@
 use Rattle.compute.proofs.Behind.{gc-told, gc-reached, gc-missed}
 use Rattle.compute.proofs.from_of.Statement.{statement}
 use Rattle.compute.proofs.from_of.Tie as tie
-use Rattle.compute.proofs.from_of.Reads as reads
-use Rattle.compute.proofs.from_of.Lts as lts
 
 returns : tie.Need-returns
 returns c = let a = c .before .args in gc-told (a .own-last-gc) (a .last-gc) (a .max) (c .if1 .taken)

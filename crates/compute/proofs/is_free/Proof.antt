@@ -2,8 +2,6 @@
 use Rattle.compute.proofs.Calling.{past-end, before-end}
 use Rattle.compute.proofs.is_free.Statement.{statement}
 use Rattle.compute.proofs.is_free.Tie as tie
-use Rattle.compute.proofs.is_free.Reads as reads
-use Rattle.compute.proofs.is_free.Lts as lts
 
 returns : tie.Need-returns
 returns c = let a = c .before .args in past-end (a .mtu) (a .place) (a .room) 0 0 (c .if1 .taken)

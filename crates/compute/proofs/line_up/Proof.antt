@@ -1,31 +1,20 @@
 -- `compute::line_up` meets its contract: the nodes from i on stand in line. Assumes nothing.
-use Prim.Native.Nat.{ℕ, _+_, _-_, _≤_, _<_}
-use mathlib.Core.Path.{_≡_, refl, sym, ap, _∙_, subst}
-use mathlib.Core.List.{List}
+use Prim.Native.Nat.{ℕ, _-_, _≤_, _<_}
+use mathlib.Core.Path.{refl, sym, _∙_}
 use native.Mathlib.Omega.{arith}
-use lib.ListN.{length, getD, set, length-set}
+use lib.ListN.{length, length-set}
 use borrow.Author.Needs.{needs}
-use Rattle.rules.specs.Node.{Rec}
 use Rattle.rules.specs.Table.{Table}
 use Rattle.rules.specs.Compute.{stale}
 use Rattle.rules.specs.Layout.{decode}
 use Rattle.table.specs.Tests.{nodesOf}
 use Rattle.table.proofs.Tables.{length-decode}
-use Rattle.compute_order.specs.Line.{entryAt}
-use Rattle.compute_write.proofs.Located.{lent-node, node-long, count-low, recs-are}
+use Rattle.table_read.proofs.Located.{lent-node, node-long, count-low, recs-are}
 use Rattle.digest_read.specs.Held.{entriesIn}
-use Rattle.compute.specs.Plan.{fromAt}
 use Rattle.compute.proofs.Behind.{goes-from, goes-not}
 use Rattle.compute.proofs.Lining.{Upto, none-yet, above, stays, joins, all-in-line}
 use Rattle.compute.proofs.line_up.Statement.{statement}
 use Rattle.compute.proofs.line_up.Tie as tie
-use Rattle.compute.proofs.line_up.Reads as reads
-use Rattle.compute.proofs.line_up.Lts as lts
-use Rattle.compute.proofs.stale_from.Reads as stale-from-reads
-use Rattle.fields.proofs.byte_at.Reads as byte-at-reads
-use Rattle.compute_order.proofs.queue.Reads as queue-reads
-use Rattle.compute_stale.proofs.count_stale.Reads as count-stale-reads
-use Rattle.table.proofs.node_of.Reads as node-of-reads
 
 abbrev Inv-loop : tie.InvT-loop
 Inv-loop s d excluded ties line₀ froms₀ counts₀ n₀ i₀ line froms counts n i = Upto excluded (entriesIn d) ties (decode s) n i line froms counts

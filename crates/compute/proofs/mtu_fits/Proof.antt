@@ -2,8 +2,6 @@
 use Rattle.compute.proofs.Calling.{mtu-low, mtu-high}
 use Rattle.compute.proofs.mtu_fits.Statement.{statement}
 use Rattle.compute.proofs.mtu_fits.Tie as tie
-use Rattle.compute.proofs.mtu_fits.Reads as reads
-use Rattle.compute.proofs.mtu_fits.Lts as lts
 
 returns : tie.Need-returns
 returns c = mtu-low (c .before .args .mtu) 0 0 0 0 (c .if1 .taken)

@@ -1,20 +1,10 @@
 -- `compute::stale_from` meets its contract: excluded, level with the digest, or behind. Assumes nothing.
-use Prim.Native.Nat.{ℕ}
-use mathlib.Core.List.{List}
 use Rattle.rules.specs.Layout.{decode}
 use Rattle.digest_read.specs.Held.{entriesIn}
 use Rattle.compute.proofs.Behind.{left-out, level, behind}
 use borrow.Author.Needs.{needs}
 use Rattle.compute.proofs.stale_from.Statement.{statement}
 use Rattle.compute.proofs.stale_from.Tie as tie
-use Rattle.compute.proofs.stale_from.Reads as reads
-use Rattle.compute.proofs.stale_from.Lts as lts
-use Rattle.compute.proofs.from_of.Reads as from-of-reads
-use Rattle.digest_read.proofs.told.Reads as told-reads
-use Rattle.digest_write.proofs.is_excluded.Reads as is-excluded-reads
-use Rattle.compute_order.proofs.last_gc_at.Reads as last-gc-at-reads
-use Rattle.compute_order.proofs.max_at.Reads as max-at-reads
-use Rattle.compute_order.proofs.number_at.Reads as number-at-reads
 
 number-at-requires : tie.Need-number-at-requires
 number-at-requires c κs = search needs

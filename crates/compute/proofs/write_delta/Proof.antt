@@ -1,7 +1,5 @@
 -- `compute::write_delta` meets its contract: the line is the rules' line, and what is written of it their delta. Assumes nothing.
-use mathlib.Core.Path.{_≡_, ap, _∙_}
-use mathlib.Core.List.{List}
-use lib.ListN.{length}
+use mathlib.Core.Path.{ap, _∙_}
 use Rattle.fields.specs.Numbers.{Bytes}
 use Rattle.rules.specs.Given.{Given}
 use Rattle.rules.specs.Layout.{decode}
@@ -12,10 +10,6 @@ use Rattle.compute.proofs.Whole.{delta-is, line-within}
 use borrow.Author.Needs.{needs}
 use Rattle.compute.proofs.write_delta.Statement.{statement}
 use Rattle.compute.proofs.write_delta.Tie as tie
-use Rattle.compute.proofs.write_delta.Reads as reads
-use Rattle.compute.proofs.write_delta.Lts as lts
-use Rattle.compute.proofs.line_up.Reads as line-up-reads
-use Rattle.compute_write.proofs.send.Reads as send-reads
 
 line-up-requires : tie.Need-line-up-requires
 line-up-requires c κs = search needs

@@ -1,7 +1,7 @@
 -- `compute_write::send` meets its contract: in both loops what is left to be written, behind what has been, has the whole's outcome. Assumes nothing.
 use Prim.Native.Nat.{ℕ, _+_, _-_, _≤_, _<_}
-use mathlib.Core.Path.{_≡_, refl, sym, ap, _∙_, subst}
-use mathlib.Core.List.{List, [], _∷_, _++_, map}
+use mathlib.Core.Path.{_≡_, refl, sym, ap, _∙_}
+use mathlib.Core.List.{List, _∷_, _++_, map}
 use native.Mathlib.Omega.{arith}
 use lib.ListN.{length, getD}
 use borrow.Author.Needs.{needs}
@@ -13,23 +13,16 @@ use Rattle.rules.specs.Compute.{stale, bodyOps}
 use Rattle.rules.specs.Layout.{decode}
 use Rattle.table.specs.Tests.{nodesOf}
 use Rattle.rules.specs.Table.{Table}
-use Rattle.compute_stale.specs.Arranged.{span, listed}
+use Rattle.compute_stale.specs.Arranged.{listed}
 use Rattle.compute_stale.proofs.Arranged.{listed-in, listed-lower}
-use Rattle.compute_order.specs.Line.{entryAt}
+use Rattle.table_read.specs.Find.{entryAt}
 use Rattle.compute_write.specs.Sending.{nodeOpAt, recordAt, opsAt, sending}
 use Rattle.compute_write.specs.declared.Sent.{Sent}
 use Rattle.compute_write.proofs.Steps.{whole, none-left, node-ends, record-ends, Stepped, stepped, unchanged, Closed, closes}
-use Rattle.compute_write.proofs.Located.{lent-node, node-long, count-low}
+use Rattle.table_read.proofs.Located.{lent-node, node-long, count-low}
 use Rattle.compute_write.proofs.Lines.{next-node, no-node, recordOps, next-record, no-record, stale-are, stale-count, stale-within}
 use Rattle.compute_write.proofs.send.Statement.{statement}
 use Rattle.compute_write.proofs.send.Tie as tie
-use Rattle.compute_write.proofs.send.Reads as reads
-use Rattle.compute_write.proofs.send.Lts as lts
-use Rattle.compute_write.proofs.send_max.Reads as send-max-reads
-use Rattle.compute_write.proofs.send_node.Reads as send-node-reads
-use Rattle.compute_write.proofs.send_record.Reads as send-record-reads
-use Rattle.compute_stale.proofs.stale_places.Reads as stale-places-reads
-use Rattle.table.proofs.node_of.Reads as node-of-reads
 
 abbrev Inv-loop : tie.InvT-loop
 Inv-loop s froms line n d₀ ops₀ used₀ j p from size at k₀ d ops used k =

@@ -1,20 +1,14 @@
 -- `compute_write::send_max` meets its contract: not due, written, or dropped. Assumes nothing.
-use Prim.Native.Nat.{ℕ}
-use mathlib.Core.Path.{_≡_, ap, subst, _∙_}
-use mathlib.Core.List.{List}
+use mathlib.Core.Path.{ap, subst}
 use Rattle.rules.specs.Delta.{Op, SetMaxVersionOp}
 use Rattle.rules.specs.Layout.{decode}
 use Rattle.delta_write.specs.Written.{WritesOp}
-use Rattle.compute_order.specs.Line.{entryAt}
-use Rattle.compute_write.proofs.Located.{held}
+use Rattle.table_read.specs.Find.{entryAt}
+use Rattle.table_read.proofs.Located.{held}
 use Rattle.compute_write.proofs.Steps.{not-due, max-sent, max-left}
 use borrow.Author.Needs.{needs}
 use Rattle.compute_write.proofs.send_max.Statement.{statement}
 use Rattle.compute_write.proofs.send_max.Tie as tie
-use Rattle.compute_write.proofs.send_max.Reads as reads
-use Rattle.compute_write.proofs.send_max.Lts as lts
-use Rattle.compute_order.proofs.max_at.Reads as max-at-reads
-use Rattle.delta_write.proofs.write_set_max_version.Reads as write-set-max-version-reads
 
 -- the operation is that of the node's max
 wrote : (c : tie.After-write-set-max-version) → let a = c .before .before .before .before .before .before .args in WritesOp (SetMaxVersionOp (entryAt (decode (a .table .now)) (a .p) .node .max)) (a .datagram .now) (c .write-set-max-version .result) (c .write-set-max-version .last .0)

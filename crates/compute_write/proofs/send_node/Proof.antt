@@ -1,18 +1,11 @@
 -- `compute_write::send_node` meets its contract: what is written are the node's numbers. Assumes nothing.
-use Prim.Native.Nat.{ℕ}
-use mathlib.Core.Path.{_≡_, subst}
-use mathlib.Core.List.{List}
+use mathlib.Core.Path.{subst}
 use Rattle.rules.specs.Delta.{Op, NodeOp}
 use Rattle.delta_write.specs.Written.{WritesOp}
-use Rattle.compute_write.proofs.Located.{held}
+use Rattle.table_read.proofs.Located.{held}
 use borrow.Author.Needs.{needs}
 use Rattle.compute_write.proofs.send_node.Statement.{statement}
 use Rattle.compute_write.proofs.send_node.Tie as tie
-use Rattle.compute_write.proofs.send_node.Reads as reads
-use Rattle.compute_write.proofs.send_node.Lts as lts
-use Rattle.compute_order.proofs.last_gc_at.Reads as last-gc-at-reads
-use Rattle.compute_order.proofs.number_at.Reads as number-at-reads
-use Rattle.delta_write.proofs.write_node.Reads as write-node-reads
 
 number-at-requires : tie.Need-number-at-requires
 number-at-requires c κs = let q = c .before .before .before in held (q .args .table .now) (q .pre .0) (q .args .p) (q .pre .1)

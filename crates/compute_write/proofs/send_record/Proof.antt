@@ -10,18 +10,10 @@ use Rattle.table.specs.Tests.{keyLength, valueLength}
 use Rattle.rules.specs.Node.{Rec}
 use Rattle.rules.specs.Delta.{Op, KeyValueOp}
 use Rattle.delta_write.specs.Written.{WritesOp}
-use Rattle.compute_write.proofs.Located.{lent-node, lent-record, lent-text, record-is}
+use Rattle.table_read.proofs.Located.{lent-node, lent-record, lent-text, record-is}
 use borrow.Author.Needs.{needs}
 use Rattle.compute_write.proofs.send_record.Statement.{statement}
 use Rattle.compute_write.proofs.send_record.Tie as tie
-use Rattle.compute_write.proofs.send_record.Reads as reads
-use Rattle.compute_write.proofs.send_record.Lts as lts
-use Rattle.delta_write.proofs.write_key_value.Reads as write-key-value-reads
-use Rattle.table_read.proofs.read_record.Reads as read-record-reads
-use Rattle.table.proofs.key_of.Reads as key-of-reads
-use Rattle.table.proofs.node_of.Reads as node-of-reads
-use Rattle.table.proofs.record_of.Reads as record-of-reads
-use Rattle.table.proofs.value_of.Reads as value-of-reads
 
 abbrev Texts : List ℕ → Type 0
 Texts x = (length x ≡ recWidth) × (keyLength x ≤ maxKey) × (valueLength x ≤ maxValue)

@@ -4,7 +4,8 @@ use mathlib.Core.Path.{_∙_, ap}
 use lib.ListN.{length}
 use Rattle.fields.specs.Numbers.{bytesOf}
 use Rattle.fields.specs.Parts.{put}
-use Rattle.delta_write.proofs.Fronts.{key-value-fields}
+use Rattle.delta_write.proofs.Fronts.{behindValue, key-value-fields}
+use Rattle.rules.specs.Delta.{byteWidth, numberWidth}
 use borrow.Author.Needs.{needs}
 use Rattle.delta_write.proofs.store_key_value.Statement.{statement}
 use Rattle.delta_write.proofs.store_key_value.Tie as tie
@@ -47,10 +48,17 @@ same-length c = search needs
 
 returns : tie.Need-returns
 returns c =
-    let a = c .before .before .before .before .before .before .before .before .before .before .before .before .before .before .before .before .before .before .before .before .before .before .before .before .args in
-    key-value-fields (a .key .now) (a .value .now) (a .version) (a .status) (a .datagram .now) _ _ _ _ _ (c .before .before .before .before .before .before .before .before .before .before .before .before .before .before .before .before .before .before .before .before .before .before .before .before .pre)
-    (c .before .before .before .before .before .before .before .before .before .before .before .before .before .before .before .before .before .before .before .write-byte .ensures) (c .before .before .before .before .before .before .before .before .before .before .before .before .before .before .before .write-text .ensures) (c .before .before .before .before .before .before .before .before .before .before .before .write-text2 .ensures) (c .before .before .before .before .before .before .before .write-u64 .ensures)
-    (c .before .before .write-byte2 .ensures ∙ ap (λ (v : ℕ). put (1 + 2 + length (a .key .now) + 2 + length (a .value .now) + 8) (bytesOf 1 v) (c .before .before .before .before .before .before .before .write-u64 .last .0)) (c .before .before .before .byte .ensures))
+    let last = c .before .before in
+    let number = last .before .before .before .before .before in
+    let value = number .before .before .before .before in
+    let key = value .before .before .before .before in
+    let tag = key .before .before .before .before in
+    let entry = tag .before .before .before .before .before in
+    let a = entry .args in
+    let status = behindValue (length (a .key .now)) (length (a .value .now)) + numberWidth in
+    key-value-fields (a .key .now) (a .value .now) (a .version) (a .status) (a .datagram .now) _ _ _ _ _ (entry .pre) (tag .write-byte .ensures)
+    (key .write-text .ensures) (value .write-text2 .ensures) (number .write-u64 .ensures)
+    (last .write-byte2 .ensures ∙ ap (λ (v : ℕ). put status (bytesOf byteWidth v) (number .write-u64 .last .0)) (last .before .byte .ensures))
 
 pub store-key-value-spec : {M : Type 1} → statement M
 store-key-value-spec =

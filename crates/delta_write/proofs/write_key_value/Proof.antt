@@ -4,13 +4,18 @@ use mathlib.Core.Path.{_∙_, sym}
 use native.Mathlib.Omega.{arith}
 use lib.ListN.{length}
 use borrow.Author.Tests.{leb-true, leb-false}
-use Rattle.delta_write.proofs.Fronts.{fits, no-fit, key-value-size}
+use Rattle.delta_write.proofs.Fronts.{fits, no-fit}
+use Rattle.rules.proofs.Sending.{size-record}
+use Rattle.rules.specs.Delta.{besideTexts}
 use borrow.Author.Needs.{needs}
 use Rattle.delta_write.proofs.write_key_value.Statement.{statement}
 use Rattle.delta_write.proofs.write_key_value.Tie as tie
 
+abbrev entry : tie.Then1 → tie.Start
+entry c = c .before .before .before .before .before
+
 -- where the test holds there is room
-room : (c : tie.Then1) → 14 + length (c .before .before .before .before .before .args .key .now) + length (c .before .before .before .before .before .args .value .now) ≤ length (c .before .before .before .before .before .args .datagram .now)
+room : (c : tie.Then1) → let a = entry c .args in besideTexts + length (a .key .now) + length (a .value .now) ≤ length (a .datagram .now)
 room c = leb-true _ _ (sym (c .before .record-fits .ensures) ∙ c .if1 .taken)
 
 record-fits-requires : tie.Need-record-fits-requires
@@ -30,14 +35,13 @@ same-length c = search needs
 
 returns : tie.Need-returns
 returns c =
-    let a = c .before .before .before .before .before .before .before .before .before .args in
-    fits _ _ (a .datagram .now) _ (key-value-size (a .key .now) (a .value .now) (a .version) (a .status)) (room (c .before .before .before .before)) (c .before .before .store-key-value .ensures)
+    let there = c .before .before .before .before in
+    fits _ _ (entry there .args .datagram .now) _ (size-record _) (room there) (c .before .before .store-key-value .ensures)
 
 returns-2 : tie.Need-returns-2
 returns-2 c =
     let a = c .before .before .before .before .before .args in
-    no-fit _ _ (a .datagram .now) (key-value-size (a .key .now) (a .value .now) (a .version) (a .status))
-    (leb-false _ _ (sym (c .before .record-fits .ensures) ∙ c .if1 .left))
+    no-fit _ _ (a .datagram .now) (size-record _) (leb-false _ _ (sym (c .before .record-fits .ensures) ∙ c .if1 .left))
 
 pub write-key-value-spec : {M : Type 1} → statement M
 write-key-value-spec =

@@ -18,7 +18,11 @@ same-length : tie.Need-same-length
 same-length c = search needs
 
 returns : tie.Need-returns
-returns c = text-fields (c .before .before .before .before .before .before .before .before .before .before .args .text .now) (c .before .before .before .before .before .before .before .before .before .before .args .at) (c .before .before .before .before .before .before .before .before .before .before .args .datagram .now) _ _ (omega arith) (c .before .before .before .before .before .before .write-u16 .ensures) (c .before .before .copy-to .ensures)
+returns c =
+    let behind = c .before .before in
+    let front = behind .before .before .before .before in
+    let a = front .before .before .before .before .args in
+    text-fields (a .text .now) (a .at) (a .datagram .now) _ _ (omega arith) (front .write-u16 .ensures) (behind .copy-to .ensures)
 
 pub write-text-spec : {M : Type 1} → statement M
 write-text-spec =

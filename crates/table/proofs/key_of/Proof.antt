@@ -4,8 +4,9 @@ use mathlib.Core.Path.{_≡_, ap, _∙_}
 use mathlib.Core.List.{List}
 use lib.ListN.{take, drop}
 use Rattle.fields.specs.Parts.{part}
+use Rattle.fields.specs.Widths.{offset}
 use Rattle.fields.proofs.Lent.{seen}
-use Rattle.rules.specs.Layout.{decodeRec}
+use Rattle.rules.specs.Layout.{recWidths, decodeRec}
 use Rattle.table.specs.Tests.{keyLength}
 use borrow.Author.Needs.{needs}
 use Rattle.table.proofs.key_of.Statement.{statement}
@@ -26,9 +27,9 @@ part-result-start c = search needs
 part-result-end : tie.Need-part-result-end
 part-result-end c = search needs
 
-key-is : (b : List ℕ) (k : ℕ) → k ≡ keyLength b → take (1 + k - 1) (drop 1 b) ≡ decodeRec b .kv .key
+key-is : (b : List ℕ) (k : ℕ) → k ≡ keyLength b → take (offset recWidths 1 + k - offset recWidths 1) (drop (offset recWidths 1) b) ≡ decodeRec b .kv .key
 unfolding decodeRec
-key-is b k e = seen 1 k b ∙ ap (λ (n : ℕ). part 1 n b) e
+key-is b k e = seen (offset recWidths 1) k b ∙ ap (λ (n : ℕ). part (offset recWidths 1) n b) e
 
 returns : tie.Need-returns
 returns c = key-is (c .before .before .before .args .«record» .now) (c .before .byte-at .result) (c .before .byte-at .ensures .0)

@@ -1,6 +1,6 @@
 -- `table::node_of` meets its contract. Assumes nothing.
-use Prim.Native.Nat.{_+_, _*_}
 use Rattle.fields.proofs.Lent.{seen}
+use Rattle.rules.specs.Layout.{nodePlace, nodeWidth}
 use borrow.Author.Needs.{needs}
 use Rattle.table.proofs.node_of.Statement.{statement}
 use Rattle.table.proofs.node_of.Tie as tie
@@ -24,7 +24,7 @@ part-result-end : tie.Need-part-result-end
 part-result-end c = search needs
 
 returns : tie.Need-returns
-returns c = seen (1 + c .before .args .i * 3713) 3713 (c .before .args .table .now)
+returns c = seen (nodePlace (c .before .args .i)) nodeWidth (c .before .args .table .now)
 
 pub node-of-spec : {M : Type 1} → statement M
 node-of-spec =

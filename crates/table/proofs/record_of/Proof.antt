@@ -1,6 +1,6 @@
 -- `table::record_of` meets its contract. Assumes nothing.
-use Prim.Native.Nat.{_+_, _*_}
 use Rattle.fields.proofs.Lent.{seen}
+use Rattle.rules.specs.Layout.{recPlace, recWidth}
 use borrow.Author.Needs.{needs}
 use Rattle.table.proofs.record_of.Statement.{statement}
 use Rattle.table.proofs.record_of.Tie as tie
@@ -24,7 +24,7 @@ part-result-end : tie.Need-part-result-end
 part-result-end c = search needs
 
 returns : tie.Need-returns
-returns c = seen (33 + c .before .args .j * 115) 115 (c .before .args .node .now)
+returns c = seen (recPlace (c .before .args .j)) recWidth (c .before .args .node .now)
 
 pub record-of-spec : {M : Type 1} → statement M
 record-of-spec =

@@ -4,8 +4,9 @@ use mathlib.Core.Path.{_≡_, ap, _∙_}
 use mathlib.Core.List.{List}
 use lib.ListN.{take, drop}
 use Rattle.fields.specs.Parts.{part}
+use Rattle.fields.specs.Widths.{offset}
 use Rattle.fields.proofs.Lent.{seen}
-use Rattle.rules.specs.Layout.{decodeRec}
+use Rattle.rules.specs.Layout.{recWidths, decodeRec}
 use Rattle.table.specs.Tests.{valueLength}
 use borrow.Author.Needs.{needs}
 use Rattle.table.proofs.value_of.Statement.{statement}
@@ -26,9 +27,9 @@ part-result-start c = search needs
 part-result-end : tie.Need-part-result-end
 part-result-end c = search needs
 
-value-is : (b : List ℕ) (k : ℕ) → k ≡ valueLength b → take (34 + k - 34) (drop 34 b) ≡ decodeRec b .kv .value
+value-is : (b : List ℕ) (k : ℕ) → k ≡ valueLength b → take (offset recWidths 3 + k - offset recWidths 3) (drop (offset recWidths 3) b) ≡ decodeRec b .kv .value
 unfolding decodeRec
-value-is b k e = seen 34 k b ∙ ap (λ (n : ℕ). part 34 n b) e
+value-is b k e = seen (offset recWidths 3) k b ∙ ap (λ (n : ℕ). part (offset recWidths 3) n b) e
 
 returns : tie.Need-returns
 returns c = value-is (c .before .before .before .args .«record» .now) (c .before .byte-at .result) (c .before .byte-at .ensures .0)

@@ -1,9 +1,8 @@
 -- `table_write::insert_record` meets its contract. Assumes nothing.
-use Prim.Native.Nat.{_+_, _*_}
 use mathlib.Core.Path.{ap, _∙_}
 use lib.ListN.{length}
 use Rattle.fields.proofs.Lent.{lent}
-use Rattle.rules.specs.Layout.{encodeRec}
+use Rattle.rules.specs.Layout.{recPlace, recWidth, encodeRec}
 use Rattle.rules.specs.Node.{Rec}
 use Rattle.table.specs.Changes.{recOf}
 use Rattle.table.proofs.Records.{length-rec}
@@ -64,7 +63,7 @@ returns c =
     let a = st .args in
     let r : Rec = recOf (a .key .now) (a .value .now) (a .version) (a .status) (a .start) in
     insert-steps (a .node .now) (st .pre .0) (a .j) r (moved .move-up .last .0) _ _ (n .byte-at .result) (n .byte-at .ensures .0) (st .pre .1) (st .pre .2) (moved .move-up .ensures)
-    (lent (33 + a .j * 115) 115 (moved .move-up .last .0) (written .write-record .last .0) (encodeRec r) (written .write-record .ensures) (ap length (written .write-record .ensures) ∙ length-rec r))
+    (lent (recPlace (a .j)) recWidth (moved .move-up .last .0) (written .write-record .last .0) (encodeRec r) (written .write-record .ensures) (ap length (written .write-record .ensures) ∙ length-rec r))
     (counted .write-byte .ensures)
 
 pub insert-record-spec : {M : Type 1} → statement M

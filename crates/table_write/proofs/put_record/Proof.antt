@@ -1,9 +1,8 @@
 -- `table_write::put_record` meets its contract. Assumes nothing.
-use Prim.Native.Nat.{_+_, _*_}
 use mathlib.Core.Path.{ap, _∙_}
 use lib.ListN.{length}
 use Rattle.fields.proofs.Lent.{lent}
-use Rattle.rules.specs.Layout.{encodeRec}
+use Rattle.rules.specs.Layout.{recPlace, recWidth, encodeRec}
 use Rattle.rules.specs.Node.{Rec}
 use Rattle.table.specs.Changes.{recOf}
 use Rattle.table.proofs.Records.{length-rec}
@@ -43,7 +42,7 @@ returns c =
     let a = st .args in
     let r : Rec = recOf (a .key .now) (a .value .now) (a .version) (a .status) (a .start) in
     put-steps (a .node .now) (st .pre .0) (a .j) r _ (st .pre .1)
-    (lent (33 + a .j * 115) 115 (a .node .now) (w .write-record .last .0) (encodeRec r) (w .write-record .ensures) (ap length (w .write-record .ensures) ∙ length-rec r))
+    (lent (recPlace (a .j)) recWidth (a .node .now) (w .write-record .last .0) (encodeRec r) (w .write-record .ensures) (ap length (w .write-record .ensures) ∙ length-rec r))
 
 pub put-record-spec : {M : Type 1} → statement M
 put-record-spec =

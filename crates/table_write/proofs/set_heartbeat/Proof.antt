@@ -2,7 +2,8 @@
 use mathlib.Core.Path.{ap, sym, _∙_}
 use Rattle.fields.specs.Numbers.{bytesOf}
 use Rattle.fields.specs.Parts.{put}
-use Rattle.rules.specs.Layout.{decodeNode}
+use Rattle.fields.specs.Widths.{offset}
+use Rattle.rules.specs.Layout.{nodeWidths, decodeNode}
 use Rattle.table.proofs.Changed.{put-beat}
 use borrow.Author.Needs.{needs}
 use Rattle.table_write.proofs.set_heartbeat.Statement.{statement}
@@ -19,7 +20,7 @@ returns c =
     let w = c .before .before in
     let st = w .before .before .before in
     let a = st .args in
-    w .write-u64 .ensures ∙ ap (put 8 (bytesOf 8 (a .heartbeat .0))) (sym (st .pre .is)) ∙ put-beat (decodeNode (a .node .now)) (a .heartbeat .0)
+    w .write-u64 .ensures ∙ ap (put (offset nodeWidths 1) (bytesOf 8 (a .heartbeat .0))) (sym (st .pre .is)) ∙ put-beat (decodeNode (a .node .now)) (a .heartbeat .0)
 
 pub set-heartbeat-spec : {M : Type 1} → statement M
 set-heartbeat-spec = tie.close (tie.spec write-u64-requires same-length returns)

@@ -2,7 +2,8 @@
 use mathlib.Core.Path.{ap, sym, _∙_}
 use Rattle.fields.specs.Numbers.{bytesOf}
 use Rattle.fields.specs.Parts.{put}
-use Rattle.rules.specs.Layout.{decodeNode}
+use Rattle.fields.specs.Widths.{offset}
+use Rattle.rules.specs.Layout.{nodeWidths, decodeNode}
 use Rattle.table.proofs.Changed.{put-gc}
 use borrow.Author.Needs.{needs}
 use Rattle.table_write.proofs.set_last_gc.Statement.{statement}
@@ -19,7 +20,7 @@ returns c =
     let w = c .before .before in
     let st = w .before .before .before in
     let a = st .args in
-    w .write-u64 .ensures ∙ ap (put 24 (bytesOf 8 (a .last-gc))) (sym (st .pre .is)) ∙ put-gc (decodeNode (a .node .now)) (a .last-gc)
+    w .write-u64 .ensures ∙ ap (put (offset nodeWidths 3) (bytesOf 8 (a .last-gc))) (sym (st .pre .is)) ∙ put-gc (decodeNode (a .node .now)) (a .last-gc)
 
 pub set-last-gc-spec : {M : Type 1} → statement M
 set-last-gc-spec = tie.close (tie.spec write-u64-requires same-length returns)

@@ -2,7 +2,8 @@
 use mathlib.Core.Path.{ap, sym, _∙_}
 use Rattle.fields.specs.Numbers.{bytesOf}
 use Rattle.fields.specs.Parts.{put}
-use Rattle.rules.specs.Layout.{decodeNode}
+use Rattle.fields.specs.Widths.{offset}
+use Rattle.rules.specs.Layout.{nodeWidths, decodeNode}
 use Rattle.table.proofs.Changed.{put-max}
 use borrow.Author.Needs.{needs}
 use Rattle.table_write.proofs.set_max.Statement.{statement}
@@ -19,7 +20,7 @@ returns c =
     let w = c .before .before in
     let st = w .before .before .before in
     let a = st .args in
-    w .write-u64 .ensures ∙ ap (put 16 (bytesOf 8 (a .max))) (sym (st .pre .is)) ∙ put-max (decodeNode (a .node .now)) (a .max)
+    w .write-u64 .ensures ∙ ap (put (offset nodeWidths 2) (bytesOf 8 (a .max))) (sym (st .pre .is)) ∙ put-max (decodeNode (a .node .now)) (a .max)
 
 pub set-max-spec : {M : Type 1} → statement M
 set-max-spec = tie.close (tie.spec write-u64-requires same-length returns)

@@ -5,9 +5,9 @@ use native.Mathlib.Omega.{arith}
 use lib.ListN.{drop, length}
 use borrow.Author.Needs.{needs}
 use Rattle.rules.specs.Table.{among}
-use Rattle.digest_write.proofs.Entries.{among-here, among-none, among-on}
-use Rattle.digest_write.proofs.is_excluded.Statement.{statement}
-use Rattle.digest_write.proofs.is_excluded.Tie as tie
+use Rattle.table_read.proofs.Among.{among-here, among-none, among-on}
+use Rattle.table_read.proofs.is_excluded.Statement.{statement}
+use Rattle.table_read.proofs.is_excluded.Tie as tie
 
 abbrev Inv-loop : tie.InvT-loop
 Inv-loop excluded number i₀ i = (i ≤ length excluded) × (among number (drop i excluded) ≡ among number excluded)
