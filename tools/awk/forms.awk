@@ -87,7 +87,7 @@ function gives(text, module, depth, parts,    factor, side, word, n, m, i, k, id
         if (cut_at(factor[i], "\342\206\222", side) > 1 || cut_at(factor[i], "\342\212\216", side) > 1) return 0
         m = cut_at(factor[i], "\342\211\241", side)
         if (m == 2) {
-            if (!give(depth, bare(side[1]), parts, module)) return 0
+            if (!give_all(depth, bare(side[1]), module, parts)) return 0
             rights = rights " " side[2]
             continue
         }
@@ -97,7 +97,7 @@ function gives(text, module, depth, parts,    factor, side, word, n, m, i, k, id
         if (!is_form(id, depth + 1)) return 0
         for (; k > 1; k--) {
             if (!((id SUBSEP k - 1) in form_gives)) rights = rights " " word[k]
-            else if (!give(depth, word[k], parts, module)) return 0
+            else if (!give_all(depth, word[k], module, parts)) return 0
         }
     }
     n = split(parts, word, "\n")
@@ -105,51 +105,43 @@ function gives(text, module, depth, parts,    factor, side, word, n, m, i, k, id
     return 1
 }
 
-# A part is given once. A record of parts gives each of them: two records are the same where all their fields are.
-function give(depth, part, parts, module,    word, k, id) {
-    if (index(parts, "\n" part "\n") > 0) {
-        if ((depth SUBSEP part) in given) return 0
-        return given[depth, part] = 1
-    }
-    k = arguments(part, word)
-    id = resolve(module, word[1], 0)
-    if (k < 2 || record_of(id) != k - 1) return 0
-    for (; k > 1; k--) if (!give(depth, word[k], parts, module)) return 0
+# A part, or several gathered by a definition that makes a record of its arguments, as in `both (now (x .exit)) (now (y .exit))`.
+function give_all(depth, text, module, parts,    word, n, i) {
+    if (index(parts, "\n" text "\n") > 0) return give(depth, text, parts)
+    n = arguments(text, word)
+    if (n < 2 || !gathers(resolve(module, word[1], 0), n - 1)) return 0
+    for (i = 2; i <= n; i++) if (!give_all(depth, word[i], module, parts)) return 0
     return 1
 }
 
-# How many parameters a definition has that is a record with each of them in a field of its own, and 0 for any other.
-function record_of(id,    parameter, field, part, n, m, i, is_one) {
-    n = clause_of(id, parameter)
-    if (n == 0 || body !~ /^ *record \{.*\} *$/) return 0
-    sub(/^ *record \{/, "", body)
-    sub(/\} *$/, "", body)
-    m = split(body, field, ";")
-    if (m > 0 && field[m] ~ /^ *$/) m--
-    if (m != n) return 0
-    for (i = 1; i <= n; i++) is_one[parameter[i]] = 1
-    for (i = 1; i <= m; i++) {
-        if (split(field[i], part, " ") != 3 || part[2] != "=" || !is_one[part[3]]) return 0
-        is_one[part[3]] = 0
-    }
-    return n
-}
-
-# How many parameters the one clause of a definition has, and 0 where it has none or several clauses; what it says goes into body.
-function clause_of(id, parameter,    name, i) {
-    split("", parameter)
+# Whether a definition makes a record whose fields are its n parameters, each once.
+function gathers(id, n,    text, name, i, k, parameter, body, field) {
     if (!(id in defined) || kind_at[id] != "definition") return 0
     name = name_at[id]
-    body = text_at[id]
-    i = index(body, "\n" name " ")
-    if (i == 0) return 0
-    body = substr(body, i + 1 + length(name))
-    i = index(body, " =")
-    if (i == 0 || index(body, "\n" name " ") > 0) return 0
-    name = substr(body, 1, i)
-    body = substr(body, i + 2)
+    text = text_at[id]
+    i = index(text, "\n" name " ")
+    body = substr(text, i + 1 + length(name))
+    k = index(body, " =")
+    if (i == 0 || k == 0 || split(substr(body, 1, k), parameter, " ") != n) return 0
+    body = substr(body, k + 2)
+    if (body !~ /^[ \n]*record \{.*\}[ \n]*$/) return 0
     gsub(/\n/, " ", body)
-    return split(name, parameter, " ")
+    sub(/^ *record \{ */, "", body)
+    sub(/;? *\} *$/, "", body)
+    if (split(body, field, ";") != n) return 0
+    for (i = 1; i <= n; i++) {
+        sub(/^[^=]*= */, "", field[i])
+        sub(/ *$/, "", field[i])
+        for (k = 1; k <= n && field[i] != parameter[k]; k++) ;
+        if (k > n) return 0
+        parameter[k] = ""
+    }
+    return 1
+}
+
+function give(depth, part, parts) {
+    if (index(parts, "\n" part "\n") == 0 || (depth SUBSEP part) in given) return 0
+    return given[depth, part] = 1
 }
 
 # Whether a part of the outcome stands in the text.
@@ -162,13 +154,24 @@ function stands_in(part, text,    word, n, i) {
 
 # Whether a definition is a form: its one clause is a product of equations for some of its parameters, each given once. A record is one by its fields.
 # form_gives[id, n] then holds for the parameters that it gives, by their places.
-function is_form(id, depth,    head, parameter, n, i, parts, field, m, all) {
+function is_form(id, depth,    text, head, parameter, n, i, parts, name, field, m, all, body) {
     if (id in form_known) return form_known[id]
     form_known[id] = 0
     if (!(id in defined) || kind_at[id] != "definition" && kind_at[id] != "record") return 0
-    if (kind_at[id] == "definition") n = clause_of(id, parameter)
+    name = name_at[id]
+    text = text_at[id]
+    if (kind_at[id] == "definition") {
+        i = index(text, "\n" name " ")
+        if (i == 0) return 0
+        body = substr(text, i + 1 + length(name))
+        i = index(body, " =")
+        if (i == 0 || index(body, "\n" name " ") > 0) return 0
+        n = split(substr(body, 1, i), parameter, " ")
+        body = substr(body, i + 2)
+        gsub(/\n/, " ", body)
+    }
     else {
-        head = text_at[id]
+        head = text
         sub(/ : Type.*$/, "", head)
         sub(/^[^(]*/, "", head)
         n = 0
@@ -177,7 +180,7 @@ function is_form(id, depth,    head, parameter, n, i, parts, field, m, all) {
             for (i = 1; i <= m; i++) parameter[++n] = field[i]
             head = substr(head, RSTART + RLENGTH)
         }
-        m = split(text_at[id], field, "\n")
+        m = split(text, field, "\n")
         body = ""
         for (i = 2; i <= m; i++) {
             if (field[i] ~ /^ *$/) continue
@@ -185,7 +188,6 @@ function is_form(id, depth,    head, parameter, n, i, parts, field, m, all) {
             body = body (body == "" ? "" : " \303\227 ") "(" field[i] ")"
         }
     }
-    if (n == 0) return 0
     parts = "\n"
     for (i = 1; i <= n; i++) parts = parts parameter[i] "\n"
     for (all in given) if (index(all, depth SUBSEP) == 1) delete given[all]

@@ -57,7 +57,7 @@ use Rattle.table_read.proofs.Held.{node-seen, held-laid, held-rises, held-node,
 use Rattle.rules.specs.declared.Header.{Header}
 use Rattle.table.proofs.Tables.{length-table, decode-encode, valid-encode, encode-decode, valid-obeys, valid-long}
 use Rattle.delta_read.specs.declared.Heads.{Heads}
-use Rattle.delta_read.specs.NodeDeltas.{recsFrom, partsFrom, deltaOf, noPart, Gathered}
+use Rattle.delta_read.specs.NodeDeltas.{recsFrom, partsFrom, deltaOf, noPart, AllHeads}
 use Rattle.apply_node.specs.Taking.{hasRoom, Rising, Tried}
 use Rattle.apply_node.proofs.Taken.{takes-few}
 use Rattle.apply.specs.Applying.{emptied, begun, grown, Grown, Stored, rejects, resets, answerAs, nodeTaken, nodeApplied, onHeld, partApplied, partsApplied, Accepted, HeadsFound}
@@ -378,7 +378,7 @@ module _ (delta : List ℕ) (clock : ℕ) (list l : List ℕ) where
           go (rule.Good os) q a = let k : length (rule.partsOf os) ≡ nodes = cc in ((os, q), sym k)
           go (rule.Faulty y b) q a = let z : _≡_ {A = ℕ} 0 1 = cc in absurd (omega arith)
 
-      pub heads-found : (r : Heads) → Gathered delta (r .at) (r .count) (r .max) → HeadsFound delta nodes r
+      pub heads-found : (r : Heads) → AllHeads delta (r .at) (r .count) (r .max) → HeadsFound delta nodes r
       heads-found r g =
           record {
             all = accepted .1 ∙ ap length (sym (accepted-parts delta (accepted .0)));

@@ -18,7 +18,7 @@ ghost use Rattle.rules.specs.Given.{Gives};
 ghost use Rattle.rules.specs.Layout.{encodeNode, decode, decodeNode, valid};
 ghost use Rattle.rules.specs.Lent.{stored, both, lentApply};
 ghost use Rattle.table.specs.Fits.{LaidNode};
-ghost use Rattle.delta_read.specs.NodeDeltas.{recsFrom, partsFrom, deltaOf, behindNode, partAt};
+ghost use Rattle.delta_read.specs.NodeDeltas.{recsFrom, partsFrom, deltaOf, behindNode, nodeDeltaAt};
 ghost use Rattle.apply_node.specs.Taking.{Rising};
 ghost use Rattle.apply.specs.Applying.{emptied, begun, grown, Grown, Stored, rejects, resets, answerAs};
 ghost use Rattle.apply.specs.Applying.{nodeApplied, partApplied, partsApplied, Accepted, HeadsFound};
@@ -204,7 +204,7 @@ fn apply_part(
 ) -> NodeAnswer
     requires { ⌜ (valid (now table) ≡ true)
         × (behindNode at ≤ length (now delta)) × (length (recsFrom (now delta) (behindNode at)) ≤ count) ⌝ }
-    ensures { λ r. ⌜ Gives (stored (partApplied clock (partAt (now (delta .entry)) at max) (decode (now (table .entry)))))
+    ensures { λ r. ⌜ Gives (stored (partApplied clock (nodeDeltaAt (now (delta .entry)) at max) (decode (now (table .entry)))))
         r (now (table .exit)) ⌝ }
 {
     let number = fields::read_u64(delta, at + wire::NODE_NUMBER);

@@ -33,7 +33,7 @@ use Rattle.delta_read.specs.Plain.{opsFrom}
 use Rattle.delta_read.proofs.Plain.{plain-end, plain-next}
 use Rattle.delta_read.proofs.Reading.{le-or-lt}
 use Rattle.delta_read.proofs.Counted.{ends}
-use Rattle.delta_read.specs.NodeDeltas.{recsFrom, partsFrom, behindNode, partAt, noPart, Head, Gathered}
+use Rattle.delta_read.specs.NodeDeltas.{recsFrom, partsFrom, behindNode, nodeDeltaAt, noPart, Head, AllHeads}
 
 -- ---- a Node by its bytes
 
@@ -88,7 +88,7 @@ op-told s at =
 -- the node delta x stands at a place, and these operations are still to be read: they bring its max and some of its records
 pub record Heading (s : List ℕ) (x : rule.Part) (at count max : ℕ) (ops : List rule.Op) : Type 0 where
   pub inside : behindNode at ≤ length s
-  pub is : x ≡ partAt s at (rule.maxOf max ops)
+  pub is : x ≡ nodeDeltaAt s at (rule.maxOf max ops)
   pub few : length (x .delta .recs) ≤ count + length (rule.recsOf ops)
 
 module _ (s : List ℕ) (at : ℕ) (h : at < length s) (n g f next : ℕ) (e : opAt s at ≡ Got (Node n g f) next) where
@@ -296,14 +296,14 @@ some-node nodes a running o v f = go o (subst (Found nodes o) f (found nodes a r
 
 module _ (s at count max : List ℕ) (p : length at ≡ maxNodes) (q : length count ≡ maxNodes) (r : length max ≡ maxNodes) where
   -- of a refused delta nothing is told
-  pub gathered-none : (why : Refusal) (place : ℕ) → read.Refused why place ≡ rule.deltaRead s → Gathered s at count max
+  pub gathered-none : (why : Refusal) (place : ℕ) → read.Refused why place ≡ rule.deltaRead s → AllHeads s at count max
   gathered-none why place e = record { long-at = p; long-count = q; long-max = r; few = λ ops nodes g. no ops nodes g; heads = λ ops nodes g. no ops nodes g }
     where
       no : {X : Type 0} (ops nodes : ℕ) → read.Good ops nodes ≡ rule.deltaRead s → X
       no ops nodes g = let z : read.Refused why place ≡ read.Good ops nodes = e ∙ sym g in let y : _≡_ {A = ℕ} 0 1 = cc in absurd (omega arith)
 
   pub gathered : (ops nodes : ℕ) → read.Good ops nodes ≡ rule.deltaRead s → nodes ≤ maxNodes
-      → ((i : ℕ) → i < nodes → Head s (getD (partsFrom s 0) i noPart) (getD at i 0) (getD count i 0) (getD max i 0)) → Gathered s at count max
+      → ((i : ℕ) → i < nodes → Head s (getD (partsFrom s 0) i noPart) (getD at i 0) (getD count i 0) (getD max i 0)) → AllHeads s at count max
   gathered ops nodes e f h =
       record {
         long-at = p;

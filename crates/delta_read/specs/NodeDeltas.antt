@@ -25,32 +25,32 @@ abbrev pub deltaOf : (delta : Bytes) (gc from max records : ℕ) → rule.NodeDe
 deltaOf s gc from max records = record { from = from; last-gc = gc; recs = recsFrom s records; max = max }
 
 -- a Node: its tag, number, last_gc and from
-abbrev pub nodeFields : List ℕ
-nodeFields = 1 ∷ 8 ∷ 8 ∷ 8 ∷ []
+abbrev pub nodeOpWidths : List ℕ
+nodeOpWidths = 1 ∷ 8 ∷ 8 ∷ 8 ∷ []
 
 -- the place behind the Node at a place: there its records begin
 abbrev pub behindNode : (at : ℕ) → ℕ
-behindNode at = at + total nodeFields
+behindNode at = at + total nodeOpWidths
 
 -- the node delta whose Node stands at a place, with the running max at its end
-abbrev pub partAt : (delta : Bytes) (at max : ℕ) → rule.Part
-partAt s at max =
+abbrev pub nodeDeltaAt : (delta : Bytes) (at max : ℕ) → rule.Part
+nodeDeltaAt s at max =
     record {
-      number = natOf (part (at + offset nodeFields 1) 8 s);
-      delta = deltaOf s (natOf (part (at + offset nodeFields 2) 8 s)) (natOf (part (at + offset nodeFields 3) 8 s)) max (behindNode at);
+      number = natOf (part (at + offset nodeOpWidths 1) 8 s);
+      delta = deltaOf s (natOf (part (at + offset nodeOpWidths 2) 8 s)) (natOf (part (at + offset nodeOpWidths 3) 8 s)) max (behindNode at);
     }
 
 -- the node delta x stands there, with no more than so many records
 pub record Head (s : Bytes) (x : rule.Part) (at count max : ℕ) : Type 0 where
   pub inside : behindNode at ≤ length s
-  pub is : x ≡ partAt s at max
+  pub is : x ≡ nodeDeltaAt s at max
   pub few : length (x .delta .recs) ≤ count
 
 abbrev pub noPart : rule.Part
 noPart = record { number = 0; delta = record { from = 0; last-gc = 0; recs = []; max = 0 } }
 
 -- the node deltas of an accepted delta, one behind the other: what stands in the lists behind them is of no use
-pub record Gathered (s : Bytes) (at count max : List ℕ) : Type 0 where
+pub record AllHeads (s : Bytes) (at count max : List ℕ) : Type 0 where
   pub long-at : length at ≡ maxNodes
   pub long-count : length count ≡ maxNodes
   pub long-max : length max ≡ maxNodes

@@ -3,16 +3,17 @@
 use Prim.Native.Nat.{ℕ, zero, suc, _-_}
 use mathlib.Core.List.{List, [], _∷_}
 use lib.ListN.{length, drop}
+use Rattle.fields.specs.Numbers.{Bytes}
 use Rattle.rules.specs.Delta as rule
 
-abbrev pub onPlain : (List ℕ → List rule.Op) → rule.OpRead → List rule.Op
+abbrev pub onPlain : (next : Bytes → List rule.Op) (read : rule.OpRead) → List rule.Op
 onPlain next (rule.Got o rest) = o ∷ next rest
 onPlain next (rule.Bad r) = []
 
 -- the first number only bounds the operations, as in the rules
-unfoldable pub plainOps : ℕ → List ℕ → List rule.Op
+unfoldable pub plainOps : (bound : ℕ) (bytes : Bytes) → List rule.Op
 plainOps zero l = []
 plainOps (suc n) l = onPlain (λ rest. plainOps n rest) (rule.readOp l)
 
-unfoldable pub opsFrom : List ℕ → ℕ → List rule.Op
+unfoldable pub opsFrom : (delta : Bytes) (at : ℕ) → List rule.Op
 opsFrom l at = plainOps (length l - at) (drop at l)

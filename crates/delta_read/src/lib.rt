@@ -9,7 +9,7 @@ ghost use Rattle.rules.specs.Sizes.{maxNodes};
 ghost use Rattle.rules.specs.Delta.{deltaRead};
 ghost use Rattle.rules.specs.Table.{among};
 ghost use Rattle.delta_read.specs.Places.{textAt, statusOf, nodeAt, versionAt, valueAt, keyValueAt, setMaxVersionAt, opAt, seenOf, nodeFollows, recordFollows, maxFollows, followAt};
-ghost use Rattle.delta_read.specs.NodeDeltas.{Gathered};
+ghost use Rattle.delta_read.specs.NodeDeltas.{AllHeads};
 use rules::DeltaRead;
 use rules::Record;
 use rules::Refusal;
@@ -298,7 +298,7 @@ fn refused(why: Refusal, at: usize) -> Heads
 
 // The verdict on a delta, and its node deltas. One pass: who applies the delta need not look for its node deltas again.
 pub fn read_heads(delta: &[u8]) -> Heads
-    ensures { λ r. ⌜ (r .read ≡ deltaRead (now (delta .entry))) × Gathered (now (delta .entry)) (r .at) (r .count) (r .max) ⌝ }
+    ensures { λ r. ⌜ (r .read ≡ deltaRead (now (delta .entry))) × AllHeads (now (delta .entry)) (r .at) (r .count) (r .max) ⌝ }
 {
     if sizes::LONGEST_DELTA < delta.len() {
         return refused(Refusal::TooMany, 0);

@@ -1,4 +1,4 @@
--- The entries of a table's digest, one node after the other: an excluded node is passed over, any other tells an entry of 32 bytes. And the
+-- The entries of a table's digest, one node after the other: an excluded node is passed over, any other tells an entry. And the
 -- entry as its four numbers, written from left to right. Assumes nothing.
 use Prim.Native.Nat.{ℕ, suc, _+_, _*_, _<_, _≤_}
 use mathlib.Core.Path.{_≡_, _∙_, ap, refl, sym}
@@ -9,11 +9,12 @@ use native.Mathlib.Numerals.{add-one}
 use lib.ListN.{length, drop, length-append, drop-of-length-le}
 use Rattle.fields.specs.Blocks.{flat}
 use Rattle.fields.specs.Choice.{pick}
-use Rattle.fields.specs.Numbers.{bytesOf, natOf}
+use Rattle.fields.specs.Numbers.{Bytes, bytesOf, natOf}
 use Rattle.fields.specs.Parts.{part, put}
 use Rattle.fields.proofs.Blocks.{length-flat}
 use Rattle.fields.proofs.Numbers.{length-bytesOf}
 use Rattle.fields.proofs.Parts.{length-part, length-put, put-behind, put-field, put-nil}
+use Rattle.rules.specs.Delta.{numberWidth}
 use Rattle.rules.specs.Digest.{NodeDigest, digestOf, digestOfNode, entryBytes, entryWidth}
 use Rattle.rules.specs.Layout.{nodePlace, decode, decodeNode, nodeWidth, tableWidth}
 use Rattle.rules.specs.Sizes.{maxNodes}
@@ -29,12 +30,12 @@ pub node-long : (i : ℕ) (l : List ℕ) → length l ≡ tableWidth → i < max
 node-long i l e h = length-part (nodePlace i) nodeWidth l (omega arith)
 
 -- the number that stands in a node's bytes
-pub number-is : (i n : ℕ) (l b : List ℕ) → n ≡ natOf (part 0 8 b) → b ≡ nodeBytes i l → n ≡ nodeAt i l .number
+pub number-is : (i n : ℕ) (l b : List ℕ) → n ≡ natOf (part 0 numberWidth b) → b ≡ nodeBytes i l → n ≡ nodeAt i l .number
 unfolding decodeNode
-number-is i n l b p q = p ∙ ap (λ (x : List ℕ). natOf (part 0 8 x)) q
+number-is i n l b p q = p ∙ ap (λ (x : List ℕ). natOf (part 0 numberWidth x)) q
 
 -- what the digest tells of the others
-abbrev pub digestFrom : ℕ → List ℕ → List ℕ → List NodeDigest
+abbrev pub digestFrom : (i : ℕ) (excluded : List ℕ) (table : Bytes) → List NodeDigest
 digestFrom i excluded l = digestOf excluded (drop i (decode l))
 
 module _ (excluded l : List ℕ) (i : ℕ) where
@@ -43,7 +44,8 @@ module _ (excluded l : List ℕ) (i : ℕ) where
   none-left h = ap (digestOf excluded) (drop-of-length-le (decode l) {i = i} (let k = length-decode l in omega arith))
 
   module _ (h : i < nodesOf l) where
-    one : digestFrom i excluded l ≡ pick (among (nodeAt i l .number) excluded) (digestFrom (i + 1) excluded l) (digestOfNode (nodeAt i l) ∷ digestFrom (i + 1) excluded l)
+    one : digestFrom i excluded l
+        ≡ pick (among (nodeAt i l .number) excluded) (digestFrom (i + 1) excluded l) (digestOfNode (nodeAt i l) ∷ digestFrom (i + 1) excluded l)
     unfolding digestOf
     one = ap (digestOf excluded) (decode-drop i l h) ∙ rw add-one refl
 
@@ -59,38 +61,40 @@ pub entries-long : (ds : List NodeDigest) → length (flat entryBytes ds) ≡ le
 entries-long ds = length-flat entryBytes entryWidth entry-long ds
 
 -- an entry put, and the others behind it
-pub put-entry : (at : ℕ) (x : NodeDigest) (ds : List NodeDigest) (d : List ℕ) → at + (32 + length ds * 32) ≤ length d
-    → put (at + 32) (flat entryBytes ds) (put at (entryBytes x) d) ≡ put at (flat entryBytes (x ∷ ds)) d
+pub put-entry : (at : ℕ) (x : NodeDigest) (ds : List NodeDigest) (d : List ℕ) → at + (entryWidth + length ds * entryWidth) ≤ length d
+    → put (at + entryWidth) (flat entryBytes ds) (put at (entryBytes x) d) ≡ put at (flat entryBytes (x ∷ ds)) d
 unfolding flat
 put-entry at x ds d h =
     let e = entry-long x in
     let g = entries-long ds in
-    let k : at + 32 ≡ at + length (entryBytes x) = omega arith in
+    let k : at + entryWidth ≡ at + length (entryBytes x) = omega arith in
     ap (λ (n : ℕ). put n (flat entryBytes ds) (put at (entryBytes x) d)) k ∙ put-behind at (entryBytes x) (flat entryBytes ds) d (omega arith)
 
-pub entry-fields : (x : NodeDigest) (l a b c d : List ℕ) → 32 ≤ length l → a ≡ put 0 (bytesOf 8 (x .number)) l → b ≡ put 8 (bytesOf 8 (x .heartbeat .0)) a
-    → c ≡ put 16 (bytesOf 8 (x .last-gc)) b → d ≡ put 24 (bytesOf 8 (x .max)) c → d ≡ put 0 (entryBytes x) l
+pub entry-fields : (x : NodeDigest) (l a b c d : Bytes) → entryWidth ≤ length l → a ≡ put 0 (bytesOf numberWidth (x .number)) l
+    → b ≡ put numberWidth (bytesOf numberWidth (x .heartbeat .0)) a → c ≡ put (2 * numberWidth) (bytesOf numberWidth (x .last-gc)) b
+    → d ≡ put (3 * numberWidth) (bytesOf numberWidth (x .max)) c → d ≡ put 0 (entryBytes x) l
 unfolding entryBytes
 entry-fields x l a b c d h p q r s =
-    let N : List ℕ = bytesOf 8 (x .number) in
-    let H : List ℕ = bytesOf 8 (x .heartbeat .0) in
-    let G : List ℕ = bytesOf 8 (x .last-gc) in
-    let M : List ℕ = bytesOf 8 (x .max) in
-    let y : b ≡ put 0 (N ++ H) l = put-field 8 N H l a b (length-bytesOf 8 (x .number)) (simp length-bytesOf (omega arith)) p q in
-    let z : c ≡ put 0 ((N ++ H) ++ G) l = put-field 16 (N ++ H) G l b c (simp (length-append, length-bytesOf)) (simp length-bytesOf (omega arith)) y r in
-    let w : d ≡ put 0 (((N ++ H) ++ G) ++ M) l = put-field 24 ((N ++ H) ++ G) M l c d (simp (length-append, length-bytesOf)) (simp length-bytesOf (omega arith)) z s in
-    w ∙ ap (λ (v : List ℕ). put 0 v l) (simp append-assoc)
+    let N : Bytes = bytesOf numberWidth (x .number) in
+    let H : Bytes = bytesOf numberWidth (x .heartbeat .0) in
+    let G : Bytes = bytesOf numberWidth (x .last-gc) in
+    let M : Bytes = bytesOf numberWidth (x .max) in
+    let y : b ≡ put 0 (N ++ H) l = put-field _ N H l a b (length-bytesOf numberWidth (x .number)) (simp length-bytesOf (omega arith)) p q in
+    let z : c ≡ put 0 ((N ++ H) ++ G) l = put-field _ (N ++ H) G l b c (simp (length-append, length-bytesOf)) (simp length-bytesOf (omega arith)) y r in
+    let w : d ≡ put 0 (((N ++ H) ++ G) ++ M) l =
+    put-field _ ((N ++ H) ++ G) M l c d (simp (length-append, length-bytesOf)) (simp length-bytesOf (omega arith)) z s in
+    w ∙ ap (λ (v : Bytes). put 0 v l) (simp append-assoc)
 
 -- ---- what the loop of the writer keeps: d was e at first, and the entries from node i on go to `at`
 
 pub record Writes (excluded l e : List ℕ) (at i : ℕ) (d : List ℕ) : Type 0 where
   pub within : i ≤ nodesOf l
   pub same : length d ≡ length e
-  pub room : at + length (digestFrom i excluded l) * 32 ≤ length d
+  pub room : at + length (digestFrom i excluded l) * entryWidth ≤ length d
   pub rest : put at (flat entryBytes (digestFrom i excluded l)) d ≡ put 0 (flat entryBytes (digestOf excluded (decode l))) e
 
 module _ (excluded l e : List ℕ) where
-  pub writes-none : length (digestOf excluded (decode l)) * 32 ≤ length e → Writes excluded l e 0 0 e
+  pub writes-none : length (digestOf excluded (decode l)) * entryWidth ≤ length e → Writes excluded l e 0 0 e
   writes-none h = record { within = omega arith; same = refl; room = omega arith; rest = refl }
 
   module _ (at i : ℕ) (d : List ℕ) (w : Writes excluded l e at i d) where
@@ -104,16 +108,17 @@ module _ (excluded l e : List ℕ) where
           rest = ap (λ (ds : List NodeDigest). put at (flat entryBytes ds) d) (sym p) ∙ w .rest;
         }
 
-    pub writes-room : i < nodesOf l → among (nodeAt i l .number) excluded ≡ false → at + 32 ≤ length d
+    pub writes-room : i < nodesOf l → among (nodeAt i l .number) excluded ≡ false → at + entryWidth ≤ length d
     writes-room h t =
         let k = ap length (tells excluded l i h t) in
         let g = w .room in
         omega arith
 
-    pub writes-next : (x : NodeDigest) (a : List ℕ) → i < nodesOf l → among (nodeAt i l .number) excluded ≡ false → x ≡ digestOfNode (nodeAt i l) → a ≡ put at (entryBytes x) d
-        → Writes excluded l e (at + 32) (i + 1) a
+    pub writes-next : (x : NodeDigest) (a : Bytes) → i < nodesOf l → among (nodeAt i l .number) excluded ≡ false → x ≡ digestOfNode (nodeAt i l)
+        → a ≡ put at (entryBytes x) d → Writes excluded l e (at + entryWidth) (i + 1) a
     writes-next x a h t q r =
-        let p : digestFrom i excluded l ≡ x ∷ digestFrom (i + 1) excluded l = tells excluded l i h t ∙ ap (λ (y : NodeDigest). y ∷ digestFrom (i + 1) excluded l) (sym q) in
+        let p : digestFrom i excluded l ≡ x ∷ digestFrom (i + 1) excluded l =
+        tells excluded l i h t ∙ ap (λ (y : NodeDigest). y ∷ digestFrom (i + 1) excluded l) (sym q) in
         let k : length (digestFrom i excluded l) ≡ suc (length (digestFrom (i + 1) excluded l)) = ap length p in
         let v = entry-long x in
         let g = w .room in
@@ -123,7 +128,7 @@ module _ (excluded l e : List ℕ) where
           same = n ∙ w .same;
           room = omega arith;
           rest =
-              ap (put (at + 32) (flat entryBytes (digestFrom (i + 1) excluded l))) r
+              ap (put (at + entryWidth) (flat entryBytes (digestFrom (i + 1) excluded l))) r
               ∙ put-entry at x (digestFrom (i + 1) excluded l) d (omega arith)
               ∙ ap (λ (ds : List NodeDigest). put at (flat entryBytes ds) d) (sym p)
               ∙ w .rest;

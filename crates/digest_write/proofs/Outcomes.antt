@@ -11,54 +11,56 @@ use Rattle.fields.specs.Numbers.{bytesOf}
 use Rattle.fields.specs.Parts.{put}
 use Rattle.fields.proofs.Numbers.{length-bytesOf}
 use Rattle.fields.proofs.Parts.{put-field}
-use Rattle.rules.specs.Digest.{NodeDigest, digestBytes, digestOf, entryBytes, writeDigest}
+use Rattle.rules.specs.Given.{Gives}
+use Rattle.rules.specs.Digest.{NodeDigest, countWidth, digestBytes, digestOf, entryBytes, entryWidth, writeDigest}
 use Rattle.rules.specs.Layout.{decode, valid}
-use Rattle.rules.specs.Lent.{fromTable}
+use Rattle.rules.specs.Lent.{fromTable, lentDigest}
 use Rattle.rules.specs.declared.Refusal.the-variants.{BadTable, NoPlace}
 use Rattle.rules.specs.declared.Written.the-variants.{Bytes, Refused}
-use Rattle.digest_write.specs.Digests.{WritesDigest}
 use Rattle.digest_write.proofs.Entries.{entries-long}
 
-pub digest-long : (ds : List NodeDigest) → length (digestBytes ds) ≡ 2 + length ds * 32
+pub digest-long : (ds : List NodeDigest) → length (digestBytes ds) ≡ countWidth + length ds * entryWidth
 unfolding digestBytes
 digest-long ds =
     let e = entries-long ds in
-    let b = length-bytesOf 2 (length ds) in
-    length-append (bytesOf 2 (length ds)) (flat entryBytes ds) ∙ (let g : length (bytesOf 2 (length ds)) + length (flat entryBytes ds) ≡ 2 + length ds * 32 = omega arith in g)
+    let b = length-bytesOf countWidth (length ds) in
+    let g : length (bytesOf countWidth (length ds)) + length (flat entryBytes ds) ≡ countWidth + length ds * entryWidth = omega arith in
+    length-append (bytesOf countWidth (length ds)) (flat entryBytes ds) ∙ g
 
 -- the count, and the entries behind it
-pub stored : (ds : List NodeDigest) (n : ℕ) (l a b : List ℕ) → n ≡ length ds → 2 + length ds * 32 ≤ length l → a ≡ put 0 (bytesOf 2 n) l → b ≡ put 2 (flat entryBytes ds) a
-    → b ≡ put 0 (digestBytes ds) l
+pub stored : (ds : List NodeDigest) (n : ℕ) (l a b : List ℕ) → n ≡ length ds → countWidth + length ds * entryWidth ≤ length l
+    → a ≡ put 0 (bytesOf countWidth n) l → b ≡ put countWidth (flat entryBytes ds) a → b ≡ put 0 (digestBytes ds) l
 unfolding digestBytes
 stored ds n l a b e h p q =
     let k = entries-long ds in
-    put-field 2 (bytesOf 2 (length ds)) (flat entryBytes ds) l a b (length-bytesOf 2 (length ds)) (omega arith) (p ∙ ap (λ (m : ℕ). put 0 (bytesOf 2 m) l) e) q
+    put-field _ (bytesOf countWidth (length ds)) (flat entryBytes ds) l a b (length-bytesOf countWidth (length ds)) (omega arith)
+    (p ∙ ap (λ (m : ℕ). put 0 (bytesOf countWidth m) l) e) q
 
 module _ (excluded : List ℕ) (place : ℕ) (d l : List ℕ) where
-  pub not-a-table : valid l ≡ false → WritesDigest excluded place d l (Refused BadTable) d
+  pub not-a-table : valid l ≡ false → Gives (lentDigest excluded place d l) (Refused BadTable) d
   unfolding fromTable
   not-a-table v = (rw v, rw v)
 
   module _ (v : valid l ≡ true) where
-    pub past-end : length d < place → WritesDigest excluded place d l (Refused NoPlace) d
+    pub past-end : length d < place → Gives (lentDigest excluded place d l) (Refused NoPlace) d
     unfolding fromTable writeDigest
     past-end h = let t = lt-leb place (length d) h in (rw (v, t), rw (v, t))
 
     module _ (n : ℕ) (is : n ≡ length (digestOf excluded (decode l))) (h : place ≤ length d) where
-      size : length (digestBytes (digestOf excluded (decode l))) ≡ 2 + n * 32
-      size = digest-long (digestOf excluded (decode l)) ∙ ap (λ (k : ℕ). 2 + k * 32) (sym is)
+      size : length (digestBytes (digestOf excluded (decode l))) ≡ countWidth + n * entryWidth
+      size = digest-long (digestOf excluded (decode l)) ∙ ap (λ (k : ℕ). countWidth + k * entryWidth) (sym is)
 
-      pub no-room : length d - place < 2 + n * 32 → WritesDigest excluded place d l (Refused NoPlace) d
+      pub no-room : length d - place < countWidth + n * entryWidth → Gives (lentDigest excluded place d l) (Refused NoPlace) d
       unfolding fromTable writeDigest
       no-room g =
           let t = le-leb place (length d) h in
-          let u = lt-leb (2 + n * 32) (length d - place) g in
+          let u = lt-leb (countWidth + n * entryWidth) (length d - place) g in
           (rw (v, t, size, u), rw (v, t, size, u))
 
-      pub written : (a : List ℕ) → 2 + n * 32 ≤ length d - place → a ≡ put place (digestBytes (digestOf excluded (decode l))) d
-          → WritesDigest excluded place d l (Bytes (2 + n * 32)) a
+      pub written : (a : List ℕ) → countWidth + n * entryWidth ≤ length d - place → a ≡ put place (digestBytes (digestOf excluded (decode l))) d
+          → Gives (lentDigest excluded place d l) (Bytes (countWidth + n * entryWidth)) a
       unfolding fromTable writeDigest
       written a g e =
           let t = le-leb place (length d) h in
-          let u = le-leb (2 + n * 32) (length d - place) g in
+          let u = le-leb (countWidth + n * entryWidth) (length d - place) g in
           (rw (v, t, size, u), rw (v, t, size, u) e)

@@ -1,27 +1,23 @@
 // Writing the digest of a lent table into a lent datagram from a stated place on. Excluded nodes are left out. The bytes before the place and
-// those behind the digest stay as they are. What is written is what the definitions of `rules` say (specs/Digests.antt).
+// those behind the digest stay as they are. What is written is what the definitions of `rules` say.
 ghost use mathlib.Core.Path.{_≡_};
-ghost use Prim.Native.Nat.{_+_, _*_, _≤_};
+ghost use Prim.Native.Nat.{_≤_};
 ghost use lib.ListN.{length};
 ghost use Rattle.fields.specs.Blocks.{flat};
 ghost use Rattle.fields.specs.Parts.{put};
-ghost use Rattle.rules.specs.Digest.{digestBytes, digestOf, digestOfNode, entryBytes};
+ghost use Rattle.rules.specs.Given.{Gives};
+ghost use Rattle.rules.specs.Digest.{countWidth, digestBytes, digestOf, digestOfNode, entryBytes, entryWidth};
 ghost use Rattle.rules.specs.Layout.{decode, decodeNode, nodeWidth};
+ghost use Rattle.rules.specs.Lent.{lentDigest};
 ghost use Rattle.rules.specs.Sizes.{maxNodes};
 ghost use Rattle.table.specs.Fits.{LaidTable};
 ghost use Rattle.digest_read.specs.Held.{back, held};
-ghost use Rattle.digest_write.specs.Digests.{Room, WritesDigest};
+ghost use Rattle.digest_write.specs.Digests.{EntriesFit};
 use digest_read::NodeDigest;
 use rules::Refusal;
 use rules::Written;
+use rules::wire;
 use table::layout;
-
-// The widths of the count, of a number and of an entry.
-const COUNT: usize = 2;
-
-const NUMBER: usize = 8;
-
-const ENTRY: usize = 4 * NUMBER;
 
 // What the digest tells of the node in these bytes.
 fn entry_of(node: &[u8]) -> NodeDigest
@@ -58,20 +54,20 @@ fn count_written(table: &[u8], excluded: &[u64]) -> usize
     count
 }
 
-// Stores an entry in its 32 bytes.
+// Stores an entry in its bytes.
 fn write_entry(datagram: &mut [u8], entry: NodeDigest)
-    requires { ⌜ 32 ≤ length (now datagram) ⌝ }
+    requires { ⌜ entryWidth ≤ length (now datagram) ⌝ }
     ensures { λ _. ⌜ now (datagram .exit) ≡ put 0 (entryBytes (back entry)) (now (datagram .entry)) ⌝ }
 {
-    fields::write_u64(datagram, 0, entry.number);
-    fields::write_u64(datagram, NUMBER, entry.heartbeat.0);
-    fields::write_u64(datagram, 2 * NUMBER, entry.last_gc);
-    fields::write_u64(datagram, 3 * NUMBER, entry.max);
+    fields::write_u64(datagram, wire::ENTRY_NUMBER, entry.number);
+    fields::write_u64(datagram, wire::ENTRY_HEARTBEAT, entry.heartbeat.0);
+    fields::write_u64(datagram, wire::ENTRY_LAST_GC, entry.last_gc);
+    fields::write_u64(datagram, wire::ENTRY_MAX, entry.max);
 }
 
 // Stores the entries of the nodes that are not excluded, one behind the other.
 fn write_entries(table: &[u8], excluded: &[u64], datagram: &mut [u8])
-    requires { ⌜ LaidTable (now table) × Room 0 (now excluded) (now table) (now datagram) ⌝ }
+    requires { ⌜ LaidTable (now table) × EntriesFit 0 (now excluded) (now table) (now datagram) ⌝ }
     ensures { λ _. ⌜ now (datagram .exit) ≡ put 0 (flat entryBytes (digestOf (now (excluded .entry)) (decode (now (table .entry))))) (now (datagram .entry)) ⌝ }
 {
     let nodes = fields::byte_at(table, layout::NODE_COUNT);
@@ -82,7 +78,7 @@ fn write_entries(table: &[u8], excluded: &[u64], datagram: &mut [u8])
         if table_read::is_excluded(excluded, e.number) {
             i += 1;
         } else {
-            let end = at + ENTRY;
+            let end = at + wire::ENTRY_WIDTH;
             write_entry(&mut datagram[at..end], e);
             at = end;
             i += 1;
@@ -92,23 +88,24 @@ fn write_entries(table: &[u8], excluded: &[u64], datagram: &mut [u8])
 
 // Stores the count and the entries at the front of what is lent.
 fn store_digest(table: &[u8], excluded: &[u64], datagram: &mut [u8], count: usize)
-    requires { ⌜ LaidTable (now table) × Room 2 (now excluded) (now table) (now datagram) × (count ≡ length (digestOf (now excluded) (decode (now table)))) ⌝ }
+    requires { ⌜ LaidTable (now table) × EntriesFit countWidth (now excluded) (now table) (now datagram)
+        × (count ≡ length (digestOf (now excluded) (decode (now table)))) ⌝ }
     ensures { λ _. ⌜ now (datagram .exit) ≡ put 0 (digestBytes (digestOf (now (excluded .entry)) (decode (now (table .entry))))) (now (datagram .entry)) ⌝ }
 {
     fields::write_u16(datagram, 0, count);
-    write_entries(table, excluded, &mut datagram[COUNT..]);
+    write_entries(table, excluded, &mut datagram[wire::COUNT_WIDTH..]);
 }
 
 // The digest of the table, from `place` on in the datagram: 14, then 8 where the place is past the end or too few bytes are free from there.
 pub fn write_digest(table: &[u8], excluded: &[u64], datagram: &mut [u8], place: usize) -> Written
-    ensures { λ r. ⌜ WritesDigest (now (excluded .entry)) place (now (datagram .entry)) (now (table .entry)) r (now (datagram .exit)) ⌝ }
+    ensures { λ r. ⌜ Gives (lentDigest (now (excluded .entry)) place (now (datagram .entry)) (now (table .entry))) r (now (datagram .exit)) ⌝ }
 {
     if table_check::check_table(table) {
         if datagram.len() < place {
             return Written::Refused(Refusal::NoPlace);
         }
         let count = count_written(table, excluded);
-        let size = COUNT + count * ENTRY;
+        let size = wire::COUNT_WIDTH + count * wire::ENTRY_WIDTH;
         if datagram.len() - place < size {
             return Written::Refused(Refusal::NoPlace);
         }

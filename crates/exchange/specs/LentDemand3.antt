@@ -29,12 +29,12 @@ pub record LentSound (is : List ℕ) (w : LentWorld) : Type 0 where
 
 -- ---- nothing refused, read off the answers of the calls on lent bytes
 
-abbrev pub lentIsComputed : (excluded ties : List ℕ) (mtu place : ℕ) (datagram publisher : Bytes) (exchange : Exchange) → Bool
+abbrev pub lentIsComputed : (excluded ties : List ℕ) (mtu place : ℕ) (datagram table : Bytes) (way : Exchange) → Bool
 lentIsComputed excluded ties mtu place d l Idle = false
 lentIsComputed excluded ties mtu place d l (DigestSent b) = wroteDelta (lentCompute excluded ties mtu place b d l .answer)
 lentIsComputed excluded ties mtu place d l (DeltaSent b) = false
 
-abbrev pub lentIsApplied : (ways : Ways) (now : ℕ) (answers follower : Bytes) (exchange : Exchange) → Bool
+abbrev pub lentIsApplied : (ways : Ways) (now : ℕ) (answers table : Bytes) (way : Exchange) → Bool
 lentIsApplied ways now answers l Idle = false
 lentIsApplied ways now answers l (DigestSent b) = false
 lentIsApplied ways now answers l (DeltaSent b) = noRoom (lentApplyAs ways b now answers l .answer) (lentApplyAs ways b now answers l .lent .list)
@@ -49,7 +49,7 @@ lentGranted ways (Digesting excluded place d) w = wroteDigest (lentDigest exclud
 lentGranted ways (Computing excluded ties mtu place d) w = lentIsComputed excluded ties mtu place d (w .publisher) (w .exchange)
 lentGranted ways (Applying now answers) w = possible (Applying now answers) && lentIsApplied ways now answers (w .follower) (w .exchange)
 
-unfoldable pub allLentGranted : (ways : Ways) (run : List Event) (world : LentWorld) → Bool
+unfoldable pub allLentGranted : (ways : Ways) (events : List Event) (world : LentWorld) → Bool
 allLentGranted ways [] w = true
 allLentGranted ways (e ∷ es) w = lentGranted ways e w && allLentGranted ways es (lentHappen ways e w)
 

@@ -24,28 +24,28 @@ pub record LentWorld : Type 0 where
   pub exchange : Exchange
 
 -- both tables fresh with the same nodes, and nothing given yet
-unfoldable pub lentStart : (is : List ℕ) → LentWorld
+unfoldable pub lentStart : (numbers : List ℕ) → LentWorld
 lentStart is = record { publisher = encode (freshTable is); follower = encode (freshTable is); given = λ i. []; exchange = Idle }
 
 -- The bytes that adding these nodes one after the other leaves. So the start is made of the new table (proofs/Start).
-unfoldable pub lentAdds : (is : List ℕ) (table : Bytes) → Bytes
+unfoldable pub lentAdds : (numbers : List ℕ) (table : Bytes) → Bytes
 lentAdds [] l = l
 lentAdds (i ∷ is) l = lentAdds is (lentAdd i l .lent)
 
 -- ---- what is on its way after a call
 
-abbrev pub lentDigested : (excluded : List ℕ) (place : ℕ) (datagram follower : Bytes) (exchange : Exchange) → Exchange
+abbrev pub lentDigested : (excluded : List ℕ) (place : ℕ) (datagram table : Bytes) (way : Exchange) → Exchange
 lentDigested excluded place d l x = afterDigest place (lentDigest excluded place d l .lent) (lentDigest excluded place d l .answer) x
 
 -- only for a digest that is on its way
-abbrev pub lentComputed : (excluded ties : List ℕ) (mtu place : ℕ) (datagram publisher : Bytes) (exchange : Exchange) → Exchange
+abbrev pub lentComputed : (excluded ties : List ℕ) (mtu place : ℕ) (datagram table : Bytes) (way : Exchange) → Exchange
 lentComputed excluded ties mtu place d l Idle = Idle
 lentComputed excluded ties mtu place d l (DigestSent b) =
     afterDelta place (lentCompute excluded ties mtu place b d l .lent) (lentCompute excluded ties mtu place b d l .answer) (DigestSent b)
 lentComputed excluded ties mtu place d l (DeltaSent b) = DeltaSent b
 
 -- only a delta that is on its way
-abbrev pub lentApplied : (ways : Ways) (now : ℕ) (answers : Bytes) (exchange : Exchange) (follower : Bytes) → Bytes
+abbrev pub lentApplied : (ways : Ways) (now : ℕ) (answers : Bytes) (way : Exchange) (table : Bytes) → Bytes
 lentApplied ways now answers Idle l = l
 lentApplied ways now answers (DigestSent b) l = l
 lentApplied ways now answers (DeltaSent b) l = lentApplyAs ways b now answers l .lent .table
@@ -53,11 +53,11 @@ lentApplied ways now answers (DeltaSent b) l = lentApplyAs ways b now answers l 
 -- ---- a run
 
 -- a call that changes the bytes of one side's table
-abbrev pub onLent : (side : Side) (call : Bytes → Bytes) (world : LentWorld) → LentWorld
+abbrev pub onLent : (side : Side) (f : Bytes → Bytes) (world : LentWorld) → LentWorld
 onLent Publishers f w = record { publisher = f (w .publisher); follower = w .follower; given = w .given; exchange = w .exchange }
 onLent Followers f w = record { publisher = w .publisher; follower = f (w .follower); given = w .given; exchange = w .exchange }
 
-abbrev pub onWay : (exchange : Exchange) (world : LentWorld) → LentWorld
+abbrev pub onWay : (way : Exchange) (world : LentWorld) → LentWorld
 onWay x w = record { publisher = w .publisher; follower = w .follower; given = w .given; exchange = x }
 
 -- what a write gives is told by the bytes that it finds
@@ -81,6 +81,6 @@ unfoldable pub lentHappen : (ways : Ways) (event : Event) (world : LentWorld) �
 lentHappen ways e w = pick (possible e) (lentCalls ways e w) w
 
 -- the world after a run
-unfoldable pub lentAfter : (ways : Ways) (run : List Event) (world : LentWorld) → LentWorld
+unfoldable pub lentAfter : (ways : Ways) (events : List Event) (world : LentWorld) → LentWorld
 lentAfter ways [] w = w
 lentAfter ways (e ∷ es) w = lentAfter ways es (lentHappen ways e w)

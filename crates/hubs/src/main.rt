@@ -12,6 +12,7 @@ use rules::Header;
 use rules::Refusal;
 use rules::Status;
 use rules::sizes;
+use rules::wire;
 use table::layout;
 
 // The numbers of the two meters.
@@ -21,6 +22,9 @@ const WATER: u64 = 12;
 
 // A Node and the largest record fit.
 const MTU: usize = 135;
+
+// The longest digest.
+const DIGEST: usize = wire::COUNT_WIDTH + sizes::NODES * wire::ENTRY_WIDTH;
 
 fn say(text: &[u8]) {
     io::write_all(STDOUT_FILENO, text);
@@ -193,7 +197,7 @@ fn say_exchange(i: u64, e: Exchanged, answers: &[u8]) {
 
 // One exchange: nothing is left out, and the nodes go by their numbers.
 fn step(i: u64, publisher: &[u8], follower: &mut [u8], clock: u64) {
-    let mut digest = [0u8; 258];
+    let mut digest = [0u8; DIGEST];
     let mut delta = [0u8; MTU];
     let mut answers = [0u8; sizes::NODES];
     let none = [0u64; 0];

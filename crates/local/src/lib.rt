@@ -4,8 +4,7 @@
 use local_node::Kind;
 use rules::Answer;
 use rules::Refusal;
-use table::layout;
-use table_read::Place;
+use table_read::Span;
 ghost use mathlib.Core.Path.{_≡_};
 ghost use mathlib.Core.Bool.{true};
 ghost use Rattle.rules.specs.Given.{Gives};
@@ -28,13 +27,11 @@ pub fn write_good(
     ensures { λ r. ⌜ Gives (stored (call (callOf kind (now (value .entry)) clock) number (now (key .entry)) (decode (now (table .entry)))))
         r (now (table .exit)) ⌝ }
 {
-    match table_read::find_node(table, number) {
-        Place::At(i) => {
-            let a = layout::NODES + i * layout::NODE;
-            let e = a + layout::NODE;
-            local_node::write_node(&mut table[a..e], kind, key, value, clock)
+    match table_read::node_span(table, number) {
+        Span::Held { start, end } => {
+            local_node::write_node(&mut table[start..end], kind, key, value, clock)
         }
-        Place::Free(_) => Answer::Refused(Refusal::NoNode),
+        Span::Missing => Answer::Refused(Refusal::NoNode),
     }
 }
 

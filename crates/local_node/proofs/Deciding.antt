@@ -1,8 +1,8 @@
 -- The steps of a decision come to the rules' own, given what finding the key says. Assumes nothing.
 use Prim.Native.Nat.{ℕ, _≤_, _<_}
 use mathlib.Core.Path.{_≡_, refl, ap, sym, _∙_}
-use mathlib.Core.Bool.{Bool, true, false, _&&_}
-use mathlib.Core.List.{List, []}
+use mathlib.Core.Bool.{Bool, true, false}
+use mathlib.Core.List.{List}
 use mathlib.Core.Option.{Option, none, some}
 use native.Mathlib.Omega.{arith}
 use lib.ListN.{length}
@@ -11,13 +11,14 @@ use borrow.Author.Tests.{le-leb, lt-leb}
 use Rattle.fields.specs.Choice.{pick}
 use Rattle.fields.specs.Order.{sameBytes}
 use Rattle.fields.proofs.Choice.{pick-true, pick-false, and-intro, and-yes, and-no}
-use Rattle.rules.specs.Sizes.{maxRecords, maxKey, maxValue, top}
+use Rattle.rules.specs.Sizes.{maxKey, maxValue, top}
 use Rattle.rules.specs.Delta.{statusByte}
-use Rattle.rules.specs.Node.{Rec, Node, Change, Call, Deleting, DeletingAfterTtl, Decision, Refuse, Leave, Give, sameStatus, brought, find, unlessSame, ifThere, wish, fullFor, allowed, decide}
+use Rattle.rules.specs.Node.{Rec, Node, Change, Call, Decision, Refuse, Leave, Give, sameStatus, brought, find, unlessSame, ifThere, wish, fullFor, allowed, decide}
 use Rattle.rules.specs.declared.Status.{Status}
 use Rattle.rules.specs.declared.Status.the-variants.{Set, Delete, Ttl}
 use Rattle.rules.specs.declared.Refusal.the-variants.{TooLong, NoKey, NodeFull, Exhausted}
-use Rattle.local_node.specs.Writes.{deleted, expired, alike, rising, adding, changing, within, setting}
+use Rattle.table_read.specs.declared.Place.the-variants.{At, Free}
+use Rattle.local_node.specs.Writes.{deleting, dropped, alike, granted, changing, within, setting}
 
 -- ---- the same value and status
 
@@ -62,57 +63,61 @@ module _ (k : List ℕ) (n : Node) (c : Change) where
   abbrev next : Option Rec → Decision
   next o = pick (fullFor o n) (Refuse NodeFull) (pick (ltb (n .max) top) (Give c) (Refuse Exhausted))
 
-  allowed-at : {r : Rec} → find k (n .recs) ≡ some r → allowed k n (Give c) ≡ rising c n
-  unfolding rising
-  allowed-at e = ap next e
+  allowed-at : {r : Rec} (j : ℕ) → find k (n .recs) ≡ some r → allowed k n (Give c) ≡ granted (At j) c n
+  unfolding granted
+  allowed-at j e = ap next e
 
-  allowed-new : find k (n .recs) ≡ none → allowed k n (Give c) ≡ adding c n
-  unfolding rising adding
-  allowed-new e = ap next e
+  allowed-new : (j : ℕ) → find k (n .recs) ≡ none → allowed k n (Give c) ≡ granted (Free j) c n
+  unfolding granted
+  allowed-new j e = ap next e
 
   -- ---- a set
 
-  pub set-at : {r : Rec} → length k ≤ maxKey → length (c .value) ≤ maxValue → find k (n .recs) ≡ some r → setting k c n ≡ changing r c n
+  pub set-at : {r : Rec} (j : ℕ) → length k ≤ maxKey → length (c .value) ≤ maxValue → find k (n .recs) ≡ some r → setting k c n ≡ changing j r c n
   unfolding setting changing
-  set-at {r} g h e =
+  set-at {r} j g h e =
       not-long k (c .value) (allowed k n (unlessSame (find k (n .recs)) c)) g h
       ∙ ap (λ (o : Option Rec). allowed k n (unlessSame o c)) e
       ∙ go (alike r (c .value) (c .status))
     where
-      go : (t : Bool) → allowed k n (pick t Leave (Give c)) ≡ pick t Leave (rising c n)
+      go : (t : Bool) → allowed k n (pick t Leave (Give c)) ≡ pick t Leave (granted (At j) c n)
       go true = refl
-      go false = allowed-at e
+      go false = allowed-at j e
 
-  pub set-new : length k ≤ maxKey → length (c .value) ≤ maxValue → find k (n .recs) ≡ none → setting k c n ≡ adding c n
+  pub set-new : (j : ℕ) → length k ≤ maxKey → length (c .value) ≤ maxValue → find k (n .recs) ≡ none → setting k c n ≡ granted (Free j) c n
   unfolding setting
-  set-new g h e =
+  set-new j g h e =
       not-long k (c .value) (allowed k n (unlessSame (find k (n .recs)) c)) g h
       ∙ ap (λ (o : Option Rec). allowed k n (unlessSame o c)) e
-      ∙ allowed-new e
+      ∙ allowed-new j e
 
--- ---- the two deletes: f is what the record there becomes
+-- ---- the two deletes
 
-module _ (k : List ℕ) (n : Node) (c : Call) (f : Rec → Change) (w : (o : Option Rec) → wish c o ≡ ifThere o f) (none-brought : length (brought c) ≤ maxValue) where
+wished : (keeps : Bool) (t : ℕ) (o : Option Rec) → wish (deleting keeps t) o ≡ ifThere o (dropped keeps t)
+unfolding wish
+wished true t o = refl
+wished false t o = refl
+
+none-brought : (keeps : Bool) (t : ℕ) → length (brought (deleting keeps t)) ≤ maxValue
+none-brought true t = omega arith
+none-brought false t = omega arith
+
+module _ (k : List ℕ) (n : Node) (keeps : Bool) (t : ℕ) where
+  abbrev c : Call
+  c = deleting keeps t
+
   pub delete-long : maxKey < length k → decide c k n ≡ Refuse TooLong
   unfolding decide within
   delete-long h = key-long k (brought c) (allowed k n (wish c (find k (n .recs)))) h
 
-  there : length k ≤ maxKey → (o : Option Rec) → find k (n .recs) ≡ o → decide c k n ≡ allowed k n (ifThere o f)
+  there : length k ≤ maxKey → (o : Option Rec) → find k (n .recs) ≡ o → decide c k n ≡ allowed k n (ifThere o (dropped keeps t))
   unfolding decide within
   there g o e =
-      not-long k (brought c) (allowed k n (wish c (find k (n .recs)))) g none-brought
-      ∙ ap (allowed k n) (w (find k (n .recs)) ∙ ap (λ (x : Option Rec). ifThere x f) e)
+      not-long k (brought c) (allowed k n (wish c (find k (n .recs)))) g (none-brought keeps t)
+      ∙ ap (allowed k n) (wished keeps t (find k (n .recs)) ∙ ap (λ (x : Option Rec). ifThere x (dropped keeps t)) e)
 
-  pub delete-at : {r : Rec} → length k ≤ maxKey → find k (n .recs) ≡ some r → decide c k n ≡ rising (f r) n
-  delete-at {r} g e = there g (some r) e ∙ allowed-at k n (f r) e
+  pub delete-at : {r : Rec} (j : ℕ) → length k ≤ maxKey → find k (n .recs) ≡ some r → decide c k n ≡ granted (At j) (dropped keeps t r) n
+  delete-at {r} j g e = there g (some r) e ∙ allowed-at k n (dropped keeps t r) j e
 
   pub delete-none : length k ≤ maxKey → find k (n .recs) ≡ none → decide c k n ≡ Refuse NoKey
   delete-none g e = there g none e
-
-pub deleted-wished : (t : ℕ) (o : Option Rec) → wish (Deleting t) o ≡ ifThere o (deleted t)
-unfolding wish
-deleted-wished t o = refl
-
-pub expired-wished : (t : ℕ) (o : Option Rec) → wish (DeletingAfterTtl t) o ≡ ifThere o (expired t)
-unfolding wish
-expired-wished t o = refl

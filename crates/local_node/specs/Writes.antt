@@ -1,71 +1,113 @@
 -- The steps of a local call's decision, as the code takes them, and what a node's bytes are afterwards. That these steps come to the rules' own
 -- `decide` is proved (proofs/Deciding.antt).
 use Prim.Native.Nat.{ℕ}
-use mathlib.Core.Path.{_≡_}
-use mathlib.Core.Bool.{Bool, _&&_}
-use mathlib.Core.List.{List, []}
+use mathlib.Core.Bool.{Bool, false, _&&_}
+use mathlib.Core.List.{[]}
 use lib.ListN.{length}
 use lib.Dec.{leb, ltb}
 use Rattle.fields.specs.Choice.{pick}
+use Rattle.fields.specs.Numbers.{Bytes}
 use Rattle.fields.specs.Order.{sameBytes}
+use Rattle.fields.specs.Parts.{put}
+use Rattle.rules.specs.Given.{Given, given}
 use Rattle.rules.specs.Sizes.{maxRecords, maxKey, maxValue, top}
-use Rattle.rules.specs.Node.{Rec, Node, Change, Call, Setting, SettingTtl, Deleting, DeletingAfterTtl, Decision, Refuse, Leave, Give, sameStatus, find, unlessSame, allowed, act}
+use Rattle.rules.specs.Node.{Rec, Node, Change, Call, Setting, SettingTtl, Deleting, DeletingAfterTtl, Decision, Refuse, Leave, Give, sameStatus, find, store, unlessSame, allowed, decide, act}
 use Rattle.rules.specs.Local.{answerOf}
+use Rattle.rules.specs.Table.{Entry}
 use Rattle.rules.specs.Layout.{encodeNode, decodeNode}
 use Rattle.rules.specs.declared.Status.{Status}
 use Rattle.rules.specs.declared.Status.the-variants.{Delete, Ttl}
 use Rattle.rules.specs.declared.Answer.{Answer}
 use Rattle.rules.specs.declared.Refusal.the-variants.{TooLong, NodeFull, Exhausted}
-use Rattle.table.specs.Changes.{withNode}
+use Rattle.table.specs.Changes.{withNode, withRecs}
+use Rattle.table.specs.Places.{recAt}
+use Rattle.table_read.specs.declared.Place.{Place}
+use Rattle.table_read.specs.declared.Place.the-variants.{At, Free}
 use Rattle.local_node.specs.declared.Kind.{Kind}
 use Rattle.local_node.specs.declared.Kind.the-variants as kind
 
+-- ---- the calls
+
 -- the call of a kind, with the value that a set brings
-abbrev pub callOf : Kind → List ℕ → ℕ → Call
+abbrev pub callOf : (kind : Kind) (value : Bytes) (now : ℕ) → Call
 callOf kind.Setting v now = Setting v
 callOf kind.SettingTtl v now = SettingTtl v now
 callOf kind.Deleting v now = Deleting now
 callOf kind.DeletingAfterTtl v now = DeletingAfterTtl now
 
--- the node in a node's bytes
-abbrev pub nodeIn : List ℕ → Node
-nodeIn b = decodeNode b .node
+-- a delete, and one after TTL, which keeps the value
+abbrev pub deleting : (keeps : Bool) (now : ℕ) → Call
+deleting keeps now = pick keeps (DeletingAfterTtl now) (Deleting now)
 
-abbrev pub changeOf : List ℕ → Status → ℕ → Change
+abbrev pub changeOf : (value : Bytes) (status : Status) (start : ℕ) → Change
 changeOf v s start = record { value = v; status = s; start = start }
 
 -- what a delete makes of the key's record, and what a delete after TTL makes of it
-abbrev pub deleted : ℕ → Rec → Change
+abbrev pub deleted : (now : ℕ) (rec : Rec) → Change
 deleted t r = changeOf [] Delete t
 
-abbrev pub expired : ℕ → Rec → Change
+abbrev pub expired : (now : ℕ) (rec : Rec) → Change
 expired t r = changeOf (r .kv .value) Ttl t
 
+abbrev pub dropped : (keeps : Bool) (now : ℕ) (rec : Rec) → Change
+dropped keeps t r = pick keeps (expired t r) (deleted t r)
+
+-- ---- the steps of a decision
+
 -- the record has this value and status already
-abbrev pub alike : Rec → List ℕ → Status → Bool
+abbrev pub alike : (rec : Rec) (value : Bytes) (status : Status) → Bool
 alike r v s = sameStatus (r .kv .status) s && sameBytes (r .kv .value) v
 
--- a change of a record that is there: 6
-unfoldable pub rising : Change → Node → Decision
-rising c n = pick (ltb (n .max) top) (Give c) (Refuse Exhausted)
+-- a key that belongs at this place would be the 33rd
+abbrev pub fullAt : (place : Place) (node : Node) → Bool
+fullAt (At j) n = false
+fullAt (Free j) n = leb maxRecords (length (n .recs))
 
--- a new key's record: 5, 6
-unfoldable pub adding : Change → Node → Decision
-adding c n = pick (leb maxRecords (length (n .recs))) (Refuse NodeFull) (rising c n)
+-- a change of the key's record, or a new one at this place: 5, 6
+unfoldable pub granted : (place : Place) (change : Change) (node : Node) → Decision
+granted p c n = pick (fullAt p n) (Refuse NodeFull) (pick (ltb (n .max) top) (Give c) (Refuse Exhausted))
 
--- a set of a record that is there: nothing to change, 6
-unfoldable pub changing : Rec → Change → Node → Decision
-changing r c n = pick (alike r (c .value) (c .status)) Leave (rising c n)
+-- a set of record j: nothing to change, 6
+unfoldable pub changing : (j : ℕ) (rec : Rec) (change : Change) (node : Node) → Decision
+changing j r c n = pick (alike r (c .value) (c .status)) Leave (granted (At j) c n)
 
 -- a key and a value within the sizes (1)
-unfoldable pub within : List ℕ → List ℕ → Decision → Decision
+unfoldable pub within : (key value : Bytes) (decision : Decision) → Decision
 within k v d = pick (leb (length k) maxKey && leb (length v) maxValue) d (Refuse TooLong)
 
 -- a set: 1, nothing to change, 5, 6
-unfoldable pub setting : List ℕ → Change → Node → Decision
+unfoldable pub setting : (key : Bytes) (change : Change) (node : Node) → Decision
 setting k c n = within k (c .value) (allowed k n (unlessSame (find k (n .recs)) c))
 
+-- ---- what becomes of the bytes
+
+-- the node in a node's bytes
+abbrev pub nodeIn : (node : Bytes) → Node
+nodeIn b = decodeNode b .node
+
+-- the record takes its place among the others
+abbrev pub withStored : (rec : Rec) (entry : Entry) → Entry
+withStored r e = withRecs (store r (e .node .recs)) e
+
+-- a value copied to the front of other bytes, and how long it is
+abbrev pub copied : (value out : Bytes) → Given ℕ Bytes
+copied v out = given (length v) (put 0 v out)
+
 -- what a decision answers, and the node's bytes after it
-pub record Acted (k : List ℕ) (d : Decision) (b : List ℕ) (r : Answer) (s : List ℕ) : Type 0 where
-  pub answer : r ≡ answerOf d
-  pub bytes : s ≡ encodeNode (withNode (act k d (nodeIn b)) (decodeNode b))
+abbrev pub decided : (key : Bytes) (decision : Decision) (node : Bytes) → Given Answer Bytes
+decided k d b = given (answerOf d) (encodeNode (withNode (act k d (nodeIn b)) (decodeNode b)))
+
+abbrev pub nodeGranted : (place : Place) (key : Bytes) (change : Change) (node : Bytes) → Given Answer Bytes
+nodeGranted p k c b = decided k (granted p c (nodeIn b)) b
+
+abbrev pub nodeSetAt : (j : ℕ) (key : Bytes) (change : Change) (node : Bytes) → Given Answer Bytes
+nodeSetAt j k c b = decided k (changing j (recAt j b) c (nodeIn b)) b
+
+abbrev pub nodeSet : (key : Bytes) (change : Change) (node : Bytes) → Given Answer Bytes
+nodeSet k c b = decided k (setting k c (nodeIn b)) b
+
+abbrev pub nodeDropped : (j : ℕ) (keeps : Bool) (now : ℕ) (key node : Bytes) → Given Answer Bytes
+nodeDropped j keeps now k b = nodeGranted (At j) k (dropped keeps now (recAt j b)) b
+
+abbrev pub nodeCalled : (call : Call) (key node : Bytes) → Given Answer Bytes
+nodeCalled c k b = decided k (decide c k (nodeIn b)) b

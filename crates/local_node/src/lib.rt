@@ -11,18 +11,22 @@ use rules::sizes;
 use table::layout;
 use table_read::Place;
 ghost use mathlib.Core.Path.{_≡_};
-ghost use mathlib.Core.Bool.{true, _&&_};
+ghost use mathlib.Core.Bool.{true, false};
 ghost use Prim.Native.Nat.{_≤_, _<_};
-ghost use lib.ListN.{length, take};
+ghost use lib.ListN.{length};
+ghost use Rattle.rules.specs.Given.{Gives};
 ghost use Rattle.rules.specs.Sizes.{maxKey, maxValue};
-ghost use Rattle.rules.specs.Node.{sameStatus, decide, Deleting, DeletingAfterTtl};
+ghost use Rattle.rules.specs.Node.{sameStatus};
 ghost use Rattle.rules.specs.Table.{keysRise};
+ghost use Rattle.rules.specs.Layout.{nodeWidth, encodeNode, decodeNode};
 ghost use Rattle.table.specs.Tests.{countOf, recsOf};
 ghost use Rattle.table.specs.Fits.{LaidNode};
-ghost use Rattle.table.proofs.Places.{recAt};
+ghost use Rattle.table.specs.Places.{recAt};
+ghost use Rattle.table.specs.Changes.{recOf};
 ghost use Rattle.table_read.specs.Find.{findKey};
-ghost use Rattle.table_read.specs.declared.Place.the-variants.{At, Free};
-ghost use Rattle.local_node.specs.Writes.{Acted, nodeIn, changeOf, alike, rising, adding, expired, changing, setting, callOf};
+ghost use Rattle.table_read.specs.declared.Place.the-variants.{At};
+ghost use Rattle.local_node.specs.Writes.{nodeIn, changeOf, alike, fullAt, callOf, deleting};
+ghost use Rattle.local_node.specs.Writes.{withStored, copied, nodeGranted, nodeSetAt, nodeSet, nodeDropped, nodeCalled};
 
 // Which of the four calls.
 pub enum Kind {
@@ -53,33 +57,51 @@ fn is_same(node: &[u8], j: usize, value: &[u8], status: Status) -> bool
     false
 }
 
-// Record `j`, which has the key, changes: 6, or max rises and the record takes that version.
-fn rewrite(
+// Whether a key that belongs at this place would be the 33rd.
+fn is_full(node: &[u8], place: Place) -> bool
+    requires { ⌜ length (now node) ≡ nodeWidth ⌝ }
+    ensures { λ r. ⌜ r ≡ fullAt place (nodeIn (now (node .entry))) ⌝ }
+{
+    match place {
+        Place::At(_) => false,
+        Place::Free(_) => Header::RECORDS <= fields::byte_at(node, layout::RECORD_COUNT),
+    }
+}
+
+// A record takes its place: that of its key's record, or its own in the order of the keys.
+fn place_record(
     node: &mut [u8],
-    j: usize,
+    place: Place,
+    key: &[u8],
+    value: &[u8],
+    version: u64,
+    status: Status,
+    start: u64,
+)
+    requires { ⌜ LaidNode (now node) × (findKey (now key) (recsOf (now node)) ≡ place) × (fullAt place (nodeIn (now node)) ≡ false)
+        × (length (now key) ≤ maxKey) × (length (now value) ≤ maxValue) ⌝ }
+    ensures { λ _. ⌜ now (node .exit) ≡ encodeNode
+        (withStored (recOf (now (key .entry)) (now (value .entry)) version status start) (decodeNode (now (node .entry)))) ⌝ }
+{
+    match place {
+        Place::At(j) => table_write::put_record(node, j, key, value, version, status, start),
+        Place::Free(j) => table_write::insert_record(node, j, key, value, version, status, start),
+    }
+}
+
+// The record of a key changes, or comes new at this place: 5, 6, or max rises and the record takes that version.
+fn grant(
+    node: &mut [u8],
+    place: Place,
     key: &[u8],
     value: &[u8],
     status: Status,
     start: u64,
 ) -> Answer
-    requires { ⌜ LaidNode (now node) × (findKey (now key) (recsOf (now node)) ≡ At j) × (length (now key) ≤ maxKey) × (length (now value) ≤ maxValue) ⌝ }
-    ensures { λ r. ⌜ Acted (now (key .entry)) (rising (changeOf (now (value .entry)) status start) (nodeIn (now (node .entry)))) (now (node .entry)) r (now (node .exit)) ⌝ }
+    requires { ⌜ LaidNode (now node) × (findKey (now key) (recsOf (now node)) ≡ place) × (length (now key) ≤ maxKey) × (length (now value) ≤ maxValue) ⌝ }
+    ensures { λ r. ⌜ Gives (nodeGranted place (now (key .entry)) (changeOf (now (value .entry)) status start) (now (node .entry))) r (now (node .exit)) ⌝ }
 {
-    let max = fields::read_u64(node, layout::MAX);
-    if max == sizes::TOP {
-        return Answer::Refused(Refusal::Exhausted);
-    }
-    table_write::set_max(node, max + 1);
-    table_write::put_record(node, j, key, value, max + 1, status, start);
-    Answer::Done
-}
-
-// A new key's record, which belongs before record `j`: 5, 6, or max rises and the record takes that version.
-fn add(node: &mut [u8], j: usize, key: &[u8], value: &[u8], status: Status, start: u64) -> Answer
-    requires { ⌜ LaidNode (now node) × (findKey (now key) (recsOf (now node)) ≡ Free j) × (length (now key) ≤ maxKey) × (length (now value) ≤ maxValue) ⌝ }
-    ensures { λ r. ⌜ Acted (now (key .entry)) (adding (changeOf (now (value .entry)) status start) (nodeIn (now (node .entry)))) (now (node .entry)) r (now (node .exit)) ⌝ }
-{
-    if Header::RECORDS <= fields::byte_at(node, layout::RECORD_COUNT) {
+    if is_full(node, place) {
         return Answer::Refused(Refusal::NodeFull);
     }
     let max = fields::read_u64(node, layout::MAX);
@@ -87,25 +109,25 @@ fn add(node: &mut [u8], j: usize, key: &[u8], value: &[u8], status: Status, star
         return Answer::Refused(Refusal::Exhausted);
     }
     table_write::set_max(node, max + 1);
-    table_write::insert_record(node, j, key, value, max + 1, status, start);
+    place_record(node, place, key, value, max + 1, status, start);
     Answer::Done
 }
 
 // A set of record `j`, which has the key: nothing to change, 6, or the change.
 fn set_at(node: &mut [u8], j: usize, key: &[u8], value: &[u8], status: Status, start: u64) -> Answer
     requires { ⌜ LaidNode (now node) × (findKey (now key) (recsOf (now node)) ≡ At j) × (length (now key) ≤ maxKey) × (length (now value) ≤ maxValue) ⌝ }
-    ensures { λ r. ⌜ Acted (now (key .entry)) (changing (recAt j (now (node .entry))) (changeOf (now (value .entry)) status start) (nodeIn (now (node .entry)))) (now (node .entry)) r (now (node .exit)) ⌝ }
+    ensures { λ r. ⌜ Gives (nodeSetAt j (now (key .entry)) (changeOf (now (value .entry)) status start) (now (node .entry))) r (now (node .exit)) ⌝ }
 {
     if is_same(node, j, value, status) {
         return Answer::Done;
     }
-    rewrite(node, j, key, value, status, start)
+    grant(node, Place::At(j), key, value, status, start)
 }
 
 // A set: 1, nothing to change, 5, 6, or the change.
 fn set_key(node: &mut [u8], key: &[u8], value: &[u8], status: Status, start: u64) -> Answer
     requires { ⌜ LaidNode (now node) × (keysRise (recsOf (now node)) ≡ true) ⌝ }
-    ensures { λ r. ⌜ Acted (now (key .entry)) (setting (now (key .entry)) (changeOf (now (value .entry)) status start) (nodeIn (now (node .entry)))) (now (node .entry)) r (now (node .exit)) ⌝ }
+    ensures { λ r. ⌜ Gives (nodeSet (now (key .entry)) (changeOf (now (value .entry)) status start) (now (node .entry))) r (now (node .exit)) ⌝ }
 {
     if Record::KEY < key.len() {
         return Answer::Refused(Refusal::TooLong);
@@ -115,54 +137,43 @@ fn set_key(node: &mut [u8], key: &[u8], value: &[u8], status: Status, start: u64
     }
     match table_read::search_key(node, key) {
         Place::At(j) => set_at(node, j, key, value, status, start),
-        Place::Free(j) => add(node, j, key, value, status, start),
-    }
-}
-
-// A delete: 1, 3, 6, or the value is emptied.
-fn delete_key(node: &mut [u8], key: &[u8], clock: u64) -> Answer
-    requires { ⌜ LaidNode (now node) × (keysRise (recsOf (now node)) ≡ true) ⌝ }
-    ensures { λ r. ⌜ Acted (now (key .entry)) (decide (Deleting clock) (now (key .entry)) (nodeIn (now (node .entry)))) (now (node .entry)) r (now (node .exit)) ⌝ }
-{
-    if Record::KEY < key.len() {
-        return Answer::Refused(Refusal::TooLong);
-    }
-    match table_read::search_key(node, key) {
-        Place::At(j) => rewrite(node, j, key, b"", Status::Delete, clock),
-        Place::Free(_) => Answer::Refused(Refusal::NoKey),
+        Place::Free(j) => grant(node, Place::Free(j), key, value, status, start),
     }
 }
 
 // The value of record `j`, copied to the front of `out`: how many bytes it has.
 fn copy_value(node: &[u8], j: usize, out: &mut [u8]) -> usize
     requires { ⌜ LaidNode (now node) × (j < countOf (now node)) × (length (now out) ≡ maxValue) ⌝ }
-    ensures { λ r. ⌜ (r ≤ maxValue) × (r ≡ length (recAt j (now (node .entry)) .kv .value)) × (take r (now (out .exit)) ≡ recAt j (now (node .entry)) .kv .value) ⌝ }
+    ensures { λ r. ⌜ Gives (copied (recAt j (now (node .entry)) .kv .value) (now (out .entry))) r (now (out .exit)) ⌝ }
 {
     let value = table::value_of(table::record_of(node, j));
     fields::copy_to(out, 0, value);
     value.len()
 }
 
-// A delete after TTL of record `j`, which has the key: 6, or it is scheduled and keeps its value.
-fn expire_at(node: &mut [u8], j: usize, key: &[u8], clock: u64) -> Answer
+// A delete of record `j`, which has the key, or one after TTL, which keeps the value: 6, or the record is scheduled.
+fn delete_at(node: &mut [u8], j: usize, key: &[u8], keeps: bool, clock: u64) -> Answer
     requires { ⌜ LaidNode (now node) × (findKey (now key) (recsOf (now node)) ≡ At j) × (length (now key) ≤ maxKey) ⌝ }
-    ensures { λ r. ⌜ Acted (now (key .entry)) (rising (expired clock (recAt j (now (node .entry)))) (nodeIn (now (node .entry)))) (now (node .entry)) r (now (node .exit)) ⌝ }
+    ensures { λ r. ⌜ Gives (nodeDropped j keeps clock (now (key .entry)) (now (node .entry))) r (now (node .exit)) ⌝ }
 {
-    let mut held = [0u8; 64];
-    let n = copy_value(node, j, &mut held);
-    rewrite(node, j, key, &held[..n], Status::Ttl, clock)
+    if keeps {
+        let mut held = [0u8; Record::VALUE];
+        let n = copy_value(node, j, &mut held);
+        return grant(node, Place::At(j), key, &held[..n], Status::Ttl, clock);
+    }
+    grant(node, Place::At(j), key, b"", Status::Delete, clock)
 }
 
-// A delete after TTL: 1, 3, 6, or the record is scheduled and keeps its value.
-fn expire_key(node: &mut [u8], key: &[u8], clock: u64) -> Answer
+// A delete, or one after TTL: 1, 3, 6, or the key's record is scheduled.
+fn delete_key(node: &mut [u8], key: &[u8], keeps: bool, clock: u64) -> Answer
     requires { ⌜ LaidNode (now node) × (keysRise (recsOf (now node)) ≡ true) ⌝ }
-    ensures { λ r. ⌜ Acted (now (key .entry)) (decide (DeletingAfterTtl clock) (now (key .entry)) (nodeIn (now (node .entry)))) (now (node .entry)) r (now (node .exit)) ⌝ }
+    ensures { λ r. ⌜ Gives (nodeCalled (deleting keeps clock) (now (key .entry)) (now (node .entry))) r (now (node .exit)) ⌝ }
 {
     if Record::KEY < key.len() {
         return Answer::Refused(Refusal::TooLong);
     }
     match table_read::search_key(node, key) {
-        Place::At(j) => expire_at(node, j, key, clock),
+        Place::At(j) => delete_at(node, j, key, keeps, clock),
         Place::Free(_) => Answer::Refused(Refusal::NoKey),
     }
 }
@@ -170,12 +181,12 @@ fn expire_key(node: &mut [u8], key: &[u8], clock: u64) -> Answer
 // One of the four calls at a key of a node. The deletes bring no value.
 pub fn write_node(node: &mut [u8], kind: Kind, key: &[u8], value: &[u8], clock: u64) -> Answer
     requires { ⌜ LaidNode (now node) × (keysRise (recsOf (now node)) ≡ true) ⌝ }
-    ensures { λ r. ⌜ Acted (now (key .entry)) (decide (callOf kind (now (value .entry)) clock) (now (key .entry)) (nodeIn (now (node .entry)))) (now (node .entry)) r (now (node .exit)) ⌝ }
+    ensures { λ r. ⌜ Gives (nodeCalled (callOf kind (now (value .entry)) clock) (now (key .entry)) (now (node .entry))) r (now (node .exit)) ⌝ }
 {
     match kind {
         Kind::Setting => set_key(node, key, value, Status::Set, 0),
         Kind::SettingTtl => set_key(node, key, value, Status::Ttl, clock),
-        Kind::Deleting => delete_key(node, key, clock),
-        Kind::DeletingAfterTtl => expire_key(node, key, clock),
+        Kind::Deleting => delete_key(node, key, false, clock),
+        Kind::DeletingAfterTtl => delete_key(node, key, true, clock),
     }
 }

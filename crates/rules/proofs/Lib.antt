@@ -23,6 +23,7 @@ pub mod OneNode
 pub mod Accepted
 pub mod Calls
 pub mod Unique
+pub mod Told
 pub mod Refusing
 pub mod EachNode
 pub mod Nearer

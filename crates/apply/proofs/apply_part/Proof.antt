@@ -6,7 +6,7 @@ use Rattle.rules.specs.Delta.{Part}
 use Rattle.table_read.specs.Find.{spanIn}
 use Rattle.table_read.specs.declared.Span.the-variants.{Held}
 use Rattle.table_read.proofs.Held.{node-end, node-fits}
-use Rattle.delta_read.specs.NodeDeltas.{partAt}
+use Rattle.delta_read.specs.NodeDeltas.{nodeDeltaAt}
 use Rattle.apply.proofs.Applied.{lent-rising, part-held, part-missing, numbers-read}
 use borrow.Author.Needs.{needs}
 use Rattle.apply.proofs.apply_part.Statement.{statement}
@@ -21,7 +21,7 @@ entry c = read c .before .before .before .before .before
 
 -- the node delta, and where its node stands
 abbrev part : tie.After-node-span → Part
-part c = partAt (entry c .args .delta .now) (entry c .args .at) (entry c .args .max)
+part c = nodeDeltaAt (entry c .args .delta .now) (entry c .args .at) (entry c .args .max)
 
 found : (c : tie.After-node-span) → spanIn (part c .number) (entry c .args .table .now) ≡ c .node-span .result
 found c = ap (λ (n : ℕ). spanIn n (entry c .args .table .now)) (sym (read c .before .before .read-u64 .ensures)) ∙ sym (c .node-span .ensures)

@@ -2,7 +2,7 @@
 use native.Mathlib.Omega.{arith}
 use Rattle.fields.specs.Blocks.{flat}
 use Rattle.fields.proofs.Lent.{lent-rest-put}
-use Rattle.rules.specs.Digest.{digestOf, entryBytes}
+use Rattle.rules.specs.Digest.{countWidth, digestOf, entryBytes}
 use Rattle.rules.specs.Layout.{decode}
 use Rattle.digest_write.proofs.Outcomes.{stored}
 use borrow.Author.Needs.{needs}
@@ -36,7 +36,7 @@ returns c =
     let r = s .pre .1 in
     let w = c .before .before .write-entries in
     stored ds (s .args .count) (s .args .datagram .now) x _ (s .pre .2) (omega arith) (c .before .before .before .before .before .before .write-u16 .ensures)
-    (lent-rest-put 2 0 (flat entryBytes ds) x (w .last .1 .1 .0) (omega arith) (w .ensures))
+    (lent-rest-put countWidth 0 (flat entryBytes ds) x (w .last .1 .1 .0) (omega arith) (w .ensures))
 
 pub store-digest-spec : {M : Type 1} → statement M
 store-digest-spec =

@@ -42,7 +42,9 @@ sub-if3 c = search needs
 returns-2 : tie.Need-returns-2
 returns-2 c =
     let a = c .before .before .before .before .before .before .before .before .args in
-    no-room (a .excluded .now) (a .place) (a .datagram .now) (a .table .now) (good (c .before .before .before)) (c .before .count-written .result) (c .before .count-written .ensures .0) (omega arith) (omega arith)
+    let n = c .before .count-written in
+    no-room (a .excluded .now) (a .place) (a .datagram .now) (a .table .now) (good (c .before .before .before)) (n .result) (n .ensures .0) (omega arith)
+    (omega arith)
 
 sub-store-digest : tie.Need-sub-store-digest
 sub-store-digest c = search needs
@@ -68,8 +70,11 @@ returns-3 c =
     let a = c .before .before .before .before .before .before .before .before .before .before .before .before .args in
     let b = digestBytes (digestOf (a .excluded .now) (decode (a .table .now))) in
     let w = c .before .before .store-digest in
-    written (a .excluded .now) (a .place) (a .datagram .now) (a .table .now) (good (c .before .before .before .before .before .before .before)) (c .before .before .before .before .before .count-written .result) (c .before .before .before .before .before .count-written .ensures .0) (omega arith) _ (omega arith)
-    (lent-rest-put (a .place) 0 b (a .datagram .now) (w .last .1 .1 .0) (omega arith) (w .ensures) ∙ ap (λ (n : ℕ). put n b (a .datagram .now)) (add-zero (a .place)))
+    let n = c .before .before .before .before .before in
+    written (a .excluded .now) (a .place) (a .datagram .now) (a .table .now) (good (n .before .before)) (n .count-written .result)
+    (n .count-written .ensures .0) (omega arith) _ (omega arith)
+    (lent-rest-put (a .place) 0 b (a .datagram .now) (w .last .1 .1 .0) (omega arith) (w .ensures)
+    ∙ ap (λ (n : ℕ). put n b (a .datagram .now)) (add-zero (a .place)))
 
 returns-4 : tie.Need-returns-4
 returns-4 c =

@@ -9,7 +9,7 @@ use borrow.Rule.Slice.PartMut.{putMid}
 use borrow.Author.Needs.{needs}
 use Rattle.fields.specs.Parts.{put}
 use Rattle.fields.proofs.Lent.{lent-put}
-use Rattle.rules.specs.Digest.{NodeDigest, digestOfNode, entryBytes}
+use Rattle.rules.specs.Digest.{NodeDigest, digestOfNode, entryBytes, entryWidth}
 use Rattle.rules.specs.Layout.{decodeNode}
 use Rattle.rules.proofs.Digests.{entry-long}
 use Rattle.digest_read.specs.Held.{back}
@@ -26,21 +26,32 @@ Inv-loop table excluded d₀ nodes at₀ i₀ d at i = (nodes ≡ nodesOf table)
 abbrev μ-loop : tie.MeasureT-loop
 μ-loop table excluded d₀ nodes at₀ i₀ d at i = nodes - i
 
+-- the loop that an entry was read in, and what is lent
+abbrev turn : tie.After-entry-of Inv-loop μ-loop → tie.At-loop Inv-loop μ-loop
+turn c = c .before .before .before
+
+abbrev entry : tie.At-loop Inv-loop μ-loop → tie.Start Inv-loop μ-loop
+entry q = q .before .before .before .before .before
+
 -- the entry is that of the node reached
-entry-is : (c : tie.After-entry-of Inv-loop μ-loop)
-    → back (c .entry-of .result) ≡ digestOfNode (nodeAt (c .before .before .before .loop .i) (c .before .before .before .before .before .before .before .before .args .table .now))
+entry-is : (c : tie.After-entry-of Inv-loop μ-loop) → back (c .entry-of .result) ≡ digestOfNode (nodeAt (turn c .loop .i) (entry (turn c) .args .table .now))
 entry-is c = ap back (c .entry-of .ensures) ∙ ap (λ (b : List ℕ). digestOfNode (decodeNode b)) (c .before .node-of .ensures)
 
 -- whether it is excluded is answered of its own number
 asked : (c : tie.After-is-excluded Inv-loop μ-loop)
-    → among (nodeAt (c .before .before .before .before .loop .i) (c .before .before .before .before .before .before .before .before .before .args .table .now) .number) (c .before .before .before .before .before .before .before .before .before .args .excluded .now) ≡ c .is-excluded .result
-asked c = ap (λ (x : NodeDigest). among (x .number) (c .before .before .before .before .before .before .before .before .before .args .excluded .now)) (sym (entry-is (c .before))) ∙ sym (c .is-excluded .ensures)
+    → let q = turn (c .before) in
+    let a = entry q .args in
+    among (nodeAt (q .loop .i) (a .table .now) .number) (a .excluded .now) ≡ c .is-excluded .result
+asked c =
+    let a = entry (turn (c .before)) .args in
+    ap (λ (x : NodeDigest). among (x .number) (a .excluded .now)) (sym (entry-is (c .before))) ∙ sym (c .is-excluded .ensures)
 
 -- there is room for an entry
-free : (c : tie.Else1 Inv-loop μ-loop) → c .before .before .before .before .before .loop .at + 32 ≤ length (c .before .before .before .before .before .loop .datagram)
+free : (c : tie.Else1 Inv-loop μ-loop) → let l = turn (c .before .before) .loop in l .at + entryWidth ≤ length (l .datagram)
 free c =
-    let a = c .before .before .before .before .before .before .before .before .before .before .args in
-    let l = c .before .before .before .before .before .loop in
+    let q = turn (c .before .before) in
+    let a = entry q .args in
+    let l = q .loop in
     writes-room (a .excluded .now) (a .table .now) (a .datagram .now) (l .at) (l .i) (l .datagram) (l .inv .1) (omega arith) (asked (c .before) ∙ c .if1 .left)
 
 byte-at-requires : tie.Need-byte-at-requires Inv-loop μ-loop
@@ -54,7 +65,7 @@ node-of-requires c κs = search needs
 
 entry-of-requires : tie.Need-entry-of-requires Inv-loop μ-loop
 entry-of-requires c κs =
-    let s = c .before .before .before .before .before .before .before in
+    let s = entry (c .before .before) in
     ap length (c .node-of .ensures) ∙ node-long (c .before .before .loop .i) (s .args .table .now) (s .pre .0 .long) (omega arith)
 
 is-excluded-requires : tie.Need-is-excluded-requires Inv-loop μ-loop
@@ -68,9 +79,11 @@ loop-less c = search needs
 
 loop-again : tie.Need-loop-again Inv-loop μ-loop
 loop-again c =
-    let a = c .before .before .before .before .before .before .before .before .before .before .args in
-    let l = c .before .before .before .before .before .loop in
-    (l .inv .0, writes-past (a .excluded .now) (a .table .now) (a .datagram .now) (l .at) (l .i) (l .datagram) (l .inv .1) (omega arith) (asked (c .before) ∙ c .if1 .taken))
+    let q = turn (c .before .before) in
+    let a = entry q .args in
+    let l = q .loop in
+    let t = asked (c .before) ∙ c .if1 .taken in
+    (l .inv .0, writes-past (a .excluded .now) (a .table .now) (a .datagram .now) (l .at) (l .i) (l .datagram) (l .inv .1) (omega arith) t)
 
 add-end : tie.Need-add-end Inv-loop μ-loop
 add-end c = search needs
@@ -96,15 +109,18 @@ loop-less-2 c = search needs
 loop-again-2 : tie.Need-loop-again-2 Inv-loop μ-loop
 loop-again-2 c =
     let e = c .before .before .before .before in
-    let a = c .before .before .before .before .before .before .before .before .before .before .before .before .before .before .args in
-    let l = c .before .before .before .before .before .before .before .before .before .loop in
+    let q = turn (e .before .before) in
+    let a = entry q .args in
+    let l = q .loop in
     let x = back (e .before .before .entry-of .result) in
     let k = entry-long x in
     let w = c .before .before .write-entry in
-    let p : putMid (l .at) (l .at + 32 - l .at) (l .datagram) (w .last .0) ≡ put (l .at) (entryBytes x) (l .datagram) =
-    lent-put (l .at) 32 0 (entryBytes x) (l .datagram) (w .last .0) (free e) (omega arith) (w .ensures) (w .kept .0)
+    let p : putMid (l .at) (l .at + entryWidth - l .at) (l .datagram) (w .last .0) ≡ put (l .at) (entryBytes x) (l .datagram) =
+    lent-put (l .at) entryWidth 0 (entryBytes x) (l .datagram) (w .last .0) (free e) (omega arith) (w .ensures) (w .kept .0)
     ∙ ap (λ (n : ℕ). put n (entryBytes x) (l .datagram)) (add-zero (l .at)) in
-    (l .inv .0, writes-next (a .excluded .now) (a .table .now) (a .datagram .now) (l .at) (l .i) (l .datagram) (l .inv .1) x _ (omega arith) (asked (e .before) ∙ e .if1 .left) (entry-is (e .before .before)) p)
+    let t = asked (e .before) ∙ e .if1 .left in
+    let n = entry-is (e .before .before) in
+    (l .inv .0, writes-next (a .excluded .now) (a .table .now) (a .datagram .now) (l .at) (l .i) (l .datagram) (l .inv .1) x _ (omega arith) t n p)
 
 same-length : tie.Need-same-length Inv-loop μ-loop
 same-length c = search needs

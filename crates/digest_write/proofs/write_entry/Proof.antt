@@ -12,14 +12,8 @@ write-u64-requires c κs = search needs
 write-u64-requires-2 : tie.Need-write-u64-requires-2
 write-u64-requires-2 c κs = search needs
 
-mul-write-u64 : tie.Need-mul-write-u64
-mul-write-u64 c = search needs
-
 write-u64-requires-3 : tie.Need-write-u64-requires-3
 write-u64-requires-3 c κs = search needs
-
-mul-write-u64-2 : tie.Need-mul-write-u64-2
-mul-write-u64-2 c = search needs
 
 write-u64-requires-4 : tie.Need-write-u64-requires-4
 write-u64-requires-4 c κs = search needs
@@ -29,8 +23,13 @@ same-length c = search needs
 
 returns : tie.Need-returns
 returns c =
-    let a = c .before .before .before .before .before .before .before .before .before .before .before .before .before .before .before .before .before .args in
-    entry-fields (back (a .entry)) (a .datagram .now) _ _ _ _ (omega arith) (c .before .before .before .before .before .before .before .before .before .before .before .before .before .before .write-u64 .ensures) (c .before .before .before .before .before .before .before .before .before .before .write-u642 .ensures) (c .before .before .before .before .before .before .write-u643 .ensures) (c .before .before .write-u644 .ensures)
+    let fourth = c .before .before in
+    let third = fourth .before .before .before .before in
+    let second = third .before .before .before .before in
+    let first = second .before .before .before .before in
+    let a = first .before .before .before .args in
+    entry-fields (back (a .entry)) (a .datagram .now) _ _ _ _ (omega arith) (first .write-u64 .ensures) (second .write-u642 .ensures)
+    (third .write-u643 .ensures) (fourth .write-u644 .ensures)
 
 pub write-entry-spec : {M : Type 1} → statement M
 write-entry-spec =
@@ -38,9 +37,7 @@ write-entry-spec =
     (tie.spec
     write-u64-requires
     write-u64-requires-2
-    mul-write-u64
     write-u64-requires-3
-    mul-write-u64-2
     write-u64-requires-4
     same-length
     returns)

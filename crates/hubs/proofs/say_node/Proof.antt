@@ -1,14 +1,15 @@
 -- `hubs::say_node` is safe and ends. Assumes nothing.
 use Prim.Native.Nat.{_≤_, _-_}
+use Rattle.rules.specs.Sizes.{maxRecords}
 use borrow.Author.Needs.{needs}
 use Rattle.hubs.proofs.say_node.Statement.{statement}
 use Rattle.hubs.proofs.say_node.Tie as tie
 
 abbrev Inv-loop : tie.InvT-loop
-Inv-loop hub number j₀ j = j ≤ 32
+Inv-loop hub number j₀ j = j ≤ maxRecords
 
 abbrev μ-loop : tie.MeasureT-loop
-μ-loop hub number j₀ j = 32 - j
+μ-loop hub number j₀ j = maxRecords - j
 
 loop-holds : tie.Need-loop-holds Inv-loop μ-loop
 loop-holds c = search needs

@@ -1,5 +1,5 @@
 -- `local::write` meets its contract: 14, or the call on a good table. Assumes nothing.
-use mathlib.Core.Path.{_≡_, sym, _∙_}
+use mathlib.Core.Path.{sym, _∙_}
 use Rattle.rules.specs.Local.{call}
 use Rattle.rules.specs.declared.Answer.the-variants.{Refused}
 use Rattle.rules.specs.declared.Refusal.the-variants.{BadTable}
@@ -8,10 +8,6 @@ use Rattle.local_node.specs.Writes.{callOf}
 use borrow.Author.Needs.{needs}
 use Rattle.local.proofs.write.Statement.{statement}
 use Rattle.local.proofs.write.Tie as tie
-use Rattle.local.proofs.write.Reads as reads
-use Rattle.local.proofs.write.Lts as lts
-use Rattle.local.proofs.write_good.Reads as write-good-reads
-use Rattle.table_check.proofs.check_table.Reads as check-table-reads
 
 check-table-requires : tie.Need-check-table-requires
 check-table-requires c κs = search needs

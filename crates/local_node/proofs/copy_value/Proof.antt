@@ -1,12 +1,10 @@
 -- `local_node::copy_value` meets its contract. Assumes nothing.
-use Prim.Native.Nat.{ℕ, _+_, _≤_}
+use Prim.Native.Nat.{ℕ, _≤_}
 use mathlib.Core.Path.{_≡_, ap, sym, _∙_, subst}
 use mathlib.Core.List.{List}
 use native.Mathlib.Omega.{arith}
-use lib.ListN.{length, take}
+use lib.ListN.{length}
 use Rattle.fields.specs.Parts.{put}
-use Rattle.fields.proofs.Parts.{part-put}
-use Rattle.fields.proofs.Lent.{seen-first}
 use Rattle.rules.specs.Sizes.{maxValue}
 use Rattle.rules.specs.Layout.{decodeRec}
 use Rattle.table.specs.Tests.{valueLength}
@@ -15,11 +13,6 @@ use Rattle.table.proofs.Laid.{laid-rec, laid-value, rec-long}
 use borrow.Author.Needs.{needs}
 use Rattle.local_node.proofs.copy_value.Statement.{statement}
 use Rattle.local_node.proofs.copy_value.Tie as tie
-use Rattle.local_node.proofs.copy_value.Reads as reads
-use Rattle.local_node.proofs.copy_value.Lts as lts
-use Rattle.fields.proofs.copy_to.Reads as copy-to-reads
-use Rattle.table.proofs.record_of.Reads as record-of-reads
-use Rattle.table.proofs.value_of.Reads as value-of-reads
 
 -- the value
 value : (c : tie.After-value-of) → c .value-of .result .now ≡ recAt ((c .before .before .before .before) .args .j) ((c .before .before .before .before) .args .node .now) .kv .value
@@ -29,9 +22,6 @@ short : (c : tie.After-value-of) → length (c .value-of .result .now) ≤ maxVa
 short c =
     let st = (c .before .before .before .before) in
     subst (λ (v : List ℕ). length v ≤ maxValue) (sym (value c)) (laid-rec (st .args .node .now) (st .pre .0) (st .args .j) (st .pre .1) .value-fits)
-
-front : (v l s : List ℕ) → length v ≤ length l → s ≡ put 0 v l → take (length v) s ≡ v
-front v l s h e = ap (take (length v)) e ∙ seen-first (length v) (put 0 v l) ∙ part-put 0 v l (omega arith)
 
 record-of-requires : tie.Need-record-of-requires
 record-of-requires c κs = search needs
@@ -51,13 +41,9 @@ same-length c = search needs
 
 returns : tie.Need-returns
 returns c =
-    let v = (c .before .before .before .before) in
-    let h = short v in
-    let w = (c .before .before .before .before .before .before .before .before) .pre .2 in (
-      h,
-      ap length (value v),
-      front (v .value-of .result .now) ((c .before .before .before .before .before .before .before .before) .args .out .now) ((c .before .before) .copy-to .last .0) (omega arith) ((c .before .before) .copy-to .ensures) ∙ value v,
-    )
+    let w = c .before .before in
+    let v = w .before .before in
+    (ap length (value v), w .copy-to .ensures ∙ ap (λ (x : List ℕ). put 0 x (v .before .before .before .before .args .out .now)) (value v))
 
 pub copy-value-spec : {M : Type 1} → statement M
 copy-value-spec =

@@ -1,40 +1,42 @@
--- `local_node::delete_key` meets its contract. Assumes nothing.
-use Prim.Native.Nat.{ℕ, _≤_}
+-- `local_node::delete_key` meets its contract: what finding the key says decides. Assumes nothing.
+use Prim.Native.Nat.{_≤_}
 use mathlib.Core.Path.{_≡_, sym, _∙_, subst}
-use mathlib.Core.List.{List}
 use native.Mathlib.Omega.{arith}
 use lib.ListN.{length}
-use Rattle.rules.specs.Sizes.{maxKey, maxValue}
-use Rattle.rules.specs.Node.{Decision, Deleting}
+use Rattle.rules.specs.Given.{Gives}
+use Rattle.rules.specs.Sizes.{maxKey}
+use Rattle.rules.specs.Node.{Decision}
 use Rattle.rules.specs.declared.Refusal.the-variants.{TooLong, NoKey}
 use Rattle.table.specs.Tests.{recsOf}
 use Rattle.table_read.specs.Find.{findKey}
 use Rattle.table_read.specs.declared.Place.the-variants.{At}
 use Rattle.table_read.proofs.Searched.{rec-found, rec-missing}
-use Rattle.local_node.specs.Writes.{Acted, nodeIn, deleted}
+use Rattle.local_node.specs.Writes.{decided, nodeIn}
 use Rattle.local_node.proofs.Acting.{refused}
-use Rattle.local_node.proofs.Deciding.{delete-long, delete-at, delete-none, deleted-wished}
+use Rattle.local_node.proofs.Deciding.{delete-long, delete-at as deciding-at, delete-none}
 use borrow.Author.Needs.{needs}
 use Rattle.local_node.proofs.delete_key.Statement.{statement}
 use Rattle.local_node.proofs.delete_key.Tie as tie
-use Rattle.local_node.proofs.delete_key.Reads as reads
-use Rattle.local_node.proofs.delete_key.Lts as lts
-use Rattle.table_read.proofs.search_key.Reads as search-key-reads
-use Rattle.local_node.proofs.rewrite.Reads as rewrite-reads
 
-key-fits : (c : tie.Else1) → length ((c .before .before .before) .args .key .now) ≤ maxKey
+abbrev entry : tie.Else1 → tie.Start
+entry c = c .before .before .before
+
+abbrev searched : tie.After-search-key → tie.Else1
+searched c = c .before .before
+
+key-fits : (c : tie.Else1) → length (entry c .args .key .now) ≤ maxKey
 key-fits c = omega arith
 
 -- where the key stands
-stands : (c : tie.After-j) → findKey ((c .before .before .before .before .before .before .before) .args .key .now) (recsOf ((c .before .before .before .before .before .before .before) .args .node .now)) ≡ At (c .j .given .0 .0)
-stands c = sym ((c .before .before) .search-key .ensures) ∙ c .j .given .1
+stands : (c : tie.After-j)
+    → let a = entry (searched (c .before .before)) .args in findKey (a .key .now) (recsOf (a .node .now)) ≡ At (c .j .given .0 .0)
+stands c = sym (c .before .before .search-key .ensures) ∙ c .j .given .1
 
 returns : tie.Need-returns
 returns c =
-    let st = (c .before .before .before) in
+    let st = c .before .before .before in
     let a = st .args in
-    refused (a .key .now) (a .node .now) (st .pre .0) _ TooLong
-    (delete-long (a .key .now) (nodeIn (a .node .now)) (Deleting (a .clock)) (deleted (a .clock)) (deleted-wished (a .clock)) (omega arith) (omega arith))
+    refused (a .key .now) (a .node .now) (st .pre .0) _ TooLong (delete-long (a .key .now) (nodeIn (a .node .now)) (a .keeps) (a .clock) (omega arith))
 
 search-key-requires : tie.Need-search-key-requires
 search-key-requires c κs = search needs
@@ -42,13 +44,11 @@ search-key-requires c κs = search needs
 enum-known-j : tie.Need-enum-known-j
 enum-known-j c = search needs
 
-slice-aggregate-rewrite : tie.Need-slice-aggregate-rewrite
-slice-aggregate-rewrite c = search needs
-
-rewrite-requires : tie.Need-rewrite-requires
-rewrite-requires c κs =
-    let st = (c .before .before .before .before .before .before .before .before .before .before) in
-    (st .pre .0, stands ((c .before .before .before)), key-fits ((c .before .before .before .before .before .before .before)), omega arith)
+delete-at-requires : tie.Need-delete-at-requires
+delete-at-requires c κs =
+    let j = c .before .before in
+    let e = searched (j .before .before) in
+    (entry e .pre .0, stands j, key-fits e)
 
 enum-told : tie.Need-enum-told
 enum-told c = search needs
@@ -58,24 +58,27 @@ same-length c = search needs
 
 returns-2 : tie.Need-returns-2
 returns-2 c =
-    let a = (c .before .before .before .before .before .before .before .before .before .before .before .before .before) .args in
-    let r = (c .before .before) .rewrite in
-    subst (λ (d : Decision). Acted (a .key .now) d (a .node .now) (r .result) (r .last .0))
+    let d = c .before .before .delete-at in
+    let j = c .before .before .before .before .before in
+    let e = searched (j .before .before) in
+    let a = entry e .args in
+    subst (λ (x : Decision). Gives (decided (a .key .now) x (a .node .now)) (d .result) (d .last .0))
     (sym
-    (delete-at (a .key .now) (nodeIn (a .node .now)) (Deleting (a .clock)) (deleted (a .clock)) (deleted-wished (a .clock)) (omega arith) (key-fits ((c .before .before .before .before .before .before .before .before .before .before)))
-    (rec-found (a .node .now) (a .key .now) _ (stands ((c .before .before .before .before .before .before))))))
-    (r .ensures)
+    (deciding-at (a .key .now) (nodeIn (a .node .now)) (a .keeps) (a .clock) (j .j .given .0 .0) (key-fits e) (rec-found (a .node .now) (a .key .now) _ (stands j))))
+    (d .ensures)
 
 same-length-2 : tie.Need-same-length-2
 same-length-2 c = search needs
 
 returns-3 : tie.Need-returns-3
 returns-3 c =
-    let st = (c .before .before .before .before .before .before .before) in
+    let k = c .before .before in
+    let e = searched k in
+    let st = entry e in
     let a = st .args in
     refused (a .key .now) (a .node .now) (st .pre .0) _ NoKey
-    (delete-none (a .key .now) (nodeIn (a .node .now)) (Deleting (a .clock)) (deleted (a .clock)) (deleted-wished (a .clock)) (omega arith) (key-fits ((c .before .before .before .before)))
-    (rec-missing (a .node .now) (a .key .now) _ (st .pre .1) (sym ((c .before .before) .search-key .ensures) ∙ c .enum-told .given .1)))
+    (delete-none (a .key .now) (nodeIn (a .node .now)) (a .keeps) (a .clock) (key-fits e)
+    (rec-missing (a .node .now) (a .key .now) _ (st .pre .1) (sym (k .search-key .ensures) ∙ c .enum-told .given .1)))
 
 pub delete-key-spec : {M : Type 1} → statement M
 delete-key-spec =
@@ -84,8 +87,7 @@ delete-key-spec =
     returns
     search-key-requires
     enum-known-j
-    slice-aggregate-rewrite
-    rewrite-requires
+    delete-at-requires
     enum-told
     same-length
     returns-2

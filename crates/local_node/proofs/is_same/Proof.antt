@@ -2,27 +2,19 @@
 use Prim.Native.Nat.{ℕ, _≤_}
 use mathlib.Core.Path.{_≡_, ap, sym, _∙_, subst}
 use mathlib.Core.List.{List}
-use mathlib.Core.Bool.{Bool, true, false}
 use lib.ListN.{length}
 use Rattle.fields.specs.Order.{sameBytes}
 use Rattle.rules.specs.Sizes.{maxKey, maxValue}
-use Rattle.rules.specs.Node.{Rec, sameStatus}
+use Rattle.rules.specs.Node.{sameStatus}
 use Rattle.rules.specs.Layout.{recWidth, decodeRec}
 use Rattle.rules.specs.declared.Record.{Record}
 use Rattle.table.specs.Tests.{keyLength, valueLength}
-use Rattle.table.proofs.Places.{recAt, recBytes}
+use Rattle.table.proofs.Places.{recAt}
 use Rattle.table.proofs.Laid.{laid-key, laid-value, rec-long}
 use Rattle.local_node.proofs.Deciding.{alike-by, not-alike}
 use borrow.Author.Needs.{needs}
 use Rattle.local_node.proofs.is_same.Statement.{statement}
 use Rattle.local_node.proofs.is_same.Tie as tie
-use Rattle.local_node.proofs.is_same.Reads as reads
-use Rattle.local_node.proofs.is_same.Lts as lts
-use Rattle.fields.proofs.same.Reads as same-reads
-use Rattle.table_read.proofs.read_record.Reads as read-record-reads
-use Rattle.table.proofs.record_of.Reads as record-of-reads
-use Rattle.table.proofs.value_of.Reads as value-of-reads
-use Rattle.local_node.proofs.same_status.Reads as same-status-reads
 
 -- the bytes of the record
 long : (c : tie.After-record-of) → length (c .record-of .result .now) ≡ recWidth

@@ -1,13 +1,10 @@
 -- `local_node::same_status` meets its contract: equal codes are those of equal statuses. Assumes nothing.
-use mathlib.Core.Path.{_≡_, ap₂, _∙_}
+use mathlib.Core.Path.{ap₂, _∙_}
 use lib.Dec.{eqb}
 use Rattle.local_node.proofs.Deciding.{same-code}
 use borrow.Author.Needs.{needs}
 use Rattle.local_node.proofs.same_status.Statement.{statement}
 use Rattle.local_node.proofs.same_status.Tie as tie
-use Rattle.local_node.proofs.same_status.Reads as reads
-use Rattle.local_node.proofs.same_status.Lts as lts
-use Rattle.rules.proofs.Status.byte.Reads as byte-reads
 
 byte-requires : tie.Need-byte-requires
 byte-requires c κs = search needs

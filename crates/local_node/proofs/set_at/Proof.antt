@@ -1,64 +1,62 @@
 -- `local_node::set_at` meets its contract. Assumes nothing.
-use Prim.Native.Nat.{ℕ}
-use mathlib.Core.Path.{_≡_, ap, sym, _∙_, subst}
-use mathlib.Core.Bool.{Bool, true, false}
-use mathlib.Core.List.{List}
+use mathlib.Core.Path.{_≡_, sym, _∙_, subst}
+use mathlib.Core.Bool.{true, false}
 use Rattle.fields.proofs.Choice.{pick-true, pick-false}
+use Rattle.rules.specs.Given.{Gives}
 use Rattle.rules.specs.Node.{Rec, Node, Change, Decision, Leave}
-use Rattle.rules.specs.declared.Answer.{Answer}
-use Rattle.table.proofs.Places.{recAt}
+use Rattle.table.specs.Places.{recAt}
+use Rattle.table_read.specs.declared.Place.the-variants.{At}
 use Rattle.table_read.proofs.Searched.{rec-in}
-use Rattle.local_node.specs.Writes.{Acted, nodeIn, alike, changeOf, rising, changing}
+use Rattle.local_node.specs.Writes.{decided, nodeIn, alike, changeOf, granted, changing}
 use Rattle.local_node.proofs.Acting.{left}
+use Prim.Native.Nat.{ℕ}
 use borrow.Author.Needs.{needs}
 use Rattle.local_node.proofs.set_at.Statement.{statement}
 use Rattle.local_node.proofs.set_at.Tie as tie
-use Rattle.local_node.proofs.set_at.Reads as reads
-use Rattle.local_node.proofs.set_at.Lts as lts
-use Rattle.local_node.proofs.is_same.Reads as is-same-reads
-use Rattle.local_node.proofs.rewrite.Reads as rewrite-reads
 
-leaves : (r : Rec) (ch : Change) (n : Node) → alike r (ch .value) (ch .status) ≡ true → changing r ch n ≡ Leave
-unfolding changing
-leaves r ch n h = pick-true _ Leave (rising ch n) h
+abbrev entry : tie.After-is-same → tie.Start
+entry c = c .before .before .before .before .before
 
-changes : (r : Rec) (ch : Change) (n : Node) → alike r (ch .value) (ch .status) ≡ false → rising ch n ≡ changing r ch n
-unfolding changing
-changes r ch n h = sym (pick-false _ Leave (rising ch n) h)
+module _ (j : ℕ) (r : Rec) (ch : Change) (n : Node) where
+  leaves : alike r (ch .value) (ch .status) ≡ true → changing j r ch n ≡ Leave
+  unfolding changing
+  leaves h = pick-true _ Leave (granted (At j) ch n) h
+
+  changes : alike r (ch .value) (ch .status) ≡ false → granted (At j) ch n ≡ changing j r ch n
+  unfolding changing
+  changes h = sym (pick-false _ Leave (granted (At j) ch n) h)
 
 is-same-requires : tie.Need-is-same-requires
 is-same-requires c κs =
-    let st = (c .before .before .before .before) in (
-      st .pre .0,
-      rec-in (st .args .node .now) (st .args .key .now) (st .args .j) (st .pre .1),
-    )
+    let st = c .before .before .before .before in
+    (st .pre .0, rec-in (st .args .node .now) (st .args .key .now) (st .args .j) (st .pre .1))
 
 same-length : tie.Need-same-length
 same-length c = search needs
 
 returns : tie.Need-returns
 returns c =
-    let st = (c .before .before .before .before .before .before) in
+    let st = entry (c .before) in
     let a = st .args in
     left (a .key .now) (a .node .now) (st .pre .0) _
-    (leaves (recAt (a .j) (a .node .now)) (changeOf (a .value .now) (a .status) (a .start)) (nodeIn (a .node .now)) (sym (c .before .is-same .ensures) ∙ c .if1 .taken))
+    (leaves (a .j) (recAt (a .j) (a .node .now)) (changeOf (a .value .now) (a .status) (a .start)) (nodeIn (a .node .now)) (sym (c .before .is-same .ensures) ∙ c .if1 .taken))
 
-rewrite-requires : tie.Need-rewrite-requires
-rewrite-requires c κs = search needs
+grant-requires : tie.Need-grant-requires
+grant-requires c κs = search needs
 
 same-length-2 : tie.Need-same-length-2
 same-length-2 c = search needs
 
 returns-2 : tie.Need-returns-2
 returns-2 c =
-    let a = (c .before .before .before .before .before .before .before .before .before .before) .args in
-    let r = (c .before .before) .rewrite in
-    subst (λ (d : Decision). Acted (a .key .now) d (a .node .now) (r .result) (r .last .0))
-    (changes (recAt (a .j) (a .node .now)) (changeOf (a .value .now) (a .status) (a .start)) (nodeIn (a .node .now))
-    (sym ((c .before .before .before .before .before) .is-same .ensures) ∙ (c .before .before .before .before) .if1 .left))
-    (r .ensures)
+    let g = c .before .before .grant in
+    let t = c .before .before .before .before in
+    let a = entry (t .before) .args in
+    subst (λ (d : Decision). Gives (decided (a .key .now) d (a .node .now)) (g .result) (g .last .0))
+    (changes (a .j) (recAt (a .j) (a .node .now)) (changeOf (a .value .now) (a .status) (a .start)) (nodeIn (a .node .now)) (sym (t .before .is-same .ensures) ∙ t .if1 .left))
+    (g .ensures)
 
 pub set-at-spec : {M : Type 1} → statement M
 set-at-spec =
     tie.close
-    (tie.spec is-same-requires same-length returns rewrite-requires same-length-2 returns-2)
+    (tie.spec is-same-requires same-length returns grant-requires same-length-2 returns-2)
