@@ -5,7 +5,7 @@ use mathlib.Core.Path.{_≡_, refl, ap, ap₂, sym, _∙_}
 use mathlib.Core.List.{List, [], _∷_}
 use native.Mathlib.Omega.{arith}
 use lib.Dec.{eqb}
-use lib.ListN.{getD}
+use lib.ListN.{length, getD}
 use Rattle.fields.specs.Choice.{pick}
 use Rattle.rules.specs.Answers.{Told, numberOf, codeOf, answerTold, offeredTold, listedTold, writtenTold, computedTold, readTold, appliedTold}
 use Rattle.rules.specs.declared.Refusal.{Refusal}
@@ -102,14 +102,17 @@ same-code a b e = sym (coded a) ∙ ap answerOf e ∙ coded b
 -- ---- answers of calls
 
 module _ {a b : Told} (e : a ≡ b) where
-  number-is : a .number ≡ b .number
+  pub number-is : a .number ≡ b .number
   number-is = ap (λ (t : Told). t .number) e
 
-  value-is : (i : ℕ) → getD (a .values) i 0 ≡ getD (b .values) i 0
+  pub values-long : length (a .values) ≡ length (b .values)
+  values-long = ap (λ (t : Told). length (t .values)) e
+
+  pub value-is : (i : ℕ) → getD (a .values) i 0 ≡ getD (b .values) i 0
   value-is i = ap (λ (t : Told). getD (t .values) i 0) e
 
 -- an accepted call is told otherwise than a refused one
-not-refused : {X : Type 0} (r : Refusal) → 0 ≡ numberOf r → X
+pub not-refused : {X : Type 0} (r : Refusal) → 0 ≡ numberOf r → X
 not-refused r e = absurd (omega (arith, positive r))
 
 pub same-answer : (a b : Answer) → answerTold a ≡ answerTold b → a ≡ b
