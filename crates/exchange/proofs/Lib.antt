@@ -5,3 +5,4 @@ pub mod Exchanging
 pub mod Runs
 pub mod Closing
 pub mod Start
+pub mod Told

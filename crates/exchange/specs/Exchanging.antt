@@ -2,9 +2,10 @@
 -- calls promise (Lent of `rules`), one after the other; the first that is refused ends it.
 use Prim.Native.Nat.{ℕ}
 use mathlib.Core.Path.{_≡_}
-use mathlib.Core.List.{List}
+use mathlib.Core.List.{List, [], _∷_}
 use Rattle.fields.specs.Numbers.{Bytes}
 use Rattle.fields.specs.Parts.{part}
+use Rattle.rules.specs.Answers.{Told, numberOf}
 use Rattle.rules.specs.Given.{Given, given}
 use Rattle.rules.specs.Lent.{TableAndList, lentDigest, lentCompute, lentApply}
 use Rattle.rules.specs.declared.Written.{Written}
@@ -98,3 +99,10 @@ Leaves g follower m (exchanged.Done ops bytes nodes) = Unit {0}
 Leaves g follower m (exchanged.NoDigest r) = (m .follower ≡ follower) × (m .answers ≡ g .answers) × (m .delta ≡ g .delta) × (m .digest ≡ g .digest)
 Leaves g follower m (exchanged.NoDelta r) = (m .follower ≡ follower) × (m .answers ≡ g .answers) × (m .delta ≡ g .delta)
 Leaves g follower m (exchanged.NotApplied r at) = (m .follower ≡ follower) × (m .answers ≡ g .answers)
+
+-- The number and the values of an answer. A refusal tells the step (1 the digest, 2 the delta, 3 the applying) and the place in the delta.
+abbrev pub exchangedTold : (answer : Exchanged) → Told
+exchangedTold (exchanged.Done ops bytes nodes) = record { number = 0; values = ops ∷ bytes ∷ nodes ∷ [] }
+exchangedTold (exchanged.NoDigest r) = record { number = numberOf r; values = 1 ∷ 0 ∷ [] }
+exchangedTold (exchanged.NoDelta r) = record { number = numberOf r; values = 2 ∷ 0 ∷ [] }
+exchangedTold (exchanged.NotApplied r at) = record { number = numberOf r; values = 3 ∷ at ∷ [] }
