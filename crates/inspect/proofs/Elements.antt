@@ -1,8 +1,8 @@
 -- What stands in place i of a good table, and in place j of a node: the node or record that is read there, or nothing past the end. Assumes nothing.
 use Prim.Native.Nat.{ℕ, zero, suc, _≤_, _<_}
-use mathlib.Core.Path.{_≡_, refl, ap, _∙_}
+use mathlib.Core.Path.{_≡_, refl, ap, sym, _∙_}
 use mathlib.Core.List.{List, [], _∷_}
-use mathlib.Core.Option.{none, some}
+use mathlib.Core.Option.{Option, none, some}
 use native.Mathlib.Nat.{le-of-suc-le-suc, not-suc-le-zero}
 use lib.ListN.{length, getD}
 use Rattle.rules.specs.Node.{Rec}
@@ -25,20 +25,22 @@ element-out [] i h = refl
 element-out (a ∷ l) zero h = absurd (not-suc-le-zero h)
 element-out (a ∷ l) (suc i) h = element-out l i (le-of-suc-le-suc h)
 
--- in a table's bytes
-pub node-there : (l : List ℕ) (i : ℕ) → i < nodesOf l → elementAt i (decode l) ≡ some (nodeAt i l)
-node-there l i h =
-    let d : Entry = decodeNode [] in
-    element-in (decode l) i d (rw length-decode h) ∙ ap (λ (e : Entry). some e) (decode-at i l d h)
+-- what a rule says of the node in place i of a table's bytes, or of none
+module _ {A : Type 0} (rule : Option Entry → A) (l : List ℕ) (i : ℕ) where
+  pub node-there : i < nodesOf l → (r : A) → r ≡ rule (some (nodeAt i l)) → r ≡ rule (elementAt i (decode l))
+  node-there h r p =
+      let d : Entry = decodeNode [] in
+      p ∙ ap (λ (e : Entry). rule (some e)) (sym (decode-at i l d h)) ∙ ap rule (sym (element-in (decode l) i d (rw length-decode h)))
 
-pub no-node-there : (l : List ℕ) (i : ℕ) → nodesOf l ≤ i → elementAt i (decode l) ≡ none
-no-node-there l i h = element-out (decode l) i (rw length-decode h)
+  pub no-node-there : nodesOf l ≤ i → rule none ≡ rule (elementAt i (decode l))
+  no-node-there h = ap rule (sym (element-out (decode l) i (rw length-decode h)))
 
--- in a node's bytes
-pub rec-there : (b : List ℕ) (j : ℕ) → j < countOf b → elementAt j (recsOf b) ≡ some (recAt j b)
-rec-there b j h =
-    let d : Rec = decodeRec [] in
-    element-in (recsOf b) j d (rw length-recs h) ∙ ap (λ (r : Rec). some r) (recs-at j b d h)
+-- and of the record in place j of a node's
+module _ {A : Type 0} (rule : Option Rec → A) (b : List ℕ) (j : ℕ) where
+  pub rec-there : j < countOf b → (r : A) → r ≡ rule (some (recAt j b)) → r ≡ rule (elementAt j (recsOf b))
+  rec-there h r p =
+      let d : Rec = decodeRec [] in
+      p ∙ ap (λ (e : Rec). rule (some e)) (sym (recs-at j b d h)) ∙ ap rule (sym (element-in (recsOf b) j d (rw length-recs h)))
 
-pub no-rec-there : (b : List ℕ) (j : ℕ) → countOf b ≤ j → elementAt j (recsOf b) ≡ none
-no-rec-there b j h = element-out (recsOf b) j (rw length-recs h)
+  pub no-rec-there : countOf b ≤ j → rule none ≡ rule (elementAt j (recsOf b))
+  no-rec-there h = ap rule (sym (element-out (recsOf b) j (rw length-recs h)))

@@ -7,14 +7,12 @@ use mathlib.Core.Option.{Option, none, some}
 use lib.ListN.{length}
 use lib.Dec.{leb}
 use Rattle.fields.specs.Choice.{pick}
+use Rattle.fields.specs.Numbers.{Bytes}
 use Rattle.rules.specs.Sizes.{maxKey}
-use Rattle.rules.specs.Answers.{Told, numberOf}
 use Rattle.rules.specs.Node.{Rec, Node, find}
 use Rattle.rules.specs.Table.{Entry, Table, nodeOf}
-use Rattle.rules.specs.Delta.{statusByte}
 use Rattle.rules.specs.Lent.{fromTable}
 use Rattle.rules.specs.declared.Refusal.the-variants.{TooLong, NoNode, NoPlace, BadTable}
-use Rattle.rules.specs.declared.Record.{Record}
 use Rattle.table_read.specs.Find.{headerOf, recordOf}
 use Rattle.inspect.specs.declared.Count.{Count}
 use Rattle.inspect.specs.declared.Count.the-variants as count
@@ -26,7 +24,7 @@ use Rattle.inspect.specs.declared.RecordRead.{RecordRead}
 use Rattle.inspect.specs.declared.RecordRead.the-variants as rec
 
 -- what stands in place i, if the list goes so far
-unfoldable pub elementAt : {A : Type 0} → ℕ → List A → Option A
+unfoldable pub elementAt : {A : Type 0} (i : ℕ) (list : List A) → Option A
 elementAt i [] = none
 elementAt zero (a ∷ l) = some a
 elementAt (suc i) (a ∷ l) = elementAt i l
@@ -34,97 +32,75 @@ elementAt (suc i) (a ∷ l) = elementAt i l
 -- ---- nodes
 
 -- how many nodes are held
-abbrev pub nodeCount : Table → Count
-nodeCount t = count.Are (length t)
+abbrev pub nodeCount : (table : Table) → Count
+nodeCount table = count.Are (length table)
 
 -- the number of the node in place i
-abbrev pub numberOn : Option Entry → NodeNumber
+abbrev pub numberOn : (there : Option Entry) → NodeNumber
 numberOn none = number.Refused NoPlace
 numberOn (some e) = number.Is (e .number)
 
-abbrev pub nodeNumber : ℕ → Table → NodeNumber
-nodeNumber i t = numberOn (elementAt i t)
+abbrev pub nodeNumber : (i : ℕ) (table : Table) → NodeNumber
+nodeNumber i table = numberOn (elementAt i table)
 
--- heartbeat, max and last_gc of node n
-abbrev pub headerOn : Option Node → NodeHeader
+-- heartbeat, max and last_gc of a node
+abbrev pub headerOn : (held : Option Node) → NodeHeader
 headerOn none = header.Refused NoNode
-headerOn (some x) = header.Is (headerOf x)
+headerOn (some n) = header.Is (headerOf n)
 
-abbrev pub nodeHeader : ℕ → Table → NodeHeader
-nodeHeader n t = headerOn (nodeOf n t)
+abbrev pub nodeHeader : (number : ℕ) (table : Table) → NodeHeader
+nodeHeader number table = headerOn (nodeOf number table)
 
--- how many records node n has, tombstones counted
-abbrev pub recordsOn : Option Node → Count
+-- how many records a node has, tombstones counted
+abbrev pub recordsOn : (held : Option Node) → Count
 recordsOn none = count.Refused NoNode
-recordsOn (some x) = count.Are (length (x .recs))
+recordsOn (some n) = count.Are (length (n .recs))
 
-abbrev pub recordCount : ℕ → Table → Count
-recordCount n t = recordsOn (nodeOf n t)
+abbrev pub recordCount : (number : ℕ) (table : Table) → Count
+recordCount number table = recordsOn (nodeOf number table)
 
 -- ---- records
 
 -- the record in place j: 2, 8
-abbrev pub readAt : Option Rec → RecordRead
+abbrev pub readAt : (there : Option Rec) → RecordRead
 readAt none = rec.Refused NoPlace
 readAt (some r) = rec.Is (recordOf r)
 
-abbrev pub recordAtOn : ℕ → Option Node → RecordRead
-recordAtOn j none = rec.Refused NoNode
-recordAtOn j (some x) = readAt (elementAt j (x .recs))
+abbrev pub recordOn : (j : ℕ) (held : Option Node) → RecordRead
+recordOn j none = rec.Refused NoNode
+recordOn j (some n) = readAt (elementAt j (n .recs))
 
-abbrev pub recordAt : ℕ → ℕ → Table → RecordRead
-recordAt n j t = recordAtOn j (nodeOf n t)
+abbrev pub readRecord : (number j : ℕ) (table : Table) → RecordRead
+readRecord number j table = recordOn j (nodeOf number table)
 
 -- the record of a key: 2, 1
-abbrev pub readKey : Option Rec → RecordRead
+abbrev pub readKey : (found : Option Rec) → RecordRead
 readKey none = rec.Nothing
 readKey (some r) = rec.Is (recordOf r)
 
-abbrev pub recordByKeyOn : List ℕ → Option Node → RecordRead
-recordByKeyOn k none = rec.Refused NoNode
-recordByKeyOn k (some x) = pick (leb (length k) maxKey) (readKey (find k (x .recs))) (rec.Refused TooLong)
+abbrev pub recordByKeyOn : (key : Bytes) (held : Option Node) → RecordRead
+recordByKeyOn key none = rec.Refused NoNode
+recordByKeyOn key (some n) = pick (leb (length key) maxKey) (readKey (find key (n .recs))) (rec.Refused TooLong)
 
-abbrev pub recordByKey : ℕ → List ℕ → Table → RecordRead
-recordByKey n k t = recordByKeyOn k (nodeOf n t)
+abbrev pub recordByKey : (number : ℕ) (key : Bytes) (table : Table) → RecordRead
+recordByKey number key table = recordByKeyOn key (nodeOf number table)
 
 -- ---- in lent bytes: 14 first
 
-abbrev pub lentNodeCount : List ℕ → Count
-lentNodeCount l = fromTable (count.Refused BadTable) nodeCount l
+abbrev pub lentNodeCount : (table : Bytes) → Count
+lentNodeCount table = fromTable (count.Refused BadTable) nodeCount table
 
-abbrev pub lentNodeNumber : ℕ → List ℕ → NodeNumber
-lentNodeNumber i l = fromTable (number.Refused BadTable) (nodeNumber i) l
+abbrev pub lentNodeNumber : (i : ℕ) (table : Bytes) → NodeNumber
+lentNodeNumber i table = fromTable (number.Refused BadTable) (nodeNumber i) table
 
-abbrev pub lentNodeHeader : ℕ → List ℕ → NodeHeader
-lentNodeHeader n l = fromTable (header.Refused BadTable) (nodeHeader n) l
+abbrev pub lentNodeHeader : (number : ℕ) (table : Bytes) → NodeHeader
+lentNodeHeader number table = fromTable (header.Refused BadTable) (nodeHeader number) table
 
-abbrev pub lentRecordCount : ℕ → List ℕ → Count
-lentRecordCount n l = fromTable (count.Refused BadTable) (recordCount n) l
+abbrev pub lentRecordCount : (number : ℕ) (table : Bytes) → Count
+lentRecordCount number table = fromTable (count.Refused BadTable) (recordCount number) table
 
-abbrev pub lentRecordAt : ℕ → ℕ → List ℕ → RecordRead
-lentRecordAt n j l = fromTable (rec.Refused BadTable) (recordAt n j) l
+abbrev pub lentReadRecord : (number j : ℕ) (table : Bytes) → RecordRead
+lentReadRecord number j table = fromTable (rec.Refused BadTable) (readRecord number j) table
 
-abbrev pub lentRecordByKey : ℕ → List ℕ → List ℕ → RecordRead
-lentRecordByKey n k l = fromTable (rec.Refused BadTable) (recordByKey n k) l
-
--- ---- the number and the values of each answer
-
-abbrev pub countTold : Count → Told
-countTold (count.Are n) = record { number = 0; values = n ∷ [] }
-countTold (count.Refused r) = record { number = numberOf r; values = [] }
-
-abbrev pub nodeNumberTold : NodeNumber → Told
-nodeNumberTold (number.Is n) = record { number = 0; values = n ∷ [] }
-nodeNumberTold (number.Refused r) = record { number = numberOf r; values = [] }
-
-abbrev pub nodeHeaderTold : NodeHeader → Told
-nodeHeaderTold (header.Is h) = record { number = 0; values = h .heartbeat .0 ∷ h .max ∷ h .«last_gc» ∷ [] }
-nodeHeaderTold (header.Refused r) = record { number = numberOf r; values = [] }
-
-abbrev pub recordValues : Record → List ℕ
-recordValues r = r .keylen ∷ r .valuelen ∷ r .version ∷ statusByte (r .status) ∷ r .start ∷ []
-
-abbrev pub recordReadTold : RecordRead → Told
-recordReadTold (rec.Is r) = record { number = 0; values = recordValues r }
-recordReadTold rec.Nothing = record { number = 0; values = [] }
-recordReadTold (rec.Refused r) = record { number = numberOf r; values = [] }
+abbrev pub lentRecordByKey : (number : ℕ) (key table : Bytes) → RecordRead
+lentRecordByKey number key table = fromTable (rec.Refused BadTable) (recordByKey number key) table

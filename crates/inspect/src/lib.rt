@@ -6,14 +6,16 @@ use rules::Record;
 use rules::Refusal;
 use table::layout;
 use table_read::Place;
+use table_read::Span;
 ghost use mathlib.Core.Path.{_≡_};
 ghost use mathlib.Core.Bool.{true};
-ghost use Rattle.rules.specs.Node.{find};
+ghost use mathlib.Core.Option.{some};
 ghost use Rattle.rules.specs.Table.{keysRise};
-ghost use Rattle.rules.specs.Layout.{decode, valid};
+ghost use Rattle.rules.specs.Layout.{decodeNode, decode, valid};
 ghost use Rattle.table.specs.Tests.{recsOf};
 ghost use Rattle.table.specs.Fits.{LaidNode};
-ghost use Rattle.inspect.specs.Look.{elementAt, nodeCount, nodeNumber, nodeHeader, recordCount, readAt, recordAt, readKey, recordByKey, lentNodeCount, lentNodeNumber, lentNodeHeader, lentRecordCount, lentRecordAt, lentRecordByKey};
+ghost use Rattle.inspect.specs.Look.{nodeCount, nodeNumber, nodeHeader, recordCount, recordOn, readRecord, recordByKeyOn, recordByKey};
+ghost use Rattle.inspect.specs.Look.{lentNodeCount, lentNodeNumber, lentNodeHeader, lentRecordCount, lentReadRecord, lentRecordByKey};
 
 // How many there are.
 pub enum Count {
@@ -60,7 +62,7 @@ pub fn node_count(table: &[u8]) -> Count
     }
 }
 
-// The number of the node in place `i` of a good table.
+// The number of the node in place `i` of a good table: 8.
 pub fn node_number_good(table: &[u8], i: usize) -> NodeNumber
     requires { ⌜ valid (now table) ≡ true ⌝ }
     ensures { λ r. ⌜ r ≡ nodeNumber i (decode (now (table .entry))) ⌝ }
@@ -83,14 +85,14 @@ pub fn node_number(table: &[u8], i: usize) -> NodeNumber
     }
 }
 
-// The header of a node of a good table.
+// The header of a node of a good table: 2.
 pub fn node_header_good(table: &[u8], number: u64) -> NodeHeader
     requires { ⌜ valid (now table) ≡ true ⌝ }
     ensures { λ r. ⌜ r ≡ nodeHeader number (decode (now (table .entry))) ⌝ }
 {
-    match table_read::find_node(table, number) {
-        Place::At(i) => NodeHeader::Is(table_read::read_header(table::node_of(table, i))),
-        Place::Free(_) => NodeHeader::Refused(Refusal::NoNode),
+    match table_read::node_span(table, number) {
+        Span::Held { start, end } => NodeHeader::Is(table_read::read_header(&table[start..end])),
+        Span::Missing => NodeHeader::Refused(Refusal::NoNode),
     }
 }
 
@@ -105,14 +107,17 @@ pub fn node_header(table: &[u8], number: u64) -> NodeHeader
     }
 }
 
-// How many records a node of a good table has, tombstones counted.
+// How many records a node of a good table has, tombstones counted: 2.
 pub fn record_count_good(table: &[u8], number: u64) -> Count
     requires { ⌜ valid (now table) ≡ true ⌝ }
     ensures { λ r. ⌜ r ≡ recordCount number (decode (now (table .entry))) ⌝ }
 {
-    match table_read::find_node(table, number) {
-        Place::At(i) => Count::Are(fields::byte_at(table::node_of(table, i), layout::RECORD_COUNT)),
-        Place::Free(_) => Count::Refused(Refusal::NoNode),
+    match table_read::node_span(table, number) {
+        Span::Held { start, end } => Count::Are(fields::byte_at(
+            &table[start..end],
+            layout::RECORD_COUNT,
+        )),
+        Span::Missing => Count::Refused(Refusal::NoNode),
     }
 }
 
@@ -130,7 +135,7 @@ pub fn record_count(table: &[u8], number: u64) -> Count
 // The record in place `j` of a node's bytes: 8.
 fn record_in(node: &[u8], j: usize) -> RecordRead
     requires { ⌜ LaidNode (now node) ⌝ }
-    ensures { λ r. ⌜ r ≡ readAt (elementAt j (recsOf (now (node .entry)))) ⌝ }
+    ensures { λ r. ⌜ r ≡ recordOn j (some (decodeNode (now (node .entry)) .node)) ⌝ }
 {
     let n = fields::byte_at(node, layout::RECORD_COUNT);
     if n <= j {
@@ -139,20 +144,20 @@ fn record_in(node: &[u8], j: usize) -> RecordRead
     RecordRead::Is(table_read::read_record(table::record_of(node, j)))
 }
 
-// The record in place `j` of a node of a good table.
+// The record in place `j` of a node of a good table: 2, 8.
 pub fn record_at_good(table: &[u8], number: u64, j: usize) -> RecordRead
     requires { ⌜ valid (now table) ≡ true ⌝ }
-    ensures { λ r. ⌜ r ≡ recordAt number j (decode (now (table .entry))) ⌝ }
+    ensures { λ r. ⌜ r ≡ readRecord number j (decode (now (table .entry))) ⌝ }
 {
-    match table_read::find_node(table, number) {
-        Place::At(i) => record_in(table::node_of(table, i), j),
-        Place::Free(_) => RecordRead::Refused(Refusal::NoNode),
+    match table_read::node_span(table, number) {
+        Span::Held { start, end } => record_in(&table[start..end], j),
+        Span::Missing => RecordRead::Refused(Refusal::NoNode),
     }
 }
 
 // The record in place `j` of a node: 14, 2, 8.
 pub fn record_at(table: &[u8], number: u64, j: usize) -> RecordRead
-    ensures { λ r. ⌜ r ≡ lentRecordAt number j (now (table .entry)) ⌝ }
+    ensures { λ r. ⌜ r ≡ lentReadRecord number j (now (table .entry)) ⌝ }
 {
     if table_check::check_table(table) {
         record_at_good(table, number, j)
@@ -161,30 +166,28 @@ pub fn record_at(table: &[u8], number: u64, j: usize) -> RecordRead
     }
 }
 
-// The record of a key in a node's bytes.
+// The record of a key in a node's bytes: 1.
 fn record_keyed(node: &[u8], key: &[u8]) -> RecordRead
     requires { ⌜ LaidNode (now node) × (keysRise (recsOf (now node)) ≡ true) ⌝ }
-    ensures { λ r. ⌜ r ≡ readKey (find (now (key .entry)) (recsOf (now (node .entry)))) ⌝ }
+    ensures { λ r. ⌜ r ≡ recordByKeyOn (now (key .entry)) (some (decodeNode (now (node .entry)) .node)) ⌝ }
 {
+    if Record::KEY < key.len() {
+        return RecordRead::Refused(Refusal::TooLong);
+    }
     match table_read::search_key(node, key) {
         Place::At(j) => RecordRead::Is(table_read::read_record(table::record_of(node, j))),
         Place::Free(_) => RecordRead::Nothing,
     }
 }
 
-// The record of a key of a node of a good table.
+// The record of a key of a node of a good table: 2, 1.
 pub fn record_by_key_good(table: &[u8], number: u64, key: &[u8]) -> RecordRead
     requires { ⌜ valid (now table) ≡ true ⌝ }
     ensures { λ r. ⌜ r ≡ recordByKey number (now (key .entry)) (decode (now (table .entry))) ⌝ }
 {
-    match table_read::find_node(table, number) {
-        Place::At(i) => {
-            if Record::KEY < key.len() {
-                return RecordRead::Refused(Refusal::TooLong);
-            }
-            record_keyed(table::node_of(table, i), key)
-        }
-        Place::Free(_) => RecordRead::Refused(Refusal::NoNode),
+    match table_read::node_span(table, number) {
+        Span::Held { start, end } => record_keyed(&table[start..end], key),
+        Span::Missing => RecordRead::Refused(Refusal::NoNode),
     }
 }
 

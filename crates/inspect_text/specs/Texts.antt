@@ -1,63 +1,73 @@
--- A record's key or value in the bytes of a lent table: where it stands (`textFound`), and the bytes themselves (`textBytes`). The record is named by its
+-- A record's key or value in the bytes of a lent table: where it stands (`textFound`), and the bytes themselves (`bytesOn`). The record is named by its
 -- node's number (2 where there is none) and its place among the node's records in key order (8 past the end). Hidden records are told too.
-use Prim.Native.Nat.{ℕ, suc, _+_, _*_}
-use mathlib.Core.List.{List, [], _∷_}
+use Prim.Native.Nat.{ℕ, _+_}
+use mathlib.Core.List.{[]}
 use mathlib.Core.Option.{Option, none, some}
 use lib.ListN.{length}
-use lib.Dec.{eqb}
-use Rattle.fields.specs.Choice.{pick}
+use Rattle.fields.specs.Numbers.{Bytes}
 use Rattle.fields.specs.Widths.{offset}
 use Rattle.rules.specs.Node.{Rec, Node}
 use Rattle.rules.specs.Table.{Table, nodeOf}
-use Rattle.rules.specs.Layout.{recWidths, recWidth, nodeWidths, nodeWidth, tableWidths}
+use Rattle.rules.specs.Layout.{recWidths, recPlace}
 use Rattle.rules.specs.Lent.{fromTable}
 use Rattle.rules.specs.declared.Refusal.the-variants.{NoNode, NoPlace, BadTable}
+use Rattle.table_read.specs.Find.{nodeStart}
+use Rattle.lookup.specs.Lookup.{HandedOut, startOf}
 use Rattle.lookup.specs.declared.Found.{Found}
 use Rattle.lookup.specs.declared.Found.the-variants as found
 use Rattle.inspect.specs.Look.{elementAt}
 use Rattle.inspect_text.specs.declared.Text.{Text}
 use Rattle.inspect_text.specs.declared.Text.the-variants.{Key, Value}
 
-abbrev pub textOf : Text → Rec → List ℕ
+abbrev pub textOf : (text : Text) (rec : Rec) → Bytes
 textOf Key r = r .kv .key
 textOf Value r = r .kv .value
 
--- where the text of record j of node i begins in a table's bytes
-abbrev pub textOffset : Text → ℕ
+-- ---- where it is
+
+-- where the text of record j begins in a table's bytes, those of its node beginning at `start`
+abbrev pub textOffset : (text : Text) → ℕ
 textOffset Key = offset recWidths 1
 textOffset Value = offset recWidths 3
 
-abbrev pub textPlace : Text → ℕ → ℕ → ℕ
-textPlace x i j = offset tableWidths 1 + i * nodeWidth + (offset nodeWidths 5 + j * recWidth + textOffset x)
+abbrev pub textPlace : (text : Text) (start j : ℕ) → ℕ
+textPlace text start j = start + recPlace j + textOffset text
 
-abbrev pub placeOn : Text → ℕ → ℕ → Option Rec → Found
-placeOn x i j none = found.Refused NoPlace
-placeOn x i j (some r) = found.At (textPlace x i j) (length (textOf x r))
+abbrev pub placeOn : (text : Text) (start j : ℕ) (there : Option Rec) → Found
+placeOn text start j none = found.Refused NoPlace
+placeOn text start j (some r) = found.At (textPlace text start j) (length (textOf text r))
 
--- of the record in place j of node n, the first node's place being i: 2, 8
-unfoldable pub textFrom : Text → ℕ → ℕ → ℕ → Table → Found
-textFrom x n j i [] = found.Refused NoNode
-textFrom x n j i (e ∷ t) = pick (eqb n (e .number)) (placeOn x i j (elementAt j (e .node .recs))) (textFrom x n j (suc i) t)
+-- in the node that is held: 2, 8
+abbrev pub textOn : (text : Text) (j start : ℕ) (held : Option Node) → Found
+textOn text j start none = found.Refused NoNode
+textOn text j start (some n) = placeOn text start j (elementAt j (n .recs))
 
-abbrev pub textFound : Text → ℕ → ℕ → Table → Found
-textFound x n j t = textFrom x n j 0 t
+-- in a good table: 2, 8
+abbrev pub textFound : (text : Text) (number j : ℕ) (table : Table) → Found
+textFound text number j table = textOn text j (nodeStart number table) (nodeOf number table)
 
--- the bytes themselves, none where the call is refused
-abbrev pub bytesOn : Text → Option Rec → List ℕ
-bytesOn x none = []
-bytesOn x (some r) = textOf x r
+-- in lent bytes: 14, 2, 8
+abbrev pub lentTextFound : (text : Text) (number j : ℕ) (table : Bytes) → Found
+lentTextFound text number j table = fromTable (found.Refused BadTable) (textFound text number j) table
 
-abbrev pub textBytesOn : Text → ℕ → Option Node → List ℕ
-textBytesOn x j none = []
-textBytesOn x j (some a) = bytesOn x (elementAt j (a .recs))
+-- ---- the bytes themselves, none where the call is refused
 
-abbrev pub textBytes : Text → ℕ → ℕ → Table → List ℕ
-textBytes x n j t = textBytesOn x j (nodeOf n t)
+abbrev pub recordBytes : (text : Text) (there : Option Rec) → Bytes
+recordBytes text none = []
+recordBytes text (some r) = textOf text r
 
--- ---- in lent bytes: 14 first
+abbrev pub bytesOn : (text : Text) (j : ℕ) (held : Option Node) → Bytes
+bytesOn text j none = []
+bytesOn text j (some n) = recordBytes text (elementAt j (n .recs))
 
-abbrev pub lentTextFound : Text → ℕ → ℕ → List ℕ → Found
-lentTextFound x n j l = fromTable (found.Refused BadTable) (textFound x n j) l
+abbrev pub bytesIn : (text : Text) (number j : ℕ) (table : Table) → Bytes
+bytesIn text number j table = bytesOn text j (nodeOf number table)
 
-abbrev pub lentTextBytes : Text → ℕ → ℕ → List ℕ → List ℕ
-lentTextBytes x n j l = fromTable [] (textBytes x n j) l
+-- ---- what is handed out, of a good table and of lent bytes
+
+abbrev pub textPart : (text : Text) (number j : ℕ) (table : Table) → HandedOut
+textPart text number j table = record { bytes = bytesIn text number j table; start = startOf (textFound text number j table) }
+
+abbrev pub lentTextPart : (text : Text) (number j : ℕ) (table : Bytes) → HandedOut
+lentTextPart text number j table =
+    record { bytes = fromTable [] (bytesIn text number j) table; start = startOf (lentTextFound text number j table) }

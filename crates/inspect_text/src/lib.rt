@@ -4,17 +4,15 @@
 use lookup::Found;
 use rules::Refusal;
 use table::layout;
-use table_read::Place;
+use table_read::Span;
 ghost use mathlib.Core.Path.{_≡_};
 ghost use mathlib.Core.Bool.{true};
-ghost use Prim.Native.Nat.{_+_, _<_};
-ghost use Rattle.rules.specs.Sizes.{maxNodes};
-ghost use Rattle.rules.specs.Layout.{decode, valid};
-ghost use Rattle.table.specs.Tests.{recsOf};
+ghost use mathlib.Core.Option.{some};
+ghost use Prim.Native.Nat.{_≤_};
+ghost use Rattle.rules.specs.Layout.{tableWidth, decodeNode, decode, valid};
 ghost use Rattle.table.specs.Fits.{LaidNode};
-ghost use Rattle.lookup.specs.Lookup.{startOf};
-ghost use Rattle.inspect.specs.Look.{elementAt};
-ghost use Rattle.inspect_text.specs.Texts.{placeOn, textFound, textBytes, lentTextFound, lentTextBytes};
+ghost use Rattle.lookup.specs.Lookup.{Hands};
+ghost use Rattle.inspect_text.specs.Texts.{textOn, textFound, lentTextFound, textPart, lentTextPart};
 
 // One of a record's two texts.
 pub enum Text {
@@ -22,40 +20,37 @@ pub enum Text {
     Value,
 }
 
-// Where the text of record `j` stands, in the bytes of node `i`: 8.
-fn in_node(node: &[u8], i: usize, j: usize, text: Text) -> Found
-    requires { ⌜ LaidNode (now node) × (i < maxNodes) ⌝ }
-    ensures { λ r. ⌜ r ≡ placeOn text i j (elementAt j (recsOf (now (node .entry)))) ⌝ }
+// Where the text of record `j` stands, in a node's bytes, which begin at `start` in the table: 8.
+fn in_node(node: &[u8], start: usize, j: usize, text: Text) -> Found
+    requires { ⌜ LaidNode (now node) × (start ≤ tableWidth) ⌝ }
+    ensures { λ r. ⌜ r ≡ textOn text j start (some (decodeNode (now (node .entry)) .node)) ⌝ }
 {
     let n = fields::byte_at(node, layout::RECORD_COUNT);
     if n <= j {
         return Found::Refused(Refusal::NoPlace);
     }
     let r = table_read::read_record(table::record_of(node, j));
+    let record = start + (layout::RECORDS + j * layout::RECORD);
     match text {
         Text::Key => Found::At {
-            start: layout::NODES
-                + i * layout::NODE
-                + (layout::RECORDS + j * layout::RECORD + layout::KEY),
+            start: record + layout::KEY,
             len: r.keylen,
         },
         Text::Value => Found::At {
-            start: layout::NODES
-                + i * layout::NODE
-                + (layout::RECORDS + j * layout::RECORD + layout::VALUE),
+            start: record + layout::VALUE,
             len: r.valuelen,
         },
     }
 }
 
-// Where the text of record `j` of a node stands in a good table.
+// Where the text of record `j` of a node stands in a good table: 2, 8.
 pub fn find_text_good(table: &[u8], number: u64, j: usize, text: Text) -> Found
     requires { ⌜ valid (now table) ≡ true ⌝ }
     ensures { λ r. ⌜ r ≡ textFound text number j (decode (now (table .entry))) ⌝ }
 {
-    match table_read::find_node(table, number) {
-        Place::At(i) => in_node(table::node_of(table, i), i, j, text),
-        Place::Free(_) => Found::Refused(Refusal::NoNode),
+    match table_read::node_span(table, number) {
+        Span::Held { start, end } => in_node(&table[start..end], start, j, text),
+        Span::Missing => Found::Refused(Refusal::NoNode),
     }
 }
 
@@ -73,7 +68,7 @@ pub fn find_text(table: &[u8], number: u64, j: usize, text: Text) -> Found
 // The text of record `j` of a node, as those very bytes of a good table; where the call is refused, the empty part at the table's front.
 pub fn text_good(table: &[u8], number: u64, j: usize, text: Text) -> &[u8]
     requires { ⌜ valid (now table) ≡ true ⌝ }
-    ensures { λ r. ⌜ (now r ≡ textBytes text number j (decode (now (table .entry)))) × (r .ptr .0 ≡ table .entry .ptr .0) × (r .ptr .1 ≡ table .entry .ptr .1 + startOf (textFound text number j (decode (now (table .entry))))) ⌝ }
+    ensures { λ r. ⌜ Hands (textPart text number j (decode (now (table .entry)))) (table .entry .ptr) (now r) (r .ptr) ⌝ }
 {
     lookup::held(table, find_text_good(table, number, j, text))
 }
@@ -81,7 +76,7 @@ pub fn text_good(table: &[u8], number: u64, j: usize, text: Text) -> &[u8]
 // The text of record `j` of a node, as those very bytes of the lent table; where the call is refused, the empty part at the table's front. `find_text`
 // tells an empty text from a refusal.
 pub fn text_at(table: &[u8], number: u64, j: usize, text: Text) -> &[u8]
-    ensures { λ r. ⌜ (now r ≡ lentTextBytes text number j (now (table .entry))) × (r .ptr .0 ≡ table .entry .ptr .0) × (r .ptr .1 ≡ table .entry .ptr .1 + startOf (lentTextFound text number j (now (table .entry)))) ⌝ }
+    ensures { λ r. ⌜ Hands (lentTextPart text number j (now (table .entry))) (table .entry .ptr) (now r) (r .ptr) ⌝ }
 {
     lookup::held(table, find_text(table, number, j, text))
 }

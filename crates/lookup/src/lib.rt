@@ -5,19 +5,18 @@ use rules::Refusal;
 use rules::Status;
 use table::layout;
 use table_read::Place;
+use table_read::Span;
 ghost use mathlib.Core.Path.{_≡_};
 ghost use mathlib.Core.Bool.{true};
-ghost use Prim.Native.Nat.{_+_, _*_, _<_};
+ghost use mathlib.Core.Option.{some};
+ghost use Prim.Native.Nat.{_≤_, _<_};
 ghost use lib.ListN.{length};
 ghost use Rattle.fields.specs.Parts.{part};
-ghost use Rattle.rules.specs.Sizes.{maxNodes};
 ghost use Rattle.rules.specs.Table.{keysRise};
-ghost use Rattle.rules.specs.Local as rule;
-ghost use Rattle.rules.specs.Layout.{recWidth, decodeRec, decode, valid};
-ghost use Rattle.rules.specs.Lent.{lentLookup};
+ghost use Rattle.rules.specs.Layout.{recPlace, recWidth, tableWidth, decodeRec, decodeNode, decode, valid};
 ghost use Rattle.table.specs.Tests.{countOf, recsOf};
 ghost use Rattle.table.specs.Fits.{LaidNode};
-ghost use Rattle.lookup.specs.Lookup.{foundRec, findRec, foundIn, lentFind, startOf, lenOf, Within, handed};
+ghost use Rattle.lookup.specs.Lookup.{foundRec, findOn, foundIn, lentFind, Within, Hands, partOf, valuePart, lentValuePart};
 
 // What a lookup finds.
 pub enum Found {
@@ -28,53 +27,49 @@ pub enum Found {
     Refused(Refusal),
 }
 
-// The value of record `j` in the bytes of node `i`.
-fn in_record(node: &[u8], i: usize, j: usize) -> Found
-    requires { ⌜ LaidNode (now node) × (i < maxNodes) × (j < countOf (now node)) ⌝ }
-    ensures { λ r. ⌜ r ≡ foundRec i j (decodeRec (part (33 + j * recWidth) recWidth (now (node .entry)))) ⌝ }
+// The value of record `j` in a node's bytes, which begin at `start` in the table.
+fn in_record(node: &[u8], start: usize, j: usize) -> Found
+    requires { ⌜ LaidNode (now node) × (start ≤ tableWidth) × (j < countOf (now node)) ⌝ }
+    ensures { λ r. ⌜ r ≡ foundRec start j (decodeRec (part (recPlace j) recWidth (now (node .entry)))) ⌝ }
 {
     let r = table_read::read_record(table::record_of(node, j));
-    let start = layout::NODES
-        + i * layout::NODE
-        + (layout::RECORDS + j * layout::RECORD + layout::VALUE);
+    let value = start + (layout::RECORDS + j * layout::RECORD) + layout::VALUE;
     let status = r.status;
     match status {
         Status::Delete => Found::Nothing,
         Status::Set => Found::At {
-            start: start,
+            start: value,
             len: r.valuelen,
         },
         Status::Ttl => Found::At {
-            start: start,
+            start: value,
             len: r.valuelen,
         },
     }
 }
 
-// The value of the key in the bytes of node `i`.
-fn in_node(node: &[u8], i: usize, key: &[u8]) -> Found
-    requires { ⌜ LaidNode (now node) × (keysRise (recsOf (now node)) ≡ true) × (i < maxNodes) ⌝ }
-    ensures { λ r. ⌜ r ≡ findRec (now (key .entry)) i 0 (recsOf (now (node .entry))) ⌝ }
+// The value of the key in a node's bytes, which begin at `start` in the table: 1.
+fn in_node(node: &[u8], start: usize, key: &[u8]) -> Found
+    requires { ⌜ LaidNode (now node) × (keysRise (recsOf (now node)) ≡ true) × (start ≤ tableWidth) ⌝ }
+    ensures { λ r. ⌜ r ≡ findOn (now (key .entry)) start (some (decodeNode (now (node .entry)) .node)) ⌝ }
 {
+    if Record::KEY < key.len() {
+        return Found::Refused(Refusal::TooLong);
+    }
     match table_read::search_key(node, key) {
-        Place::At(j) => in_record(node, i, j),
+        Place::At(j) => in_record(node, start, j),
         Place::Free(_) => Found::Nothing,
     }
 }
 
-// Where the value of the key stands in a good table.
+// Where the value of the key stands in a good table: 2, 1.
 pub fn find_good(table: &[u8], number: u64, key: &[u8]) -> Found
     requires { ⌜ valid (now table) ≡ true ⌝ }
     ensures { λ r. ⌜ r ≡ foundIn number (now (key .entry)) (decode (now (table .entry))) ⌝ }
 {
-    match table_read::find_node(table, number) {
-        Place::At(i) => {
-            if Record::KEY < key.len() {
-                return Found::Refused(Refusal::TooLong);
-            }
-            in_node(table::node_of(table, i), i, key)
-        }
-        Place::Free(_) => Found::Refused(Refusal::NoNode),
+    match table_read::node_span(table, number) {
+        Span::Held { start, end } => in_node(&table[start..end], start, key),
+        Span::Missing => Found::Refused(Refusal::NoNode),
     }
 }
 
@@ -92,7 +87,7 @@ pub fn find(table: &[u8], number: u64, key: &[u8]) -> Found
 // The part of the slice that was found, and where nothing was, the empty part at its front.
 pub fn held(table: &[u8], found: Found) -> &[u8]
     requires { ⌜ Within (length (now table)) found ⌝ }
-    ensures { λ r. ⌜ (now r ≡ part (startOf found) (lenOf found) (now (table .entry))) × (r .ptr .0 ≡ table .entry .ptr .0) × (r .ptr .1 ≡ table .entry .ptr .1 + startOf found) ⌝ }
+    ensures { λ r. ⌜ Hands (partOf (now (table .entry)) found) (table .entry .ptr) (now r) (r .ptr) ⌝ }
 {
     match found {
         Found::At { start, len } => &table[start..start + len],
@@ -104,7 +99,7 @@ pub fn held(table: &[u8], found: Found) -> &[u8]
 // The value of the key as those very bytes of a good table; where there is none, the empty part at the table's front.
 pub fn lookup_good<'a>(table: &'a [u8], number: u64, key: &[u8]) -> &'a [u8]
     requires { ⌜ valid (now table) ≡ true ⌝ }
-    ensures { λ r. ⌜ (now r ≡ handed (rule.lookup number (now (key .entry)) (decode (now (table .entry))))) × (r .ptr .0 ≡ table .entry .ptr .0) × (r .ptr .1 ≡ table .entry .ptr .1 + startOf (foundIn number (now (key .entry)) (decode (now (table .entry))))) ⌝ }
+    ensures { λ r. ⌜ Hands (valuePart number (now (key .entry)) (decode (now (table .entry)))) (table .entry .ptr) (now r) (r .ptr) ⌝ }
 {
     held(table, find_good(table, number, key))
 }
@@ -112,7 +107,7 @@ pub fn lookup_good<'a>(table: &'a [u8], number: u64, key: &[u8]) -> &'a [u8]
 // The value of the key as those very bytes of the lent table; where there is none or the call is refused, the empty part at the table's front. `find`
 // tells these apart.
 pub fn lookup<'a>(table: &'a [u8], number: u64, key: &[u8]) -> &'a [u8]
-    ensures { λ r. ⌜ (now r ≡ handed (lentLookup number (now (key .entry)) (now (table .entry)))) × (r .ptr .0 ≡ table .entry .ptr .0) × (r .ptr .1 ≡ table .entry .ptr .1 + startOf (lentFind number (now (key .entry)) (now (table .entry)))) ⌝ }
+    ensures { λ r. ⌜ Hands (lentValuePart number (now (key .entry)) (now (table .entry))) (table .entry .ptr) (now r) (r .ptr) ⌝ }
 {
     held(table, find(table, number, key))
 }

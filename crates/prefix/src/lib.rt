@@ -6,16 +6,17 @@ use rules::Record;
 use rules::Refusal;
 use rules::Status;
 use table::layout;
-use table_read::Place;
+use table_read::Span;
 ghost use mathlib.Core.Path.{_≡_};
 ghost use mathlib.Core.Bool.{true};
-ghost use Prim.Native.Nat.{_+_, _*_, _≤_, _<_};
+ghost use mathlib.Core.Option.{some};
+ghost use Prim.Native.Nat.{_≤_, _<_};
 ghost use lib.ListN.{length};
 ghost use Rattle.fields.specs.Parts.{part, put};
 ghost use Rattle.rules.specs.Given.{Gives};
 ghost use Rattle.rules.specs.Node.{hits, hitsFrom};
-ghost use Rattle.rules.specs.Local.{listInto, prefixed};
-ghost use Rattle.rules.specs.Layout.{recWidth, decodeRec, decode, valid};
+ghost use Rattle.rules.specs.Local.{prefixOn, prefixed};
+ghost use Rattle.rules.specs.Layout.{recPlace, recWidth, decodeRec, decodeNode, decode, valid};
 ghost use Rattle.rules.specs.Lent.{lentPrefixed};
 ghost use Rattle.table.specs.Tests.{countOf, recsOf};
 ghost use Rattle.table.specs.Fits.{LaidNode};
@@ -23,7 +24,7 @@ ghost use Rattle.table.specs.Fits.{LaidNode};
 // Whether record `j` of a node's bytes is a hit.
 fn is_hit(node: &[u8], j: usize, prefix: &[u8]) -> bool
     requires { ⌜ LaidNode (now node) × (j < countOf (now node)) ⌝ }
-    ensures { λ r. ⌜ r ≡ hits (now (prefix .entry)) (decodeRec (part (33 + j * recWidth) recWidth (now (node .entry)))) ⌝ }
+    ensures { λ r. ⌜ r ≡ hits (now (prefix .entry)) (decodeRec (part (recPlace j) recWidth (now (node .entry)))) ⌝ }
 {
     let record = table::record_of(node, j);
     if fields::starts_with(prefix, table::key_of(record)) {
@@ -73,11 +74,14 @@ fn write_hits(node: &[u8], prefix: &[u8], out: &mut [u8])
     }
 }
 
-// The listing of one node's bytes: 8.
+// The listing of one node's bytes: 1, 8.
 fn in_node(node: &[u8], prefix: &[u8], out: &mut [u8]) -> Listed
     requires { ⌜ LaidNode (now node) ⌝ }
-    ensures { λ r. ⌜ Gives (listInto (hitsFrom (now (prefix .entry)) 0 (recsOf (now (node .entry)))) (now (out .entry))) r (now (out .exit)) ⌝ }
+    ensures { λ r. ⌜ Gives (prefixOn (now (prefix .entry)) (some (decodeNode (now (node .entry)) .node)) (now (out .entry))) r (now (out .exit)) ⌝ }
 {
+    if Record::KEY < prefix.len() {
+        return Listed::Refused(Refusal::TooLong);
+    }
     let found = count_hits(node, prefix);
     if out.len() < found {
         return Listed::Refused(Refusal::NoPlace);
@@ -91,14 +95,9 @@ pub fn list_good(table: &[u8], number: u64, prefix: &[u8], out: &mut [u8]) -> Li
     requires { ⌜ valid (now table) ≡ true ⌝ }
     ensures { λ r. ⌜ Gives (prefixed number (now (prefix .entry)) (decode (now (table .entry))) (now (out .entry))) r (now (out .exit)) ⌝ }
 {
-    match table_read::find_node(table, number) {
-        Place::At(i) => {
-            if Record::KEY < prefix.len() {
-                return Listed::Refused(Refusal::TooLong);
-            }
-            in_node(table::node_of(table, i), prefix, out)
-        }
-        Place::Free(_) => Listed::Refused(Refusal::NoNode),
+    match table_read::node_span(table, number) {
+        Span::Held { start, end } => in_node(&table[start..end], prefix, out),
+        Span::Missing => Listed::Refused(Refusal::NoNode),
     }
 }
 

@@ -1,19 +1,22 @@
 -- A node found by its number in a good table, or missing: the one law of every call that names a node. Where the node is held, its bytes stand within
 -- the table's, they are laid out and their keys rise, the rules find that very node, and other bytes in their place are the table with the node changed.
 -- Assumes nothing.
-use Prim.Native.Nat.{ℕ, _+_, _-_, _≤_, _<_}
-use mathlib.Core.Path.{_≡_, refl, ap, sym, _∙_, subst}
+use Prim.Native.Nat.{ℕ, suc, _+_, _-_, _≤_, _<_}
+use mathlib.Core.Path.{_≡_, refl, ap, sym, _∙_}
 use mathlib.Core.Bool.{true}
-use mathlib.Core.List.{List}
+use mathlib.Core.List.{List, []}
 use mathlib.Core.Option.{none, some}
 use native.Mathlib.Omega.{arith}
+use native.Mathlib.Nat.{zero-add}
 use lib.ListN.{length, take, drop}
+use lib.Dec.{eqb}
+use Rattle.fields.specs.Choice.{pick}
 use borrow.Rule.Slice.PartMut.{putMid}
 use Rattle.fields.specs.Parts.{part, put}
 use Rattle.fields.proofs.Lent.{seen, lent}
-use Rattle.rules.specs.Given.{Given, Gives}
+use Rattle.rules.specs.Given.{Gives}
 use Rattle.rules.specs.Node.{Node}
-use Rattle.rules.specs.Table.{Table, nodeOf, setNode, keysRise}
+use Rattle.rules.specs.Table.{Entry, Table, nodeOf, setNode, keysRise}
 use Rattle.rules.specs.Local.{Outcome, gives}
 use Rattle.rules.specs.Lent.{stored}
 use Rattle.rules.specs.Layout.{nodePlace, nodeWidth, encodeNode, decodeNode, encode, decode, valid}
@@ -22,12 +25,11 @@ use Rattle.table.specs.Fits.{LaidNode}
 use Rattle.table.specs.Tests.{nodesOf, recsOf}
 use Rattle.table.proofs.Nodes.{length-node}
 use Rattle.table.proofs.Tables.{valid-long, valid-few, encode-decode}
-use Rattle.table_read.specs.Find.{findNode, spanOf, spanIn}
+use Rattle.table_read.specs.Find.{toNode, findNode, spanOf, spanIn, startFrom, nodeStart}
 use Rattle.table_read.specs.declared.Place.{Place}
 use Rattle.table_read.specs.declared.Place.the-variants.{At, Free}
-use Rattle.table_read.specs.declared.Span.{Span}
 use Rattle.table_read.specs.declared.Span.the-variants.{Held, Missing}
-use Rattle.table_read.proofs.Searched.{node-in, node-found, node-missing, node-laid, node-rises}
+use Rattle.table_read.proofs.Searched.{search-at, node-hit, node-in, node-found, node-missing, node-laid, node-rises}
 use Rattle.table_read.proofs.Placed.{node-changed}
 
 -- what a span says of the place that was found
@@ -77,6 +79,18 @@ module _ (n : ℕ) (l : List ℕ) (v : valid l ≡ true) where
 
     pub held-node : nodeOf n (decode l) ≡ some (decodeNode bytes .node)
     held-node = rw (at .starts) (node-found l v n (at .i) (at .found))
+
+    pub held-start : nodeStart n (decode l) ≡ start
+    unfolding startFrom
+    held-start =
+        search-at (toNode n) (λ (x : Entry). eqb n (x .number)) (node-hit n) (λ (i : ℕ) (x : Entry). nodePlace i) 0
+        (λ (i : ℕ) (t : Table). startFrom n (nodePlace i) t) (λ i. refl) (λ i a t. ap (λ (k : ℕ). pick (eqb n (a .number)) (nodePlace i) (startFrom n k t)) (next i))
+        (decode l) (decodeNode []) 0 (at .i) (at .found)
+        ∙ ap nodePlace (zero-add (at .i))
+        ∙ sym (at .starts)
+      where
+        next : (i : ℕ) → nodePlace i + nodeWidth ≡ nodePlace (suc i)
+        next i = omega arith
 
     -- other bytes of the node, put in their place
     pub held-changed : (m : Node) (s : List ℕ) → s ≡ put start (encodeNode (withNode m (decodeNode bytes))) l → s ≡ encode (setNode n m (decode l))

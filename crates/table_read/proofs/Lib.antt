@@ -6,3 +6,4 @@ pub mod Halves
 pub mod Held
 pub mod Located
 pub mod Among
+pub mod Reading

@@ -65,6 +65,14 @@ spanIn number table = spanOf (findNode number (decode table))
 abbrev pub entryAt : (table : Table) (place : ℕ) → Entry
 entryAt t p = getD t p (freshEntry 0)
 
+-- where the bytes of the node with this number begin in a table's, those of the first node beginning at `start`; 0 where there is no such node
+unfoldable pub startFrom : (number start : ℕ) (table : Table) → ℕ
+startFrom number start [] = 0
+startFrom number start (e ∷ t) = pick (eqb number (e .number)) start (startFrom number (start + nodeWidth) t)
+
+abbrev pub nodeStart : (number : ℕ) (table : Table) → ℕ
+nodeStart number table = startFrom number (nodePlace 0) table
+
 abbrev pub headerOf : Node → Header
 headerOf n = record { heartbeat = n .heartbeat; max = n .max; «last_gc» = n .last-gc }
 

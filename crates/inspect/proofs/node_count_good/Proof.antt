@@ -5,9 +5,6 @@ use Rattle.table.proofs.Tables.{valid-long, length-decode}
 use Rattle.inspect.specs.declared.Count.the-variants as count
 use Rattle.inspect.proofs.node_count_good.Statement.{statement}
 use Rattle.inspect.proofs.node_count_good.Tie as tie
-use Rattle.inspect.proofs.node_count_good.Reads as reads
-use Rattle.inspect.proofs.node_count_good.Lts as lts
-use Rattle.fields.proofs.byte_at.Reads as byte-at-reads
 
 byte-at-requires : tie.Need-byte-at-requires
 byte-at-requires c κs = omega (arith, valid-long (c .before .args .table .now) (c .before .pre))

@@ -11,18 +11,12 @@ use Rattle.inspect.specs.declared.NodeNumber.the-variants as number
 use Rattle.inspect.proofs.Elements.{node-there, no-node-there}
 use Rattle.inspect.proofs.node_number_good.Statement.{statement}
 use Rattle.inspect.proofs.node_number_good.Tie as tie
-use Rattle.inspect.proofs.node_number_good.Reads as reads
-use Rattle.inspect.proofs.node_number_good.Lts as lts
-use Rattle.fields.proofs.byte_at.Reads as byte-at-reads
-use Rattle.fields.proofs.read_u64.Reads as read-u64-reads
 
 byte-at-requires : tie.Need-byte-at-requires
 byte-at-requires c κs = omega (arith, valid-long (c .before .args .table .now) (c .before .pre))
 
 returns : tie.Need-returns
-returns c =
-    let a = c .before .before .before .args in
-    sym (ap numberOn (no-node-there (a .table .now) (a .i) (omega (arith, c .before .byte-at .ensures .0))))
+returns c = no-node-there numberOn _ _ (omega (arith, c .before .byte-at .ensures .0))
 
 mul-read-u64 : tie.Need-mul-read-u64
 mul-read-u64 c =
@@ -45,7 +39,8 @@ returns-2 c =
     let s = t .before .before .before in
     let l : List ℕ = s .args .table .now in
     let h : s .args .i < nodesOf l = omega (arith, t .before .byte-at .ensures .0) in
-    ap number.Is (c .read-u64 .ensures ∙ sym (number-at (s .args .i) l (valid-long l (s .pre)) (omega (arith, valid-few l (s .pre))))) ∙ sym (ap numberOn (node-there l (s .args .i) h))
+    node-there numberOn l (s .args .i) h _
+    (ap number.Is (c .read-u64 .ensures ∙ sym (number-at (s .args .i) l (valid-long l (s .pre)) (omega (arith, valid-few l (s .pre))))))
 
 pub node-number-good-spec : {M : Type 1} → statement M
 node-number-good-spec =

@@ -1,81 +1,46 @@
--- `inspect::record_at_good` meets its contract: the record of the node's bytes. Assumes nothing.
-use Prim.Native.Nat.{ℕ, _<_}
-use mathlib.Core.Path.{_≡_, ap, sym, subst, _∙_}
-use mathlib.Core.List.{List}
-use native.Mathlib.Omega.{arith}
-use Rattle.rules.specs.Layout.{decode}
-use Rattle.table.specs.Tests.{nodesOf, recsOf}
-use Rattle.table.specs.Fits.{LaidNode}
-use Rattle.table.proofs.Tables.{valid-long, valid-few}
-use Rattle.table_read.specs.Find.{findNode}
-use Rattle.table_read.specs.declared.Place.the-variants as place
-use Rattle.table_read.proofs.Searched.{node-in, node-found, node-missing, node-laid}
-use Rattle.inspect.specs.Look.{elementAt, readAt, recordAtOn}
+-- `inspect::record_at_good` meets its contract: what the node's bytes say, or 2. Assumes nothing.
+use Rattle.inspect.specs.Look.{recordOn}
+use Rattle.table_read.proofs.Reading.{lent-node-needs, node-says-of, no-node-says-of}
 use borrow.Author.Needs.{needs}
 use Rattle.inspect.proofs.record_at_good.Statement.{statement}
 use Rattle.inspect.proofs.record_at_good.Tie as tie
-use Rattle.inspect.proofs.record_at_good.Reads as reads
-use Rattle.inspect.proofs.record_at_good.Lts as lts
-use Rattle.inspect.proofs.record_in.Reads as record-in-reads
-use Rattle.table_read.proofs.find_node.Reads as find-node-reads
-use Rattle.table.proofs.node_of.Reads as node-of-reads
 
--- the node's place is one of the table's
-found : (c : tie.After-known-told) → let j = c .before in let s = j .before .before .before .before in findNode (s .args .number) (decode (s .args .table .now)) ≡ place.At (j .i .given .0 .0)
-found c = let j = c .before in sym (j .before .before .find-node .ensures) ∙ j .i .given .1
+node-span-requires : tie.Need-node-span-requires
+node-span-requires c κs = search needs
 
-held : (c : tie.After-known-told) → let j = c .before in j .i .given .0 .0 < nodesOf (j .before .before .before .before .args .table .now)
-held c =
-    let j = c .before in
-    let s = j .before .before .before .before in
-    node-in (s .args .table .now) (s .pre) (s .args .number) (j .i .given .0 .0) (found c)
+enum-known-start : tie.Need-enum-known-start
+enum-known-start c = search needs
 
-find-node-requires : tie.Need-find-node-requires
-find-node-requires c κs =
-    let s = c .before in
-    (valid-long (s .args .table .now) (s .pre), valid-few (s .args .table .now) (s .pre))
+sub-record-in : tie.Need-sub-record-in
+sub-record-in c = search lent-node-needs
 
-enum-known-i : tie.Need-enum-known-i
-enum-known-i c = search needs
+part-record-in-start : tie.Need-part-record-in-start
+part-record-in-start c = search lent-node-needs
 
-node-of-requires : tie.Need-node-of-requires
-node-of-requires c κs =
-    let s = c .before .before .before .before .before in
-    (valid-long (s .args .table .now) (s .pre), omega (arith, held c, valid-few (s .args .table .now) (s .pre)))
+part-record-in-end : tie.Need-part-record-in-end
+part-record-in-end c = search lent-node-needs
 
 record-in-requires : tie.Need-record-in-requires
-record-in-requires c κs =
-    let p = c .before in
-    let s = p .before .before .before .before .before in
-    let l : List ℕ = s .args .table .now in
-    let o = node-laid l (s .pre) (p .before .i .given .0 .0) (held p) in
-    subst LaidNode (sym (c .node-of .ensures)) o
+record-in-requires c κs = search lent-node-needs
 
 enum-told : tie.Need-enum-told
 enum-told c = search needs
 
 returns : tie.Need-returns
-returns c =
-    let n = c .before in
-    let p = n .before in
-    let s = p .before .before .before .before .before in
-    let l : List ℕ = s .args .table .now in
-    let i : ℕ = p .before .i .given .0 .0 in
-    c .record-in .ensures ∙ ap (λ (b : List ℕ). readAt (elementAt (s .args .j) (recsOf b))) (n .node-of .ensures) ∙ sym (ap (recordAtOn (s .args .j)) (node-found l (s .pre) (s .args .number) i (found p)))
+returns c = search (node-says-of recordOn)
 
 returns-2 : tie.Need-returns-2
-returns-2 c =
-    let f = c .before .before in
-    let s = f .before .before in
-    sym (ap (recordAtOn (s .args .j)) (node-missing (s .args .table .now) (s .pre) (s .args .number) (c .enum-told .given .0 .0) (sym (f .find-node .ensures) ∙ c .enum-told .given .1)))
+returns-2 c = search (no-node-says-of recordOn)
 
 pub record-at-good-spec : {M : Type 1} → statement M
 record-at-good-spec =
     tie.close
     (tie.spec
-    find-node-requires
-    enum-known-i
-    node-of-requires
+    node-span-requires
+    enum-known-start
+    sub-record-in
+    part-record-in-start
+    part-record-in-end
     record-in-requires
     enum-told
     returns

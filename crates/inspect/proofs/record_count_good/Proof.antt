@@ -1,85 +1,46 @@
--- `inspect::record_count_good` meets its contract: what the node's bytes say. Assumes nothing.
-use Prim.Native.Nat.{ℕ, _<_}
-use mathlib.Core.Path.{_≡_, ap, sym, _∙_}
-use mathlib.Core.List.{List}
-use native.Mathlib.Omega.{arith}
-use lib.ListN.{length}
-use Rattle.rules.specs.Layout.{decode}
-use Rattle.table.specs.Tests.{nodesOf}
-use Rattle.table.proofs.Tables.{valid-long, valid-few}
-use Rattle.table.proofs.Places.{nodeBytes}
-use Rattle.table_read.specs.Find.{findNode}
-use Rattle.table_read.specs.declared.Place.the-variants as place
-use Rattle.table_read.proofs.Searched.{node-in, node-found, node-missing, node-laid}
-use Rattle.table.proofs.Places.{length-recs}
-use Rattle.table.specs.Tests.{countOf}
+-- `inspect::record_count_good` meets its contract: what the node's bytes say, or 2. Assumes nothing.
 use Rattle.inspect.specs.Look.{recordsOn}
-use Rattle.inspect.specs.declared.Count.the-variants as count
+use Rattle.table_read.proofs.Reading.{lent-node-needs, node-says, no-node-says, counted}
 use borrow.Author.Needs.{needs}
 use Rattle.inspect.proofs.record_count_good.Statement.{statement}
 use Rattle.inspect.proofs.record_count_good.Tie as tie
-use Rattle.inspect.proofs.record_count_good.Reads as reads
-use Rattle.inspect.proofs.record_count_good.Lts as lts
-use Rattle.fields.proofs.byte_at.Reads as byte-at-reads
-use Rattle.table_read.proofs.find_node.Reads as find-node-reads
-use Rattle.table.proofs.node_of.Reads as node-of-reads
 
--- the node's place is one of the table's
-found : (c : tie.After-known-told) → let j = c .before in let s = j .before .before .before .before in findNode (s .args .number) (decode (s .args .table .now)) ≡ place.At (j .i .given .0 .0)
-found c = let j = c .before in sym (j .before .before .find-node .ensures) ∙ j .i .given .1
+node-span-requires : tie.Need-node-span-requires
+node-span-requires c κs = search needs
 
-held : (c : tie.After-known-told) → let j = c .before in j .i .given .0 .0 < nodesOf (j .before .before .before .before .args .table .now)
-held c =
-    let j = c .before in
-    let s = j .before .before .before .before in
-    node-in (s .args .table .now) (s .pre) (s .args .number) (j .i .given .0 .0) (found c)
+enum-known-start : tie.Need-enum-known-start
+enum-known-start c = search needs
 
-find-node-requires : tie.Need-find-node-requires
-find-node-requires c κs =
-    let s = c .before in
-    (valid-long (s .args .table .now) (s .pre), valid-few (s .args .table .now) (s .pre))
+sub-byte-at : tie.Need-sub-byte-at
+sub-byte-at c = search lent-node-needs
 
-enum-known-i : tie.Need-enum-known-i
-enum-known-i c = search needs
+part-byte-at-start : tie.Need-part-byte-at-start
+part-byte-at-start c = search lent-node-needs
 
-node-of-requires : tie.Need-node-of-requires
-node-of-requires c κs =
-    let s = c .before .before .before .before .before in
-    (valid-long (s .args .table .now) (s .pre), omega (arith, held c, valid-few (s .args .table .now) (s .pre)))
+part-byte-at-end : tie.Need-part-byte-at-end
+part-byte-at-end c = search lent-node-needs
 
 byte-at-requires : tie.Need-byte-at-requires
-byte-at-requires c κs =
-    let p = c .before in
-    let s = p .before .before .before .before .before in
-    let l : List ℕ = s .args .table .now in
-    let o = node-laid l (s .pre) (p .before .i .given .0 .0) (held p) in
-    omega (arith, ap length (c .node-of .ensures), o .long)
+byte-at-requires c κs = search lent-node-needs
 
 enum-told : tie.Need-enum-told
 enum-told c = search needs
 
 returns : tie.Need-returns
-returns c =
-    let n = c .before in
-    let p = n .before in
-    let s = p .before .before .before .before .before in
-    let l : List ℕ = s .args .table .now in
-    let i : ℕ = p .before .i .given .0 .0 in
-    ap count.Are (c .byte-at .ensures .0 ∙ ap countOf (n .node-of .ensures) ∙ sym (length-recs (nodeBytes i l))) ∙ sym (ap recordsOn (node-found l (s .pre) (s .args .number) i (found p)))
+returns c = search (node-says recordsOn, counted)
 
 returns-2 : tie.Need-returns-2
-returns-2 c =
-    let f = c .before .before in
-    let s = f .before .before in
-    sym (ap recordsOn (node-missing (s .args .table .now) (s .pre) (s .args .number) (c .enum-told .given .0 .0) (sym (f .find-node .ensures) ∙ c .enum-told .given .1)))
+returns-2 c = search (no-node-says recordsOn)
 
 pub record-count-good-spec : {M : Type 1} → statement M
 record-count-good-spec =
     tie.close
     (tie.spec
-    find-node-requires
-    enum-known-i
-    node-of-requires
+    node-span-requires
+    enum-known-start
+    sub-byte-at
+    part-byte-at-start
+    part-byte-at-end
     byte-at-requires
     enum-told
     returns

@@ -13,8 +13,6 @@ use Rattle.lookup.specs.declared.Found.the-variants.{At, Nothing, Refuse
 use borrow.Author.Needs.{needs}
 use Rattle.lookup.proofs.held.Statement.{statement}
 use Rattle.lookup.proofs.held.Tie as tie
-use Rattle.lookup.proofs.held.Reads as reads
-use Rattle.lookup.proofs.held.Lts as lts
 
 -- the bytes and the place of what was found
 at-part : (l : List ℕ) (f : Found) (s n : ℕ) → f ≡ At s n → take (s + n - s) (drop s l) ≡ part (startOf f) (lenOf f) l

@@ -1,74 +1,47 @@
 -- `lookup::in_record` meets its contract: a hidden record shows nothing, any other its value's place. Assumes nothing.
-use Prim.Native.Nat.{ℕ, _≤_}
-use mathlib.Core.Path.{_≡_, ap, sym, subst, _∙_}
-use mathlib.Core.List.{List}
-use native.Mathlib.Omega.{arith}
-use lib.ListN.{length}
+use Prim.Native.Nat.{ℕ}
+use mathlib.Core.Path.{_≡_, ap, sym, _∙_}
 use Rattle.fields.specs.Choice.{pick}
-use Rattle.rules.specs.Sizes.{maxKey, maxValue}
 use Rattle.rules.specs.Node.{hidden}
-use Rattle.rules.specs.Layout.{decodeRec}
 use Rattle.rules.specs.declared.Record.{Record}
 use Rattle.rules.specs.declared.Status.{Status}
 use Rattle.rules.specs.declared.Status.the-variants.{Set, Delete, Ttl}
-use Rattle.table.specs.Tests.{keyLength, valueLength}
-use Rattle.table.proofs.Places.{recBytes, recAt}
-use Rattle.table.proofs.Laid.{rec-long, laid-key, laid-value}
-use Rattle.table_read.specs.Find.{recordOf}
+use Rattle.table.proofs.Places.{recAt}
+use Rattle.table_read.proofs.Reading.{lent-rec-needs, rec-fits, rec-read}
 use Rattle.lookup.specs.Lookup.{valuePlace, foundRec}
 use Rattle.lookup.specs.declared.Found.the-variants.{At, Nothing}
 use borrow.Author.Needs.{needs}
 use Rattle.lookup.proofs.in_record.Statement.{statement}
 use Rattle.lookup.proofs.in_record.Tie as tie
-use Rattle.lookup.proofs.in_record.Reads as reads
-use Rattle.lookup.proofs.in_record.Lts as lts
-use Rattle.table_read.proofs.read_record.Reads as read-record-reads
-use Rattle.table.proofs.record_of.Reads as record-of-reads
 
 -- by the status that was read
-module _ (i j : ℕ) (b x : List ℕ) (r : Record) (e : r ≡ recordOf (decodeRec x)) (q : x ≡ recBytes j b) (s : Status) (h : r .status ≡ s) where
-  status-is : recAt j b .kv .status ≡ s
-  status-is = ap (λ (y : List ℕ). decodeRec y .kv .status) (sym q) ∙ ap (λ (y : Record). y .status) (sym e) ∙ h
-
-  length-is : r .valuelen ≡ length (recAt j b .kv .value)
-  length-is = ap (λ (y : Record). y .valuelen) e ∙ ap (λ (y : List ℕ). length (decodeRec y .kv .value)) q
-
-  is : pick (hidden s) Nothing (At (valuePlace i j) (r .valuelen)) ≡ foundRec i j (recAt j b)
-  is =
-      ap (λ (m : ℕ). pick (hidden s) Nothing (At (valuePlace i j) m)) length-is
-      ∙ ap (λ (t : Status). pick (hidden t) Nothing (At (valuePlace i j) (length (recAt j b .kv .value)))) (sym status-is)
+answer : (c : tie.After-read-record) (s : Status) → c .read-record .result .status ≡ s
+    → let a = c .before .before .before .args in
+    pick (hidden s) Nothing (At (valuePlace (a .start) (a .j)) (c .read-record .result .valuelen)) ≡ foundRec (a .start) (a .j) (recAt (a .j) (a .node .now))
+answer c s h =
+    let a = c .before .before .before .args in
+    let at : ℕ = valuePlace (a .start) (a .j) in
+    ap (λ (t : Status). pick (hidden t) Nothing (At at (c .read-record .result .valuelen))) (sym h)
+    ∙ ap (λ (r : Record). pick (hidden (r .status)) Nothing (At at (r .valuelen)))
+    (rec-read (a .node .now) (a .j) _ (c .before .record-of .ensures) _ (c .read-record .ensures))
 
 record-of-requires : tie.Need-record-of-requires
-record-of-requires c κs = (search needs, omega arith)
+record-of-requires c κs = search lent-rec-needs
 
 read-record-requires : tie.Need-read-record-requires
-read-record-requires c κs =
-    let s = c .before .before in
-    let b : List ℕ = s .args .node .now in
-    let j : ℕ = s .args .j in
-    let e = c .record-of .ensures in (
-      ap length e ∙ rec-long b (s .pre .0) j (s .pre .2),
-      subst (λ (x : List ℕ). keyLength x ≤ maxKey) (sym e) (laid-key b (s .pre .0) j (s .pre .2)),
-      subst (λ (x : List ℕ). valueLength x ≤ maxValue) (sym e) (laid-value b (s .pre .0) j (s .pre .2)),
-    )
+read-record-requires c κs = let s = c .before .before in rec-fits _ (s .pre .0) _ (s .pre .2) _ (c .record-of .ensures)
 
-mul-start : tie.Need-mul-start
-mul-start c = search needs
+mul-value : tie.Need-mul-value
+mul-value c = search needs
 
-add-start : tie.Need-add-start
-add-start c = search needs
+add-value : tie.Need-add-value
+add-value c = search needs
 
-mul-start-2 : tie.Need-mul-start-2
-mul-start-2 c = search needs
+add-value-2 : tie.Need-add-value-2
+add-value-2 c = search needs
 
-add-start-2 : tie.Need-add-start-2
-add-start-2 c = search needs
-
-add-start-3 : tie.Need-add-start-3
-add-start-3 c = search needs
-
-add-start-4 : tie.Need-add-start-4
-add-start-4 c = search needs
+add-value-3 : tie.Need-add-value-3
+add-value-3 c = search needs
 
 enum-told : tie.Need-enum-told
 enum-told c = search needs
@@ -80,25 +53,13 @@ enum-told-3 : tie.Need-enum-told-3
 enum-told-3 c = search needs
 
 returns : tie.Need-returns
-returns c =
-    let m = c .before .before in
-    let p = m .before in
-    let a = p .before .before .args in
-    is (a .i) (a .j) (a .node .now) (p .record-of .result .now) (m .read-record .result) (m .read-record .ensures) (p .record-of .ensures) Delete (c .enum-told .given .1)
+returns c = answer (c .before .before) Delete (c .enum-told .given .1)
 
 returns-2 : tie.Need-returns-2
-returns-2 c =
-    let m = c .before .before in
-    let p = m .before in
-    let a = p .before .before .args in
-    is (a .i) (a .j) (a .node .now) (p .record-of .result .now) (m .read-record .result) (m .read-record .ensures) (p .record-of .ensures) Set (c .enum-told2 .given .1)
+returns-2 c = answer (c .before .before) Set (c .enum-told2 .given .1)
 
 returns-3 : tie.Need-returns-3
-returns-3 c =
-    let m = c .before .before in
-    let p = m .before in
-    let a = p .before .before .args in
-    is (a .i) (a .j) (a .node .now) (p .record-of .result .now) (m .read-record .result) (m .read-record .ensures) (p .record-of .ensures) Ttl (c .enum-told3 .given .1)
+returns-3 c = answer (c .before .before) Ttl (c .enum-told3 .given .1)
 
 pub in-record-spec : {M : Type 1} → statement M
 in-record-spec =
@@ -106,12 +67,10 @@ in-record-spec =
     (tie.spec
     record-of-requires
     read-record-requires
-    mul-start
-    add-start
-    mul-start-2
-    add-start-2
-    add-start-3
-    add-start-4
+    mul-value
+    add-value
+    add-value-2
+    add-value-3
     enum-told
     enum-told-2
     enum-told-3

@@ -12,10 +12,6 @@ use Rattle.table.specs.Tests.{countOf, recsOf}
 use Rattle.prefix.proofs.Hits.{hitsLeft, none-left, count-hit, count-miss}
 use Rattle.prefix.proofs.count_hits.Statement.{statement}
 use Rattle.prefix.proofs.count_hits.Tie as tie
-use Rattle.prefix.proofs.count_hits.Reads as reads
-use Rattle.prefix.proofs.count_hits.Lts as lts
-use Rattle.fields.proofs.byte_at.Reads as byte-at-reads
-use Rattle.prefix.proofs.is_hit.Reads as is-hit-reads
 
 abbrev Inv-loop : tie.InvT-loop
 Inv-loop b prefix n found₀ j₀ found j = (j ≤ n) × (found ≤ j) × (found + length (hitsLeft prefix j b) ≡ length (hitsFrom prefix 0 (recsOf b)))
@@ -30,7 +26,9 @@ byte-at-requires : tie.Need-byte-at-requires Inv-loop μ-loop
 byte-at-requires c κs = search needs
 
 loop-holds : tie.Need-loop-holds Inv-loop μ-loop
-loop-holds c = (omega arith, omega arith, zero-add (length (hitsFrom (c .before .before .before .args .prefix .now) 0 (recsOf (c .before .before .before .args .node .now)))))
+loop-holds c =
+    let a = c .before .before .before .args in
+    (omega arith, omega arith, zero-add (length (hitsFrom (a .prefix .now) 0 (recsOf (a .node .now)))))
 
 is-hit-requires : tie.Need-is-hit-requires Inv-loop μ-loop
 is-hit-requires c κs = (c .before .before .before .before .before .pre, within c)

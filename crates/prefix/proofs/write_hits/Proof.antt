@@ -14,10 +14,6 @@ use Rattle.table.specs.Tests.{countOf, recsOf}
 use Rattle.prefix.proofs.Hits.{hitsLeft, none-left, count-hit, count-miss, put-hit, put-miss, hit-room}
 use Rattle.prefix.proofs.write_hits.Statement.{statement}
 use Rattle.prefix.proofs.write_hits.Tie as tie
-use Rattle.prefix.proofs.write_hits.Reads as reads
-use Rattle.prefix.proofs.write_hits.Lts as lts
-use Rattle.fields.proofs.byte_at.Reads as byte-at-reads
-use Rattle.prefix.proofs.is_hit.Reads as is-hit-reads
 
 abbrev Inv-loop : tie.InvT-loop
 Inv-loop b prefix out₀ n next₀ j₀ out next j =
@@ -38,7 +34,8 @@ room c =
     let i = c .before in
     let q = i .before .before in
     let s = q .before .before .before .before .before in
-    hit-room (s .args .prefix .now) (s .args .node .now) (q .loop .j) (q .loop .next) (length (q .loop .out)) (within (i .before)) (sym (i .is-hit .ensures) ∙ c .if1 .taken)
+    hit-room (s .args .prefix .now) (s .args .node .now) (q .loop .j) (q .loop .next) (length (q .loop .out)) (within (i .before))
+    (sym (i .is-hit .ensures) ∙ c .if1 .taken)
     (omega (arith, q .loop .inv .1, q .loop .inv .2, s .pre .1))
 
 byte-at-requires : tie.Need-byte-at-requires Inv-loop μ-loop
@@ -88,7 +85,8 @@ loop-again c =
       omega arith,
       ap length (w .1) ∙ (simp length-set) ∙ q .loop .inv .1,
       ap (λ (m : ℕ). m + length left) (w .2) ∙ count-hit k b j h f n e (q .loop .inv .2),
-      ap₂ (λ (m : ℕ) (l : List ℕ). put m left l) (w .2) (w .1) ∙ put-hit k b j h f (q .loop .out) all (room (record { before = i; if1 = w .0 })) e (q .loop .inv .3),
+      ap₂ (λ (m : ℕ) (l : List ℕ). put m left l) (w .2) (w .1)
+          ∙ put-hit k b j h f (q .loop .out) all (room (record { before = i; if1 = w .0 })) e (q .loop .inv .3),
     ))
     (λ w. let e = sym (i .is-hit .ensures) ∙ w .0 .left in (
       omega arith,
