@@ -2,7 +2,7 @@
 use mathlib.Core.Path.{_≡_, refl, ap, ap₂, sym}
 use native.Mathlib.Omega.{arith}
 use Rattle.rules.proofs.Told.{number-is, value-is, values-long, not-refused, same-number}
-use Rattle.lookup.specs.Lookup.{foundTold}
+use Rattle.lookup.specs.Told.{foundTold}
 use Rattle.lookup.specs.declared.Found.{Found}
 use Rattle.lookup.specs.declared.Found.the-variants.{At, Nothing, Refused}
 
