@@ -4,12 +4,13 @@
 //
 // The rules by value come first, for callers that hold a header: `offered` and `raised`. Over them stand the thin functions on a header
 // that is lent, `offer_heartbeat` and `raise_heartbeat`. A heartbeat is a `Heartbeat` throughout, so none is taken for a version.
-use rules::sizes;
-ghost use mathlib.Core.Path.{_≡_};
-ghost use Rattle.rules.specs.Node.{offerOf};
-ghost use Rattle.heartbeat_header.specs.Headers.{beating, offeredTo, canRise, risenFrom, raisedOf};
 use rules::Header;
 use rules::Heartbeat;
+use rules::sizes;
+ghost use mathlib.Core.Path.{_≡_};
+ghost use Rattle.rules.specs.Given.{Gives};
+ghost use Rattle.rules.specs.Node.{offerOf};
+ghost use Rattle.heartbeat_header.specs.Headers.{beating, offeredTo, canRise, risenFrom, raisedOf, lentOffered, lentRaised};
 
 // The header after an offer, and whether the offer was news.
 pub struct OfferedHeader {
@@ -94,7 +95,7 @@ pub fn raised(header: Header) -> RaisedHeader
 
 // A heartbeat offer to a header that is lent: whether the offer was news. max and last_gc are untouched.
 pub fn offer_heartbeat(header: &mut Header, got: Heartbeat) -> bool
-    ensures { λ r. ⌜ (r ≡ offeredTo (now (header .entry)) got .news) × (now (header .exit) ≡ offeredTo (now (header .entry)) got .header) ⌝ }
+    ensures { λ r. ⌜ Gives (lentOffered got (now (header .entry))) r (now (header .exit)) ⌝ }
 {
     let held = header.heartbeat;
     header.heartbeat = kept(held, got);
@@ -103,7 +104,7 @@ pub fn offer_heartbeat(header: &mut Header, got: Heartbeat) -> bool
 
 // A local beat on a header that is lent: whether the heartbeat rose. Where it did not, the header is untouched.
 pub fn raise_heartbeat(header: &mut Header) -> bool
-    ensures { λ r. ⌜ (r ≡ raisedOf (now (header .entry)) .rose) × (now (header .exit) ≡ raisedOf (now (header .entry)) .header) ⌝ }
+    ensures { λ r. ⌜ Gives (lentRaised (now (header .entry))) r (now (header .exit)) ⌝ }
 {
     let held = header.heartbeat;
     header.heartbeat = risen(held);

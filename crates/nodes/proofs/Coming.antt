@@ -2,7 +2,7 @@
 use Prim.Native.Nat.{ℕ, _≤_, _<_, _*_}
 use mathlib.Core.Path.{_≡_, refl, ap, sym, _∙_}
 use mathlib.Core.Bool.{Bool, true, false}
-use mathlib.Core.List.{List, [], _∷_, _++_, append-nil}
+use mathlib.Core.List.{List, [], append-nil}
 use native.Mathlib.Omega.{arith}
 use lib.ListN.{length}
 use lib.Dec.{eqb, ltb}
@@ -14,11 +14,11 @@ use Rattle.fields.specs.Widths.{joined}
 use Rattle.fields.proofs.Choice.{pick-true, pick-false}
 use Rattle.fields.proofs.Parts.{put-at}
 use Rattle.fields.proofs.Blocks.{length-zeros, zeros-add, bytes-zero, blocks-is}
-use Rattle.rules.specs.Given.{Given}
+use Rattle.rules.specs.Given.{Given, given, Gives}
 use Rattle.rules.specs.Sizes.{maxNodes}
 use Rattle.rules.specs.Table.{Table, addNode, dropNode, numbersOf, among}
 use Rattle.rules.specs.Local.{Outcome, gives, add, removeNode}
-use Rattle.rules.specs.Lent.{lentNew}
+use Rattle.rules.specs.Lent.{stored, lentNew}
 use Rattle.rules.specs.Layout.{nodeWidth, tableWidth, encodeNode, encode, decode, valid}
 use Rattle.rules.specs.declared.Answer.{Answer}
 use Rattle.rules.specs.declared.Answer.the-variants.{Done, Refused}
@@ -47,41 +47,41 @@ put-whole : (vs l : List ℕ) → length vs ≡ length l → put 0 vs l ≡ vs
 put-whole vs l e = ap (put 0 vs) (sym (append-nil l)) ∙ put-at 0 vs [] l [] refl e ∙ append-nil vs
 
 module _ (l : List ℕ) where
-  pub made : length l ≡ tableWidth → (s : List ℕ) → s ≡ put 0 (zeros tableWidth) l → (Done ≡ lentMade l .answer) × (s ≡ lentMade l .lent)
+  pub made : length l ≡ tableWidth → (s : List ℕ) → s ≡ put 0 (zeros tableWidth) l → Gives (lentMade l) Done s
   unfolding lentMade lentNew
   made e s q =
-      let o : lentMade l ≡ record { answer = Done; lent = lentNew } =
-      pick-true (eqb (length l) tableWidth) (record { answer = Done; lent = lentNew }) (record { answer = Refused BadTable; lent = l }) (eq-eqb (length l) tableWidth e) in (
+      let o : lentMade l ≡ given Done lentNew =
+      pick-true (eqb (length l) tableWidth) (given Done lentNew) (given (Refused BadTable) l) (eq-eqb (length l) tableWidth e) in (
         ap (λ (x : Given Answer (List ℕ)). x .answer) (sym o),
         q ∙ put-whole (zeros tableWidth) l (length-zeros tableWidth ∙ sym e) ∙ sym zero-table ∙ ap (λ (x : Given Answer (List ℕ)). x .lent) (sym o),
       )
 
-  pub not-made : (length l ≡ tableWidth → ⊥) → (Refused BadTable ≡ lentMade l .answer) × (l ≡ lentMade l .lent)
+  pub not-made : (length l ≡ tableWidth → ⊥) → Gives (lentMade l) (Refused BadTable) l
   unfolding lentMade
   not-made n =
-      let o : lentMade l ≡ record { answer = Refused BadTable; lent = l } =
-      pick-false (eqb (length l) tableWidth) (record { answer = Done; lent = lentNew }) (record { answer = Refused BadTable; lent = l }) (ne-eqb (length l) tableWidth n) in (
+      let o : lentMade l ≡ given (Refused BadTable) l =
+      pick-false (eqb (length l) tableWidth) (given Done lentNew) (given (Refused BadTable) l) (ne-eqb (length l) tableWidth n) in (
         ap (λ (x : Given Answer (List ℕ)). x .answer) (sym o),
         ap (λ (x : Given Answer (List ℕ)). x .lent) (sym o),
       )
 
 -- ---- a rule's outcome, and the bytes that are left
 
-told : (o : Outcome Answer) (r : Answer) (t : Table) → o ≡ gives r t → (s : List ℕ) → s ≡ encode t → (r ≡ o .answer) × (s ≡ encode (o .table))
+told : (o : Outcome Answer) (r : Answer) (t : Table) → o ≡ gives r t → (s : List ℕ) → s ≡ encode t → Gives (stored o) r s
 told o r t e s q = (ap (λ (x : Outcome Answer). x .answer) (sym e), q ∙ ap (λ (x : Outcome Answer). encode (x .table)) (sym e))
 
 module _ (n : ℕ) (l : List ℕ) (v : valid l ≡ true) (i : ℕ) where
   abbrev there : Bool
   there = among n (numbersOf (decode l))
 
-  pub add-held : findNode n (decode l) ≡ At i → (Done ≡ add n (decode l) .answer) × (l ≡ encode (add n (decode l) .table))
+  pub add-held : findNode n (decode l) ≡ At i → Gives (stored (add n (decode l))) Done l
   unfolding add
   add-held e = told (add n (decode l)) Done (decode l) (pick-true there (gives Done (decode l)) _ (held n (decode l) i e)) l (sym (encode-decode l v))
 
   missing : findNode n (decode l) ≡ Free i → there ≡ false
   missing e = not-held n (decode l) i (nodes-ordered l v n) e
 
-  pub add-full : findNode n (decode l) ≡ Free i → maxNodes ≤ nodesOf l → (Refused NinthNode ≡ add n (decode l) .answer) × (l ≡ encode (add n (decode l) .table))
+  pub add-full : findNode n (decode l) ≡ Free i → maxNodes ≤ nodesOf l → Gives (stored (add n (decode l))) (Refused NinthNode) l
   unfolding add
   add-full e h =
       told (add n (decode l)) (Refused NinthNode) (decode l)
@@ -91,7 +91,7 @@ module _ (n : ℕ) (l : List ℕ) (v : valid l ≡ true) (i : ℕ) where
       l (sym (encode-decode l v))
 
   pub add-new : findNode n (decode l) ≡ Free i → nodesOf l < maxNodes → (s : List ℕ) → s ≡ encode (insertAt i (freshEntry n) (decode l))
-      → (Done ≡ add n (decode l) .answer) × (s ≡ encode (add n (decode l) .table))
+      → Gives (stored (add n (decode l))) Done s
   unfolding add
   add-new e h s q =
       told (add n (decode l)) Done (addNode n (decode l))
@@ -101,13 +101,13 @@ module _ (n : ℕ) (l : List ℕ) (v : valid l ≡ true) (i : ℕ) where
       s (q ∙ ap encode (sym (add-free n (decode l) i e)))
 
   pub remove-held : findNode n (decode l) ≡ At i → (s : List ℕ) → s ≡ encode (removeAt i (decode l))
-      → (Done ≡ removeNode n (decode l) .answer) × (s ≡ encode (removeNode n (decode l) .table))
+      → Gives (stored (removeNode n (decode l))) Done s
   unfolding removeNode
   remove-held e s q =
       told (removeNode n (decode l)) Done (dropNode n (decode l)) (pick-true there (gives Done (dropNode n (decode l))) (gives (Refused NoNode) (decode l)) (held n (decode l) i e)) s
       (q ∙ ap encode (sym (drop-at n (decode l) i e)))
 
-  pub remove-none : findNode n (decode l) ≡ Free i → (Refused NoNode ≡ removeNode n (decode l) .answer) × (l ≡ encode (removeNode n (decode l) .table))
+  pub remove-none : findNode n (decode l) ≡ Free i → Gives (stored (removeNode n (decode l))) (Refused NoNode) l
   unfolding removeNode
   remove-none e =
       told (removeNode n (decode l)) (Refused NoNode) (decode l) (pick-false there (gives Done (dropNode n (decode l))) (gives (Refused NoNode) (decode l)) (missing e)) l

@@ -4,7 +4,7 @@ use Prim.Native.Nat.{ℕ, suc, _+_, _-_, _≤_, _<_, max}
 use mathlib.Core.Path.{_≡_, refl, ap, ap₂, sym, _∙_, subst}
 use mathlib.Core.Bool.{Bool, true, false, not}
 use mathlib.Core.List.{List, [], _∷_, _++_, append-nil, append-assoc}
-use mathlib.Core.Logic.{_⊎_, ⊎-elim}
+use mathlib.Core.Logic.{⊎-elim}
 use native.Mathlib.Omega.{arith}
 use native.Mathlib.Numerals.{add-one}
 use lib.ListN.{length, getD, set, take, drop, length-set, drop-of-length-le}
@@ -14,23 +14,17 @@ use borrow.Author.Tests.{leb-true, leb-false, lt-ltb, le-ltb}
 use Rattle.fields.specs.Choice.{pick, keep, _∈_}
 use Rattle.fields.specs.Parts.{put}
 use Rattle.fields.specs.Blocks.{removeAt}
-use Rattle.fields.proofs.Choice.{pick-true, pick-false, in-append, in-cons, in-take, in-drop, keep-from}
+use Rattle.fields.proofs.Choice.{in-append, in-cons, in-take, in-drop, keep-from}
 use Rattle.fields.proofs.Blocks.{length-remove}
-use Rattle.rules.specs.Given.{Given}
-use Rattle.rules.specs.Sizes.{maxNodes, numbers}
+use Rattle.rules.specs.Sizes.{maxNodes, numbers, top}
 use Rattle.rules.specs.Node.{Rec, goes, lastGc, remove, due}
 use Rattle.rules.specs.Table.{Entry, Table, removeAll}
-use Rattle.rules.specs.Local.{gc}
-use Rattle.rules.specs.Layout.{nodePlace, encodeNode, decodeNode, encode, decode, valid}
-use Rattle.rules.specs.Lent.{onTable, stored, lentGc}
-use Rattle.rules.specs.declared.Answer.{Answer}
-use Rattle.rules.specs.declared.Answer.the-variants as plain
-use Rattle.rules.specs.declared.Refusal.the-variants.{BadTable}
+use Rattle.rules.specs.Layout.{nodePlace, encodeNode, decodeNode, encode, decode}
 use Rattle.rules.proofs.Records.{gc-below}
 use Rattle.rules.proofs.Keeps.{length-keep}
 use Rattle.table.specs.Tests.{countOf, nodesOf, recsOf}
 use Rattle.table.specs.Fits.{FitsEntry, FitsTable, LaidNode, LaidTable}
-use Rattle.table.specs.Changes.{withNode, withGc, withRecs}
+use Rattle.table.specs.Changes.{withNode, withGc, withRecs, withoutRec}
 use Rattle.table.proofs.Nodes.{decode-encode-node, laid-node}
 use Rattle.table.proofs.Tables.{length-decode, read-back, laid-table}
 use Rattle.table.proofs.Places.{recAt, recs-at, length-recs, nodeAt, decode-at}
@@ -54,7 +48,7 @@ module _ (start time grace : ℕ) where
 -- ---- the records of a node
 
 -- what is in front of record j is done, and the rest is done by the rule
-abbrev pub doneFrom : (Rec → Bool) → ℕ → Entry → Entry
+abbrev pub doneFrom : (due : Rec → Bool) (j : ℕ) (entry : Entry) → Entry
 doneFrom due j e =
     withNode
     (record {
@@ -142,7 +136,7 @@ module _ (due : Rec → Bool) (e : Entry) (j : ℕ) (r : Rec) (h : j < length (e
 
 -- ---- what is left fits
 
-fits-less : (e : Entry) (j : ℕ) → FitsEntry e → j < length (e .node .recs) → FitsEntry (withRecs (removeAt j (e .node .recs)) e)
+fits-less : (e : Entry) (j : ℕ) → FitsEntry e → j < length (e .node .recs) → FitsEntry (withoutRec j e)
 unfolding removeAt
 fits-less e j o h =
     let l : List Rec = e .node .recs in
@@ -167,8 +161,8 @@ fits-removed due e o =
     let l : List Rec = e .node .recs in
     let p : Rec → Bool = λ r. not (goes due r) in
     let a : e .node .last-gc < numbers = o .gc-high in
-    let top : lastGc due (e .node .last-gc) l ≤ 18446744073709551615 =
-    gc-below due (e .node .last-gc) 18446744073709551615 l (omega arith) (λ x m. let b : x .kv .version < numbers = o .each x m .version-high in omega arith) in
+    let below : lastGc due (e .node .last-gc) l ≤ top =
+    gc-below due (e .node .last-gc) top l (omega arith) (λ x m. let b : x .kv .version < numbers = o .each x m .version-high in omega arith) in
     record {
       number-high = o .number-high;
       beat-high = o .beat-high;
@@ -195,18 +189,18 @@ module _ (b : List ℕ) (o : LaidNode b) where
     held = rw length-recs h
 
     -- the two writes of a record that goes
-    module _ (s1 : List ℕ) (e1 : s1 ≡ encodeNode (withRecs (removeAt j (recsOf b)) (decodeNode b))) where
-      less : FitsEntry (withRecs (removeAt j (recsOf b)) (decodeNode b))
+    module _ (s1 : List ℕ) (e1 : s1 ≡ encodeNode (withoutRec j (decodeNode b))) where
+      less : FitsEntry (withoutRec j (decodeNode b))
       less = fits-less (decodeNode b) j (o .fits) held
 
       pub less-laid : LaidNode s1
-      less-laid = subst LaidNode (sym e1) (laid-node (withRecs (removeAt j (recsOf b)) (decodeNode b)) less)
+      less-laid = subst LaidNode (sym e1) (laid-node (withoutRec j (decodeNode b)) less)
 
       pub taken-steps : (g v : ℕ) (s2 : List ℕ) → g ≡ max (decodeNode b .node .last-gc) v → s2 ≡ encodeNode (withGc g (decodeNode s1))
           → s2 ≡ encodeNode (takenOut j v (decodeNode b))
       taken-steps g v s2 e e2 =
           e2
-          ∙ ap₂ (λ (m : ℕ) (y : Entry). encodeNode (withGc m y)) e (ap decodeNode e1 ∙ decode-encode-node (withRecs (removeAt j (recsOf b)) (decodeNode b)) less)
+          ∙ ap₂ (λ (m : ℕ) (y : Entry). encodeNode (withGc m y)) e (ap decodeNode e1 ∙ decode-encode-node (withoutRec j (decodeNode b)) less)
 
     -- the node once record j has gone
     module _ (s : List ℕ) (e : s ≡ encodeNode (takenOut j (recAt j b .kv .version) (decodeNode b))) where
@@ -235,7 +229,7 @@ module _ (b : List ℕ) (o : LaidNode b) where
 -- ---- the nodes of a table
 
 -- what is in front of node i is done, and the rest is done by the rule
-abbrev pub nodesFrom : (Rec → Bool) → ℕ → Table → Table
+abbrev pub nodesFrom : (due : Rec → Bool) (i : ℕ) (table : Table) → Table
 nodesFrom due i t = take i t ++ removeAll (λ n. due) (drop i t)
 
 nodes-step : (due : Rec → Bool) (t : Table) (i : ℕ) (e : Entry) → i < length t → getD t i e ≡ e → nodesFrom due (i + 1) (set t i (removed due e)) ≡ nodesFrom due i t
@@ -283,19 +277,3 @@ module _ (l : List ℕ) (o : LaidTable l) (due : Rec → Bool) where
 
   pub table-end : (i : ℕ) (t : Table) → nodesOf l ≤ i → nodesFrom due i (decode l) ≡ t → l ≡ encode t
   table-end i t h e = sym (o .is) ∙ ap encode (sym (nodes-done due (decode l) i (rw length-decode h)) ∙ e)
-
--- ---- in any bytes
-
-module _ (time grace : ℕ) (l : List ℕ) where
-  pub good-removed : valid l ≡ true → (m : List ℕ) → m ≡ encode (removeAll (λ i. due time grace) (decode l))
-      → (plain.Done ≡ lentGc time grace l .answer) × (m ≡ lentGc time grace l .lent)
-  unfolding onTable gc
-  good-removed v m e =
-      subst (λ (x : Given Answer (List ℕ)). (plain.Done ≡ x .answer) × (m ≡ x .lent))
-      (sym (pick-true (valid l) (stored (gc time grace (decode l))) (record { answer = plain.Refused BadTable; lent = l }) v)) (refl, e)
-
-  pub bad-removed : valid l ≡ false → (plain.Refused BadTable ≡ lentGc time grace l .answer) × (l ≡ lentGc time grace l .lent)
-  unfolding onTable
-  bad-removed v =
-      subst (λ (x : Given Answer (List ℕ)). (plain.Refused BadTable ≡ x .answer) × (l ≡ x .lent))
-      (sym (pick-false (valid l) (stored (gc time grace (decode l))) (record { answer = plain.Refused BadTable; lent = l }) v)) (refl, refl)

@@ -2,15 +2,14 @@
 -- an entry of a table, which is what a node's bytes are read as.
 use Prim.Native.Nat.{ℕ, max}
 use mathlib.Core.Bool.{Bool}
-use Rattle.fields.specs.Blocks.{removeAt}
 use Rattle.rules.specs.Node.{Rec, remove}
 use Rattle.rules.specs.Table.{Entry}
-use Rattle.table.specs.Changes.{withNode, withGc, withRecs}
+use Rattle.table.specs.Changes.{withNode, withGc, withoutRec}
 
 -- record j, which has version v, has gone: last_gc is the larger of itself and v
-abbrev pub takenOut : ℕ → ℕ → Entry → Entry
-takenOut j v e = withGc (max (e .node .last-gc) v) (withRecs (removeAt j (e .node .recs)) e)
+abbrev pub takenOut : (j version : ℕ) (entry : Entry) → Entry
+takenOut j v e = withGc (max (e .node .last-gc) v) (withoutRec j e)
 
 -- all scheduled records that are due have gone
-abbrev pub removed : (Rec → Bool) → Entry → Entry
+abbrev pub removed : (due : Rec → Bool) (entry : Entry) → Entry
 removed due e = withNode (remove due (e .node)) e

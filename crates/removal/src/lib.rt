@@ -19,7 +19,7 @@ ghost use Rattle.rules.specs.Layout.{encodeNode, decodeNode, encode, decode, va
 ghost use Rattle.rules.specs.Lent.{lentGc};
 ghost use Rattle.table.specs.Tests.{countOf};
 ghost use Rattle.table.specs.Fits.{LaidNode};
-ghost use Rattle.table.proofs.Places.{recAt};
+ghost use Rattle.table.specs.Places.{recAt};
 ghost use Rattle.removal.specs.Removals.{takenOut, removed};
 
 // Whether the grace of a record that is scheduled from `start` is over.

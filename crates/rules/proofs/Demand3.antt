@@ -6,14 +6,13 @@ use mathlib.Core.Bool.{true}
 use mathlib.Core.List.{List, _++_}
 use mathlib.Core.Option.{some}
 use mathlib.Core.Path.{_≡_, ap, subst, subst₂}
-use lib.ListN.{length}
 use Rattle.rules.proofs.Closing.{after-append, closing}
 use Rattle.rules.proofs.EachNode.{at, orFresh}
 use Rattle.rules.proofs.Keeps.{plain-lawful}
 use Rattle.rules.proofs.Moments.{InOrder, Moment, moment, moment-claims, run-rises}
 use Rattle.rules.proofs.Obeys.{facts-table}
 use Rattle.rules.specs.Apply.{Lawful, Ways, plainWays}
-use Rattle.rules.specs.Demand3.{AllRise, Claims, Demand3, Holds, Quiet, Rises, Sound, Wide, allGranted, exchanges, holdings}
+use Rattle.rules.specs.Demand3.{AllRise, Claims, Demand3, Holds, NotBegun, Rises, Sound, allQuiet, holdings, wholes}
 use Rattle.rules.specs.Node.{KeyValue, Node}
 use Rattle.rules.specs.Table.{nodeOf, obeys}
 use Rattle.rules.specs.World.{Event, World, after, freshTable, start}
@@ -58,19 +57,18 @@ module _ (ways : Ways) (law : Lawful ways) (is : List ℕ) (ok : obeys (freshTab
   demand3-as = record { at-every-moment = sound; between-moments = never-falls; closing-count = closing ways law is ok }
 
   -- So that in the end every Set record of the publisher has arrived, and the follower has no other.
-  pub all-arrives : (es : List Event) (qs : List Quiet)
-      → Wide qs
-      → allGranted ways (exchanges qs) (after ways es (start is)) ≡ true
-      → holdings (after ways es (start is) .publisher) ≤ length qs
+  pub all-arrives : (es fs : List Event)
+      → allQuiet fs ≡ true
+      → holdings (after ways es (start is) .publisher) ≤ wholes ways NotBegun fs (after ways es (start is))
       → (i : ℕ) (p f : Node)
-      → nodeOf i (after ways (exchanges qs) (after ways es (start is)) .publisher) ≡ some p
-      → nodeOf i (after ways (exchanges qs) (after ways es (start is)) .follower) ≡ some f
+      → nodeOf i (after ways fs (after ways es (start is)) .publisher) ≡ some p
+      → nodeOf i (after ways fs (after ways es (start is)) .follower) ≡ some f
       → (s : KeyValue)
       → s .status ≡ Set
       → (Holds p s → Holds f s) × (Holds f s → Holds p s)
-  all-arrives es qs wide g h i p f a b =
-      let end = subst (Sound is) (after-append ways es (exchanges qs) (start is)) (sound (es ++ exchanges qs)) in
-      end .claims i p f a b .same-set (closing ways law is ok es qs wide g h i p f a b)
+  all-arrives es fs calm h i p f a b =
+      let end = subst (Sound is) (after-append ways es fs (start is)) (sound (es ++ fs)) in
+      end .claims i p f a b .same-set (closing ways law is ok es fs calm h i p f a b)
 
 -- of plain tables
 pub demand3 : (is : List ℕ) → obeys (freshTable is) ≡ true → Demand3 plainWays is

@@ -62,11 +62,11 @@ seen-rises ways v x s = subst (λ (y : One). Rises (v .ours) (y .ours) × Rises 
 -- ---- what a call does to a node of its table
 
 -- only the heartbeat changes
-abbrev Beaten : ℕ → Table → Table → Type 0
+abbrev pub Beaten : ℕ → Table → Table → Type 0
 Beaten i t u = (b : Heartbeat) × (nodeAt i u ≡ withHeartbeat b (nodeAt i t))
 
 module _ (i : ℕ) (t : Table) where
-  unbeaten : Beaten i t t
+  pub unbeaten : Beaten i t t
   unbeaten = (nodeAt i t .heartbeat, refl)
 
   beaten-set : (j : ℕ) (n : Node) (b : Heartbeat) → nodeOf j t ≡ some n → Beaten i t (setNode j (withHeartbeat b n) t)
@@ -81,7 +81,7 @@ module _ (i : ℕ) (t : Table) where
           (b, is ∙ ap (withHeartbeat b) was)
       go false q = (nodeAt i t .heartbeat, ap orFresh (node-set-other i j (withHeartbeat b n) t q))
 
-  beaten-local : (j : ℕ) → Beaten i t (localBeat j t .table)
+  pub beaten-local : (j : ℕ) → Beaten i t (localBeat j t .table)
   unfolding localBeat
   beaten-local j = go (nodeOf j t) refl
     where
@@ -96,7 +96,7 @@ module _ (i : ℕ) (t : Table) where
           room true = beaten-set j n next q
           room false = unbeaten
 
-  beaten-offer : (j : ℕ) (h : Heartbeat) → Beaten i t (offer j h t .table)
+  pub beaten-offer : (j : ℕ) (h : Heartbeat) → Beaten i t (offer j h t .table)
   unfolding offer
   beaten-offer j h = go (nodeOf j t) refl
     where
@@ -113,7 +113,7 @@ module _ (i : ℕ) (t : Table) where
       go (some m) = refl
 
   -- a node takes its part of a delta that names none twice; one that the table does not hold stays away
-  node-taken : (take : Taking) (xs : List Part) → repeated xs ≡ false → (nodeAt i (applyEach take xs t .table) ≡ nodeAt i t) ⊎ (nodeAt i (applyEach take xs t .table) ≡ taking take (partAt i xs) (nodeAt i t))
+  pub node-taken : (take : Taking) (xs : List Part) → repeated xs ≡ false → (nodeAt i (applyEach take xs t .table) ≡ nodeAt i t) ⊎ (nodeAt i (applyEach take xs t .table) ≡ taking take (partAt i xs) (nodeAt i t))
   node-taken take xs once = go (nodeOf i t) (node-each take i xs t once)
     where
       go : (o : Option Node) → nodeOf i (applyEach take xs t .table) ≡ mapped (taking take (partAt i xs)) o → (nodeAt i (applyEach take xs t .table) ≡ orFresh o) ⊎ (nodeAt i (applyEach take xs t .table) ≡ taking take (partAt i xs) (orFresh o))

@@ -5,11 +5,10 @@ use Prim.Native.Nat.{ℕ}
 use mathlib.Core.List.{List, [], _∷_, _++_}
 use mathlib.Core.Option.{Option, none, some}
 use lib.ListN.{replicate}
-use Rattle.rules.specs.Node.{KeyValue, Rec, Node, Setting, Deleting}
+use Rattle.rules.specs.Node.{KeyValue, Rec, Node, Setting, Deleting, beats}
 use Rattle.rules.specs.Table.{Table, nodeOf}
 use Rattle.rules.specs.Apply.{plainWays}
-use Rattle.rules.specs.World.{World, Publishers, Event, Writing, Removing, Digesting, Computing, Applying, onExchange, start, after}
-use Rattle.rules.specs.Demand3.{Quiet}
+use Rattle.rules.specs.World.{World, Publishers, Followers, Event, Writing, Beating, Offering, Removing, Digesting, Computing, Applying, onExchange, start, after}
 use Rattle.rules.specs.declared.Status.the-variants.{Set}
 
 -- one node, number 7, and its pair (last_gc, max)
@@ -58,18 +57,22 @@ exchange mtu = delta mtu ++ (Applying 50 (0 ∷ []) ∷ [])
 abbrev pub oneRecord : World
 oneRecord = after plainWays (Writing 7 b (Setting one) ∷ Writing 7 a (Setting one) ∷ Writing 7 a (Deleting 0) ∷ Removing Publishers 9 5 ∷ []) (start seven)
 
-abbrev pub quiet : Quiet
-quiet =
-    record {
-      digest-place = 0;
-      digest-datagram = replicate 34 0;
-      ties = 0 ∷ [];
-      mtu = 135;
-      delta-place = 0;
-      delta-datagram = replicate 135 0;
-      now = 50;
-      answers = 0 ∷ [];
-    }
+-- a whole exchange
+abbrev pub whole : List Event
+whole = exchange 135
+
+-- another, with beats and an offer between its steps, and its delta applied twice
+abbrev pub lively : List Event
+lively =
+    Beating Publishers 7
+    ∷ Digesting [] 0 (replicate 34 0)
+    ∷ Beating Followers 7
+    ∷ Computing [] (0 ∷ []) 135 0 (replicate 135 0)
+    ∷ Offering Followers 7 (beats 9)
+    ∷ Applying 50 (0 ∷ [])
+    ∷ Beating Publishers 7
+    ∷ Applying 51 (0 ∷ [])
+    ∷ []
 
 -- ---- a reset forgets what was removed, and takes what is live
 

@@ -29,7 +29,8 @@ pub mod EachNode
 pub mod Nearer
 pub mod OnTheWay
 pub mod Moments
-pub mod Undisturbed
+pub mod Quiet
+pub mod Whole
 pub mod Closing
 pub mod Demand3
 pub mod Witnesses

@@ -1,8 +1,8 @@
--- One exchange with nothing else in it: what the nodes still need together falls, while it is not nothing.
+-- A delta that is computed in full and taken without Room: a node that is behind comes nearer, while there is one.
 use Prim.Native.Nat.{_+_, _-_, _<_, _≤_, ℕ}
 use mathlib.Core.Bool.{Bool, false, true}
 use mathlib.Core.List.{List, [], _∷_}
-use mathlib.Core.Option.{Option, none, some}
+use mathlib.Core.Option.{Option, some}
 use mathlib.Core.Path.{_∙_, _≡_, ap, refl, subst, sym}
 use native.Mathlib.Omega.{arith}
 use lib.Dec.{eqb, leb, ltb}
@@ -11,11 +11,12 @@ use borrow.Author.Tests.{eq-eqb, eqb-true, le-leb, leb-false, leb-true, lt-ltb}
 use Rattle.fields.proofs.Choice.{in-none}
 use Rattle.fields.specs.Choice.{_∈_, here, later, pick}
 use Rattle.rules.proofs.EachNode.{nodeAt, orFresh}
-use Rattle.rules.proofs.Needed.{delta-falls, delta-stays, needed, needed-some}
-use Rattle.rules.proofs.Obeys.{Ascending}
+use Rattle.rules.proofs.Needed.{delta-falls, needed, needed-some}
+use Rattle.rules.proofs.Calls.{node-in}
+use Rattle.rules.proofs.Obeys.{Ascending, number-in}
 use Rattle.rules.proofs.Sending.{emit, fitting, nodeDelta, partOf, recordSize}
 use Rattle.rules.proofs.Stale.{stale-from}
-use Rattle.rules.proofs.Tables.{Behind, SentPart, behind-from, computed-once, mapped, node-each, node-entry, ordered-from, part-sent, partAt, repeated, taking}
+use Rattle.rules.proofs.Tables.{Behind, behind-from, computed-once, mapped, node-each, node-entry, node-there, ordered-from, partAt, repeated, taking}
 use Rattle.rules.specs.Apply.{Taking, applyEach, deltaStatus, outcome}
 use Rattle.rules.specs.Compute.{StaleNode, firstTie, fromFor, fromOf, ordered, otherTies, queue, sooner, stale, staleNode, staleNodes, staleOf, toldOf}
 use Rattle.rules.specs.Delta.{NodeDelta, Part, maxOpWidth, nodeOpWidth}
@@ -24,39 +25,39 @@ use Rattle.rules.specs.Digest.{NodeDigest, digestOf, digestOfNode}
 use Rattle.rules.specs.Node.{KeyValue, Node, Rec}
 use Rattle.rules.specs.Table.{Entry, Table, among, nodeOf, numbersOf}
 
--- ---- sums over a table
+-- ---- sums over the nodes
 
-unfoldable pub total : (Entry → ℕ) → Table → ℕ
-total f [] = 0
-total f (e ∷ t) = f e + total f t
+unfoldable pub sum : (ℕ → ℕ) → List ℕ → ℕ
+sum f [] = 0
+sum f (i ∷ is) = f i + sum f is
 
-pub total-le : (f g : Entry → ℕ) (t : Table) → ((e : Entry) → e ∈ t → f e ≤ g e) → total f t ≤ total g t
-unfolding total
-total-le f g [] h = omega arith
-total-le f g (e ∷ t) h = let a = h e (here refl) in let b = total-le f g t (λ x m. h x (later m)) in omega arith
+pub sum-le : (f g : ℕ → ℕ) (is : List ℕ) → ((i : ℕ) → f i ≤ g i) → sum f is ≤ sum g is
+unfolding sum
+sum-le f g [] h = omega arith
+sum-le f g (i ∷ is) h = let a = h i in let b = sum-le f g is h in omega arith
 
-total-lt : (f g : Entry → ℕ) {t : Table} → ((e : Entry) → e ∈ t → f e ≤ g e) → {x : Entry} → x ∈ t → f x < g x → total f t < total g t
-unfolding total
-total-lt f g h {x} (here {a = e} {l = t} q) k =
-    let a = subst (λ (y : Entry). f y < g y) q k in
-    let b = total-le f g t (λ x m. h x (later m)) in
+pub sum-lt : (f g : ℕ → ℕ) {is : List ℕ} → ((i : ℕ) → f i ≤ g i) → {j : ℕ} → j ∈ is → f j < g j → sum f is < sum g is
+unfolding sum
+sum-lt f g h {j} (here {a = i} {l = is} q) k =
+    let a = subst (λ (n : ℕ). f n < g n) q k in
+    let b = sum-le f g is h in
     omega arith
-total-lt f g h (later {a = e} {l = t} m) k = let a = h e (here refl) in let b = total-lt f g (λ x n. h x (later n)) m k in omega arith
+sum-lt f g h (later {a = i} {l = is} m) k = let a = h i in let b = sum-lt f g h m k in omega arith
 
 -- a sum that is not 0 has a part that is not
-total-some : (f : Entry → ℕ) (t : Table) → 0 < total f t → (x : Entry) × (x ∈ t) × (0 < f x)
-unfolding total
-total-some f [] h = absurd (omega arith)
-total-some f (e ∷ t) h = go (leb 1 (f e)) refl (total-some f t)
+pub sum-some : (f : ℕ → ℕ) (is : List ℕ) → 0 < sum f is → (i : ℕ) × (i ∈ is) × (0 < f i)
+unfolding sum
+sum-some f [] h = absurd (omega arith)
+sum-some f (i ∷ is) h = go (leb 1 (f i)) refl (sum-some f is)
   where
-    go : (b : Bool) → leb 1 (f e) ≡ b → (0 < total f t → (x : Entry) × (x ∈ t) × (0 < f x)) → (x : Entry) × (x ∈ e ∷ t) × (0 < f x)
-    go true q ih = (e, here refl, leb-true 1 (f e) q)
-    go false q ih = let z = leb-false 1 (f e) q in let x = ih (omega arith) in (x .0, later (x .1), x .2)
+    go : (b : Bool) → leb 1 (f i) ≡ b → (0 < sum f is → (j : ℕ) × (j ∈ is) × (0 < f j)) → (j : ℕ) × (j ∈ i ∷ is) × (0 < f j)
+    go true q ih = (i, here refl, leb-true 1 (f i) q)
+    go false q ih = let z = leb-false 1 (f i) q in let x = ih (omega arith) in (x .0, later (x .1), x .2)
 
-pub total-none : (f : Entry → ℕ) {t : Table} → total f t ≡ 0 → {x : Entry} → x ∈ t → f x ≡ 0
-unfolding total
-total-none f h {x} (here {a = e} {l = t} q) = let a : f x ≡ f e = ap f q in omega arith
-total-none f h (later {a = e} {l = t} m) = total-none f (omega arith) m
+pub sum-none : (f : ℕ → ℕ) {is : List ℕ} → sum f is ≡ 0 → {i : ℕ} → i ∈ is → f i ≡ 0
+unfolding sum
+sum-none f h {i} (here {a = j} {l = is} q) = let a : f i ≡ f j = ap f q in omega arith
+sum-none f h (later {a = j} {l = is} m) = sum-none f (omega arith) m
 
 -- ---- the digest
 
@@ -108,9 +109,9 @@ ordered-some (a ∷ l) m = queue-some a (ordered l)
 unfoldable pub Small : Table → Type 0
 Small t = (e : Entry) → e ∈ t → (r : Rec) → r ∈ e .node .recs → recordSize (r .kv) ≤ 110
 
--- what a node still needs, given the follower's table
-abbrev pub lack : Table → Entry → ℕ
-lack t e = needed (e .node) (orFresh (nodeOf (e .number) t))
+-- what a node still needs, given the publisher's table and the follower's
+abbrev pub lack : Table → Table → ℕ → ℕ
+lack ours theirs i = needed (nodeAt i ours) (nodeAt i theirs)
 
 first-fits : (room : ℕ) (ss : List KeyValue) → ((s : KeyValue) → s ∈ ss → recordSize s ≤ room) → 0 < length ss → 0 < fitting room ss
 unfolding fitting
@@ -122,10 +123,12 @@ unfolding partAt emit
 part-first mtu x r h = rw (le-leb nodeOpWidth mtu h, eq-eqb (x .number) (x .number) refl)
 
 -- ---- the exchange
-module _ (now mtu : ℕ) (ties : List ℕ) (ours theirs : Table) (asc : Ascending (numbersOf ours)) (both : (e : Entry) → e ∈ ours → (f : Node) × (nodeOf (e .number) theirs ≡ some f)) where
-  unfoldable pub told : List NodeDigest
-  told = digestOf [] theirs
 
+-- a digest tells the pair that each node of the table has; its heartbeat may be another
+abbrev pub Tells : List NodeDigest → Table → Type 0
+Tells told t = (i : ℕ) (f : Node) → nodeOf i t ≡ some f → (toldOf i told .last-gc ≡ f .last-gc) × (toldOf i told .max ≡ f .max)
+
+module _ (now mtu : ℕ) (ties : List ℕ) (told : List NodeDigest) (ours theirs : Table) (asc : Ascending (numbersOf ours)) (both : (e : Entry) → e ∈ ours → (f : Node) × (nodeOf (e .number) theirs ≡ some f)) (tells : Tells told theirs) where
   unfoldable pub queued : List StaleNode
   queued = ordered (staleNodes [] told ties ours)
 
@@ -138,31 +141,12 @@ module _ (now mtu : ℕ) (ties : List ℕ) (ours theirs : Table) (asc : Ascendin
     max-is : x .told-max ≡ f .max
     behind : f .max < e .node .max
 
-  matched : (x : StaleNode) (o : Behind told ours x) (e : Entry) → e ∈ ours → e .number ≡ o .entry .number → (f : Node) → nodeOf (e .number) theirs ≡ some f → Matched x e f
-  unfolding told
-  matched x o e m q f h =
-      record { node-is = node-is; gc-is = gc-is; max-is = max-is; behind = let b = o .behind in let c = max-is in let d = ap (λ (n : Node). n .max) node-is in omega arith }
+  matched : (x : StaleNode) (o : Behind told ours x) (f : Node) → nodeOf (o .entry .number) theirs ≡ some f → Matched x (o .entry) f
+  matched x o f h =
+      record { node-is = o .node-is; gc-is = o .gc-is ∙ tells _ f h .0; max-is = max-is; behind = let b = o .behind in let c = max-is in let d = ap (λ (n : Node). n .max) (o .node-is) in omega arith }
     where
-      mine : nodeOf (e .number) ours ≡ some (e .node)
-      mine = node-entry e asc m
-
-      theirs-is : nodeOf (e .number) ours ≡ some (o .entry .node)
-      theirs-is = ap (λ (i : ℕ). nodeOf i ours) q ∙ node-entry (o .entry) asc (o .held)
-
-      node-same : e .node ≡ o .entry .node
-      node-same = cc (mine, theirs-is)
-
-      node-is : x .node ≡ e .node
-      node-is = o .node-is ∙ sym node-same
-
-      says : toldOf (o .entry .number) told ≡ record { number = e .number; heartbeat = f .heartbeat; last-gc = f .last-gc; max = f .max }
-      says = ap (λ (i : ℕ). toldOf i told) (sym q) ∙ told-held (e .number) theirs f h
-
-      gc-is : x .told-gc ≡ f .last-gc
-      gc-is = o .gc-is ∙ ap (λ (y : NodeDigest). y .last-gc) says
-
       max-is : x .told-max ≡ f .max
-      max-is = o .max-is ∙ ap (λ (y : NodeDigest). y .max) says
+      max-is = o .max-is ∙ tells _ f h .1
 
   behind-of : {x : StaleNode} → x ∈ queued → Behind told ours x
   unfolding queued
@@ -178,48 +162,22 @@ module _ (now mtu : ℕ) (ties : List ℕ) (ours theirs : Table) (asc : Ascendin
     next = applyEach take sent theirs .table
 
     -- the node after the exchange
-    became : (i : ℕ) (f : Node) → nodeOf i theirs ≡ some f → nodeAt i next ≡ taking take (partAt i sent) f
-    unfolding next
-    became i f h = ap orFresh (node-each take i sent theirs once) ∙ ap (λ (o : Option Node). orFresh (mapped (taking take (partAt i sent)) o)) h
-
     takes-it : (i : ℕ) (d : NodeDelta) (f : Node) → partAt i sent ≡ some d → nodeOf i theirs ≡ some f → nodeAt i next ≡ outcome (deltaStatus f d) now d f
-    takes-it i d f p h = became i f h ∙ ap (λ (o : Option NodeDelta). taking take o f) p ∙ took i d f p h
+    unfolding next
+    takes-it i d f p h =
+        ap orFresh (node-each take i sent theirs once)
+        ∙ ap (λ (o : Option Node). orFresh (mapped (taking take (partAt i sent)) o)) h
+        ∙ ap (λ (o : Option NodeDelta). taking take o f) p
+        ∙ took i d f p h
 
     delta-of : (x : StaleNode) (e : Entry) (f : Node) (count : ℕ) (fits : Bool) → Matched x e f → nodeDelta (x .node) (x .told-gc) (x .told-max) count fits ≡ nodeDelta (e .node) (f .last-gc) (f .max) count fits
     delta-of x e f count fits m = λ z. nodeDelta (m .node-is z) (m .gc-is z) (m .max-is z) count fits
 
-    pub lack-stays : (e : Entry) → e ∈ ours → lack next e ≤ lack theirs e
-    lack-stays e m = go (partAt (e .number) sent) refl
-      where
-        f : Node
-        f = both e m .0
-
-        h : nodeOf (e .number) theirs ≡ some f
-        h = both e m .1
-
-        before : needed (e .node) f ≡ lack theirs e
-        before = ap (λ (o : Option Node). needed (e .node) (orFresh o)) (sym h)
-
-        go : (o : Option NodeDelta) → partAt (e .number) sent ≡ o → lack next e ≤ lack theirs e
-        go none q =
-            let a : lack next e ≡ needed (e .node) f = ap (needed (e .node)) (became (e .number) f h ∙ ap (λ (o : Option NodeDelta). taking take o f) q) in
-            let b = before in
-            omega arith
-        go (some d) q = by (part-sent (e .number) mtu queued (unfold sent in q))
-          where
-            by : SentPart queued (e .number) d → lack next e ≤ lack theirs e
-            by x =
-                let mm : Matched (x .of) e f = matched (x .of) (behind-of (x .queued)) e m (x .number-is ∙ behind-of (x .queued) .number-is) f h in
-                let k = delta-stays now (e .node) f (x .count) (x .fits) (mm .behind) d (x .delta-is ∙ delta-of (x .of) e f (x .count) (x .fits) mm) in
-                let a : lack next e ≡ needed (e .node) (outcome (deltaStatus f d) now d f) = ap (needed (e .node)) (takes-it (e .number) d f q h) in
-                let b = before in
-                omega arith
-
     -- the first in the queue comes nearer
     module _ (wide : leastWidth ≤ mtu) (small : Small ours) where
-      falls-first : (x : StaleNode) (r : List StaleNode) → queued ≡ x ∷ r → (e : Entry) × (e ∈ ours) × (lack next e < lack theirs e)
+      falls-first : (x : StaleNode) (r : List StaleNode) → queued ≡ x ∷ r → (i : ℕ) × (i ∈ numbersOf ours) × (lack ours next i < lack ours theirs i)
       unfolding sent Small
-      falls-first x r q = (e, m, fall)
+      falls-first x r q = (e .number, number-in m, fall)
         where
           xin : x ∈ queued
           xin = subst (λ (l : List StaleNode). x ∈ l) (sym q) (here refl)
@@ -240,7 +198,7 @@ module _ (now mtu : ℕ) (ties : List ℕ) (ours theirs : Table) (asc : Ascendin
           h = both e m .1
 
           mm : Matched x e f
-          mm = matched x o e m refl f h
+          mm = matched x o f h
 
           d : NodeDelta
           d = partOf mtu x .delta
@@ -267,36 +225,43 @@ module _ (now mtu : ℕ) (ties : List ℕ) (ours theirs : Table) (asc : Ascendin
           delta-is : d ≡ nodeDelta (e .node) (f .last-gc) (f .max) count true
           delta-is = ap (nodeDelta (x .node) (x .told-gc) (x .told-max) count) (le-leb maxOpWidth (mtu - nodeOpWidth) (omega arith)) ∙ delta-of x e f count true mm
 
-          fall : lack next e < lack theirs e
+          fall : lack ours next (e .number) < lack ours theirs (e .number)
           fall =
               let k =
               delta-falls now (e .node) f count (mm .behind) (λ z. first-fits (mtu - nodeOpWidth) (staleOf x) sizes (subst (λ (l : List KeyValue). 0 < length l) (sym stale-is) z)) d delta-is in
-              let a : lack next e ≡ needed (e .node) (outcome (deltaStatus f d) now d f) = ap (needed (e .node)) (takes-it (e .number) d f is h) in
-              let b : needed (e .node) f ≡ lack theirs e = ap (λ (o : Option Node). needed (e .node) (orFresh o)) (sym h) in
+              let p : nodeAt (e .number) ours ≡ e .node = ap orFresh (node-entry e asc m) in
+              let a : lack ours next (e .number) ≡ needed (e .node) (outcome (deltaStatus f d) now d f) = λ z. needed (p z) (takes-it (e .number) d f is h z) in
+              let b : lack ours theirs (e .number) ≡ needed (e .node) f = λ z. needed (p z) (orFresh (h z)) in
               omega arith
 
-      -- the sum falls, while it is not 0
-      pub lack-falls : 0 < total (lack theirs) ours → total (lack next) ours < total (lack theirs) ours
-      unfolding queued told
-      lack-falls z = total-lt (lack next) (lack theirs) lack-stays (least .1) (least .2)
+      -- one node needs less, while any needs something
+      pub lack-falls : (i : ℕ) → i ∈ numbersOf ours → 0 < lack ours theirs i → (j : ℕ) × (j ∈ numbersOf ours) × (lack ours next j < lack ours theirs j)
+      unfolding queued
+      lack-falls i n z = falls-first (order .0) (order .1) (order .2)
         where
-          first : (e : Entry) × (e ∈ ours) × (0 < lack theirs e)
-          first = total-some (lack theirs) ours z
+          p : (x : Node) × (nodeOf i ours ≡ some x)
+          p = node-there i ours n
+
+          x : (e : Entry) × (e ∈ ours) × (e .node ≡ p .0) × (i ≡ e .number)
+          x = node-in i ours (p .1)
+
+          e : Entry
+          e = x .0
 
           f : Node
-          f = both (first .0) (first .1) .0
+          f = both e (x .1) .0
 
-          h : nodeOf (first .0 .number) theirs ≡ some f
-          h = both (first .0) (first .1) .1
+          h : nodeOf (e .number) theirs ≡ some f
+          h = both e (x .1) .1
 
-          behind : f .max < first .0 .node .max
-          behind = needed-some (first .0 .node) f (subst (λ (o : Option Node). 0 < needed (first .0 .node) (orFresh o)) h (first .2))
+          same : lack ours theirs i ≡ needed (e .node) f
+          same = λ k. needed ((ap orFresh (p .1) ∙ sym (x .2)) k) ((ap (λ (j : ℕ). nodeAt j theirs) (x .3) ∙ ap orFresh h) k)
 
-          says : toldOf (first .0 .number) told .max < first .0 .node .max
-          says = subst (λ (y : NodeDigest). y .max < first .0 .node .max) (sym (told-held (first .0 .number) theirs f h)) behind
+          behind : f .max < e .node .max
+          behind = needed-some (e .node) f (subst (λ (k : ℕ). 0 < k) same z)
 
-          order : (x : StaleNode) × (r : List StaleNode) × (queued ≡ x ∷ r)
-          order = ordered-some _ (stale-in-table told ties (first .1) says .1)
+          says : toldOf (e .number) told .max < e .node .max
+          says = let a = tells (e .number) f h .1 in let b = behind in omega arith
 
-          least : (e : Entry) × (e ∈ ours) × (lack next e < lack theirs e)
-          least = falls-first (order .0) (order .1) (order .2)
+          order : (y : StaleNode) × (r : List StaleNode) × (queued ≡ y ∷ r)
+          order = ordered-some _ (stale-in-table told ties (x .1) says .1)

@@ -1,4 +1,4 @@
--- How many exchanges a node still needs, once all is quiet, and that a delta which brings something makes them fewer.
+-- How many exchanges a node still needs, once all is quiet; that no delta makes them more, and one that brings something makes them fewer.
 use Prim.Native.Nat.{_<_, _≤_, max, suc, zero, ℕ}
 use mathlib.Core.Bool.{Bool, false, true}
 use mathlib.Core.List.{List, [], _∷_}
@@ -11,8 +11,8 @@ use borrow.Author.Tests.{leb-false, leb-true, lt-leb}
 use Rattle.fields.specs.Choice.{_∈_, all, here, pick}
 use Rattle.rules.proofs.Sending.{carried, nodeDelta}
 use Rattle.rules.proofs.Stale.{Rising, rising-stale, rising-take, stale-fewer, stale-from, stale-length, stale-less, take-in, top-is, top-within, topOf}
-use Rattle.rules.proofs.Taking.{FromOf, from-no-reset, from-of, no-reset, reset-due, status-apply, status-reject, status-reset}
-use Rattle.rules.specs.Apply.{deltaStatus, outcome}
+use Rattle.rules.proofs.Taking.{Came, FromOf, came, from-no-reset, from-of, left, no-reset, reset, reset-due, status-apply, status-reset, took}
+use Rattle.rules.specs.Apply.{Ways, applyNode, deltaStatus, outcome}
 use Rattle.rules.specs.Compute.{fromOf, stale}
 use Rattle.rules.specs.Delta.{NodeDelta}
 use Rattle.rules.specs.Node.{KeyValue, Node, Rec}
@@ -61,6 +61,43 @@ needed-behind : (p f : Node) → f .max < p .max → needed p f ≡ suc (length 
 unfolding needed
 needed-behind p f h = rw (lt-leb _ _ h)
 
+-- ---- no delta makes it more
+
+-- at a pair that is further on
+needed-less : (p f n : Node) → fromOf (p .last-gc) (f .last-gc) (f .max) ≤ fromOf (p .last-gc) (n .last-gc) (n .max) → (p .max ≤ f .max → p .max ≤ n .max) → needed p n ≤ needed p f
+unfolding needed
+needed-less p f n h g = go (leb (p .max) (f .max)) refl (leb (p .max) (n .max)) refl
+  where
+    count : Node → ℕ
+    count x = suc (length (stale (fromOf (p .last-gc) (x .last-gc) (x .max)) (p .recs)))
+
+    go : (b : Bool) → leb (p .max) (f .max) ≡ b → (c : Bool) → leb (p .max) (n .max) ≡ c → pick c 0 (count n) ≤ pick b 0 (count f)
+    go b q true r = omega arith
+    go true q false r = let x = g (leb-true _ _ q) in let y = leb-false (p .max) (n .max) r in absurd (omega arith)
+    go false q false r = let k = stale-fewer (fromOf (p .last-gc) (f .last-gc) (f .max)) (fromOf (p .last-gc) (n .last-gc) (n .max)) (p .recs) h in omega arith
+
+-- Whatever delta comes whose last_gc is not above the publisher's, and however often, the node needs no more than before.
+pub needed-came : (ways : Ways) (now : ℕ) (d : NodeDelta) (p f : Node) → d .last-gc ≤ p .last-gc → p .last-gc ≤ p .max → needed p (applyNode ways now d f .node) ≤ needed p f
+unfolding outcome
+needed-came ways now d p f low top = go _ (came ways now d f)
+  where
+    at : (g m x y : ℕ) → FromOf p (f .last-gc) (f .max) x → FromOf p g m y → (p .last-gc ≤ max (f .last-gc) (f .max) → (p .last-gc ≤ max g m) × (f .max ≤ m)) → x ≤ y
+    at g m x y (reset-due a b) o h = omega arith
+    at g m x y (no-reset a) (reset-due b c) h = let k = h a .0 in absurd (omega arith)
+    at g m x y (no-reset a) (no-reset b) h = h a .1
+
+    go : (x : Node) → Came ways now d f x → needed p x ≤ needed p f
+    go x left = omega arith
+    go x (reset r) =
+        let a = r .above-gc in
+        let b = r .above-max in
+        needed-less p f _ (at (d .last-gc) (d .max) _ _ (from-of p (f .last-gc) (f .max)) (from-of p (d .last-gc) (d .max)) (λ h. absurd (omega arith))) (λ h. absurd (omega arith))
+    go x (took r) =
+        let a = r .newer in
+        needed-less p f _ (at (f .last-gc) (d .max) _ _ (from-of p (f .last-gc) (f .max)) (from-of p (f .last-gc) (d .max)) (λ h. (omega arith, omega arith))) (λ h. omega arith)
+
+-- ---- a delta that brings something makes it less
+
 -- the delta brings a record, or all
 pub data Moves (p : Node) (d : NodeDelta) : Type 0 where
   brings : (r : Rec) → r ∈ p .recs → d .from < r .kv .version → r .kv .version ≤ d .max → Moves p d
@@ -96,15 +133,6 @@ module _ (now : ℕ) (p f : Node) (d : NodeDelta) (behind : f .max < p .max) (gc
       go x e (no-reset a) =
           let b : f .max < d .max = further m e in
           rw (status-apply f d (omega arith) (omega arith) b) (let h = needed-at p (Next Apply) size (omega arith) (fewer m) in omega arith)
-
-  pub needed-stays : d .max ≡ 0 → needed p (Next (deltaStatus f d)) ≤ needed p f
-  unfolding outcome size
-  needed-stays z = go (fromOf (p .last-gc) (f .last-gc) (f .max)) from-is (from-of p (f .last-gc) (f .max))
-    where
-      go : (x : ℕ) → d .from ≡ x → FromOf p (f .last-gc) (f .max) x → needed p (Next (deltaStatus f d)) ≤ needed p f
-      go x e (reset-due a b) =
-          rw (needs, status-reset f d e (omega arith) (omega arith)) (needed-at p (Next ApplyAfterReset) (suc size) (omega arith) (λ h. let k = stale-fewer (d .from) (d .max) (p .recs) (omega arith) in omega arith))
-      go x e (no-reset a) = rw (status-reject f d (omega arith) (omega arith) (omega arith)) (omega arith)
 
 -- a computed delta moves, or has max 0; it moves where it may carry a record and a SetMaxVersion
 made-moves : (p : Node) (from count : ℕ) (fits : Bool) (all : List KeyValue) → stale from (p .recs) ≡ all → (carried fits (p .max) all (take count all) ≡ 0) ⊎ Moves p (record { from = from; last-gc = p .last-gc; recs = take count all; max = carried fits (p .max) all (take count all) })
@@ -150,20 +178,6 @@ delta-moves p g m count h c = at (delta-moves-or p g m count true)
     at (inr x) = x
 
 -- for a computed delta that meets no Room
-pub delta-stays : (now : ℕ) (p f : Node) (count : ℕ) (fits : Bool) → f .max < p .max → (d : NodeDelta) → d ≡ nodeDelta p (f .last-gc) (f .max) count fits → needed p (outcome (deltaStatus f d) now d f) ≤ needed p f
-unfolding nodeDelta
-delta-stays now p f count fits b d e = at (delta-moves-or p (f .last-gc) (f .max) count fits)
-  where
-    gc-is : d .last-gc ≡ p .last-gc
-    gc-is = ap (λ (x : NodeDelta). x .last-gc) e
-
-    from-is : d .from ≡ fromOf (p .last-gc) (f .last-gc) (f .max)
-    from-is = ap (λ (x : NodeDelta). x .from) e
-
-    at : (nodeDelta p (f .last-gc) (f .max) count fits .max ≡ 0) ⊎ Moves p (nodeDelta p (f .last-gc) (f .max) count fits) → needed p (outcome (deltaStatus f d) now d f) ≤ needed p f
-    at (inl z) = needed-stays now p f d b gc-is from-is (ap (λ (x : NodeDelta). x .max) e ∙ z)
-    at (inr m) = let h = needed-falls now p f d b gc-is from-is (subst (Moves p) (sym e) m) in omega arith
-
 pub delta-falls : (now : ℕ) (p f : Node) (count : ℕ) → f .max < p .max → (0 < length (stale (fromOf (p .last-gc) (f .last-gc) (f .max)) (p .recs)) → 0 < count) → (d : NodeDelta) → d ≡ nodeDelta p (f .last-gc) (f .max) count true → needed p (outcome (deltaStatus f d) now d f) < needed p f
 unfolding nodeDelta
 delta-falls now p f count b c d e =

@@ -108,7 +108,7 @@ step-rises ways w x (they-take now) = (rises-same (w .ours), at (w .flight))
 -- ---- the facts that every step keeps
 
 -- of a delta on its way, however old it is
-abbrev Flies : List KeyValue → Node → Option NodeDelta → Type 0
+abbrev pub Flies : List KeyValue → Node → Option NodeDelta → Type 0
 Flies h p none = Unit {0}
 Flies h p (some d) = HonestDelta h d × (d .last-gc ≤ p .last-gc)
 

@@ -1,6 +1,5 @@
 -- The four runs of FourRuns, computed through every byte. Assumes nothing.
-use mathlib.Core.Bool.{true}
-use mathlib.Core.List.{[], _∷_}
+use mathlib.Core.List.{[], _++_, _∷_}
 use mathlib.Core.Path.{_≡_, refl}
 use Rattle.fields.specs.Blocks.{flat, unblock}
 use Rattle.fields.specs.Choice.{keep}
@@ -10,22 +9,22 @@ use Rattle.fields.specs.Parts.{part, put}
 use Rattle.rules.specs.Apply.{apply, applyEach, applyNode, codes, deltaStatus, newerOf, outcome, plainWays, statusOf, takeAll, takes}
 use Rattle.rules.specs.Compute.{allOps, byVersion, compute, cut, deltaFor, fromOf, keyValueOps, ordered, queue, sooner, stale, staleNodes, toldOf}
 use Rattle.rules.specs.Delta.{deltaBytes, follow, maxOf, opBytes, partsOf, readDelta, readKeyValue, readNode, readOp, readOps, readSetMaxVersion, recsOf, sizeOf, textBytes}
-use Rattle.rules.specs.Demand3.{allGranted, exchanges, holdings}
+use Rattle.rules.specs.Demand3.{NotBegun, holdings, wholes}
 use Rattle.rules.specs.Digest.{digestBytes, digestOf, entryBytes, entryOf, readDigest, readEntries, tell, tellAll, writeDigest}
-use Rattle.rules.specs.Local.{call, gc}
-use Rattle.rules.specs.Node.{act, decide, find, lastGc, remove, store, wish, write}
+use Rattle.rules.specs.Local.{call, gc, localBeat, offer}
+use Rattle.rules.specs.Node.{act, decide, find, lastGc, offerOf, remove, store, wish, write}
 use Rattle.rules.specs.Table.{among, nodeOf, removeAll, setNode}
-use Rattle.rules.proofs.FourRuns.{bothNodes, caughtUp, forgotten, keys, keysOf, oneRecord, pair, pairAt, quiet, removedThere, tookLate, wasReset}
+use Rattle.rules.proofs.FourRuns.{bothNodes, caughtUp, forgotten, keys, keysOf, lively, oneRecord, pair, pairAt, removedThere, tookLate, wasReset, whole}
 use Rattle.rules.specs.World.{after, freshTable, happen, start}
 
--- the publisher holds one record and one node; one exchange brings the follower to (3,1), the second to (3,3); nothing was refused
+-- the publisher holds one record and one node; one whole exchange brings the follower to (3,1), the second to (3,3), also with beats in it
 pub tight : (pair (oneRecord .publisher) ≡ 3 ∷ 3 ∷ [])
     × (holdings (oneRecord .publisher) ≡ 2)
-    × (allGranted plainWays (exchanges (quiet ∷ quiet ∷ [])) oneRecord ≡ true)
-    × (pair (after plainWays (exchanges (quiet ∷ [])) oneRecord .publisher) ≡ 3 ∷ 3 ∷ [])
-    × (pair (after plainWays (exchanges (quiet ∷ [])) oneRecord .follower) ≡ 3 ∷ 1 ∷ [])
-    × (pair (after plainWays (exchanges (quiet ∷ quiet ∷ [])) oneRecord .follower) ≡ 3 ∷ 3 ∷ [])
-unfolding holdings allGranted exchanges after happen start freshTable call gc nodeOf setNode removeAll decide wish find act write store remove lastGc keep sameBytes lessBytes among writeDigest digestOf digestBytes entryBytes entryOf readEntries readDigest tell tellAll compute deltaFor cut allOps ordered queue sooner staleNodes toldOf fromOf stale byVersion keyValueOps sizeOf deltaBytes opBytes textBytes bytesOf natOf part put flat unblock apply applyEach applyNode deltaStatus statusOf newerOf outcome takeAll takes codes readDelta readOps readOp readNode readKeyValue readSetMaxVersion follow partsOf recsOf maxOf
+    × (wholes plainWays NotBegun (whole ++ lively) oneRecord ≡ 2)
+    × (pair (after plainWays whole oneRecord .publisher) ≡ 3 ∷ 3 ∷ [])
+    × (pair (after plainWays whole oneRecord .follower) ≡ 3 ∷ 1 ∷ [])
+    × (pair (after plainWays (whole ++ lively) oneRecord .follower) ≡ 3 ∷ 3 ∷ [])
+unfolding holdings wholes localBeat offer offerOf after happen start freshTable call gc nodeOf setNode removeAll decide wish find act write store remove lastGc keep sameBytes lessBytes among writeDigest digestOf digestBytes entryBytes entryOf readEntries readDigest tell tellAll compute deltaFor cut allOps ordered queue sooner staleNodes toldOf fromOf stale byVersion keyValueOps sizeOf deltaBytes opBytes textBytes bytesOf natOf part put flat unblock apply applyEach applyNode deltaStatus statusOf newerOf outcome takeAll takes codes readDelta readOps readOp readNode readKeyValue readSetMaxVersion follow partsOf recsOf maxOf
 tight = (refl, refl, refl, refl, refl, refl)
 
 -- the publisher is at (3,3) with b alone; the follower, which had k alone, is reset, has b alone, and is at (3,2)

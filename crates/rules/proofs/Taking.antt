@@ -127,10 +127,6 @@ pub status-apply : (n : Node) (d : NodeDelta) → d .from ≤ n .max → d .last
 unfolding deltaStatus statusOf newerOf
 status-apply n d a b c = rw (le-ltb _ _ a, not-both _ _ _ b, lt-ltb _ _ c)
 
-pub status-reject : (n : Node) (d : NodeDelta) → d .from ≤ n .max → d .last-gc ≤ max (n .last-gc) (n .max) → d .max ≤ n .max → deltaStatus n d ≡ Reject
-unfolding deltaStatus statusOf newerOf
-status-reject n d a b c = rw (le-ltb _ _ a, not-both _ _ _ b, le-ltb _ _ c)
-
 -- from is 0 where a reset is due, else the digest's max
 pub data FromOf (p : Node) (g m : ℕ) : ℕ → Type 0 where
   reset-due : g < p .last-gc → m < p .last-gc → FromOf p g m 0

@@ -15,12 +15,12 @@ use Rattle.rules.proofs.Runs.{late, tight}
 use Rattle.rules.specs.Apply.{apply, applyEach, applyNode, codes, deltaStatus, newerOf, outcome, plainWays, statusOf, takeAll, takes}
 use Rattle.rules.specs.Compute.{allOps, byVersion, compute, cut, deltaFor, fromOf, keyValueOps, ordered, queue, sooner, stale, staleNodes, toldOf}
 use Rattle.rules.specs.Delta.{deltaBytes, follow, maxOf, opBytes, partsOf, readDelta, readKeyValue, readNode, readOp, readOps, readSetMaxVersion, recsOf, sizeOf, textBytes}
-use Rattle.rules.specs.Demand3.{Holds, SameMax, Sound, exchanges}
+use Rattle.rules.specs.Demand3.{Holds, SameMax, Sound}
 use Rattle.rules.specs.Digest.{digestBytes, digestOf, entryBytes, entryOf, readDigest, readEntries, tell, tellAll, writeDigest}
 use Rattle.rules.specs.Local.{call, gc}
 use Rattle.rules.specs.Node.{KeyValue, Node, Rec, act, decide, find, lastGc, remove, store, wish, write}
 use Rattle.rules.specs.Table.{among, nodeOf, removeAll, setNode, versions}
-use Rattle.rules.proofs.FourRuns.{caughtUp, dead, oneRecord, pairIn, quiet, seven}
+use Rattle.rules.proofs.FourRuns.{caughtUp, dead, oneRecord, pairIn, seven, whole}
 use Rattle.rules.specs.World.{World, after, freshTable, happen, start}
 
 -- a node with this pair
@@ -29,9 +29,9 @@ with-pair none g m e = let z : _≡_ {A = ℕ} 0 1 = cc in absurd (omega arith)
 with-pair (some n) g m e = (refl, cc)
 
 -- one exchange is not enough
-pub one-too-few : SameMax (after plainWays (exchanges (quiet ∷ [])) oneRecord .publisher) (after plainWays (exchanges (quiet ∷ [])) oneRecord .follower) → ⊥
+pub one-too-few : SameMax (after plainWays whole oneRecord .publisher) (after plainWays whole oneRecord .follower) → ⊥
 one-too-few s =
-    let w : World = after plainWays (exchanges (quiet ∷ [])) oneRecord in
+    let w : World = after plainWays whole oneRecord in
     let p = with-pair (nodeOf 7 (w .publisher)) 3 3 (tight .3) in
     let f = with-pair (nodeOf 7 (w .follower)) 3 1 (tight .4) in
     let e : nodeAt 7 (w .follower) .max ≡ nodeAt 7 (w .publisher) .max = s 7 (nodeAt 7 (w .publisher)) (nodeAt 7 (w .follower)) (p .0) (f .0) in

@@ -1,14 +1,15 @@
--- Demand 3: what is claimed of the world at every moment of every run, and how many undisturbed exchanges end it. The theorems that these
+-- Demand 3: what is claimed of the world at every moment of every run, and how many whole exchanges end it once it is quiet. The theorems that these
 -- claims hold are in proofs/Demand3.
 use Prim.Native.Nat.{ℕ, suc, _+_, _≤_, _<_}
 use mathlib.Core.Path.{_≡_}
 use mathlib.Core.Logic.{_⊎_}
 use mathlib.Core.Bool.{Bool, true, false, not, _&&_}
-use mathlib.Core.List.{List, [], _∷_, _++_}
+use mathlib.Core.List.{List, [], _∷_}
 use mathlib.Core.Option.{some}
+use lib.Dec.{leb}
 use lib.ListN.{length, take}
 use Rattle.fields.specs.Numbers.{Bytes}
-use Rattle.fields.specs.Choice.{_∈_}
+use Rattle.fields.specs.Choice.{_∈_, pick}
 use Rattle.rules.specs.Answers.{codeOf}
 use Rattle.rules.specs.Node.{KeyValue, Rec, Node}
 use Rattle.rules.specs.Table.{Table, nodeOf, numbersOf, among, obeys}
@@ -62,36 +63,37 @@ AllRise t u = (i : ℕ) (a b : Node) → nodeOf i t ≡ some a → nodeOf i u �
 
 -- ---- the closing count
 
--- an exchange with nothing else in it: what its three calls are given
-pub record Quiet : Type 0 where
-  pub digest-place : ℕ
-  pub digest-datagram : Bytes
-  pub ties : List ℕ
-  pub mtu : ℕ
-  pub delta-place : ℕ
-  pub delta-datagram : Bytes
-  pub now : ℕ
-  pub answers : Bytes
+-- no write, no delete and no removal; beats, offers and exchanges go on
+abbrev pub quiet : (event : Event) → Bool
+quiet (Writing i k c) = false
+quiet (Beating s i) = true
+quiet (Offering s i h) = true
+quiet (Removing s now grace) = false
+quiet (Digesting excluded place l) = true
+quiet (Computing excluded ties mtu place l) = true
+quiet (Applying now l) = true
 
--- nothing is excluded, and the delta is applied once
-abbrev pub exchangeOf : (quiet : Quiet) → List Event
-exchangeOf q =
-    Digesting [] (q .digest-place) (q .digest-datagram)
-    ∷ Computing [] (q .ties) (q .mtu) (q .delta-place) (q .delta-datagram)
-    ∷ Applying (q .now) (q .answers)
-    ∷ []
+unfoldable pub allQuiet : (events : List Event) → Bool
+allQuiet [] = true
+allQuiet (e ∷ es) = quiet e && allQuiet es
 
-unfoldable pub exchanges : List Quiet → List Event
-exchanges [] = []
-exchanges (q ∷ qs) = exchangeOf q ++ exchanges qs
-
--- every MTU is as wide as this: a Node and the largest record, 25 + 110 bytes
+-- the least MTU of the closing count: a Node and the largest record, 25 + 110 bytes
 abbrev pub leastWidth : ℕ
 leastWidth = 135
 
-unfoldable pub Wide : List Quiet → Type 0
-Wide [] = Unit {0}
-Wide (q ∷ qs) = (leastWidth ≤ q .mtu) × Wide qs
+abbrev pub isNone : (excluded : List ℕ) → Bool
+isNone [] = true
+isNone (i ∷ is) = false
+
+-- no node is excluded, and the MTU is wide enough
+abbrev pub unlimited : (event : Event) → Bool
+unlimited (Writing i k c) = true
+unlimited (Beating s i) = true
+unlimited (Offering s i h) = true
+unlimited (Removing s now grace) = true
+unlimited (Digesting excluded place l) = isNone excluded
+unlimited (Computing excluded ties mtu place l) = isNone excluded && leb leastWidth mtu
+unlimited (Applying now l) = true
 
 -- Nothing refused, read off the answers: the three calls of an exchange give no number, and no node answers Room. A Reject is no refusal.
 abbrev pub wroteDigest : Written → Bool
@@ -127,9 +129,44 @@ granted ways (Digesting excluded place l) w = wroteDigest (writeDigest excluded 
 granted ways (Computing excluded ties mtu place l) w = isComputed excluded ties mtu place l (w .publisher) (w .exchange)
 granted ways (Applying now l) w = possible (Applying now l) && isApplied ways now l (w .follower) (w .exchange)
 
-unfoldable pub allGranted : (ways : Ways) (events : List Event) (world : World) → Bool
-allGranted ways [] w = true
-allGranted ways (e ∷ es) w = granted ways e w && allGranted ways es (happen ways e w)
+-- A whole exchange is a digest, a delta and its applying, in this order, with no node excluded, an MTU of 135 or more, nothing lost and nothing
+-- refused. Beats and offers may fall between its steps. The stages: none has begun, its digest is written, its delta is computed.
+pub data Stage : Type 0 where
+  NotBegun : Stage
+  Asked : Stage
+  Answered : Stage
+
+-- where a call brings it that is unlimited and granted
+abbrev pub onward : (event : Event) (stage : Stage) → Stage
+onward (Writing i k c) st = st
+onward (Beating s i) st = st
+onward (Offering s i h) st = st
+onward (Removing s now grace) st = st
+onward (Digesting excluded place l) st = Asked
+onward (Computing excluded ties mtu place l) NotBegun = NotBegun
+onward (Computing excluded ties mtu place l) Asked = Answered
+onward (Computing excluded ties mtu place l) Answered = NotBegun
+onward (Applying now l) st = NotBegun
+
+-- the applying is its end; the same delta, applied again, counts no more
+abbrev pub ending : (event : Event) (stage : Stage) → ℕ
+ending (Writing i k c) st = 0
+ending (Beating s i) st = 0
+ending (Offering s i h) st = 0
+ending (Removing s now grace) st = 0
+ending (Digesting excluded place l) st = 0
+ending (Computing excluded ties mtu place l) st = 0
+ending (Applying now l) NotBegun = 0
+ending (Applying now l) Asked = 0
+ending (Applying now l) Answered = 1
+
+-- the whole exchanges of a run; a step that is limited or refused ends its exchange uncounted
+unfoldable pub wholes : (ways : Ways) (stage : Stage) (events : List Event) (world : World) → ℕ
+wholes ways st [] w = 0
+wholes ways st (e ∷ es) w =
+    pick (unlimited e && granted ways e w)
+    (ending e st + wholes ways (onward e st) es (happen ways e w))
+    (wholes ways NotBegun es (happen ways e w))
 
 -- what a table holds: records (tombstones and TTL records counted) and nodes together
 unfoldable pub holdings : Table → ℕ
@@ -143,15 +180,14 @@ SameMax t u = (i : ℕ) (a b : Node) → nodeOf i t ≡ some a → nodeOf i u �
 -- ---- the whole demand
 
 -- Of a publisher and a follower that begin fresh with the nodes `is`, the follower in these ways (document 01: `plainWays`). At every moment of
--- every run the claims hold; between any two moments no node's pair falls in either table; and after any run, as many quiet exchanges as the
--- publisher holds records and nodes make every max equal.
+-- every run the claims hold; between any two moments no node's pair falls in either table; and when writes, deletes and removals cease after any
+-- run, as many whole exchanges as the publisher then holds records and nodes make every max equal, whatever else happens.
 pub record Demand3 (ways : Ways) (is : List ℕ) : Type 0 where
   pub at-every-moment : (es : List Event) → Sound is (after ways es (start is))
   pub between-moments : (es fs : List Event)
       → AllRise (after ways es (start is) .publisher) (after ways fs (after ways es (start is)) .publisher)
       × AllRise (after ways es (start is) .follower) (after ways fs (after ways es (start is)) .follower)
-  pub closing-count : (es : List Event) (qs : List Quiet)
-      → Wide qs
-      → allGranted ways (exchanges qs) (after ways es (start is)) ≡ true
-      → holdings (after ways es (start is) .publisher) ≤ length qs
-      → SameMax (after ways (exchanges qs) (after ways es (start is)) .publisher) (after ways (exchanges qs) (after ways es (start is)) .follower)
+  pub closing-count : (es fs : List Event)
+      → allQuiet fs ≡ true
+      → holdings (after ways es (start is) .publisher) ≤ wholes ways NotBegun fs (after ways es (start is))
+      → SameMax (after ways fs (after ways es (start is)) .publisher) (after ways fs (after ways es (start is)) .follower)

@@ -10,7 +10,6 @@ use lib.ListN.{length, getD, set, take, drop}
 use lib.Seq.{drop-cons, getD-set-same, getD-set-other}
 use lib.Dec.{eqb}
 use borrow.Author.Tests.{eqb-true, eqb-false, ne-eqb}
-use Rattle.fields.specs.Choice.{pick}
 use Rattle.rules.specs.Table.{among, differ}
 
 -- every number of the list has its mark

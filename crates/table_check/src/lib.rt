@@ -6,7 +6,7 @@ use rules::sizes;
 use table::layout;
 ghost use mathlib.Core.Path.{_≡_};
 ghost use mathlib.Core.Bool.{true};
-ghost use Prim.Native.Nat.{_+_, _*_, _-_, _%_, _≤_, _<_};
+ghost use Prim.Native.Nat.{_+_, _-_, _%_, _≤_, _<_};
 ghost use lib.ListN.{length, getD, take, drop};
 ghost use Rattle.fields.specs.Blocks.{allBlocks};
 ghost use Rattle.fields.specs.Order.{lessBytes};
@@ -14,7 +14,7 @@ ghost use Rattle.rules.specs.Sizes.{maxKey};
 ghost use Rattle.rules.specs.Table.{keysRise, versions, among, differ, rising, numbersOf};
 ghost use Rattle.rules.specs.Layout.{recWidth, nodeWidth, tableWidth, decodeRec, decode, valid};
 ghost use Rattle.table_check.specs.Mask.{maskBytes};
-ghost use Rattle.table.specs.Tests.{keyLength, clean, recGood, nodeGood, countOf, maxOf, recsOf, nodesOf};
+ghost use Rattle.table.specs.Tests.{keyLength, clean, recGood, nodeGood, countOf, recsOf, nodesOf};
 
 // 64 bytes that drop, and 64 that keep.
 fn mask() -> [u8; 128]

@@ -1,8 +1,7 @@
 -- `nodes::add_good` meets its contract: what finding the number says decides. Assumes nothing.
-use Prim.Native.Nat.{ℕ, _<_}
+use Prim.Native.Nat.{_<_}
 use mathlib.Core.Path.{_≡_, sym, _∙_}
 use native.Mathlib.Omega.{arith}
-use lib.ListN.{length}
 use Rattle.rules.specs.Layout.{decode}
 use Rattle.rules.specs.Sizes.{maxNodes}
 use Rattle.table.specs.Tests.{nodesOf}
@@ -14,11 +13,6 @@ use Rattle.nodes.proofs.Coming.{add-held, add-full, add-new}
 use borrow.Author.Needs.{needs}
 use Rattle.nodes.proofs.add_good.Statement.{statement}
 use Rattle.nodes.proofs.add_good.Tie as tie
-use Rattle.nodes.proofs.add_good.Reads as reads
-use Rattle.nodes.proofs.add_good.Lts as lts
-use Rattle.table_write.proofs.insert_node.Reads as insert-node-reads
-use Rattle.fields.proofs.byte_at.Reads as byte-at-reads
-use Rattle.table_read.proofs.find_node.Reads as find-node-reads
 
 -- where the number belongs
 belongs : (c : tie.After-i) → findNode ((c .before .before .before .before .before) .args .number) (decode ((c .before .before .before .before .before) .args .table .now)) ≡ Free (c .i .given .0 .0)

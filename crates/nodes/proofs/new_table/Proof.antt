@@ -1,13 +1,8 @@
 -- `nodes::new_table` meets its contract. Assumes nothing.
-use native.Mathlib.Omega.{arith}
-use mathlib.Core.Path.{_≡_}
 use Rattle.nodes.proofs.Coming.{made, not-made}
 use borrow.Author.Needs.{needs}
 use Rattle.nodes.proofs.new_table.Statement.{statement}
 use Rattle.nodes.proofs.new_table.Tie as tie
-use Rattle.nodes.proofs.new_table.Reads as reads
-use Rattle.nodes.proofs.new_table.Lts as lts
-use Rattle.fields.proofs.clear.Reads as clear-reads
 
 returns : tie.Need-returns
 returns c = not-made ((c .before .before) .args .table .now) (c .if1 .taken)

@@ -9,10 +9,6 @@ use Rattle.nodes.proofs.Coming.{remove-held, remove-none}
 use borrow.Author.Needs.{needs}
 use Rattle.nodes.proofs.remove_good.Statement.{statement}
 use Rattle.nodes.proofs.remove_good.Tie as tie
-use Rattle.nodes.proofs.remove_good.Reads as reads
-use Rattle.nodes.proofs.remove_good.Lts as lts
-use Rattle.table_write.proofs.remove_node.Reads as remove-node-reads
-use Rattle.table_read.proofs.find_node.Reads as find-node-reads
 
 -- where the node stands
 stands : (c : tie.After-i) → findNode ((c .before .before .before .before .before) .args .number) (decode ((c .before .before .before .before .before) .args .table .now)) ≡ At (c .i .given .0 .0)

@@ -1,5 +1,5 @@
 -- `nodes::remove_node` meets its contract: 14, or the rule on a good table. Assumes nothing.
-use mathlib.Core.Path.{_≡_, sym, _∙_}
+use mathlib.Core.Path.{sym, _∙_}
 use Rattle.rules.specs.Local.{removeNode}
 use Rattle.rules.specs.declared.Answer.the-variants.{Refused}
 use Rattle.rules.specs.declared.Refusal.the-variants.{BadTable}
@@ -7,10 +7,6 @@ use Rattle.table_check.proofs.Entry.{bad-table, good-table}
 use borrow.Author.Needs.{needs}
 use Rattle.nodes.proofs.remove_node.Statement.{statement}
 use Rattle.nodes.proofs.remove_node.Tie as tie
-use Rattle.nodes.proofs.remove_node.Reads as reads
-use Rattle.nodes.proofs.remove_node.Lts as lts
-use Rattle.nodes.proofs.remove_good.Reads as remove-good-reads
-use Rattle.table_check.proofs.check_table.Reads as check-table-reads
 
 check-table-requires : tie.Need-check-table-requires
 check-table-requires c κs = search needs

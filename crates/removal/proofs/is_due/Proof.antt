@@ -2,8 +2,6 @@
 use Rattle.removal.proofs.Removing.{early, over}
 use Rattle.removal.proofs.is_due.Statement.{statement}
 use Rattle.removal.proofs.is_due.Tie as tie
-use Rattle.removal.proofs.is_due.Reads as reads
-use Rattle.removal.proofs.is_due.Lts as lts
 
 returns : tie.Need-returns
 returns c = early (c .before .args .start) (c .before .args .clock) (c .before .args .grace) (c .if1 .taken)

@@ -18,11 +18,6 @@ use Rattle.table_read.specs.Find.{recordOf}
 use borrow.Author.Needs.{needs}
 use Rattle.removal.proofs.must_go.Statement.{statement}
 use Rattle.removal.proofs.must_go.Tie as tie
-use Rattle.removal.proofs.must_go.Reads as reads
-use Rattle.removal.proofs.must_go.Lts as lts
-use Rattle.table_read.proofs.read_record.Reads as read-record-reads
-use Rattle.removal.proofs.is_due.Reads as is-due-reads
-use Rattle.table.proofs.record_of.Reads as record-of-reads
 
 -- by what was read of the record
 by-status : (b x : List ℕ) (j time grace : ℕ) → x ≡ recBytes j b → (r : Record) → r ≡ recordOf (decodeRec x) → (s : Status) → r .status ≡ s

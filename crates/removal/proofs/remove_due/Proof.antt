@@ -12,11 +12,6 @@ use Rattle.removal.proofs.Removing.{doneFrom, none-done, node-goes, nod
 use borrow.Author.Needs.{needs}
 use Rattle.removal.proofs.remove_due.Statement.{statement}
 use Rattle.removal.proofs.remove_due.Tie as tie
-use Rattle.removal.proofs.remove_due.Reads as reads
-use Rattle.removal.proofs.remove_due.Lts as lts
-use Rattle.fields.proofs.byte_at.Reads as byte-at-reads
-use Rattle.removal.proofs.must_go.Reads as must-go-reads
-use Rattle.removal.proofs.take_out.Reads as take-out-reads
 
 abbrev Inv-loop : tie.InvT-loop
 Inv-loop b₀ time grace n₀ j₀ b n j =

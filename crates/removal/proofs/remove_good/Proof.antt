@@ -1,5 +1,5 @@
 -- `removal::remove_good` meets its contract: what is in front of node `i` is done, and the rest gives the whole. Assumes nothing.
-use Prim.Native.Nat.{ℕ, _+_, _*_, _-_, _≤_, _<_}
+use Prim.Native.Nat.{ℕ, _-_, _≤_, _<_}
 use mathlib.Core.Path.{_≡_, refl, sym, subst, _∙_}
 use mathlib.Core.List.{List}
 use native.Mathlib.Omega.{arith}
@@ -7,7 +7,7 @@ use Rattle.fields.proofs.Lent.{seen, lent-by}
 use mathlib.Core.Bool.{Bool}
 use Rattle.rules.specs.Node.{Rec, due}
 use Rattle.rules.specs.Table.{removeAll}
-use Rattle.rules.specs.Layout.{decodeNode, encodeNode, decode}
+use Rattle.rules.specs.Layout.{nodePlace, nodeWidth, decodeNode, encodeNode, decode}
 use Rattle.table.specs.Tests.{nodesOf}
 use Rattle.table.specs.Fits.{LaidNode, LaidTable}
 use Rattle.table.proofs.Tables.{valid-laid, valid-long}
@@ -17,10 +17,6 @@ use Rattle.removal.proofs.Removing.{nodesFrom, next-laid, next-count, n
 use borrow.Author.Needs.{needs}
 use Rattle.removal.proofs.remove_good.Statement.{statement}
 use Rattle.removal.proofs.remove_good.Tie as tie
-use Rattle.removal.proofs.remove_good.Reads as reads
-use Rattle.removal.proofs.remove_good.Lts as lts
-use Rattle.fields.proofs.byte_at.Reads as byte-at-reads
-use Rattle.removal.proofs.remove_due.Reads as remove-due-reads
 
 abbrev Inv-loop : tie.InvT-loop
 Inv-loop table₀ time grace n i₀ table i =
@@ -67,7 +63,7 @@ remove-due-requires : tie.Need-remove-due-requires Inv-loop μ-loop
 remove-due-requires c κs =
     let q = c .before .before in
     let l : List ℕ = q .loop .table in
-    subst LaidNode (sym (seen (1 + q .loop .i * 3713) 3713 l)) (laid-at l (q .loop .inv .0) (q .loop .i) (within (c .before)))
+    subst LaidNode (sym (seen (nodePlace (q .loop .i)) nodeWidth l)) (laid-at l (q .loop .inv .0) (q .loop .i) (within (c .before)))
 
 add-i : tie.Need-add-i Inv-loop μ-loop
 add-i c = search needs
@@ -87,7 +83,7 @@ loop-again c =
     let p : Rec → Bool = due (a .clock) (a .grace) in
     let h = within j in
     let e =
-    lent-by (λ (x : List ℕ). encodeNode (removed p (decodeNode x))) (1 + i * 3713) 3713 l (r .remove-due .last .0) (omega (arith, h, o .long, o .few))
+    lent-by (λ (x : List ℕ). encodeNode (removed p (decodeNode x))) (nodePlace i) nodeWidth l (r .remove-due .last .0) (omega (arith, h, o .long, o .few))
     (r .remove-due .ensures) (r .remove-due .kept .0) in (
       next-laid l o p i h _ e,
       next-count l o p i h _ e ∙ q .loop .inv .1,

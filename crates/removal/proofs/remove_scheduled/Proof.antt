@@ -1,13 +1,25 @@
 -- `removal::remove_scheduled` meets its contract: the check, then the rule. Assumes nothing.
-use mathlib.Core.Path.{sym, _∙_}
-use Rattle.removal.proofs.Removing.{good-removed, bad-removed}
+use mathlib.Core.Path.{_≡_, refl, sym, _∙_}
+use mathlib.Core.Bool.{true}
+use mathlib.Core.List.{List}
+use Prim.Native.Nat.{ℕ}
+use Rattle.rules.specs.Given.{Gives}
+use Rattle.rules.specs.Node.{due}
+use Rattle.rules.specs.Table.{removeAll}
+use Rattle.rules.specs.Local.{gc}
+use Rattle.rules.specs.Layout.{encode, decode, valid}
+use Rattle.rules.specs.Lent.{lentGc}
+use Rattle.rules.specs.declared.Answer.the-variants.{Done, Refused}
+use Rattle.rules.specs.declared.Refusal.the-variants.{BadTable}
+use Rattle.table_check.proofs.Entry.{bad-table, good-table}
 use borrow.Author.Needs.{needs}
 use Rattle.removal.proofs.remove_scheduled.Statement.{statement}
 use Rattle.removal.proofs.remove_scheduled.Tie as tie
-use Rattle.removal.proofs.remove_scheduled.Reads as reads
-use Rattle.removal.proofs.remove_scheduled.Lts as lts
-use Rattle.removal.proofs.remove_good.Reads as remove-good-reads
-use Rattle.table_check.proofs.check_table.Reads as check-table-reads
+
+removed : (clock grace : ℕ) (l : List ℕ) → valid l ≡ true → (m : List ℕ) → m ≡ encode (removeAll (λ i. due clock grace) (decode l))
+    → Gives (lentGc clock grace l) Done m
+unfolding gc
+removed clock grace l v m e = good-table (Refused BadTable) (gc clock grace) l v Done m (refl, e)
 
 check-table-requires : tie.Need-check-table-requires
 check-table-requires c κs = search needs
@@ -24,7 +36,7 @@ returns c =
     let y = r .before .before in
     let k = y .before in
     let a = k .before .before .before .args in
-    good-removed (a .clock) (a .grace) (a .table .now) (sym (k .check-table .ensures) ∙ y .if1 .taken) _ (r .remove-good .ensures)
+    removed (a .clock) (a .grace) (a .table .now) (sym (k .check-table .ensures) ∙ y .if1 .taken) _ (r .remove-good .ensures)
 
 same-length-2 : tie.Need-same-length-2
 same-length-2 c = search needs
@@ -33,7 +45,7 @@ returns-2 : tie.Need-returns-2
 returns-2 c =
     let k = c .before in
     let a = k .before .before .before .args in
-    bad-removed (a .clock) (a .grace) (a .table .now) (sym (k .check-table .ensures) ∙ c .if1 .left)
+    bad-table (Refused BadTable) (gc (a .clock) (a .grace)) (a .table .now) (sym (k .check-table .ensures) ∙ c .if1 .left)
 
 pub remove-scheduled-spec : {M : Type 1} → statement M
 remove-scheduled-spec =

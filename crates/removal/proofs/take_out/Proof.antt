@@ -5,7 +5,8 @@ use mathlib.Core.List.{List}
 use native.Mathlib.Omega.{arith}
 use Rattle.fields.specs.Numbers.{natOf}
 use Rattle.fields.specs.Parts.{part}
-use Rattle.rules.specs.Layout.{recPlace, decodeNode}
+use Rattle.fields.specs.Widths.{offset}
+use Rattle.rules.specs.Layout.{recPlace, recWidths, nodeWidths, decodeNode}
 use Rattle.table.specs.Tests.{countOf}
 use Rattle.table.specs.Fits.{LaidNode}
 use Rattle.table.proofs.Places.{recAt, version-at}
@@ -13,15 +14,9 @@ use Rattle.removal.proofs.Removing.{less-laid, taken-steps}
 use borrow.Author.Needs.{needs}
 use Rattle.removal.proofs.take_out.Statement.{statement}
 use Rattle.removal.proofs.take_out.Tie as tie
-use Rattle.removal.proofs.take_out.Reads as reads
-use Rattle.removal.proofs.take_out.Lts as lts
-use Rattle.table_write.proofs.remove_record.Reads as remove-record-reads
-use Rattle.table_write.proofs.set_last_gc.Reads as set-last-gc-reads
-use Rattle.fields.proofs.read_u64.Reads as read-u64-reads
-use Rattle.removal.proofs.larger.Reads as larger-reads
 
 -- what is to be written, by what was read
-raised : (b : List ℕ) → LaidNode b → (j : ℕ) → j < countOf b → (held version g : ℕ) → held ≡ natOf (part 24 8 b) → version ≡ natOf (part (recPlace j + 98) 8 b)
+raised : (b : List ℕ) → LaidNode b → (j : ℕ) → j < countOf b → (held version g : ℕ) → held ≡ natOf (part (offset nodeWidths 3) 8 b) → version ≡ natOf (part (recPlace j + offset recWidths 4) 8 b)
     → g ≡ max held version → g ≡ max (decodeNode b .node .last-gc) (recAt j b .kv .version)
 unfolding decodeNode
 raised b o j h held version g e f q = q ∙ ap₂ max e (f ∙ sym (version-at j b (o .long) (omega (arith, o .few))))

@@ -1,6 +1,6 @@
 -- `table_check::check_record` meets its contract: a test that fails is one of the record's tests, and past all but the zeros only these are left.
 -- Assumes nothing.
-use Prim.Native.Nat.{ℕ, _-_, _≤_}
+use Prim.Native.Nat.{ℕ, _≤_}
 use mathlib.Core.Path.{_≡_, _∙_, sym}
 use mathlib.Core.Bool.{true, _&&_}
 use mathlib.Core.List.{List}
