@@ -26,7 +26,7 @@ use Rattle.table.specs.Fits.{FitsEntry, LaidNode}
 use Rattle.table.proofs.Nodes.{decode-encode-node, laid-node}
 use Rattle.table_read.specs.declared.Place.{Place}
 use Rattle.table_read.specs.declared.Place.the-variants.{At, Free}
-use Rattle.local_node.specs.Writes.{decided, nodeIn, changeOf, fullAt, granted, withStored}
+use Rattle.local_node.specs.Writes.{decided, nodeIn, changeOf, fullAt, allowedAt, withStored}
 
 module _ (k b : List ℕ) (o : LaidNode b) (d : Decision) where
   pub refused : (r : Refusal) → d ≡ Refuse r → Gives (decided k d b) (plain.Refused r) b
@@ -51,17 +51,17 @@ module _ (p : Place) (c : Change) (n : Node) where
   abbrev rising : Decision
   rising = pick (ltb (n .max) top) (Give c) (Refuse Exhausted)
 
-  pub no-room : fullAt p n ≡ true → granted p c n ≡ Refuse NodeFull
-  unfolding granted
+  pub no-room : fullAt p n ≡ true → allowedAt p c n ≡ Refuse NodeFull
+  unfolding allowedAt
   no-room f = pick-true (fullAt p n) (Refuse NodeFull) rising f
 
   module _ (f : fullAt p n ≡ false) (x : ℕ) (e : x ≡ n .max) where
-    pub cannot-rise : x ≡ top → granted p c n ≡ Refuse Exhausted
-    unfolding granted
+    pub cannot-rise : x ≡ top → allowedAt p c n ≡ Refuse Exhausted
+    unfolding allowedAt
     cannot-rise h = pick-false (fullAt p n) (Refuse NodeFull) rising f ∙ pick-false (ltb (n .max) top) (Give c) (Refuse Exhausted) (le-ltb (n .max) top (omega arith))
 
-    pub can-rise : x < top → granted p c n ≡ Give c
-    unfolding granted
+    pub can-rise : x < top → allowedAt p c n ≡ Give c
+    unfolding allowedAt
     can-rise h = pick-false (fullAt p n) (Refuse NodeFull) rising f ∙ pick-true (ltb (n .max) top) (Give c) (Refuse Exhausted) (lt-ltb (n .max) top (omega arith))
 
 -- ---- max is raised first

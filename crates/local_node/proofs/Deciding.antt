@@ -18,7 +18,7 @@ use Rattle.rules.specs.declared.Status.{Status}
 use Rattle.rules.specs.declared.Status.the-variants.{Set, Delete, Ttl}
 use Rattle.rules.specs.declared.Refusal.the-variants.{TooLong, NoKey, NodeFull, Exhausted}
 use Rattle.table_read.specs.declared.Place.the-variants.{At, Free}
-use Rattle.local_node.specs.Writes.{deleting, dropped, alike, granted, changing, within, setting}
+use Rattle.local_node.specs.Writes.{deleting, dropped, alike, allowedAt, changing, within, setting}
 
 -- ---- the same value and status
 
@@ -63,12 +63,12 @@ module _ (k : List ℕ) (n : Node) (c : Change) where
   abbrev next : Option Rec → Decision
   next o = pick (fullFor o n) (Refuse NodeFull) (pick (ltb (n .max) top) (Give c) (Refuse Exhausted))
 
-  allowed-at : {r : Rec} (j : ℕ) → find k (n .recs) ≡ some r → allowed k n (Give c) ≡ granted (At j) c n
-  unfolding granted
+  allowed-at : {r : Rec} (j : ℕ) → find k (n .recs) ≡ some r → allowed k n (Give c) ≡ allowedAt (At j) c n
+  unfolding allowedAt
   allowed-at j e = ap next e
 
-  allowed-new : (j : ℕ) → find k (n .recs) ≡ none → allowed k n (Give c) ≡ granted (Free j) c n
-  unfolding granted
+  allowed-new : (j : ℕ) → find k (n .recs) ≡ none → allowed k n (Give c) ≡ allowedAt (Free j) c n
+  unfolding allowedAt
   allowed-new j e = ap next e
 
   -- ---- a set
@@ -80,11 +80,11 @@ module _ (k : List ℕ) (n : Node) (c : Change) where
       ∙ ap (λ (o : Option Rec). allowed k n (unlessSame o c)) e
       ∙ go (alike r (c .value) (c .status))
     where
-      go : (t : Bool) → allowed k n (pick t Leave (Give c)) ≡ pick t Leave (granted (At j) c n)
+      go : (t : Bool) → allowed k n (pick t Leave (Give c)) ≡ pick t Leave (allowedAt (At j) c n)
       go true = refl
       go false = allowed-at j e
 
-  pub set-new : (j : ℕ) → length k ≤ maxKey → length (c .value) ≤ maxValue → find k (n .recs) ≡ none → setting k c n ≡ granted (Free j) c n
+  pub set-new : (j : ℕ) → length k ≤ maxKey → length (c .value) ≤ maxValue → find k (n .recs) ≡ none → setting k c n ≡ allowedAt (Free j) c n
   unfolding setting
   set-new j g h e =
       not-long k (c .value) (allowed k n (unlessSame (find k (n .recs)) c)) g h
@@ -116,7 +116,7 @@ module _ (k : List ℕ) (n : Node) (keeps : Bool) (t : ℕ) where
       not-long k (brought c) (allowed k n (wish c (find k (n .recs)))) g (none-brought keeps t)
       ∙ ap (allowed k n) (wished keeps t (find k (n .recs)) ∙ ap (λ (x : Option Rec). ifThere x (dropped keeps t)) e)
 
-  pub delete-at : {r : Rec} (j : ℕ) → length k ≤ maxKey → find k (n .recs) ≡ some r → decide c k n ≡ granted (At j) (dropped keeps t r) n
+  pub delete-at : {r : Rec} (j : ℕ) → length k ≤ maxKey → find k (n .recs) ≡ some r → decide c k n ≡ allowedAt (At j) (dropped keeps t r) n
   delete-at {r} j g e = there g (some r) e ∙ allowed-at k n (dropped keeps t r) j e
 
   pub delete-none : length k ≤ maxKey → find k (n .recs) ≡ none → decide c k n ≡ Refuse NoKey

@@ -64,12 +64,12 @@ fullAt (At j) n = false
 fullAt (Free j) n = leb maxRecords (length (n .recs))
 
 -- a change of the key's record, or a new one at this place: 5, 6
-unfoldable pub granted : (place : Place) (change : Change) (node : Node) → Decision
-granted p c n = pick (fullAt p n) (Refuse NodeFull) (pick (ltb (n .max) top) (Give c) (Refuse Exhausted))
+unfoldable pub allowedAt : (place : Place) (change : Change) (node : Node) → Decision
+allowedAt p c n = pick (fullAt p n) (Refuse NodeFull) (pick (ltb (n .max) top) (Give c) (Refuse Exhausted))
 
 -- a set of record j: nothing to change, 6
 unfoldable pub changing : (j : ℕ) (rec : Rec) (change : Change) (node : Node) → Decision
-changing j r c n = pick (alike r (c .value) (c .status)) Leave (granted (At j) c n)
+changing j r c n = pick (alike r (c .value) (c .status)) Leave (allowedAt (At j) c n)
 
 -- a key and a value within the sizes (1)
 unfoldable pub within : (key value : Bytes) (decision : Decision) → Decision
@@ -98,7 +98,7 @@ abbrev pub decided : (key : Bytes) (decision : Decision) (node : Bytes) → Give
 decided k d b = given (answerOf d) (encodeNode (withNode (act k d (nodeIn b)) (decodeNode b)))
 
 abbrev pub nodeGranted : (place : Place) (key : Bytes) (change : Change) (node : Bytes) → Given Answer Bytes
-nodeGranted p k c b = decided k (granted p c (nodeIn b)) b
+nodeGranted p k c b = decided k (allowedAt p c (nodeIn b)) b
 
 abbrev pub nodeSetAt : (j : ℕ) (key : Bytes) (change : Change) (node : Bytes) → Given Answer Bytes
 nodeSetAt j k c b = decided k (changing j (recAt j b) c (nodeIn b)) b

@@ -7,7 +7,7 @@ use mathlib.Core.List.{List, _∷_}
 use native.Mathlib.Omega.{arith}
 use native.Mathlib.Nat.{add-zero}
 use lib.ListN.{length, drop, getD}
-use Rattle.fields.specs.Numbers.{natOf}
+use Rattle.fields.specs.Numbers.{Bytes, natOf}
 use Rattle.fields.specs.Parts.{part}
 use Rattle.fields.specs.Blocks.{unblock, allBlocks}
 use Rattle.fields.specs.Widths.{offset}
@@ -18,7 +18,7 @@ use Rattle.rules.specs.Node.{Rec}
 use Rattle.rules.specs.Table.{Entry}
 use Rattle.rules.specs.Layout.{nodePlace, recPlace, recWidths, recWidth, nodeWidths, nodeWidth, tableWidth, decodeRec, decodeNode, decode}
 use Rattle.table.specs.Tests.{countOf, nodesOf, recsOf, recGood}
-pub use Rattle.table.specs.Places.{recBytes, recAt, nodeBytes, nodeAt}
+pub use Rattle.table.specs.Places.{recBytes, recAt}
 
 -- ---- in a node's bytes
 
@@ -46,6 +46,13 @@ good-at max i n b t h =
     ap (recGood max) (sym (part-drop (i * recWidth) recWidth (offset nodeWidths 5) b)) ∙ all-blocks-at (recGood max) recWidth n (drop (offset nodeWidths 5) b) t i h
 
 -- ---- in a table's bytes
+
+-- the bytes of node i, and what is read in them
+abbrev pub nodeBytes : (i : ℕ) (table : Bytes) → Bytes
+nodeBytes i table = part (nodePlace i) nodeWidth table
+
+abbrev pub nodeAt : (i : ℕ) (table : Bytes) → Entry
+nodeAt i table = decodeNode (nodeBytes i table)
 
 pub decode-drop : (i : ℕ) (l : List ℕ) → i < nodesOf l → drop i (decode l) ≡ nodeAt i l ∷ drop (suc i) (decode l)
 unfolding decode

@@ -10,19 +10,22 @@ ghost use Prim.Native.Nat.{_+_, _-_, _%_, _≤_, _<_};
 ghost use lib.ListN.{length, getD, take, drop};
 ghost use Rattle.fields.specs.Blocks.{allBlocks};
 ghost use Rattle.fields.specs.Order.{lessBytes};
-ghost use Rattle.rules.specs.Sizes.{maxKey};
+ghost use Rattle.rules.specs.Sizes.{maxNodes, maxRecords, maxKey, maxValue};
 ghost use Rattle.rules.specs.Table.{keysRise, versions, among, differ, rising, numbersOf};
-ghost use Rattle.rules.specs.Layout.{recWidth, nodeWidth, tableWidth, decodeRec, decode, valid};
+ghost use Rattle.rules.specs.Layout.{recPlace, nodePlace, recWidth, nodeWidth, tableWidth, decodeRec, decode, valid};
 ghost use Rattle.table_check.specs.Mask.{maskBytes};
 ghost use Rattle.table.specs.Tests.{keyLength, clean, recGood, nodeGood, countOf, recsOf, nodesOf};
 
-// 64 bytes that drop, and 64 that keep.
-fn mask() -> [u8; 128]
+// The bytes of the mask.
+const MASK: usize = 2 * Record::VALUE;
+
+// As many bytes that drop as a value has room for, and as many that keep.
+fn mask() -> [u8; MASK]
     ensures { λ r. ⌜ r ≡ maskBytes ⌝ }
 {
-    let mut m = [0u8; 128];
-    let mut i = 64;
-    while i < 128 {
+    let mut m = [0u8; MASK];
+    let mut i = Record::VALUE;
+    while i < MASK {
         m[i] = 255;
         i += 1;
     }
@@ -32,13 +35,13 @@ fn mask() -> [u8; 128]
 // Whether zeros stand behind a text of `k` bytes in the room for `n` at `at`. It looks at all n bytes and masks those of the text, so that the loop
 // has a fixed length and no branch.
 fn clean_behind(record: &[u8], at: usize, n: usize, k: usize, m: &[u8]) -> bool
-    requires { ⌜ (k ≤ n) × (n ≤ 64) × (at + n ≤ length (now «record»)) × (now m ≡ maskBytes) ⌝ }
+    requires { ⌜ (k ≤ n) × (n ≤ maxValue) × (at + n ≤ length (now «record»)) × (now m ≡ maskBytes) ⌝ }
     ensures { λ r. ⌜ r ≡ clean at n k (now («record» .entry)) ⌝ }
 {
     let mut seen: u8 = 0;
     let mut i = 0;
     while i < n {
-        seen = seen | (record[at + i] & m[64 - k + i]);
+        seen = seen | (record[at + i] & m[Record::VALUE - k + i]);
         i += 1;
     }
     seen == 0
@@ -76,8 +79,8 @@ fn check_record(record: &[u8], max: u64, m: &[u8]) -> bool
 
 // Whether the first `n` records of a node's bytes are records.
 fn check_records(node: &[u8], n: usize, max: u64) -> bool
-    requires { ⌜ (length (now node) ≡ nodeWidth) × (n ≤ 32) ⌝ }
-    ensures { λ r. ⌜ r ≡ allBlocks (recGood max) recWidth n (drop 33 (now (node .entry))) ⌝ }
+    requires { ⌜ (length (now node) ≡ nodeWidth) × (n ≤ maxRecords) ⌝ }
+    ensures { λ r. ⌜ r ≡ allBlocks (recGood max) recWidth n (drop (recPlace 0) (now (node .entry))) ⌝ }
 {
     let m = mask();
     let mut i = 0;
@@ -95,8 +98,8 @@ fn check_records(node: &[u8], n: usize, max: u64) -> bool
 
 // The versions of a node's records, in its first `n` places.
 fn versions_of(node: &[u8], n: usize) -> [u64; Header::RECORDS]
-    requires { ⌜ (length (now node) ≡ nodeWidth) × (n ≤ 32) × (n ≡ countOf (now node)) ⌝ }
-    ensures { λ r. ⌜ (length r ≡ 32) × (take n r ≡ versions (recsOf (now (node .entry)))) ⌝ }
+    requires { ⌜ (length (now node) ≡ nodeWidth) × (n ≤ maxRecords) × (n ≡ countOf (now node)) ⌝ }
+    ensures { λ r. ⌜ (length r ≡ maxRecords) × (take n r ≡ versions (recsOf (now (node .entry)))) ⌝ }
 {
     let mut vs = [0u64; Header::RECORDS];
     let mut i = 0;
@@ -165,7 +168,8 @@ fn key_below(x: &[u8], y: &[u8]) -> bool
 
 // Whether each key of a node's records is below the next.
 fn keys_rise(node: &[u8], n: usize, max: u64) -> bool
-    requires { ⌜ (length (now node) ≡ nodeWidth) × (n ≤ 32) × (n ≡ countOf (now node)) × (allBlocks (recGood max) recWidth n (drop 33 (now node)) ≡ true) ⌝ }
+    requires { ⌜ (length (now node) ≡ nodeWidth) × (n ≤ maxRecords) × (n ≡ countOf (now node))
+        × (allBlocks (recGood max) recWidth n (drop (recPlace 0) (now node)) ≡ true) ⌝ }
     ensures { λ r. ⌜ r ≡ keysRise (recsOf (now (node .entry))) ⌝ }
 {
     let mut i = 0;
@@ -206,8 +210,8 @@ fn check_node(node: &[u8]) -> bool
 
 // Whether the first `n` nodes are nodes.
 fn check_nodes(table: &[u8], n: usize) -> bool
-    requires { ⌜ (length (now table) ≡ tableWidth) × (n ≤ 8) ⌝ }
-    ensures { λ r. ⌜ r ≡ allBlocks nodeGood nodeWidth n (drop 1 (now (table .entry))) ⌝ }
+    requires { ⌜ (length (now table) ≡ tableWidth) × (n ≤ maxNodes) ⌝ }
+    ensures { λ r. ⌜ r ≡ allBlocks nodeGood nodeWidth n (drop (nodePlace 0) (now (table .entry))) ⌝ }
 {
     let mut i = 0;
     while i < n {
@@ -224,7 +228,7 @@ fn check_nodes(table: &[u8], n: usize) -> bool
 
 // Whether each node's number is below the next.
 fn numbers_rise(table: &[u8], n: usize) -> bool
-    requires { ⌜ (length (now table) ≡ tableWidth) × (n ≤ 8) × (n ≡ nodesOf (now table)) ⌝ }
+    requires { ⌜ (length (now table) ≡ tableWidth) × (n ≤ maxNodes) × (n ≡ nodesOf (now table)) ⌝ }
     ensures { λ r. ⌜ r ≡ rising (numbersOf (decode (now (table .entry)))) ⌝ }
 {
     let mut i = 0;

@@ -9,7 +9,7 @@ use Rattle.rules.specs.Node.{Change}
 use Rattle.rules.specs.Layout.{decodeNode}
 use Rattle.rules.specs.declared.Refusal.the-variants.{Exhausted, NodeFull}
 use Rattle.table_read.specs.Find.{findKey}
-use Rattle.local_node.specs.Writes.{nodeIn, changeOf, fullAt, granted}
+use Rattle.local_node.specs.Writes.{nodeIn, changeOf, fullAt, allowedAt}
 use Rattle.local_node.proofs.Acting.{refused, room, no-room, cannot-rise, can-rise, max-laid, max-recs, max-room, given}
 use borrow.Author.Needs.{needs}
 use Rattle.local_node.proofs.grant.Statement.{statement}
@@ -105,7 +105,7 @@ returns-3 c =
     let a = st .args in
     let n = nodeIn (a .node .now) in
     given (a .key .now) (a .value .now) (a .status) (a .start) (a .node .now) (st .pre .0) (u .before .read-u64 .result) (max (u .before)) (omega (arith, rises u))
-    (w .set-max .last .0) (w .set-max .ensures) (p .place-record .last .0) (p .place-record .ensures) (granted (a .place) (change st) n)
+    (w .set-max .last .0) (w .set-max .ensures) (p .place-record .last .0) (p .place-record .ensures) (allowedAt (a .place) (change st) n)
     (can-rise (a .place) (change st) n (fits t) (u .before .read-u64 .result) (max (u .before)) (rises u))
 
 pub grant-spec : {M : Type 1} → statement M

@@ -7,7 +7,7 @@ use Rattle.rules.specs.Node.{Rec, Node, Change, Decision, Leave}
 use Rattle.table.specs.Places.{recAt}
 use Rattle.table_read.specs.declared.Place.the-variants.{At}
 use Rattle.table_read.proofs.Searched.{rec-in}
-use Rattle.local_node.specs.Writes.{decided, nodeIn, alike, changeOf, granted, changing}
+use Rattle.local_node.specs.Writes.{decided, nodeIn, alike, changeOf, allowedAt, changing}
 use Rattle.local_node.proofs.Acting.{left}
 use Prim.Native.Nat.{ℕ}
 use borrow.Author.Needs.{needs}
@@ -20,11 +20,11 @@ entry c = c .before .before .before .before .before
 module _ (j : ℕ) (r : Rec) (ch : Change) (n : Node) where
   leaves : alike r (ch .value) (ch .status) ≡ true → changing j r ch n ≡ Leave
   unfolding changing
-  leaves h = pick-true _ Leave (granted (At j) ch n) h
+  leaves h = pick-true _ Leave (allowedAt (At j) ch n) h
 
-  changes : alike r (ch .value) (ch .status) ≡ false → granted (At j) ch n ≡ changing j r ch n
+  changes : alike r (ch .value) (ch .status) ≡ false → allowedAt (At j) ch n ≡ changing j r ch n
   unfolding changing
-  changes h = sym (pick-false _ Leave (granted (At j) ch n) h)
+  changes h = sym (pick-false _ Leave (allowedAt (At j) ch n) h)
 
 is-same-requires : tie.Need-is-same-requires
 is-same-requires c κs =

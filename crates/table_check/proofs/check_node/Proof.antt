@@ -1,6 +1,6 @@
 -- `table_check::check_node` meets its contract: a test that fails is one of the node's tests, and past four of them only the zeros are left.
 -- Assumes nothing.
-use Prim.Native.Nat.{ℕ, _+_, _-_, _*_, _≤_}
+use Prim.Native.Nat.{ℕ, _-_, _*_, _≤_}
 use mathlib.Core.Path.{_≡_, _∙_, ap, ap₂, sym}
 use mathlib.Core.Bool.{Bool, true}
 use mathlib.Core.List.{List}
@@ -11,7 +11,8 @@ use Rattle.fields.specs.Parts.{part}
 use Rattle.fields.specs.Blocks.{allZero, allBlocks}
 use Rattle.fields.proofs.Choice.{and-last}
 use Rattle.rules.specs.Table.{versions, differ}
-use Rattle.rules.specs.Layout.{recWidth}
+use Rattle.rules.specs.Sizes.{maxRecords}
+use Rattle.rules.specs.Layout.{recPlace, recWidth, nodeWidth}
 use Rattle.table.specs.Tests.{recGood, nodeTests, nodeGood, countOf, maxOf, recsOf}
 use Rattle.table.proofs.Nodes.{node-stop}
 use borrow.Author.Needs.{needs}
@@ -20,14 +21,14 @@ use Rattle.table_check.proofs.check_node.Tie as tie
 
 -- the tests of a node's bytes, as the calls answer them
 module _ (b : List ℕ) (n max : ℕ) (en : n ≡ countOf b) (em : max ≡ maxOf b) where
-  records-test : (t : Bool) → t ≡ allBlocks (recGood max) recWidth n (drop 33 b) → getD (nodeTests b) 1 true ≡ t
-  records-test t e = sym (e ∙ ap₂ (λ (m k : ℕ). allBlocks (recGood m) recWidth k (drop 33 b)) em en)
+  records-test : (t : Bool) → t ≡ allBlocks (recGood max) recWidth n (drop (recPlace 0) b) → getD (nodeTests b) 1 true ≡ t
+  records-test t e = sym (e ∙ ap₂ (λ (m k : ℕ). allBlocks (recGood m) recWidth k (drop (recPlace 0) b)) em en)
 
-  zeros-test : (t : Bool) → n ≤ 32 → t ≡ allZero (take (3713 - (33 + n * recWidth)) (drop (33 + n * recWidth) b)) → getD (nodeTests b) 4 true ≡ t
+  zeros-test : (t : Bool) → n ≤ maxRecords → t ≡ allZero (take (nodeWidth - recPlace n) (drop (recPlace n) b)) → getD (nodeTests b) 4 true ≡ t
   unfolding part
   zeros-test t h e =
-      let p : 3713 - (33 + n * recWidth) ≡ (32 - n) * recWidth = omega arith in
-      sym (e ∙ ap (λ (k : ℕ). allZero (take k (drop (33 + n * recWidth) b))) p ∙ ap (λ (k : ℕ). allZero (part (33 + k * recWidth) ((32 - k) * recWidth) b)) en)
+      let p : nodeWidth - recPlace n ≡ (maxRecords - n) * recWidth = omega arith in
+      sym (e ∙ ap (λ (k : ℕ). allZero (take k (drop (recPlace n) b))) p ∙ ap (λ (k : ℕ). allZero (part (recPlace k) ((maxRecords - k) * recWidth) b)) en)
 
 different : (b vs : List ℕ) (n : ℕ) (t : Bool) → t ≡ differ (take n vs) → take n vs ≡ versions (recsOf b) → getD (nodeTests b) 3 true ≡ t
 different b vs n t e f = sym (e ∙ ap differ f)
@@ -43,7 +44,7 @@ byte-at-requires c κs = search needs
 returns : tie.Need-returns
 returns c =
     let b : List ℕ = c .before .before .before .args .node .now in
-    node-stop b 0 (lt-leb (countOf b) 32 (omega arith))
+    node-stop b 0 (lt-leb (countOf b) maxRecords (omega arith))
 
 read-u64-requires : tie.Need-read-u64-requires
 read-u64-requires c κs = search needs
@@ -91,7 +92,7 @@ returns-2 c =
     let then2 = then3 .before .before in
     let q = then2 .before .before .before .before in
     let b : List ℕ = q .before .before .args .node .now in
-    all-pass b _ (le-leb (countOf b) 32 (omega (arith, q .byte-at .ensures .0, then2 .before .before .before .if1 .left)))
+    all-pass b _ (le-leb (countOf b) maxRecords (omega (arith, q .byte-at .ensures .0, then2 .before .before .before .if1 .left)))
     (records-test b _ _ (q .byte-at .ensures .0) (then2 .before .before .read-u64 .ensures) _ (then2 .before .check-records .ensures) ∙ then2 .if2 .taken)
     (sym (then3 .before .keys-rise .ensures) ∙ then3 .if3 .taken)
     (different b (v .versions-of .result) (q .byte-at .result) _ (then4 .before .all-differ .ensures) (v .versions-of .ensures .1) ∙ then4 .if4 .taken)

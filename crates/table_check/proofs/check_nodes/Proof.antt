@@ -8,14 +8,14 @@ use Rattle.fields.specs.Blocks.{allBlocks}
 use Rattle.fields.proofs.Choice.{and-yes, and-no}
 use Rattle.fields.proofs.Blocks.{blocks-turn}
 use Rattle.fields.proofs.Lent.{seen}
-use Rattle.rules.specs.Layout.{nodeWidth}
+use Rattle.rules.specs.Layout.{nodePlace, nodeWidth}
 use Rattle.table.specs.Tests.{nodeGood}
 use borrow.Author.Needs.{needs}
 use Rattle.table_check.proofs.check_nodes.Statement.{statement}
 use Rattle.table_check.proofs.check_nodes.Tie as tie
 
 abbrev Inv-loop : tie.InvT-loop
-Inv-loop s n i₀ i = (i ≤ n) × (allBlocks nodeGood nodeWidth (n - i) (drop (1 + i * nodeWidth) s) ≡ allBlocks nodeGood nodeWidth n (drop 1 s))
+Inv-loop s n i₀ i = (i ≤ n) × (allBlocks nodeGood nodeWidth (n - i) (drop (nodePlace i) s) ≡ allBlocks nodeGood nodeWidth n (drop (nodePlace 0) s))
 
 abbrev μ-loop : tie.MeasureT-loop
 μ-loop s n i₀ i = n - i

@@ -8,7 +8,10 @@ use native.Mathlib.Omega.{arith}
 use borrow.Author.Tests.{le-leb, lt-leb}
 use Rattle.fields.specs.Numbers.{natOf}
 use Rattle.fields.specs.Parts.{part}
+use Rattle.fields.specs.Widths.{offset}
 use Rattle.fields.proofs.Choice.{and-yes, and-no, and-last}
+use Rattle.rules.specs.Sizes.{maxKey, maxValue}
+use Rattle.rules.specs.Layout.{recWidths}
 use Rattle.table.specs.Tests.{recGood, keyLength, valueLength, versionOf, clean}
 use Rattle.table.proofs.Records.{rec-stop}
 use borrow.Author.Needs.{needs}
@@ -21,7 +24,7 @@ byte-at-requires c κs = search needs
 returns : tie.Need-returns
 returns c =
     let a = c .before .before .before .before .args in
-    rec-stop (a .max) (a .«record» .now) 0 (lt-leb (keyLength (a .«record» .now)) 32 (omega arith))
+    rec-stop (a .max) (a .«record» .now) 0 (lt-leb (keyLength (a .«record» .now)) maxKey (omega arith))
 
 byte-at-requires-2 : tie.Need-byte-at-requires-2
 byte-at-requires-2 c κs = search needs
@@ -29,7 +32,7 @@ byte-at-requires-2 c κs = search needs
 returns-2 : tie.Need-returns-2
 returns-2 c =
     let a = c .before .before .before .before .before .before .args in
-    rec-stop (a .max) (a .«record» .now) 1 (lt-leb (valueLength (a .«record» .now)) 64 (omega arith))
+    rec-stop (a .max) (a .«record» .now) 1 (lt-leb (valueLength (a .«record» .now)) maxValue (omega arith))
 
 read-u64-requires : tie.Need-read-u64-requires
 read-u64-requires c κs = search needs
@@ -59,11 +62,11 @@ clean-behind-requires-2 : tie.Need-clean-behind-requires-2
 clean-behind-requires-2 c κs = search needs
 
 -- past the five tests only the zeros are left
-past : (max : ℕ) (b : List ℕ) (k v : ℕ) → k ≡ keyLength b → v ≡ valueLength b → keyLength b ≤ 32 → valueLength b ≤ 64 → 1 ≤ versionOf b → versionOf b ≤ max
-    → natOf (part 106 1 b) ≤ 2 → recGood max b ≡ (clean 1 32 k b && (clean 34 64 v b && true))
+past : (max : ℕ) (b : List ℕ) (k v : ℕ) → k ≡ keyLength b → v ≡ valueLength b → keyLength b ≤ maxKey → valueLength b ≤ maxValue → 1 ≤ versionOf b → versionOf b ≤ max
+    → natOf (part (offset recWidths 5) 1 b) ≤ 2 → recGood max b ≡ (clean (offset recWidths 1) maxKey k b && (clean (offset recWidths 3) maxValue v b && true))
 unfolding recGood
 past max b k v ek ev h1 h2 h3 h4 h5 =
-    rw (ek, ev, recGood, le-leb (keyLength b) 32 h1, le-leb (valueLength b) 64 h2, le-leb 1 (versionOf b) h3, le-leb (versionOf b) max h4, le-leb (natOf (part 106 1 b)) 2 h5)
+    rw (ek, ev, recGood, le-leb (keyLength b) maxKey h1, le-leb (valueLength b) maxValue h2, le-leb 1 (versionOf b) h3, le-leb (versionOf b) max h4, le-leb (natOf (part (offset recWidths 5) 1 b)) 2 h5)
 
 passed : (c : tie.Else5)
     → let l2 = c .before .before .before .before .before in
@@ -71,7 +74,7 @@ passed : (c : tie.Else5)
     let max : ℕ = l2 .before .before .before .before .before .before .args .max in
     let k : ℕ = l2 .before .before .before .byte-at .result in
     let v : ℕ = l2 .before .byte-at2 .result in
-    recGood max b ≡ (clean 1 32 k b && (clean 34 64 v b && true))
+    recGood max b ≡ (clean (offset recWidths 1) maxKey k b && (clean (offset recWidths 3) maxValue v b && true))
 passed c =
     let l2 = c .before .before .before .before .before in
     let a = l2 .before .before .before .before .before .before .args in

@@ -1,5 +1,5 @@
 -- `table_check::check_records` meets its contract: what is left to be tested has the whole's answer. Assumes nothing.
-use Prim.Native.Nat.{ℕ, _+_, _-_, _*_, _≤_}
+use Prim.Native.Nat.{ℕ, _-_, _≤_}
 use mathlib.Core.Path.{_≡_, refl, sym, ap, _∙_}
 use native.Mathlib.Omega.{arith}
 use native.Mathlib.Nat.{sub-zero}
@@ -8,14 +8,14 @@ use Rattle.fields.specs.Blocks.{allBlocks}
 use Rattle.fields.proofs.Choice.{and-yes, and-no}
 use Rattle.fields.proofs.Blocks.{blocks-turn}
 use Rattle.fields.proofs.Lent.{seen}
-use Rattle.rules.specs.Layout.{recWidth}
+use Rattle.rules.specs.Layout.{recPlace, recWidth}
 use Rattle.table.specs.Tests.{recGood}
 use borrow.Author.Needs.{needs}
 use Rattle.table_check.proofs.check_records.Statement.{statement}
 use Rattle.table_check.proofs.check_records.Tie as tie
 
 abbrev Inv-loop : tie.InvT-loop
-Inv-loop b n max m i₀ i = (i ≤ n) × (allBlocks (recGood max) recWidth (n - i) (drop (33 + i * recWidth) b) ≡ allBlocks (recGood max) recWidth n (drop 33 b))
+Inv-loop b n max m i₀ i = (i ≤ n) × (allBlocks (recGood max) recWidth (n - i) (drop (recPlace i) b) ≡ allBlocks (recGood max) recWidth n (drop (recPlace 0) b))
 
 abbrev μ-loop : tie.MeasureT-loop
 μ-loop b n max m i₀ i = n - i
@@ -61,8 +61,8 @@ loop-again c =
     let q = c .before .before .before .before .before in
     let a = q .before .before .before .args in
     let i : ℕ = q .loop .i in
-    let flag = sym (ap (recGood (a .max)) (seen (33 + i * recWidth) recWidth (a .node .now))) ∙ sym (c .before .check-record .ensures) in
-    let e = blocks-turn (recGood (a .max)) recWidth 33 (a .n) i (a .node .now) (omega arith) in
+    let flag = sym (ap (recGood (a .max)) (seen (recPlace i) recWidth (a .node .now))) ∙ sym (c .before .check-record .ensures) in
+    let e = blocks-turn (recGood (a .max)) recWidth (recPlace 0) (a .n) i (a .node .now) (omega arith) in
     (omega arith, sym (e ∙ and-yes _ _ (flag ∙ c .if1 .taken)) ∙ q .loop .inv .1)
 
 returns : tie.Need-returns Inv-loop μ-loop
@@ -70,8 +70,8 @@ returns c =
     let q = c .before .before .before .before .before in
     let a = q .before .before .before .args in
     let i : ℕ = q .loop .i in
-    let flag = sym (ap (recGood (a .max)) (seen (33 + i * recWidth) recWidth (a .node .now))) ∙ sym (c .before .check-record .ensures) in
-    let e = blocks-turn (recGood (a .max)) recWidth 33 (a .n) i (a .node .now) (omega arith) in
+    let flag = sym (ap (recGood (a .max)) (seen (recPlace i) recWidth (a .node .now))) ∙ sym (c .before .check-record .ensures) in
+    let e = blocks-turn (recGood (a .max)) recWidth (recPlace 0) (a .n) i (a .node .now) (omega arith) in
     sym (e ∙ and-no _ _ (flag ∙ c .if1 .left)) ∙ q .loop .inv .1
 
 returns-2 : tie.Need-returns-2 Inv-loop μ-loop

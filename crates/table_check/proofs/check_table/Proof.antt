@@ -1,6 +1,6 @@
 -- `table_check::check_table` meets its contract: a test that fails is one of the table's tests, and past all others only the zeros are left.
 -- Assumes nothing.
-use Prim.Native.Nat.{ℕ, _+_, _-_, _*_, _≤_}
+use Prim.Native.Nat.{ℕ, _-_, _*_, _≤_}
 use mathlib.Core.Path.{_≡_, _∙_, ap, sym}
 use mathlib.Core.Bool.{Bool, true}
 use mathlib.Core.List.{List}
@@ -11,7 +11,8 @@ use Rattle.fields.specs.Numbers.{AreBytes}
 use Rattle.fields.specs.Parts.{part}
 use Rattle.fields.specs.Blocks.{allZero, allBlocks}
 use Rattle.fields.proofs.Numbers.{at-bytes}
-use Rattle.rules.specs.Layout.{nodeWidth}
+use Rattle.rules.specs.Sizes.{maxNodes}
+use Rattle.rules.specs.Layout.{nodePlace, nodeWidth, tableWidth}
 use Rattle.table.specs.Tests.{nodeGood, nodesOf, tableTests}
 use Rattle.table.proofs.Checked.{length-stop, table-stop, table-pass}
 use borrow.Author.Needs.{needs}
@@ -22,15 +23,15 @@ use Rattle.table_check.proofs.check_table.Tie as tie
 bytes : (c : tie.After-shared-slice-known) → AreBytes (c .before .args .table .now)
 bytes c = at-bytes (c .before .args .table .now) (λ i. c .shared-slice-known .given i .fits)
 
-nodes-test : (l : List ℕ) (n : ℕ) (t : Bool) → n ≡ nodesOf l → t ≡ allBlocks nodeGood nodeWidth n (drop 1 l) → getD (tableTests l) 1 true ≡ t
-nodes-test l n t en e = sym (e ∙ ap (λ (k : ℕ). allBlocks nodeGood nodeWidth k (drop 1 l)) en)
+nodes-test : (l : List ℕ) (n : ℕ) (t : Bool) → n ≡ nodesOf l → t ≡ allBlocks nodeGood nodeWidth n (drop (nodePlace 0) l) → getD (tableTests l) 1 true ≡ t
+nodes-test l n t en e = sym (e ∙ ap (λ (k : ℕ). allBlocks nodeGood nodeWidth k (drop (nodePlace 0) l)) en)
 
-zeros-test : (l : List ℕ) (n : ℕ) (t : Bool) → n ≡ nodesOf l → n ≤ 8 → t ≡ allZero (take (29705 - (1 + n * nodeWidth)) (drop (1 + n * nodeWidth) l))
+zeros-test : (l : List ℕ) (n : ℕ) (t : Bool) → n ≡ nodesOf l → n ≤ maxNodes → t ≡ allZero (take (tableWidth - nodePlace n) (drop (nodePlace n) l))
     → getD (tableTests l) 3 true ≡ t
 unfolding part
 zeros-test l n t en h e =
-    let p : 29705 - (1 + n * nodeWidth) ≡ (8 - n) * nodeWidth = omega arith in
-    sym (e ∙ ap (λ (k : ℕ). allZero (take k (drop (1 + n * nodeWidth) l))) p ∙ ap (λ (k : ℕ). allZero (part (1 + k * nodeWidth) ((8 - k) * nodeWidth) l)) en)
+    let p : tableWidth - nodePlace n ≡ (maxNodes - n) * nodeWidth = omega arith in
+    sym (e ∙ ap (λ (k : ℕ). allZero (take k (drop (nodePlace n) l))) p ∙ ap (λ (k : ℕ). allZero (part (nodePlace k) ((maxNodes - k) * nodeWidth) l)) en)
 
 returns : tie.Need-returns
 returns c = length-stop (c .before .before .args .table .now) (c .if1 .taken)
@@ -42,7 +43,7 @@ returns-2 : tie.Need-returns-2
 returns-2 c =
     let q = c .before .before .before in
     let l : List ℕ = q .before .args .table .now in
-    table-stop l (bytes q) 0 (lt-leb (nodesOf l) 8 (omega arith))
+    table-stop l (bytes q) 0 (lt-leb (nodesOf l) maxNodes (omega arith))
 
 check-nodes-requires : tie.Need-check-nodes-requires
 check-nodes-requires c κs = search needs
@@ -75,7 +76,7 @@ returns-3 c =
     let b = then3 .before .before .before in
     let q = b .before .before in
     let l : List ℕ = q .before .args .table .now in
-    table-pass l (bytes q) _ (b .before .if1 .left) (le-leb (nodesOf l) 8 (omega (arith, b .byte-at .ensures .0, then3 .before .before .if2 .left)))
+    table-pass l (bytes q) _ (b .before .if1 .left) (le-leb (nodesOf l) maxNodes (omega (arith, b .byte-at .ensures .0, then3 .before .before .if2 .left)))
     (nodes-test l _ _ (b .byte-at .ensures .0) (then3 .before .check-nodes .ensures) ∙ then3 .if3 .taken)
     (sym (then4 .before .numbers-rise .ensures) ∙ then4 .if4 .taken)
     (zeros-test l _ _ (b .byte-at .ensures .0) (then3 .before .before .if2 .left) (c .is-zero .ensures))

@@ -10,7 +10,8 @@ use lib.Dec.{eqb}
 use lib.ListN.{length, getD, replicate}
 use lib.Seq.{getD-append-add}
 use native.Mathlib.Decide.{decLt}
-use Rattle.table_check.specs.Mask.{maskBytes}
+use Rattle.rules.specs.Sizes.{maxValue}
+use Rattle.table_check.specs.Mask.{maskWidth, maskBytes}
 use Rattle.fields.proofs.Bits.{or-none}
 use Rattle.fields.proofs.Parts.{part-snoc}
 use Rattle.fields.proofs.Choice.{and-assoc, and-last}
@@ -26,9 +27,9 @@ Inv-loop b at n k m seen₀ i₀ seen i = (i ≤ n) × (eqb seen 0 ≡ allZero (
 abbrev μ-loop : tie.MeasureT-loop
 μ-loop b at n k m seen₀ i₀ seen i = n - i
 
--- ---- the mask: 64 zeros, and then 64 times 255
+-- ---- the mask: zeros, and then as many times 255
 
-long-mask : length maskBytes ≡ 128
+long-mask : length maskBytes ≡ maskWidth
 unfolding maskBytes
 long-mask = refl
 
@@ -42,13 +43,13 @@ full zero i h = absurd (not-suc-le-zero h)
 full (suc n) zero h = refl
 full (suc n) (suc i) h = full n i (le-of-suc-le-suc h)
 
-drops : (i : ℕ) → i < 64 → getD maskBytes i 0 ≡ 0
+drops : (i : ℕ) → i < maxValue → getD maskBytes i 0 ≡ 0
 unfolding maskBytes
-drops i h = low 64 i (replicate 64 255) h
+drops i h = low maxValue i (replicate maxValue 255) h
 
-keeps : (i : ℕ) → i < 64 → getD maskBytes (64 + i) 0 ≡ 255
+keeps : (i : ℕ) → i < maxValue → getD maskBytes (maxValue + i) 0 ≡ 255
 unfolding maskBytes
-keeps i h = getD-append-add (replicate 64 0) (replicate 64 255) i 0 ∙ full 64 i h
+keeps i h = getD-append-add (replicate maxValue 0) (replicate maxValue 255) i 0 ∙ full maxValue i h
 
 -- one byte more at the end
 zero-snoc : (xs : List ℕ) (b : ℕ) → allZero (xs ++ (b ∷ [])) ≡ (allZero xs && eqb b 0)
@@ -63,15 +64,15 @@ none a k l =
     rw z refl
 
 -- one byte more, behind the text and in it
-module _ (at k i d : ℕ) (l : List ℕ) (fits : at + i < length l) (long : k ≤ 64) (room : i < 64) (byte : getD l (at + i) 0 < 256)
+module _ (at k i d : ℕ) (l : List ℕ) (fits : at + i < length l) (long : k ≤ maxValue) (room : i < maxValue) (byte : getD l (at + i) 0 < 256)
     (e : eqb d 0 ≡ allZero (part (at + k) (i - k) l)) where
-  behind : k ≤ i → eqb (bitOr d (bitAnd (getD l (at + i) 0) (getD maskBytes (64 - k + i) 0))) 0 ≡ allZero (part (at + k) (i + 1 - k) l)
+  behind : k ≤ i → eqb (bitOr d (bitAnd (getD l (at + i) 0) (getD maskBytes (maxValue - k + i) 0))) 0 ≡ allZero (part (at + k) (i + 1 - k) l)
   behind h =
       let x : ℕ = getD l (at + i) 0 in
       let p : i + 1 - k ≡ suc (i - k) = omega arith in
       let q : at + k + (i - k) ≡ at + i = omega arith in
-      let j : 64 - k + i ≡ 64 + (i - k) = omega arith in
-      let m : getD maskBytes (64 - k + i) 0 ≡ 255 = ap (λ (z : ℕ). getD maskBytes z 0) j ∙ keeps (i - k) (omega arith) in
+      let j : maxValue - k + i ≡ maxValue + (i - k) = omega arith in
+      let m : getD maskBytes (maxValue - k + i) 0 ≡ 255 = ap (λ (z : ℕ). getD maskBytes z 0) j ∙ keeps (i - k) (omega arith) in
       let whole : bitAnd x 255 ≡ x = and-mask x 8 ∙ omega arith in
       ap (λ (z : ℕ). eqb (bitOr d (bitAnd x z)) 0) m
       ∙ ap (λ (z : ℕ). eqb (bitOr d z) 0) whole
@@ -82,17 +83,17 @@ module _ (at k i d : ℕ) (l : List ℕ) (fits : at + i < length l) (long : k �
       ∙ ap allZero (sym (part-snoc (at + k) (i - k) l (omega arith)))
       ∙ ap (λ (z : ℕ). allZero (part (at + k) z l)) (sym p)
 
-  within : i < k → eqb (bitOr d (bitAnd (getD l (at + i) 0) (getD maskBytes (64 - k + i) 0))) 0 ≡ allZero (part (at + k) (i + 1 - k) l)
+  within : i < k → eqb (bitOr d (bitAnd (getD l (at + i) 0) (getD maskBytes (maxValue - k + i) 0))) 0 ≡ allZero (part (at + k) (i + 1 - k) l)
   within h =
       let x : ℕ = getD l (at + i) 0 in
       let p : i - k ≡ i + 1 - k = omega arith in
-      ap (λ (z : ℕ). eqb (bitOr d (bitAnd x z)) 0) (drops (64 - k + i) (omega arith))
+      ap (λ (z : ℕ). eqb (bitOr d (bitAnd x z)) 0) (drops (maxValue - k + i) (omega arith))
       ∙ ap (λ (z : ℕ). eqb (bitOr d z) 0) (and-zero-r x)
       ∙ ap (λ (z : ℕ). eqb z 0) (or-zero-r d)
       ∙ e
       ∙ ap (λ (z : ℕ). allZero (part (at + k) z l)) p
 
-  turn : eqb (bitOr d (bitAnd (getD l (at + i) 0) (getD maskBytes (64 - k + i) 0))) 0 ≡ allZero (part (at + k) (i + 1 - k) l)
+  turn : eqb (bitOr d (bitAnd (getD l (at + i) 0) (getD maskBytes (maxValue - k + i) 0))) 0 ≡ allZero (part (at + k) (i + 1 - k) l)
   turn =
       elim (decLt i k) [
         | yes p ↦ within p
@@ -131,7 +132,7 @@ loop-again c =
     let i : ℕ = q .loop .i in
     let d : ℕ = q .loop .seen in (
       omega arith,
-      ap (λ (m : List ℕ). eqb (bitOr d (bitAnd (getD (a .«record» .now) (a .at + i) 0) (getD m (64 - a .k + i) 0))) 0) (s .pre .3)
+      ap (λ (m : List ℕ). eqb (bitOr d (bitAnd (getD (a .«record» .now) (a .at + i) 0) (getD m (maxValue - a .k + i) 0))) 0) (s .pre .3)
           ∙ turn (a .at) (a .k) i d (a .«record» .now) (omega arith) (omega arith) (omega arith) (c .before .shared-slice-known .given (a .at + i) .fits) (q .loop .inv .1),
     )
 

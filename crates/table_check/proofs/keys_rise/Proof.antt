@@ -1,4 +1,5 @@
--- `table_check::keys_rise` meets its contract: the keys that are left rise where all do. Assumes nothing.
+-- `table_check::keys_rise` meets its contract: the keys that are left rise where all do. The loop is that of `numbers_rise`; its needs are its own, and
+-- so is the order, for which the rules' law of rising numbers says nothing. Assumes nothing.
 use Prim.Native.Nat.{ℕ, suc, _+_, _-_, _≤_, _<_}
 use mathlib.Core.Path.{_≡_, refl, sym, ap, ap₂, _∙_}
 use mathlib.Core.Bool.{Bool, true, _&&_}
@@ -15,7 +16,7 @@ use Rattle.rules.specs.Node.{Rec}
 use Rattle.rules.specs.Table.{keysRise}
 use Rattle.rules.specs.Layout.{recPlace, recWidth, nodeWidth, decodeRec}
 use Rattle.table.specs.Tests.{countOf, recsOf, recGood, keyLength}
-use Rattle.rules.specs.Sizes.{maxKey}
+use Rattle.rules.specs.Sizes.{maxRecords, maxKey}
 use Rattle.fields.proofs.Parts.{length-part}
 use Rattle.table.proofs.Records.{good-key}
 use Rattle.table.proofs.Places.{recBytes, recAt, recs-drop, length-recs, good-at}
@@ -33,7 +34,7 @@ abbrev μ-loop : tie.MeasureT-loop
 after : (i : ℕ) → recPlace i + recWidth ≡ recPlace (i + 1)
 after i = omega arith
 
-module _ (b : List ℕ) (n max i : ℕ) (e : length b ≡ nodeWidth) (h : i + 1 < n) (g : n ≤ 32) (good : allBlocks (recGood max) recWidth n (drop 33 b) ≡ true) where
+module _ (b : List ℕ) (n max i : ℕ) (e : length b ≡ nodeWidth) (h : i + 1 < n) (g : n ≤ maxRecords) (good : allBlocks (recGood max) recWidth n (drop (recPlace 0) b) ≡ true) where
   short : (j : ℕ) → j < n → keyLength (recBytes j b) ≤ maxKey
   short j p = good-key max (recBytes j b) (good-at max j n b good p)
 

@@ -6,37 +6,38 @@ use native.Mathlib.Omega.{arith}
 use native.Mathlib.Numerals.{add-one}
 use lib.ListN.{length, take, set, replicate, length-set}
 use lib.Seq.{take-suc-set, take-all}
-use Rattle.table_check.specs.Mask.{maskBytes}
+use Rattle.rules.specs.Sizes.{maxValue}
+use Rattle.table_check.specs.Mask.{maskWidth, maskBytes}
 use borrow.Author.Needs.{needs}
 use Rattle.table_check.proofs.mask.Statement.{statement}
 use Rattle.table_check.proofs.mask.Tie as tie
 
 abbrev Inv-loop : tie.InvT-loop
-Inv-loop m₀ i₀ m i = (64 ≤ i) × (i ≤ 128) × (length m ≡ 128) × (take i m ≡ replicate 64 0 ++ replicate (i - 64) 255)
+Inv-loop m₀ i₀ m i = (maxValue ≤ i) × (i ≤ maskWidth) × (length m ≡ maskWidth) × (take i m ≡ replicate maxValue 0 ++ replicate (i - maxValue) 255)
 
 abbrev μ-loop : tie.MeasureT-loop
-μ-loop m₀ i₀ m i = 128 - i
+μ-loop m₀ i₀ m i = maskWidth - i
 
 snoc : (n : ℕ) → _≡_ {A = List ℕ} (replicate n 255 ++ (255 ∷ [])) (replicate (suc n) 255)
 snoc zero = refl
 snoc (suc n) = ap (λ (r : List ℕ). 255 ∷ r) (snoc n)
 
 -- one byte more that keeps
-turn : (m : List ℕ) (i : ℕ) → 64 ≤ i → i < length m → take i m ≡ replicate 64 0 ++ replicate (i - 64) 255
-    → take (i + 1) (set m i 255) ≡ replicate 64 0 ++ replicate (i + 1 - 64) 255
+turn : (m : List ℕ) (i : ℕ) → maxValue ≤ i → i < length m → take i m ≡ replicate maxValue 0 ++ replicate (i - maxValue) 255
+    → take (i + 1) (set m i 255) ≡ replicate maxValue 0 ++ replicate (i + 1 - maxValue) 255
 turn m i h g e =
-    let p : i + 1 - 64 ≡ suc (i - 64) = omega arith in
+    let p : i + 1 - maxValue ≡ suc (i - maxValue) = omega arith in
     ap (λ (k : ℕ). take k (set m i 255)) (add-one i)
     ∙ take-suc-set m i 255 g
     ∙ ap (λ (r : List ℕ). r ++ (255 ∷ [])) e
-    ∙ append-assoc (replicate 64 0) (replicate (i - 64) 255) (255 ∷ [])
-    ∙ ap (λ (r : List ℕ). replicate 64 0 ++ r) (snoc (i - 64))
-    ∙ ap (λ (k : ℕ). replicate 64 0 ++ replicate k 255) (sym p)
+    ∙ append-assoc (replicate maxValue 0) (replicate (i - maxValue) 255) (255 ∷ [])
+    ∙ ap (λ (r : List ℕ). replicate maxValue 0 ++ r) (snoc (i - maxValue))
+    ∙ ap (λ (k : ℕ). replicate maxValue 0 ++ replicate k 255) (sym p)
 
-over : (m : List ℕ) (i : ℕ) → i ≡ 128 → length m ≡ 128 → take i m ≡ replicate 64 0 ++ replicate (i - 64) 255 → m ≡ maskBytes
+over : (m : List ℕ) (i : ℕ) → i ≡ maskWidth → length m ≡ maskWidth → take i m ≡ replicate maxValue 0 ++ replicate (i - maxValue) 255 → m ≡ maskBytes
 unfolding maskBytes
 over m i p l e =
-    sym (take-all 128 m (omega arith)) ∙ ap (λ (k : ℕ). take k m) (sym p) ∙ e ∙ ap (λ (k : ℕ). replicate 64 0 ++ replicate (k - 64) 255) p
+    sym (take-all maskWidth m (omega arith)) ∙ ap (λ (k : ℕ). take k m) (sym p) ∙ e ∙ ap (λ (k : ℕ). replicate maxValue 0 ++ replicate (k - maxValue) 255) p
 
 loop-holds : tie.Need-loop-holds Inv-loop μ-loop
 loop-holds c = (omega arith, omega arith, refl, refl)

@@ -1,44 +1,64 @@
--- `table_check::numbers_rise` meets its contract: the numbers that are left rise where all do. Assumes nothing.
-use Prim.Native.Nat.{ℕ, suc, _+_, _-_, _≤_, _<_}
+-- `table_check::numbers_rise` meets its contract: the numbers that are left rise where all do, by `rising-turn` of the rules. Assumes nothing.
+use Prim.Native.Nat.{ℕ, zero, suc, _+_, _-_, _≤_, _<_}
 use mathlib.Core.Path.{_≡_, refl, sym, ap, _∙_}
 use mathlib.Core.Bool.{true, _&&_}
 use mathlib.Core.List.{List, [], _∷_}
 use native.Mathlib.Omega.{arith}
-use native.Mathlib.Numerals.{add-one}
-use lib.ListN.{length, drop, length-drop}
+use lib.ListN.{length, drop, getD}
 use lib.Dec.{ltb}
 use borrow.Author.Tests.{lt-ltb, le-ltb}
 use Rattle.fields.specs.Numbers.{natOf}
 use Rattle.fields.specs.Parts.{part}
 use Rattle.fields.proofs.Choice.{and-yes, and-no}
-use Rattle.rules.specs.Table.{Table, rising, numbersOf}
-use Rattle.rules.specs.Layout.{nodePlace, decode, tableWidth}
+use Rattle.rules.specs.Sizes.{maxNodes}
+use Rattle.rules.specs.Table.{Entry, Table, rising, numbersOf}
+use Rattle.rules.specs.Layout.{nodePlace, decodeNode, decode, tableWidth}
+use Rattle.rules.proofs.Obeys.{rising-turn, rising-last}
 use Rattle.table.specs.Tests.{nodesOf}
-use Rattle.table.proofs.Places.{decode-drop, number-at, nodeAt}
+use Rattle.table.proofs.Places.{decode-at, number-at}
 use Rattle.table.proofs.Tables.{length-decode}
 use borrow.Author.Needs.{needs}
 use Rattle.table_check.proofs.numbers_rise.Statement.{statement}
 use Rattle.table_check.proofs.numbers_rise.Tie as tie
 
 abbrev Inv-loop : tie.InvT-loop
-Inv-loop s n i₀ i = (i ≤ n) × (rising (numbersOf (drop i (decode s))) ≡ rising (numbersOf (decode s)))
+Inv-loop s n i₀ i = (i ≤ n) × (rising (drop i (numbersOf (decode s))) ≡ rising (numbersOf (decode s)))
 
 abbrev μ-loop : tie.MeasureT-loop
 μ-loop s n i₀ i = n - i
 
-turn : (l : List ℕ) (i x y : ℕ) → length l ≡ tableWidth → i + 1 < nodesOf l → nodesOf l ≤ 8 → x ≡ natOf (part (nodePlace i) 8 l) → y ≡ natOf (part (nodePlace (i + 1)) 8 l)
-    → rising (numbersOf (drop i (decode l))) ≡ (ltb x y && rising (numbersOf (drop (i + 1) (decode l))))
-unfolding rising numbersOf
-turn l i x y e h g ex ey =
-    let ex' : x ≡ nodeAt i l .number = ex ∙ sym (number-at i l e (omega arith)) in
-    let ey' : y ≡ nodeAt (suc i) l .number = ey ∙ sym (number-at (i + 1) l e (omega arith)) ∙ ap (λ (k : ℕ). nodeAt k l .number) (add-one i) in
-    rw (add-one i, decode-drop i l (omega arith), decode-drop (suc i) l (omega arith), ex', ey')
+-- ---- the numbers of a table
 
-short : (t : Table) → length t ≤ 1 → rising (numbersOf t) ≡ true
-unfolding rising numbersOf
-short [] h = refl
-short (a ∷ []) h = refl
-short (a ∷ b ∷ t) h = absurd (omega arith)
+numbers-long : (t : Table) → length (numbersOf t) ≡ length t
+unfolding numbersOf
+numbers-long [] = refl
+numbers-long (e ∷ t) = ap suc (numbers-long t)
+
+number-of : (t : Table) (i : ℕ) (d : Entry) → i < length t → getD (numbersOf t) i 0 ≡ getD t i d .number
+unfolding numbersOf
+number-of [] i d h = absurd (omega arith)
+number-of (e ∷ t) zero d h = refl
+number-of (e ∷ t) (suc i) d h = number-of t i d (omega arith)
+
+module _ (l : List ℕ) (long : length l ≡ tableWidth) (few : nodesOf l ≤ maxNodes) where
+  all : length (numbersOf (decode l)) ≡ nodesOf l
+  all = numbers-long (decode l) ∙ length-decode l
+
+  -- what was read is the number of node i
+  read : (i x : ℕ) → i < nodesOf l → x ≡ natOf (part (nodePlace i) 8 l) → x ≡ getD (numbersOf (decode l)) i 0
+  read i x h e =
+      let d : Entry = decodeNode [] in
+      e
+      ∙ sym (number-at i l long (omega arith))
+      ∙ sym (ap (λ (y : Entry). y .number) (decode-at i l d h))
+      ∙ sym (number-of (decode l) i d (rw length-decode h))
+
+  turn : (i x y : ℕ) → i + 1 < nodesOf l → x ≡ natOf (part (nodePlace i) 8 l) → y ≡ natOf (part (nodePlace (i + 1)) 8 l)
+      → rising (drop i (numbersOf (decode l))) ≡ (ltb x y && rising (drop (i + 1) (numbersOf (decode l))))
+  turn i x y h ex ey = rising-turn (numbersOf (decode l)) i x y (rw all h) (read i x (omega arith) ex) (read (i + 1) y h ey)
+
+  last : (i : ℕ) → nodesOf l ≤ i + 1 → rising (drop i (numbersOf (decode l))) ≡ true
+  last i h = rising-last (numbersOf (decode l)) i (rw all h)
 
 loop-holds : tie.Need-loop-holds Inv-loop μ-loop
 loop-holds c = (omega arith, refl)
@@ -78,7 +98,7 @@ loop-again c =
     let q = c .before .before .before .before in
     let a = q .before .before .args in
     let i : ℕ = q .loop .i in
-    let e = turn (a .table .now) i (c .before .before .read-u64 .result) (c .before .read-u642 .result) (omega arith) (omega arith) (omega arith) (c .before .before .read-u64 .ensures) (c .before .read-u642 .ensures) in
+    let e = turn (a .table .now) (omega arith) (omega arith) i (c .before .before .read-u64 .result) (c .before .read-u642 .result) (omega arith) (c .before .before .read-u64 .ensures) (c .before .read-u642 .ensures) in
     (omega arith, sym (e ∙ and-yes _ _ (lt-ltb _ _ (c .if1 .taken))) ∙ q .loop .inv .1)
 
 returns : tie.Need-returns Inv-loop μ-loop
@@ -86,14 +106,14 @@ returns c =
     let q = c .before .before .before .before in
     let a = q .before .before .args in
     let i : ℕ = q .loop .i in
-    let e = turn (a .table .now) i (c .before .before .read-u64 .result) (c .before .read-u642 .result) (omega arith) (omega arith) (omega arith) (c .before .before .read-u64 .ensures) (c .before .read-u642 .ensures) in
+    let e = turn (a .table .now) (omega arith) (omega arith) i (c .before .before .read-u64 .result) (c .before .read-u642 .result) (omega arith) (c .before .before .read-u64 .ensures) (c .before .read-u642 .ensures) in
     sym (e ∙ and-no _ _ (le-ltb _ _ (c .if1 .left))) ∙ q .loop .inv .1
 
 returns-2 : tie.Need-returns-2 Inv-loop μ-loop
 returns-2 c =
     let q = c .before in
     let l : List ℕ = q .before .before .args .table .now in
-    sym (short (drop (q .loop .i) (decode l)) (rw (length-drop, length-decode) (omega arith))) ∙ q .loop .inv .1
+    sym (last l (omega arith) (omega arith) (q .loop .i) (omega arith)) ∙ q .loop .inv .1
 
 pub numbers-rise-spec : {M : Type 1} → statement M
 numbers-rise-spec =

@@ -10,6 +10,7 @@ use Rattle.fields.specs.Numbers.{natOf}
 use Rattle.fields.specs.Parts.{part}
 use Rattle.rules.specs.Node.{Rec}
 use Rattle.rules.specs.Table.{versions}
+use Rattle.rules.specs.Sizes.{maxRecords}
 use Rattle.rules.specs.Layout.{recPlace, nodeWidth}
 use Rattle.table.specs.Tests.{countOf, recsOf}
 use Rattle.table.proofs.Places.{recs-drop, version-at, recAt, length-recs}
@@ -18,13 +19,13 @@ use Rattle.table_check.proofs.versions_of.Statement.{statement}
 use Rattle.table_check.proofs.versions_of.Tie as tie
 
 abbrev Inv-loop : tie.InvT-loop
-Inv-loop b n vs₀ i₀ vs i = (i ≤ n) × (length vs ≡ 32) × (take i vs ++ versions (drop i (recsOf b)) ≡ versions (recsOf b))
+Inv-loop b n vs₀ i₀ vs i = (i ≤ n) × (length vs ≡ maxRecords) × (take i vs ++ versions (drop i (recsOf b)) ≡ versions (recsOf b))
 
 abbrev μ-loop : tie.MeasureT-loop
 μ-loop b n vs₀ i₀ vs i = n - i
 
 -- one version more
-turn : (b vs : List ℕ) (i x : ℕ) (t : List ℕ) → length b ≡ nodeWidth → i < countOf b → countOf b ≤ 32 → length vs ≡ 32 → x ≡ natOf (part (recPlace i + 98) 8 b)
+turn : (b vs : List ℕ) (i x : ℕ) (t : List ℕ) → length b ≡ nodeWidth → i < countOf b → countOf b ≤ maxRecords → length vs ≡ maxRecords → x ≡ natOf (part (recPlace i + 98) 8 b)
     → take i vs ++ versions (drop i (recsOf b)) ≡ t → take (i + 1) (set vs i x) ++ versions (drop (i + 1) (recsOf b)) ≡ t
 unfolding versions
 turn b vs i x t e h g l q p =
