@@ -2,19 +2,20 @@
 -- nothing.
 use Prim.Native.Nat.{ℕ, zero, suc, _+_, _-_, _*_, _≤_, _<_}
 use mathlib.Core.Path.{_≡_, refl, ap, sym, _∙_, subst}
-use mathlib.Core.Logic.{_⊎_, inl, inr}
-use mathlib.Core.List.{List, [], _∷_, _++_}
+use mathlib.Core.Logic.{inl, inr}
+use mathlib.Core.List.{List, [], _++_}
 use native.Mathlib.Omega.{arith}
 use lib.ListN.{length, length-append}
-use lib.Dec.{leb}
 use borrow.Author.Tests.{le-leb, lt-leb}
 use Rattle.fields.specs.Blocks.{flat}
-use Rattle.fields.specs.Parts.{part, put}
+use Rattle.fields.specs.Parts.{put}
 use Rattle.fields.proofs.Parts.{length-part}
 use Rattle.rules.specs.Answers.{numberOf}
-use Rattle.rules.specs.Sizes.{maxDelta}
+use Rattle.rules.specs.Sizes.{maxDelta, maxKey, maxValue}
+use Rattle.rules.specs.Given.{Gives}
 use Rattle.rules.specs.Delta as rule
-use Rattle.rules.specs.Listing.{ascii, decimal, shownBytes, statusText, lineFeed, opLine, listingOf, listing}
+use Rattle.rules.specs.Digest.{writeBytes}
+use Rattle.rules.specs.Listing.{decimal, statusText, opLine, listingOf, listing, listDelta}
 use Rattle.rules.specs.declared.Status.{Status}
 use Rattle.rules.specs.declared.Status.the-variants.{Set, Delete, Ttl}
 use Rattle.rules.specs.declared.Refusal.{Refusal}
@@ -27,11 +28,10 @@ use Rattle.delta_read.specs.declared.Op.the-variants.{Node, KeyValue, SetMaxVer
 use Rattle.delta_read.specs.declared.OpRead.{OpRead}
 use Rattle.delta_read.specs.declared.OpRead.the-variants.{Got, Bad}
 use Rattle.delta_read.specs.Places.{opOf, opAt, Inside, widthOf}
-use Rattle.delta_read.specs.Plain.{opsFrom}
 use Rattle.delta_read.proofs.Reading.{Within, op-within, le-or-lt}
 use Rattle.delta_read.proofs.Plain.{plain-end, plain-bad, plain-next, good-plain}
 use Rattle.listing_text.proofs.Texts.{decimal-long, shown-long}
-use Rattle.listing.specs.Front.{frontAnswer, frontOut, linesFrom, goodText, refusedText, lineLength}
+use Rattle.listing.specs.Shapes.{goodText, lineLength, linesFrom, longestListing, refusedText}
 
 -- ---- one line
 
@@ -56,6 +56,10 @@ line-short (SetMaxVersion m) = omega (arith, decimal-long m)
 
 -- ---- the lines
 
+-- an operation that was read takes its bytes
+pub within : (l : List ℕ) (at : ℕ) (o : Op) (next : ℕ) → opAt l at ≡ Got o next → Within (length l) at (Got o next)
+within l at o next e = subst (Within (length l) at) e (op-within l at)
+
 module _ (l : List ℕ) (at : ℕ) where
   pub lines-end : length l ≤ at → linesFrom l at ≡ []
   unfolding linesFrom flat
@@ -76,7 +80,8 @@ pub listing-good : (l : List ℕ) (ops nodes : ℕ) → rule.deltaRead l ≡ rea
 unfolding rule.deltaRead listing listingOf goodText linesFrom
 listing-good l ops nodes e = go (rule.readDelta l) refl e
   where
-    go : (x : rule.Ops) → rule.readDelta l ≡ x → rule.readAnswer x ≡ read.Good ops nodes → (listingOf x (length l) ≡ goodText l ops) × (length l ≤ maxDelta)
+    go : (x : rule.Ops) → rule.readDelta l ≡ x → rule.readAnswer x ≡ read.Good ops nodes
+        → (listingOf x (length l) ≡ goodText l ops) × (length l ≤ maxDelta)
     go (rule.Good os) q a =
         let p = good-plain l os q in
         let k : length os ≡ ops = cc in
@@ -97,13 +102,17 @@ listing-refused l r at e = go (rule.readDelta l) e
 -- ---- a text at the front of a buffer
 
 module _ (text l : List ℕ) where
-  pub front-none : length l < length text → (Refused NoPlace ≡ frontAnswer text (length l)) × (l ≡ frontOut text l)
-  unfolding frontAnswer frontOut
-  front-none h = (rw (lt-leb (length text) (length l) h), rw (lt-leb (length text) (length l) h))
+  pub front-none : length l < length text → Gives (writeBytes text 0 l) (Refused NoPlace) l
+  front-none h =
+      let a = le-leb 0 (length l) (omega arith) in
+      let b = lt-leb (length text) (length l - 0) (omega arith) in
+      (rw (a, b), rw (a, b))
 
-  pub front-whole : (n : ℕ) (m : List ℕ) → length text ≤ length l → n ≡ length text → m ≡ put 0 text l → (Bytes n ≡ frontAnswer text (length l)) × (m ≡ frontOut text l)
-  unfolding frontAnswer frontOut
-  front-whole n m h p q = (rw (le-leb (length text) (length l) h, p), rw (le-leb (length text) (length l) h, q))
+  pub front-whole : (n : ℕ) (m : List ℕ) → length text ≤ length l → n ≡ length text → m ≡ put 0 text l → Gives (writeBytes text 0 l) (Bytes n) m
+  front-whole n m h p q =
+      let a = le-leb 0 (length l) (omega arith) in
+      let b = le-leb (length text) (length l - 0) (omega arith) in
+      (rw (a, b, p), rw (a, b, q))
 
 pub refused-long : (code at : ℕ) → length (refusedText code at) ≡ 22 + length (decimal code) + length (decimal at)
 unfolding refusedText
@@ -115,7 +124,7 @@ good-long l ops = simp length-append (omega arith)
 
 -- ---- how many bytes an operation takes at most
 
-pub width-most : (len : ℕ) (o : Op) → Inside len o → widthOf o ≤ 110
+pub width-most : (len : ℕ) (o : Op) → Inside len o → widthOf o ≤ rule.besideTexts + maxKey + maxValue
 width-most len (Node n g f) i = omega arith
 width-most len (KeyValue k n v m ver st) i = omega arith
 width-most len (SetMaxVersion m) i = omega arith
@@ -130,7 +139,8 @@ lines-most (suc k) at l h = elim (le-or-lt (length l) at) [
   | inr g ↦ go (opAt l at) refl (op-within l at) g (λ next e. lines-most k next l e)
 ]
   where
-    go : (r : OpRead) → opAt l at ≡ r → Within (length l) at r → at < length l → ((next : ℕ) → length l ≤ next + k → length (linesFrom l next) ≤ 5 * (length l - next))
+    go : (r : OpRead) → opAt l at ≡ r → Within (length l) at r → at < length l
+        → ((next : ℕ) → length l ≤ next + k → length (linesFrom l next) ≤ 5 * (length l - next))
         → length (linesFrom l at) ≤ 5 * (length l - at)
     go (Bad r) e w g ih = omega (arith, ap length (lines-bad l at g r e))
     go (Got o next) e w g ih =
@@ -138,11 +148,10 @@ lines-most (suc k) at l h = elim (le-or-lt (length l) at) [
         ap length (lines-next l at g o next e) ∙ length-append (opLine (opOf l o)) (linesFrom l next) in
         omega (arith, d, line-long l o (w .2), line-short o, ih next (omega arith), w .0, w .1, w .3)
 
--- 81,979 bytes are room for every listing
-pub listing-most : (l : List ℕ) → length (listing l) ≤ 81979
+pub listing-most : (l : List ℕ) → length (listing l) ≤ longestListing
 listing-most l = go (rule.deltaRead l) refl
   where
-    go : (r : DeltaRead) → rule.deltaRead l ≡ r → length (listing l) ≤ 81979
+    go : (r : DeltaRead) → rule.deltaRead l ≡ r → length (listing l) ≤ longestListing
     go (read.Good ops nodes) e =
         let g : (listing l ≡ goodText l ops) × (length l ≤ maxDelta) = listing-good l ops nodes e in
         omega (arith, ap length (g .0), g .1, good-long l ops, lines-most (length l) 0 l (omega arith), decimal-long ops, decimal-long (length l))
@@ -150,17 +159,20 @@ listing-most l = go (rule.deltaRead l) refl
         omega (arith, ap length (listing-refused l r at e), refused-long (numberOf r) at, decimal-long (numberOf r), decimal-long at)
 
 -- so a buffer of that size is never refused, and the answer is within it
-pub front-fits : (l : List ℕ) (n : ℕ) (r : Refusal) → 81979 ≤ n → frontAnswer (listing l) n ≡ Refused r → ⊥
-unfolding frontAnswer
-front-fits l n r h e =
-    let f : Bytes (length (listing l)) ≡ Refused r = sym (rw (le-leb (length (listing l)) n (omega (arith, listing-most l)))) ∙ e in
-    let z : _≡_ {A = ℕ} 0 1 = cc in
-    omega arith
+module _ (l out : List ℕ) (h : longestListing ≤ length out) where
+  answered : listDelta l out .answer ≡ Bytes (length (listing l))
+  answered =
+      let most = listing-most l in
+      rw (le-leb 0 (length out) (omega arith), le-leb (length (listing l)) (length out - 0) (omega arith))
 
-pub front-within : (l : List ℕ) (n k : ℕ) → 81979 ≤ n → frontAnswer (listing l) n ≡ Bytes k → k ≤ n
-unfolding frontAnswer
-front-within l n k h e =
-    let most : length (listing l) ≤ n = omega (arith, listing-most l) in
-    let f : Bytes (length (listing l)) ≡ Bytes k = sym (rw (le-leb (length (listing l)) n most)) ∙ e in
-    let g : length (listing l) ≡ k = cc in
-    omega arith
+  pub front-fits : (r : Refusal) → listDelta l out .answer ≡ Refused r → ⊥
+  front-fits r e =
+      let f = sym answered ∙ e in
+      let z : _≡_ {A = ℕ} 0 1 = cc in
+      omega arith
+
+  pub front-within : (k : ℕ) → listDelta l out .answer ≡ Bytes k → k ≤ length out
+  front-within k e =
+      let f = sym answered ∙ e in
+      let g : length (listing l) ≡ k = cc in
+      omega (arith, listing-most l)

@@ -1,14 +1,17 @@
 // The listing of a delta, written into a lent buffer: a line for each operation and one for the end, or the one line of a refused delta. The
 // verdict and the length of the whole are known before the first byte is written.
+use rules::sizes;
 ghost use mathlib.Core.Path.{_≡_};
 ghost use Prim.Native.Nat.{_+_, _*_, _≤_};
 ghost use lib.ListN.{length};
-ghost use Rattle.rules.specs.Sizes.{maxDelta};
-ghost use Rattle.rules.specs.Delta.{NodeOp, KeyValueOp, SetMaxVersionOp};
-ghost use Rattle.rules.specs.Listing.{statusText, opLine, listing};
-ghost use Rattle.delta_read.specs.Places.{opOf, Inside, widthOf};
-ghost use Rattle.listing_text.specs.Wrote.{Wrote, Room};
-ghost use Rattle.listing.specs.Front.{frontAnswer, frontOut, lastLine, versionText, textsText, recordLine, linesFrom, goodText, refusedText, lineLength};
+ghost use Rattle.rules.specs.Given.{Gives};
+ghost use Rattle.rules.specs.Sizes.{maxDelta, maxKey, maxValue};
+ghost use Rattle.rules.specs.Delta.{NodeOp, SetMaxVersionOp, besideTexts};
+ghost use Rattle.rules.specs.Digest.{writeBytes};
+ghost use Rattle.rules.specs.Listing.{listDelta, opLine, statusText};
+ghost use Rattle.delta_read.specs.Places.{Inside, opOf, widthOf};
+ghost use Rattle.listing_text.specs.Texts.{TextFits, putText};
+ghost use Rattle.listing.specs.Shapes.{goodText, lineLength, linesFrom, recordLine, refusedText, textsText, twoNumbers, versionText};
 use delta_read::Op;
 use delta_read::OpRead;
 use rules::DeltaRead;
@@ -18,6 +21,21 @@ use rules::Written;
 
 // ---- how long the lines are
 
+// What a line has beside numbers and texts: that of a Node, of a record, of a SetMaxVersion, and the last one of a delta accepted or refused.
+const NODE: usize = 22;
+
+const RECORD: usize = 35;
+
+const SET_MAX_VERSION: usize = 16;
+
+const GOOD: usize = 19;
+
+const REFUSED: usize = 22;
+
+// Room for every listing: a line is no longer than five times its operation, and the last one of an accepted delta has two numbers of at most twenty digits.
+pub const LONGEST: usize = 5 * sizes::LONGEST_DELTA + GOOD + 20 + 20;
+
+// How long the name of a status is.
 fn status_len(status: Status) -> usize
     ensures { λ r. ⌜ r ≡ length (statusText status) ⌝ }
 {
@@ -28,9 +46,9 @@ fn status_len(status: Status) -> usize
     }
 }
 
-// The length of an operation's line, which takes 110 bytes at most.
+// The length of the line of an operation, which takes no more bytes than one with the longest key and value.
 fn line_len(op: Op) -> usize
-    requires { ⌜ widthOf op ≤ 110 ⌝ }
+    requires { ⌜ widthOf op ≤ besideTexts + maxKey + maxValue ⌝ }
     ensures { λ r. ⌜ r ≡ lineLength op ⌝ }
 {
     match op {
@@ -39,7 +57,7 @@ fn line_len(op: Op) -> usize
             last_gc,
             from,
         } => {
-            22
+            NODE
                 + listing_text::decimal_len(number)
                 + listing_text::decimal_len(last_gc)
                 + listing_text::decimal_len(from)
@@ -51,15 +69,15 @@ fn line_len(op: Op) -> usize
             valuelen,
             version,
             status,
-        } => 35 + listing_text::decimal_len(version) + status_len(status) + keylen + valuelen,
-        Op::SetMaxVersion { max } => 16 + listing_text::decimal_len(max),
+        } => RECORD + listing_text::decimal_len(version) + status_len(status) + keylen + valuelen,
+        Op::SetMaxVersion { max } => SET_MAX_VERSION + listing_text::decimal_len(max),
     }
 }
 
 // How long the lines of all operations are together.
 fn lines_len(delta: &[u8]) -> usize
     requires { ⌜ length (now delta) ≤ maxDelta ⌝ }
-    ensures { λ r. ⌜ (r ≡ length (linesFrom (now (delta .entry)) 0)) × (r ≤ 81920) ⌝ }
+    ensures { λ r. ⌜ (r ≡ length (linesFrom (now (delta .entry)) 0)) × (r ≤ 5 * maxDelta) ⌝ }
 {
     let mut n: usize = 0;
     let mut at: usize = 0;
@@ -80,20 +98,29 @@ fn lines_len(delta: &[u8]) -> usize
 
 // ---- the lines
 
+// Two numbers with their names, to the end of a line.
+fn put_two_numbers(out: &mut [u8], at: usize, first: &[u8], a: u64, second: &[u8], b: u64) -> usize
+    requires { ⌜ TextFits at (twoNumbers (now first) a (now second) b) (now out) ⌝ }
+    ensures { λ r. ⌜ Gives (putText at (twoNumbers (now (first .entry)) a (now (second .entry)) b) (now (out .entry))) r (now (out .exit)) ⌝ }
+{
+    let m = listing_text::put_numbered(out, at, first, a);
+    let n = listing_text::put_numbered(out, m, second, b);
+    listing_text::put_text(out, n, b"\n")
+}
+
+// The line of a Node.
 fn put_node(out: &mut [u8], at: usize, number: u64, last_gc: u64, from: u64) -> usize
-    requires { ⌜ Room at (opLine (NodeOp number «last_gc» from)) (now out) ⌝ }
-    ensures { λ r. ⌜ Wrote at (opLine (NodeOp number «last_gc» from)) (now (out .entry)) (now (out .exit)) r ⌝ }
+    requires { ⌜ TextFits at (opLine (NodeOp number «last_gc» from)) (now out) ⌝ }
+    ensures { λ r. ⌜ Gives (putText at (opLine (NodeOp number «last_gc» from)) (now (out .entry))) r (now (out .exit)) ⌝ }
 {
     let a = listing_text::put_numbered(out, at, b"op=node id=", number);
-    let b = listing_text::put_numbered(out, a, b" gc=", last_gc);
-    let c = listing_text::put_numbered(out, b, b" from=", from);
-    listing_text::put_text(out, c, b"\n")
+    put_two_numbers(out, a, b" gc=", last_gc, b" from=", from)
 }
 
 // Version and status of a record, the front of its line.
 fn put_version(out: &mut [u8], at: usize, version: u64, status: Status) -> usize
-    requires { ⌜ Room at (versionText version status) (now out) ⌝ }
-    ensures { λ r. ⌜ Wrote at (versionText version status) (now (out .entry)) (now (out .exit)) r ⌝ }
+    requires { ⌜ TextFits at (versionText version status) (now out) ⌝ }
+    ensures { λ r. ⌜ Gives (putText at (versionText version status) (now (out .entry))) r (now (out .exit)) ⌝ }
 {
     let a = listing_text::put_numbered(out, at, b"op=kv version=", version);
     let b = listing_text::put_text(out, a, b" status=");
@@ -102,14 +129,15 @@ fn put_version(out: &mut [u8], at: usize, version: u64, status: Status) -> usize
 
 // Key and value of a record, the rest of its line.
 fn put_texts(out: &mut [u8], at: usize, key: &[u8], value: &[u8]) -> usize
-    requires { ⌜ Room at (textsText (now key) (now value)) (now out) ⌝ }
-    ensures { λ r. ⌜ Wrote at (textsText (now (key .entry)) (now (value .entry))) (now (out .entry)) (now (out .exit)) r ⌝ }
+    requires { ⌜ TextFits at (textsText (now key) (now value)) (now out) ⌝ }
+    ensures { λ r. ⌜ Gives (putText at (textsText (now (key .entry)) (now (value .entry))) (now (out .entry))) r (now (out .exit)) ⌝ }
 {
     let a = listing_text::put_named(out, at, b" key=", key);
     let b = listing_text::put_named(out, a, b" value=", value);
     listing_text::put_text(out, b, b"\n")
 }
 
+// The line of a record.
 fn put_key_value(
     out: &mut [u8],
     at: usize,
@@ -118,25 +146,26 @@ fn put_key_value(
     key: &[u8],
     value: &[u8],
 ) -> usize
-    requires { ⌜ Room at (recordLine version status (now key) (now value)) (now out) ⌝ }
-    ensures { λ r. ⌜ Wrote at (recordLine version status (now (key .entry)) (now (value .entry))) (now (out .entry)) (now (out .exit)) r ⌝ }
+    requires { ⌜ TextFits at (recordLine version status (now key) (now value)) (now out) ⌝ }
+    ensures { λ r. ⌜ Gives (putText at (recordLine version status (now (key .entry)) (now (value .entry))) (now (out .entry))) r (now (out .exit)) ⌝ }
 {
     let a = put_version(out, at, version, status);
     put_texts(out, a, key, value)
 }
 
+// The line of a SetMaxVersion.
 fn put_set_max_version(out: &mut [u8], at: usize, max: u64) -> usize
-    requires { ⌜ Room at (opLine (SetMaxVersionOp max)) (now out) ⌝ }
-    ensures { λ r. ⌜ Wrote at (opLine (SetMaxVersionOp max)) (now (out .entry)) (now (out .exit)) r ⌝ }
+    requires { ⌜ TextFits at (opLine (SetMaxVersionOp max)) (now out) ⌝ }
+    ensures { λ r. ⌜ Gives (putText at (opLine (SetMaxVersionOp max)) (now (out .entry))) r (now (out .exit)) ⌝ }
 {
     let a = listing_text::put_numbered(out, at, b"op=max version=", max);
     listing_text::put_text(out, a, b"\n")
 }
 
-// The line of an operation of `s`.
+// The line of an operation of the delta.
 fn put_line(delta: &[u8], op: Op, out: &mut [u8], at: usize) -> usize
-    requires { ⌜ (Inside (length (now delta)) op) × (Room at (opLine (opOf (now delta) op)) (now out)) ⌝ }
-    ensures { λ r. ⌜ Wrote at (opLine (opOf (now (delta .entry)) op)) (now (out .entry)) (now (out .exit)) r ⌝ }
+    requires { ⌜ (Inside (length (now delta)) op) × (TextFits at (opLine (opOf (now delta) op)) (now out)) ⌝ }
+    ensures { λ r. ⌜ Gives (putText at (opLine (opOf (now (delta .entry)) op)) (now (out .entry))) r (now (out .exit)) ⌝ }
 {
     match op {
         Op::Node {
@@ -160,10 +189,10 @@ fn put_line(delta: &[u8], op: Op, out: &mut [u8], at: usize) -> usize
     }
 }
 
-// The lines of all operations of `s`, at the front.
+// The lines of all operations of the delta, at the front.
 fn put_lines(delta: &[u8], out: &mut [u8]) -> usize
-    requires { ⌜ Room 0 (linesFrom (now delta) 0) (now out) ⌝ }
-    ensures { λ r. ⌜ Wrote 0 (linesFrom (now (delta .entry)) 0) (now (out .entry)) (now (out .exit)) r ⌝ }
+    requires { ⌜ TextFits 0 (linesFrom (now delta) 0) (now out) ⌝ }
+    ensures { λ r. ⌜ Gives (putText 0 (linesFrom (now (delta .entry)) 0) (now (out .entry))) r (now (out .exit)) ⌝ }
 {
     let mut n: usize = 0;
     let mut at: usize = 0;
@@ -182,52 +211,42 @@ fn put_lines(delta: &[u8], out: &mut [u8]) -> usize
     n
 }
 
-// The last line: two numbers with their names.
-fn put_last(out: &mut [u8], at: usize, first: &[u8], a: u64, second: &[u8], b: u64) -> usize
-    requires { ⌜ Room at (lastLine (now first) a (now second) b) (now out) ⌝ }
-    ensures { λ r. ⌜ Wrote at (lastLine (now (first .entry)) a (now (second .entry)) b) (now (out .entry)) (now (out .exit)) r ⌝ }
-{
-    let m = listing_text::put_numbered(out, at, first, a);
-    let n = listing_text::put_numbered(out, m, second, b);
-    listing_text::put_text(out, n, b"\n")
-}
-
 // ---- the listing
 
 // Of a delta that was accepted with so many operations.
 fn list_good(delta: &[u8], out: &mut [u8], ops: usize) -> Written
     requires { ⌜ length (now delta) ≤ maxDelta ⌝ }
-    ensures { λ r. ⌜ (r ≡ frontAnswer (goodText (now (delta .entry)) ops) (length (now (out .entry)))) × (now (out .exit) ≡ frontOut (goodText (now (delta .entry)) ops) (now (out .entry))) ⌝ }
+    ensures { λ r. ⌜ Gives (writeBytes (goodText (now (delta .entry)) ops) 0 (now (out .entry))) r (now (out .exit)) ⌝ }
 {
     let count = ops as u64;
     let bytes = delta.len() as u64;
     let n = lines_len(delta)
-        + 19
+        + GOOD
         + listing_text::decimal_len(count)
         + listing_text::decimal_len(bytes);
     if out.len() < n {
         return Written::Refused(Refusal::NoPlace);
     }
     let at = put_lines(delta, out);
-    put_last(out, at, b"end=ok ops=", count, b" bytes=", bytes);
+    put_two_numbers(out, at, b"end=ok ops=", count, b" bytes=", bytes);
     Written::Bytes(n)
 }
 
 // Of a delta that was refused with this number at this place.
 fn list_refused(out: &mut [u8], code: u64, at: u64) -> Written
-    ensures { λ r. ⌜ (r ≡ frontAnswer (refusedText code at) (length (now (out .entry)))) × (now (out .exit) ≡ frontOut (refusedText code at) (now (out .entry))) ⌝ }
+    ensures { λ r. ⌜ Gives (writeBytes (refusedText code at) 0 (now (out .entry))) r (now (out .exit)) ⌝ }
 {
-    let n = 22 + listing_text::decimal_len(code) + listing_text::decimal_len(at);
+    let n = REFUSED + listing_text::decimal_len(code) + listing_text::decimal_len(at);
     if out.len() < n {
         return Written::Refused(Refusal::NoPlace);
     }
-    put_last(out, 0, b"end=refused code=", code, b" at=", at);
+    put_two_numbers(out, 0, b"end=refused code=", code, b" at=", at);
     Written::Bytes(n)
 }
 
 // The listing of any bytes, at the front of the buffer, and its length. 8, and nothing changed, where the buffer is too short.
 pub fn list_delta(delta: &[u8], out: &mut [u8]) -> Written
-    ensures { λ r. ⌜ (r ≡ frontAnswer (listing (now (delta .entry))) (length (now (out .entry)))) × (now (out .exit) ≡ frontOut (listing (now (delta .entry))) (now (out .entry))) ⌝ }
+    ensures { λ r. ⌜ Gives (listDelta (now (delta .entry)) (now (out .entry))) r (now (out .exit)) ⌝ }
 {
     let read = delta_read::read_delta(delta);
     match read {

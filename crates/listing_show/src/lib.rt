@@ -4,7 +4,7 @@ use libc::STDOUT_FILENO;
 use rules::Written;
 
 pub fn show(delta: &[u8]) {
-    let mut output = [0u8; 81979];
+    let mut output = [0u8; listing::LONGEST];
     let listed = listing::list_delta(delta, &mut output);
     match listed {
         Written::Bytes(n) => {

@@ -1,59 +1,57 @@
 -- Laws of texts in a buffer and of decimal digits: one text behind another is the two joined; a number's digits are those of its tenth and one
 -- more, and at most twenty. Assumes nothing.
-use Prim.Native.Nat.{ℕ, zero, suc, _+_, _-_, _*_, _/_, _%_, _^_, _≤_, _<_}
+use Prim.Native.Nat.{ℕ, zero, suc, _+_, _/_, _%_, _^_, _≤_, _<_}
 use mathlib.Core.Path.{_≡_, refl, ap, sym, _∙_, subst}
 use native.Mathlib.Decide.{decLe}
 use mathlib.Core.List.{List, [], _∷_, _++_, append-assoc}
 use native.Mathlib.Omega.{arith}
 use native.Mathlib.Nat.{div-lt-iff-lt-mul, pow-suc}
 use lib.ListN.{length, length-append}
-use lib.Dec.{ltb, lit<}
+use lib.Dec.{lit<}
 use borrow.Author.Tests.{lt-ltb, le-ltb}
-use Rattle.fields.specs.Choice.{pick}
+use Rattle.fields.specs.Numbers.{Bytes}
 use Rattle.fields.specs.Parts.{put}
-use Rattle.fields.proofs.Parts.{put-append, put-swap, length-put}
-use Rattle.rules.specs.Listing.{digits, decimal, shownBytes, shownByte}
-use Rattle.listing_text.specs.Wrote.{Wrote, Room}
+use Rattle.fields.proofs.Parts.{put-behind, length-put}
+use Rattle.rules.specs.Given.{Gives}
+use Rattle.rules.specs.Listing.{digits, decimal, shownBytes}
+use Rattle.listing_text.specs.Texts.{TextFits, putText}
 
 -- ---- one text behind another
 
-pub put-then : (at : ℕ) (vs ws l : List ℕ) → at + (length vs + length ws) ≤ length l → put (at + length vs) ws (put at vs l) ≡ put at (vs ++ ws) l
-put-then at vs ws l h = sym (put-swap at (at + length vs) vs ws l (omega arith) (omega arith)) ∙ put-append at vs ws l h
+-- what is promised of a text that was put: `after` is the buffer then, and r the place behind the text
+abbrev pub Put : (at : ℕ) (text before after : Bytes) (r : ℕ) → Type 0
+Put at text before after r = Gives (putText at text before) r after
 
-pub then : (at : ℕ) (vs ws l m n : List ℕ) (r q : ℕ) → Room at (vs ++ ws) l → Wrote at vs l m r → Wrote r ws m n q → Wrote at (vs ++ ws) l n q
+pub then : (at : ℕ) (vs ws l m n : Bytes) (r q : ℕ) → TextFits at (vs ++ ws) l → Put at vs l m r → Put r ws m n q → Put at (vs ++ ws) l n q
 then at vs ws l m n r q h a b =
-    let long : length (vs ++ ws) ≡ length vs + length ws = length-append vs ws in
-    record {
-      stands =
-          b .stands ∙ ap (λ (k : ℕ). put k ws m) (a .behind) ∙ ap (put (at + length vs) ws) (a .stands) ∙ put-then at vs ws l (omega (arith, long));
-      behind = omega (arith, a .behind, b .behind, long);
-    }
+    let long : length (vs ++ ws) ≡ length vs + length ws = length-append vs ws in (
+      omega (arith, a .0, b .0, long),
+      b .1 ∙ ap (λ (k : ℕ). put k ws m) (a .0) ∙ ap (put (at + length vs) ws) (a .1) ∙ put-behind at vs ws l (omega (arith, long)),
+    )
 
 -- room for both is room for the first, and for the second behind it
-pub room-first : (at : ℕ) (vs ws l : List ℕ) → Room at (vs ++ ws) l → Room at vs l
-room-first at vs ws l h = omega (arith, length-append vs ws)
-
-pub room-second : (at : ℕ) (vs ws l m : List ℕ) (r : ℕ) → Room at (vs ++ ws) l → Wrote at vs l m r → Room r ws m
-room-second at vs ws l m r h a =
-    let long : length m ≡ length l = ap length (a .stands) ∙ length-put at vs l (room-first at vs ws l h) in
-    omega (arith, length-append vs ws, a .behind)
+pub fits-first : (at : ℕ) (vs ws l : Bytes) → TextFits at (vs ++ ws) l → TextFits at vs l
+fits-first at vs ws l h = omega (arith, length-append vs ws)
 
 -- a buffer stays as long
-pub wrote-long : (at : ℕ) (vs l m : List ℕ) (r : ℕ) → Room at vs l → Wrote at vs l m r → length m ≡ length l
-wrote-long at vs l m r h a = ap length (a .stands) ∙ length-put at vs l h
+pub put-long : (at : ℕ) (vs l m : Bytes) (r : ℕ) → TextFits at vs l → Put at vs l m r → length m ≡ length l
+put-long at vs l m r h a = ap length (a .1) ∙ length-put at vs l h
+
+pub fits-second : (at : ℕ) (vs ws l m : Bytes) (r : ℕ) → TextFits at (vs ++ ws) l → Put at vs l m r → TextFits r ws m
+fits-second at vs ws l m r h a = omega (arith, put-long at vs l m r (fits-first at vs ws l h) a, length-append vs ws, a .0)
 
 -- three texts, one behind the other, and the room of each
-module _ (at : ℕ) (a b c l l₁ : List ℕ) (r₁ : ℕ) (room : Room at (a ++ (b ++ c)) l) (w₁ : Wrote at a l l₁ r₁) where
-  pub room-two : Room r₁ b l₁
-  room-two = room-first r₁ b c l₁ (room-second at a (b ++ c) l l₁ r₁ room w₁)
+module _ (at : ℕ) (a b c l l₁ : Bytes) (r₁ : ℕ) (fits : TextFits at (a ++ (b ++ c)) l) (w₁ : Put at a l l₁ r₁) where
+  pub fits-two : TextFits r₁ b l₁
+  fits-two = fits-first r₁ b c l₁ (fits-second at a (b ++ c) l l₁ r₁ fits w₁)
 
-  module _ (l₂ : List ℕ) (r₂ : ℕ) (w₂ : Wrote r₁ b l₁ l₂ r₂) where
-    pub room-three : Room r₂ c l₂
-    room-three = room-second r₁ b c l₁ l₂ r₂ (room-second at a (b ++ c) l l₁ r₁ room w₁) w₂
+  module _ (l₂ : Bytes) (r₂ : ℕ) (w₂ : Put r₁ b l₁ l₂ r₂) where
+    pub fits-three : TextFits r₂ c l₂
+    fits-three = fits-second r₁ b c l₁ l₂ r₂ (fits-second at a (b ++ c) l l₁ r₁ fits w₁) w₂
 
-    pub three : (l₃ : List ℕ) (r₃ : ℕ) → Wrote r₂ c l₂ l₃ r₃ → Wrote at (a ++ (b ++ c)) l l₃ r₃
+    pub three : (l₃ : Bytes) (r₃ : ℕ) → Put r₂ c l₂ l₃ r₃ → Put at (a ++ (b ++ c)) l l₃ r₃
     three l₃ r₃ w₃ =
-        then at a (b ++ c) l l₁ l₃ r₁ r₃ room w₁ (then r₁ b c l₁ l₂ l₃ r₂ r₃ (room-second at a (b ++ c) l l₁ r₁ room w₁) w₂ w₃)
+        then at a (b ++ c) l l₁ l₃ r₁ r₃ fits w₁ (then r₁ b c l₁ l₂ l₃ r₂ r₃ (fits-second at a (b ++ c) l l₁ r₁ fits w₁) w₂ w₃)
 
 -- ---- digits
 

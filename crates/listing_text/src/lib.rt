@@ -1,11 +1,11 @@
 // Texts in a lent buffer: decimal numbers, names, the bytes of a key or a value as they are shown. Each is written at a place where the caller
 // knows that there is room, and answers the place behind it.
 ghost use mathlib.Core.Path.{_≡_};
-ghost use mathlib.Core.List.{_++_};
 ghost use Prim.Native.Nat.{_+_, _≤_, _<_};
 ghost use lib.ListN.{length};
+ghost use Rattle.rules.specs.Given.{Gives};
 ghost use Rattle.rules.specs.Listing.{decimal, shownByte, shownBytes, statusText};
-ghost use Rattle.listing_text.specs.Wrote.{Wrote, Room, numbered, named};
+ghost use Rattle.listing_text.specs.Texts.{TextFits, named, numbered, putText};
 use rules::Status;
 
 // How many digits `v` has.
@@ -31,8 +31,8 @@ fn digit(v: u64) -> u8
 
 // `v` in decimal digits, from the last one back.
 pub fn put_decimal(out: &mut [u8], at: usize, v: u64) -> usize
-    requires { ⌜ Room at (decimal v) (now out) ⌝ }
-    ensures { λ r. ⌜ Wrote at (decimal v) (now (out .entry)) (now (out .exit)) r ⌝ }
+    requires { ⌜ TextFits at (decimal v) (now out) ⌝ }
+    ensures { λ r. ⌜ Gives (putText at (decimal v) (now (out .entry))) r (now (out .exit)) ⌝ }
 {
     let end = at + decimal_len(v);
     let mut i = end - 1;
@@ -48,8 +48,8 @@ pub fn put_decimal(out: &mut [u8], at: usize, v: u64) -> usize
 
 // The bytes of `text`.
 pub fn put_text(out: &mut [u8], at: usize, text: &[u8]) -> usize
-    requires { ⌜ Room at (now text) (now out) ⌝ }
-    ensures { λ r. ⌜ Wrote at (now (text .entry)) (now (out .entry)) (now (out .exit)) r ⌝ }
+    requires { ⌜ TextFits at (now text) (now out) ⌝ }
+    ensures { λ r. ⌜ Gives (putText at (now (text .entry)) (now (out .entry))) r (now (out .exit)) ⌝ }
 {
     fields::copy_to(out, at, text);
     at + text.len()
@@ -70,8 +70,8 @@ fn shown(b: u8) -> u8
 
 // The bytes of a key or a value as they are shown.
 pub fn put_shown(out: &mut [u8], at: usize, text: &[u8]) -> usize
-    requires { ⌜ Room at (shownBytes (now text)) (now out) ⌝ }
-    ensures { λ r. ⌜ Wrote at (shownBytes (now (text .entry))) (now (out .entry)) (now (out .exit)) r ⌝ }
+    requires { ⌜ TextFits at (shownBytes (now text)) (now out) ⌝ }
+    ensures { λ r. ⌜ Gives (putText at (shownBytes (now (text .entry))) (now (out .entry))) r (now (out .exit)) ⌝ }
 {
     let mut i = 0;
     while i < text.len() {
@@ -83,8 +83,8 @@ pub fn put_shown(out: &mut [u8], at: usize, text: &[u8]) -> usize
 
 // A name and a number.
 pub fn put_numbered(out: &mut [u8], at: usize, name: &[u8], v: u64) -> usize
-    requires { ⌜ Room at (numbered (now name) v) (now out) ⌝ }
-    ensures { λ r. ⌜ Wrote at (numbered (now (name .entry)) v) (now (out .entry)) (now (out .exit)) r ⌝ }
+    requires { ⌜ TextFits at (numbered (now name) v) (now out) ⌝ }
+    ensures { λ r. ⌜ Gives (putText at (numbered (now (name .entry)) v) (now (out .entry))) r (now (out .exit)) ⌝ }
 {
     let next = put_text(out, at, name);
     put_decimal(out, next, v)
@@ -92,8 +92,8 @@ pub fn put_numbered(out: &mut [u8], at: usize, name: &[u8], v: u64) -> usize
 
 // A name and the bytes of a key or a value.
 pub fn put_named(out: &mut [u8], at: usize, name: &[u8], text: &[u8]) -> usize
-    requires { ⌜ Room at (named (now name) (now text)) (now out) ⌝ }
-    ensures { λ r. ⌜ Wrote at (named (now (name .entry)) (now (text .entry))) (now (out .entry)) (now (out .exit)) r ⌝ }
+    requires { ⌜ TextFits at (named (now name) (now text)) (now out) ⌝ }
+    ensures { λ r. ⌜ Gives (putText at (named (now (name .entry)) (now (text .entry))) (now (out .entry))) r (now (out .exit)) ⌝ }
 {
     let next = put_text(out, at, name);
     put_shown(out, next, text)
@@ -101,8 +101,8 @@ pub fn put_named(out: &mut [u8], at: usize, name: &[u8], text: &[u8]) -> usize
 
 // The name of a status.
 pub fn put_status(out: &mut [u8], at: usize, status: Status) -> usize
-    requires { ⌜ Room at (statusText status) (now out) ⌝ }
-    ensures { λ r. ⌜ Wrote at (statusText status) (now (out .entry)) (now (out .exit)) r ⌝ }
+    requires { ⌜ TextFits at (statusText status) (now out) ⌝ }
+    ensures { λ r. ⌜ Gives (putText at (statusText status) (now (out .entry))) r (now (out .exit)) ⌝ }
 {
     match status {
         Status::Set => put_text(out, at, b"set"),

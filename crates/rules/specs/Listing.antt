@@ -1,22 +1,25 @@
 -- The listing that `showdelta` prints of a delta: a line for each operation and one for the end, each closed by a line feed.
 use Prim.Native.Nat.{ℕ, zero, suc, _+_, _/_, _%_}
-use Prim.Native.Char.{Char, code}
+use Prim.Native.Char.{code}
 use Prim.Native.String.{String}
 use Prim.Native.String as str
-use mathlib.Core.Bool.{Bool, true, false, _&&_}
-use mathlib.Core.List.{List, [], _∷_, _++_}
+use mathlib.Core.Bool.{_&&_}
+use mathlib.Core.List.{[], _∷_, _++_}
 use lib.ListN.{length}
 use lib.Dec.{leb, ltb}
 use Rattle.fields.specs.Numbers.{Bytes}
 use Rattle.fields.specs.Choice.{pick}
 use Rattle.fields.specs.Blocks.{flat}
+use Rattle.rules.specs.Given.{Given}
 use Rattle.rules.specs.Answers.{numberOf}
 use Rattle.rules.specs.Delta.{Op, NodeOp, KeyValueOp, SetMaxVersionOp, Ops, Good, Faulty, readDelta}
+use Rattle.rules.specs.Digest.{writeBytes}
 use Rattle.rules.specs.declared.Status.{Status}
 use Rattle.rules.specs.declared.Status.the-variants.{Set, Delete, Ttl}
+use Rattle.rules.specs.declared.Written.{Written}
 
 -- the bytes of an ASCII text
-abbrev pub ascii : String → List ℕ
+abbrev pub ascii : (text : String) → Bytes
 ascii str.[] = []
 ascii (str._∷_ c s) = code c ∷ ascii s
 
@@ -32,19 +35,19 @@ decimal n = digits 20 n []
 abbrev pub shownByte : (b : ℕ) → ℕ
 shownByte b = pick (leb 33 b && leb b 126) b 63
 
-unfoldable pub shownBytes : List ℕ → List ℕ
+unfoldable pub shownBytes : (text : Bytes) → Bytes
 shownBytes [] = []
 shownBytes (b ∷ l) = shownByte b ∷ shownBytes l
 
-abbrev pub statusText : Status → List ℕ
+abbrev pub statusText : (status : Status) → Bytes
 statusText Set = ascii "set"
 statusText Delete = ascii "delete"
 statusText Ttl = ascii "ttl"
 
-abbrev pub lineFeed : List ℕ
+abbrev pub lineFeed : Bytes
 lineFeed = 10 ∷ []
 
-unfoldable pub opLine : Op → List ℕ
+unfoldable pub opLine : (op : Op) → Bytes
 opLine (NodeOp n g f) = ascii "op=node id=" ++ (decimal n ++ (ascii " gc=" ++ (decimal g ++ (ascii " from=" ++ (decimal f ++ lineFeed)))))
 opLine (KeyValueOp r) =
     ascii "op=kv version="
@@ -61,3 +64,7 @@ listingOf (Faulty r at) n = ascii "end=refused code=" ++ (decimal (numberOf r) +
 
 unfoldable pub listing : (delta : Bytes) → Bytes
 listing l = listingOf (readDelta l) (length l)
+
+-- the listing as a call: at the front of a lent buffer, and 8 with the buffer untouched where it is too short
+abbrev pub listDelta : (delta out : Bytes) → Given Written Bytes
+listDelta delta out = writeBytes (listing delta) 0 out

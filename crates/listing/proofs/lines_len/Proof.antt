@@ -1,35 +1,36 @@
 -- `listing::lines_len` meets its contract: what is counted and the length of the lines left are the whole's. Assumes nothing.
-use Prim.Native.Nat.{ℕ, zero, suc, _+_, _-_, _*_, _≤_, _<_}
-use mathlib.Core.Path.{_≡_, refl, ap, sym, _∙_, subst}
-use mathlib.Core.List.{List, [], _∷_, _++_}
+use Prim.Native.Nat.{ℕ, _+_, _-_, _*_, _≤_, _<_}
+use mathlib.Core.Path.{_≡_, ap, sym, _∙_}
+use mathlib.Core.List.{List, []}
 use native.Mathlib.Omega.{arith}
 use lib.ListN.{length, length-append}
 use Rattle.delta_read.specs.declared.Op.{Op}
-use Rattle.delta_read.specs.Places.{opOf, opAt, Inside, widthOf}
-use Rattle.delta_read.specs.declared.OpRead.the-variants.{Got, Bad}
-use Rattle.rules.specs.declared.Refusal.{Refusal}
-use Rattle.delta_read.proofs.Reading.{Within, op-within}
+use Rattle.delta_read.specs.Places.{opOf, opAt, widthOf}
+use Rattle.delta_read.specs.declared.OpRead.the-variants.{Got}
+use Rattle.delta_read.proofs.Reading.{Within}
+use Rattle.rules.specs.Sizes.{maxDelta}
 use Rattle.rules.specs.Listing.{opLine}
-use Rattle.listing.specs.Front.{linesFrom, lineLength}
-use Rattle.listing.proofs.Lines.{line-long, line-short, lines-end, lines-bad, lines-next, width-most}
+use Rattle.listing.specs.Shapes.{lineLength, linesFrom}
+use Rattle.listing.proofs.Lines.{line-long, line-short, lines-end, lines-bad, lines-next, width-most, within}
 use borrow.Author.Needs.{needs}
 use Rattle.listing.proofs.lines_len.Statement.{statement}
 use Rattle.listing.proofs.lines_len.Tie as tie
-
-turn-within : (l : List ℕ) (at : ℕ) (o : Op) (next : ℕ) → opAt l at ≡ Got o next → Within (length l) at (Got o next)
-turn-within l at o next e = subst (Within (length l) at) e (op-within l at)
 
 -- one turn
 turn : (l : List ℕ) (at : ℕ) (o : Op) (next n : ℕ) → opAt l at ≡ Got o next → at < length l → n ≤ 5 * at
     → (next ≤ length l) × (n + lineLength o ≤ 5 * next) × (length (linesFrom l at) ≡ lineLength o + length (linesFrom l next))
 turn l at o next n e h g =
-    let w : Within (length l) at (Got o next) = turn-within l at o next e in
+    let w : Within (length l) at (Got o next) = within l at o next e in
     let s : lineLength o ≤ 5 * widthOf o = line-short o in
-    let d : length (linesFrom l at) ≡ length (opLine (opOf l o)) + length (linesFrom l next) = ap length (lines-next l at h o next e) ∙ length-append (opLine (opOf l o)) (linesFrom l next) in
+    let d : length (linesFrom l at) ≡ length (opLine (opOf l o)) + length (linesFrom l next) =
+    ap length (lines-next l at h o next e) ∙ length-append (opLine (opOf l o)) (linesFrom l next) in
     (w .1, omega (arith, w .3, s), omega (arith, d, line-long l o (w .2)))
 
+abbrev most : ℕ
+most = 5 * maxDelta
+
 -- nothing left
-stopped : (l : List ℕ) (at n k : ℕ) → n + length (linesFrom l at) ≡ k → linesFrom l at ≡ [] → n ≤ 81920 → (n ≡ k) × (n ≤ 81920)
+stopped : (l : List ℕ) (at n k : ℕ) → n + length (linesFrom l at) ≡ k → linesFrom l at ≡ [] → n ≤ most → (n ≡ k) × (n ≤ most)
 stopped l at n k e z h = (omega (arith, ap length z), h)
 
 abbrev Inv-loop : tie.InvT-loop
@@ -50,35 +51,45 @@ enum-told c = search needs
 returns : tie.Need-returns Inv-loop μ-loop
 returns c =
     let at-loop = c .before .before .before .before in
-    stopped _ _ _ _ (at-loop .loop .inv .2) (lines-bad _ _ (c .before .before .before .loop-test .taken) _ (sym (c .before .before .read-op .ensures) ∙ c .enum-told .given .1)) (omega (arith, at-loop .loop .inv .0, at-loop .loop .inv .1, at-loop .before .before .pre))
+    let inv = at-loop .loop .inv in
+    let bad = lines-bad _ _ (c .before .before .before .loop-test .taken) _ (sym (c .before .before .read-op .ensures) ∙ c .enum-told .given .1) in
+    stopped _ _ _ _ (inv .2) bad (omega (arith, inv .0, inv .1, at-loop .before .before .pre))
 
 enum-known-read : tie.Need-enum-known-read Inv-loop μ-loop
 enum-known-read c = search needs
 
 line-len-requires : tie.Need-line-len-requires Inv-loop μ-loop
-line-len-requires c κs = width-most (length (c .before .before .before .before .before .before .before .args .delta .now)) (c .before .read .given .0 .0) (turn-within _ _ _ _ (sym (c .before .before .before .read-op .ensures) ∙ c .before .read .given .1) .2)
+line-len-requires c κs =
+    let got = c .before in
+    let l = got .before .before .before .before .before .before .args .delta .now in
+    width-most (length l) (got .read .given .0 .0) (within _ _ _ _ (sym (got .before .before .read-op .ensures) ∙ got .read .given .1) .2)
 
 add-n : tie.Need-add-n Inv-loop μ-loop
 add-n c =
-    let at-loop = c .before .before .before .before .before .before in
-    let t = turn _ _ _ _ _ (sym (c .before .before .before .before .read-op .ensures) ∙ c .before .before .read .given .1) (c .before .before .before .before .before .loop-test .taken) (at-loop .loop .inv .1) in
+    let got = c .before .before in
+    let test = got .before .before .before in
+    let at-loop = test .before in
+    let t = turn _ _ _ _ _ (sym (got .before .before .read-op .ensures) ∙ got .read .given .1) (test .loop-test .taken) (at-loop .loop .inv .1) in
     omega (arith, t .1, t .0, c .line-len .ensures, at-loop .before .before .pre)
 
 loop-less : tie.Need-loop-less Inv-loop μ-loop
 loop-less c =
-    let w = turn-within _ _ _ _ (sym (c .before .before .before .before .read-op .ensures) ∙ c .before .before .read .given .1) in
+    let w = within _ _ _ _ (sym (c .before .before .before .before .read-op .ensures) ∙ c .before .before .read .given .1) in
     omega (arith, w .0, w .1)
 
 loop-again : tie.Need-loop-again Inv-loop μ-loop
 loop-again c =
-    let at-loop = c .before .before .before .before .before .before in
-    let t = turn _ _ _ _ _ (sym (c .before .before .before .before .read-op .ensures) ∙ c .before .before .read .given .1) (c .before .before .before .before .before .loop-test .taken) (at-loop .loop .inv .1) in
+    let got = c .before .before in
+    let test = got .before .before .before in
+    let at-loop = test .before in
+    let t = turn _ _ _ _ _ (sym (got .before .before .read-op .ensures) ∙ got .read .given .1) (test .loop-test .taken) (at-loop .loop .inv .1) in
     (t .0, omega (arith, t .1, c .line-len .ensures), omega (arith, t .2, c .line-len .ensures, at-loop .loop .inv .2))
 
 returns-2 : tie.Need-returns-2 Inv-loop μ-loop
 returns-2 c =
     let at-loop = c .before in
-    stopped _ _ _ _ (at-loop .loop .inv .2) (lines-end _ _ (c .loop-test .left)) (omega (arith, at-loop .loop .inv .0, at-loop .loop .inv .1, at-loop .before .before .pre))
+    let inv = at-loop .loop .inv in
+    stopped _ _ _ _ (inv .2) (lines-end _ _ (c .loop-test .left)) (omega (arith, inv .0, inv .1, at-loop .before .before .pre))
 
 pub lines-len-spec : {M : Type 1} → statement M
 lines-len-spec =

@@ -1,17 +1,17 @@
 -- `listing::list_delta` meets its contract: the listing by what reading has answered. Assumes nothing.
-use Prim.Native.Nat.{ℕ, zero, suc, _+_, _-_, _*_, _≤_, _<_}
-use mathlib.Core.Path.{_≡_, refl, ap, sym, _∙_, subst}
-use mathlib.Core.List.{List, [], _∷_, _++_}
-use lib.ListN.{length}
+use Prim.Native.Nat.{ℕ}
+use mathlib.Core.Path.{_≡_, ap, sym, _∙_}
+use mathlib.Core.List.{List}
+use Rattle.rules.specs.Given.{Gives}
+use Rattle.rules.specs.Digest.{writeBytes}
 use Rattle.rules.specs.declared.Written.{Written}
-use Rattle.listing.specs.Front.{frontAnswer, frontOut, refusedText}
+use Rattle.listing.specs.Shapes.{refusedText}
 use Rattle.listing.proofs.Lines.{listing-good, listing-refused}
 use borrow.Author.Needs.{needs}
 use Rattle.listing.proofs.list_delta.Statement.{statement}
 use Rattle.listing.proofs.list_delta.Tie as tie
 
-as-listing : (text other out left : List ℕ) (r : Written) → text ≡ other → (r ≡ frontAnswer other (length out)) × (left ≡ frontOut other out)
-    → (r ≡ frontAnswer text (length out)) × (left ≡ frontOut text out)
+as-listing : (text other out left : List ℕ) (r : Written) → text ≡ other → Gives (writeBytes other 0 out) r left → Gives (writeBytes text 0 out) r left
 as-listing text other out left r e h = rw e h
 
 read-delta-requires : tie.Need-read-delta-requires
@@ -38,7 +38,9 @@ same-length c = search needs
 returns : tie.Need-returns
 returns c =
     let call = c .before .before .list-good in
-    as-listing _ _ _ _ _ (listing-good _ _ _ (sym (c .before .before .before .before .before .before .before .read-delta .ensures) ∙ c .before .before .before .before .before .read .given .1) .0) (call .ensures)
+    let read = c .before .before .before .before .before in
+    let e = sym (read .before .before .read-delta .ensures) ∙ read .read .given .1 in
+    as-listing _ _ (read .before .before .before .before .before .args .out .now) _ _ (listing-good _ _ _ e .0) (call .ensures)
 
 same-length-2 : tie.Need-same-length-2
 same-length-2 c = search needs
@@ -47,8 +49,10 @@ returns-2 : tie.Need-returns-2
 returns-2 c =
     let call = c .before .before .list-refused in
     let code = c .before .before .before .number .ensures in
-    as-listing _ _ _ _ _
-    (listing-refused _ _ _ (sym (c .before .before .before .before .before .before .before .before .read-delta .ensures) ∙ c .before .before .before .before .before .before .read2 .given .1) ∙ ap (λ (n : ℕ). refusedText n (c .before .before .before .before .before .before .read2 .given .0 .1 .0)) (sym code)) (call .ensures)
+    let read = c .before .before .before .before .before .before in
+    let e = sym (read .before .before .read-delta .ensures) ∙ read .read2 .given .1 in
+    let text = listing-refused _ _ _ e ∙ ap (λ (n : ℕ). refusedText n (read .read2 .given .0 .1 .0)) (sym code) in
+    as-listing _ _ (read .before .before .before .before .before .args .out .now) _ _ text (call .ensures)
 
 pub list-delta-spec : {M : Type 1} → statement M
 list-delta-spec =

@@ -1,13 +1,13 @@
 -- `listing::list_good` meets its contract: the lines and the last one behind them, or no room for them. Assumes nothing.
-use Prim.Native.Nat.{ℕ, zero, suc, _+_, _-_, _*_, _≤_, _<_}
-use mathlib.Core.Path.{_≡_, refl, ap, sym, _∙_, subst}
-use mathlib.Core.List.{List, [], _∷_, _++_}
+use Prim.Native.Nat.{_+_}
+use mathlib.Core.Path.{_≡_}
 use native.Mathlib.Omega.{arith}
 use lib.ListN.{length}
+use Rattle.fields.specs.Numbers.{Bytes}
 use Rattle.rules.specs.Listing.{ascii}
-use Rattle.listing_text.specs.Wrote.{Room}
-use Rattle.listing_text.proofs.Texts.{room-second, then}
-use Rattle.listing.specs.Front.{lastLine, linesFrom, goodText}
+use Rattle.listing_text.specs.Texts.{TextFits}
+use Rattle.listing_text.proofs.Texts.{fits-second, then}
+use Rattle.listing.specs.Shapes.{goodText, linesFrom, twoNumbers}
 use Rattle.listing.proofs.Lines.{front-none, front-whole, good-long}
 use borrow.Author.Needs.{needs}
 use Rattle.listing.proofs.list_good.Statement.{statement}
@@ -31,28 +31,45 @@ decimal-len-requires-2 c κs = search needs
 add-n-3 : tie.Need-add-n-3
 add-n-3 c = search needs
 
+-- the listing is as long as was counted
+abbrev entry : tie.After-decimal-len2 → tie.Start
+entry c = c .before .before .before .before .before
+
+long : (c : tie.After-decimal-len2) → let a = entry c .args in
+    length (goodText (a .delta .now) (a .ops)) ≡ c .before .before .lines-len .result + 19 + c .before .decimal-len .result + c .decimal-len2 .result
+long c =
+    let a = entry c .args in
+    omega (arith, good-long (a .delta .now) (a .ops), c .before .before .lines-len .ensures .0, c .before .decimal-len .ensures .0, c .decimal-len2 .ensures .0)
+
+-- where it has room
+fits : (c : tie.Else1) → let a = entry (c .before) .args in TextFits 0 (goodText (a .delta .now) (a .ops)) (a .out .now)
+fits c = omega (arith, long (c .before), c .if1 .left)
+
+-- its last line
+abbrev last : tie.Start → Bytes
+last s = twoNumbers (ascii "end=ok ops=") (s .args .ops) (ascii " bytes=") (length (s .args .delta .now))
+
 returns : tie.Need-returns
 returns c =
-    let x = c .before .before .before .before .before .before .args in
-    front-none (goodText (x .delta .now) (x .ops)) (x .out .now) (omega (arith, good-long (x .delta .now) (x .ops), c .before .before .before .lines-len .ensures .0, c .before .before .decimal-len .ensures .0, c .before .decimal-len2 .ensures .0, c .if1 .taken))
+    let a = entry (c .before) .args in
+    front-none (goodText (a .delta .now) (a .ops)) (a .out .now) (omega (arith, long (c .before), c .if1 .taken))
 
 put-lines-requires : tie.Need-put-lines-requires
-put-lines-requires c κs =
-    let x = c .before .before .before .before .before .before .before .args in
-    omega (arith, c .before .before .before .before .lines-len .ensures .0, c .before .if1 .left)
+put-lines-requires c κs = omega (arith, c .before .before .before .before .lines-len .ensures .0, c .before .if1 .left)
 
-slice-aggregate-put-last : tie.Need-slice-aggregate-put-last
-slice-aggregate-put-last c = search needs
+slice-aggregate-put-two-numbers : tie.Need-slice-aggregate-put-two-numbers
+slice-aggregate-put-two-numbers c = search needs
 
-slice-aggregate-put-last-2 : tie.Need-slice-aggregate-put-last-2
-slice-aggregate-put-last-2 c = search needs
+slice-aggregate-put-two-numbers-2 : tie.Need-slice-aggregate-put-two-numbers-2
+slice-aggregate-put-two-numbers-2 c = search needs
 
-put-last-requires : tie.Need-put-last-requires
+put-two-numbers-requires : tie.Need-put-two-numbers-requires
 unfolding goodText
-put-last-requires c κs =
-    let x = c .before .before .before .before .before .before .before .before .before .before .before .before .before .args in
-    let room : Room 0 (goodText (x .delta .now) (x .ops)) (x .out .now) = omega (arith, good-long (x .delta .now) (x .ops), c .before .before .before .before .before .before .before .before .before .before .lines-len .ensures .0, c .before .before .before .before .before .before .before .before .before .decimal-len .ensures .0, c .before .before .before .before .before .before .before .before .decimal-len2 .ensures .0, c .before .before .before .before .before .before .before .if1 .left) in
-    room-second 0 (linesFrom (x .delta .now) 0) (lastLine (ascii "end=ok ops=") (x .ops) (ascii " bytes=") (length (x .delta .now))) (x .out .now) _ _ room (c .before .before .before .before .before .put-lines .ensures)
+put-two-numbers-requires c κs =
+    let lines = c .before .before .before .before .before in
+    let there = lines .before .before in
+    let s = entry (there .before) in
+    fits-second 0 (linesFrom (s .args .delta .now) 0) (last s) (s .args .out .now) _ _ (fits there) (lines .put-lines .ensures)
 
 same-length : tie.Need-same-length
 same-length c = search needs
@@ -60,10 +77,13 @@ same-length c = search needs
 returns-2 : tie.Need-returns-2
 unfolding goodText
 returns-2 c =
-    let x = c .before .before .before .before .before .before .before .before .before .before .before .before .before .before .before .before .args in
-    let room : Room 0 (goodText (x .delta .now) (x .ops)) (x .out .now) = omega (arith, good-long (x .delta .now) (x .ops), c .before .before .before .before .before .before .before .before .before .before .before .before .before .lines-len .ensures .0, c .before .before .before .before .before .before .before .before .before .before .before .before .decimal-len .ensures .0, c .before .before .before .before .before .before .before .before .before .before .before .decimal-len2 .ensures .0, c .before .before .before .before .before .before .before .before .before .before .if1 .left) in
-    front-whole (goodText (x .delta .now) (x .ops)) (x .out .now) _ _ (omega (arith, room)) (omega (arith, good-long (x .delta .now) (x .ops), c .before .before .before .before .before .before .before .before .before .before .before .before .before .lines-len .ensures .0, c .before .before .before .before .before .before .before .before .before .before .before .before .decimal-len .ensures .0, c .before .before .before .before .before .before .before .before .before .before .before .decimal-len2 .ensures .0))
-    (then 0 (linesFrom (x .delta .now) 0) (lastLine (ascii "end=ok ops=") (x .ops) (ascii " bytes=") (length (x .delta .now))) (x .out .now) _ _ _ _ room (c .before .before .before .before .before .before .before .before .put-lines .ensures) (c .before .before .put-last .ensures) .stands)
+    let lines = c .before .before .before .before .before .before .before .before in
+    let there = lines .before .before in
+    let s = entry (there .before) in
+    let end = c .before .before .put-two-numbers .ensures in
+    let whole = then 0 (linesFrom (s .args .delta .now) 0) (last s) (s .args .out .now) _ _ _ _ (fits there) (lines .put-lines .ensures) end in
+    let e = long (there .before) in
+    front-whole (goodText (s .args .delta .now) (s .args .ops)) (s .args .out .now) _ _ (omega (arith, fits there)) (omega (arith, e)) (whole .1)
 
 pub list-good-spec : {M : Type 1} → statement M
 list-good-spec =
@@ -77,8 +97,8 @@ list-good-spec =
     add-n-3
     returns
     put-lines-requires
-    slice-aggregate-put-last
-    slice-aggregate-put-last-2
-    put-last-requires
+    slice-aggregate-put-two-numbers
+    slice-aggregate-put-two-numbers-2
+    put-two-numbers-requires
     same-length
     returns-2)

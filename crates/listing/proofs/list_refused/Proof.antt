@@ -1,9 +1,9 @@
 -- `listing::list_refused` meets its contract: the one line, or no room for it. Assumes nothing.
-use mathlib.Core.Path.{_≡_, refl, ap, sym, _∙_, subst}
-use mathlib.Core.List.{List, [], _∷_, _++_}
+use Prim.Native.Nat.{_+_}
+use mathlib.Core.Path.{_≡_}
 use native.Mathlib.Omega.{arith}
 use lib.ListN.{length}
-use Rattle.listing.specs.Front.{refusedText}
+use Rattle.listing.specs.Shapes.{refusedText}
 use Rattle.listing.proofs.Lines.{front-none, front-whole, refused-long}
 use borrow.Author.Needs.{needs}
 use Rattle.listing.proofs.list_refused.Statement.{statement}
@@ -21,22 +21,29 @@ decimal-len-requires-2 c κs = search needs
 add-n-2 : tie.Need-add-n-2
 add-n-2 c = search needs
 
+-- the line is as long as was counted
+long : (c : tie.After-decimal-len2) → let a = c .before .before .before .args in
+    length (refusedText (a .code) (a .at)) ≡ 22 + c .before .decimal-len .result + c .decimal-len2 .result
+long c =
+    let a = c .before .before .before .args in
+    omega (arith, refused-long (a .code) (a .at), c .before .decimal-len .ensures .0, c .decimal-len2 .ensures .0)
+
 returns : tie.Need-returns
 returns c =
-    let x = c .before .before .before .before .args in
-    front-none (refusedText (x .code) (x .at)) (x .out .now) (omega (arith, refused-long (x .code) (x .at), c .before .before .decimal-len .ensures .0, c .before .decimal-len2 .ensures .0, c .if1 .taken))
+    let a = c .before .before .before .before .args in
+    front-none (refusedText (a .code) (a .at)) (a .out .now) (omega (arith, long (c .before), c .if1 .taken))
 
-slice-aggregate-put-last : tie.Need-slice-aggregate-put-last
-slice-aggregate-put-last c = search needs
+slice-aggregate-put-two-numbers : tie.Need-slice-aggregate-put-two-numbers
+slice-aggregate-put-two-numbers c = search needs
 
-slice-aggregate-put-last-2 : tie.Need-slice-aggregate-put-last-2
-slice-aggregate-put-last-2 c = search needs
+slice-aggregate-put-two-numbers-2 : tie.Need-slice-aggregate-put-two-numbers-2
+slice-aggregate-put-two-numbers-2 c = search needs
 
-put-last-requires : tie.Need-put-last-requires
+put-two-numbers-requires : tie.Need-put-two-numbers-requires
 unfolding refusedText
-put-last-requires c κs =
-    let x = c .before .before .before .before .before .before .before .args in
-    omega (arith, refused-long (x .code) (x .at), c .before .before .before .before .before .decimal-len .ensures .0, c .before .before .before .before .decimal-len2 .ensures .0, c .before .before .before .if1 .left)
+put-two-numbers-requires c κs =
+    let test = c .before .before .before in
+    omega (arith, long (test .before), test .if1 .left)
 
 same-length : tie.Need-same-length
 same-length c = search needs
@@ -44,11 +51,11 @@ same-length c = search needs
 returns-2 : tie.Need-returns-2
 unfolding refusedText
 returns-2 c =
-    let x = c .before .before .before .before .before .before .before .before .before .before .args in
-    let n = c .before .before .before .before .before .before .before .before .decimal-len .ensures .0 in
-    let m = c .before .before .before .before .before .before .before .decimal-len2 .ensures .0 in
-    front-whole (refusedText (x .code) (x .at)) (x .out .now) _ _ (omega (arith, refused-long (x .code) (x .at), n, m, c .before .before .before .before .before .before .if1 .left)) (omega (arith, refused-long (x .code) (x .at), n, m))
-    (c .before .before .put-last .ensures .stands)
+    let test = c .before .before .before .before .before .before in
+    let e = long (test .before) in
+    let a = test .before .before .before .before .args in
+    front-whole (refusedText (a .code) (a .at)) (a .out .now) _ _ (omega (arith, e, test .if1 .left)) (omega (arith, e))
+    (c .before .before .put-two-numbers .ensures .1)
 
 pub list-refused-spec : {M : Type 1} → statement M
 list-refused-spec =
@@ -59,8 +66,8 @@ list-refused-spec =
     decimal-len-requires-2
     add-n-2
     returns
-    slice-aggregate-put-last
-    slice-aggregate-put-last-2
-    put-last-requires
+    slice-aggregate-put-two-numbers
+    slice-aggregate-put-two-numbers-2
+    put-two-numbers-requires
     same-length
     returns-2)

@@ -1,19 +1,18 @@
 -- `listing::put_line` meets its contract: by the kind of operation. Assumes nothing.
-use Prim.Native.Nat.{ℕ, zero, suc, _+_, _-_, _*_, _≤_, _<_}
-use mathlib.Core.Path.{_≡_, refl, ap, sym, _∙_, subst}
-use mathlib.Core.List.{List, [], _∷_, _++_, append-assoc}
+use Prim.Native.Nat.{ℕ}
+use mathlib.Core.Path.{_≡_, ap, sym, subst}
+use mathlib.Core.List.{List, _++_, append-assoc}
 use native.Mathlib.Omega.{arith}
-use lib.ListN.{length}
 use Rattle.fields.specs.Parts.{part}
 use Rattle.fields.proofs.Lent.{seen}
-use Rattle.rules.specs.Delta as rule
 use Rattle.rules.specs.declared.Status.{Status}
 use Rattle.delta_read.specs.declared.Op.{Op}
-use Rattle.delta_read.specs.declared.Op.the-variants.{Node, KeyValue, SetMaxVersion}
+use Rattle.delta_read.specs.declared.Op.the-variants.{KeyValue}
 use Rattle.delta_read.specs.Places.{opOf, Inside}
 use Rattle.rules.specs.Listing.{ascii, decimal, statusText, opLine}
-use Rattle.listing_text.specs.Wrote.{Wrote, Room}
-use Rattle.listing.specs.Front.{textsText, recordLine}
+use Rattle.listing_text.specs.Texts.{TextFits}
+use Rattle.listing_text.proofs.Texts.{Put}
+use Rattle.listing.specs.Shapes.{textsText, recordLine}
 use borrow.Author.Needs.{needs}
 use Rattle.listing.proofs.put_line.Statement.{statement}
 use Rattle.listing.proofs.put_line.Tie as tie
@@ -30,27 +29,36 @@ module _ (l : List ℕ) where
       rw (e, p, q)
       (ap (λ (r : List ℕ). ascii "op=kv version=" ++ r) (append-assoc (decimal ver) (ascii " status=" ++ statusText st) (textsText (part k n l) (part v m l))))
 
-  record-room : (out : List ℕ) (at k n v m ver : ℕ) (st : Status) (o : Op) (key value : List ℕ) → o ≡ KeyValue k n v m ver st → key ≡ part k n l → value ≡ part v m l
-      → Room at (opLine (opOf l o)) out → Room at (recordLine ver st key value) out
+  record-room : (out : List ℕ) (at k n v m ver : ℕ) (st : Status) (o : Op) (key value : List ℕ) → o ≡ KeyValue k n v m ver st → key ≡ part k n l
+      → value ≡ part v m l → TextFits at (opLine (opOf l o)) out → TextFits at (recordLine ver st key value) out
   record-room out at k n v m ver st o key value e p q h =
-      subst (λ (t : List ℕ). Room at t out) (sym (line k n v m ver st o key value e p q)) h
+      subst (λ (t : List ℕ). TextFits at t out) (sym (line k n v m ver st o key value e p q)) h
 
-  record-wrote : (out left : List ℕ) (at r k n v m ver : ℕ) (st : Status) (o : Op) (key value : List ℕ) → o ≡ KeyValue k n v m ver st → key ≡ part k n l → value ≡ part v m l
-      → Wrote at (recordLine ver st key value) out left r → Wrote at (opLine (opOf l o)) out left r
-  record-wrote out left at r k n v m ver st o key value e p q w =
-      subst (λ (t : List ℕ). Wrote at t out left r) (line k n v m ver st o key value e p q) w
+  record-put : (out left : List ℕ) (at r k n v m ver : ℕ) (st : Status) (o : Op) (key value : List ℕ) → o ≡ KeyValue k n v m ver st → key ≡ part k n l
+      → value ≡ part v m l → Put at (recordLine ver st key value) out left r → Put at (opLine (opOf l o)) out left r
+  record-put out left at r k n v m ver st o key value e p q w =
+      subst (λ (t : List ℕ). Put at t out left r) (line k n v m ver st o key value e p q) w
+
+-- the line of an operation: there is room for it, and it was put
+abbrev Fits : tie.Start → Op → Type 0
+Fits s o = TextFits (s .args .at) (opLine (opOf (s .args .delta .now) o)) (s .args .out .now)
+
+abbrev Stands : tie.Start → List ℕ → ℕ → Op → Type 0
+Stands s left r o = Put (s .args .at) (opLine (opOf (s .args .delta .now) o)) (s .args .out .now) left r
 
 enum-known-op : tie.Need-enum-known-op
 enum-known-op c = search needs
 
 put-node-requires : tie.Need-put-node-requires
-put-node-requires c κs = subst (λ (o : Op). Room (c .before .before .before .before .before .before .args .at) (opLine (opOf (c .before .before .before .before .before .before .args .delta .now) o)) (c .before .before .before .before .before .before .args .out .now)) (c .before .before .op .given .1) (c .before .before .before .before .before .before .pre .1)
+put-node-requires c κs = let s = c .before .before .before .before .before .before in subst (Fits s) (c .before .before .op .given .1) (s .pre .1)
 
 enum-known-op-2 : tie.Need-enum-known-op-2
 enum-known-op-2 c = search needs
 
 add-key : tie.Need-add-key
-add-key c = omega (arith, inside _ _ _ _ _ _ _ _ (c .before .op2 .given .1) (c .before .before .before .before .before .pre .0) .0, c .before .before .before .before .before .good .0)
+add-key c =
+    let s = c .before .before .before .before .before in
+    omega (arith, inside _ _ _ _ _ _ _ _ (c .before .op2 .given .1) (s .pre .0) .0, s .good .0)
 
 sub-key : tie.Need-sub-key
 sub-key c = search needs
@@ -62,7 +70,9 @@ part-key-end : tie.Need-part-key-end
 part-key-end c = inside _ _ _ _ _ _ _ _ (c .before .op2 .given .1) (c .before .before .before .before .before .pre .0) .0
 
 add-value : tie.Need-add-value
-add-value c = omega (arith, inside _ _ _ _ _ _ _ _ (c .before .before .op2 .given .1) (c .before .before .before .before .before .before .pre .0) .1, c .before .before .before .before .before .before .good .0)
+add-value c =
+    let s = c .before .before .before .before .before .before in
+    omega (arith, inside _ _ _ _ _ _ _ _ (c .before .before .op2 .given .1) (s .pre .0) .1, s .good .0)
 
 sub-value : tie.Need-sub-value
 sub-value c = search needs
@@ -75,42 +85,43 @@ part-value-end c = inside _ _ _ _ _ _ _ _ (c .before .before .op2 .given .1) (c 
 
 put-key-value-requires : tie.Need-put-key-value-requires
 put-key-value-requires c κs =
-    let start = c .before .before .before .before .before .before .before .before in
-    record-room (start .args .delta .now) (start .args .out .now) (start .args .at) _ _ _ _ _ _ _ _ _ (c .before .before .before .before .op2 .given .1) (seen _ _ _) (seen _ _ _) (start .pre .1)
+    let op = c .before .before .before .before in
+    let s = op .before .before .before .before in
+    record-room (s .args .delta .now) (s .args .out .now) (s .args .at) _ _ _ _ _ _ _ _ _ (op .op2 .given .1) (seen _ _ _) (seen _ _ _) (s .pre .1)
 
 enum-known-op-3 : tie.Need-enum-known-op-3
 enum-known-op-3 c = search needs
 
 put-set-max-version-requires : tie.Need-put-set-max-version-requires
-put-set-max-version-requires c κs = subst (λ (o : Op). Room (c .before .before .before .before .before .before .args .at) (opLine (opOf (c .before .before .before .before .before .before .args .delta .now) o)) (c .before .before .before .before .before .before .args .out .now)) (c .before .before .op3 .given .1) (c .before .before .before .before .before .before .pre .1)
+put-set-max-version-requires c κs = let s = c .before .before .before .before .before .before in subst (Fits s) (c .before .before .op3 .given .1) (s .pre .1)
 
 same-length : tie.Need-same-length
 same-length c = search needs
 
 returns : tie.Need-returns
 returns c =
-    let start = c .before .before .before .before .before .before .before .before .before in
+    let op = c .before .before .before .before .before in
     let call = c .before .before .put-node in
-    subst (λ (o : Op). Wrote (start .args .at) (opLine (opOf (start .args .delta .now) o)) (start .args .out .now) (call .last .0) (call .result))
-    (sym (c .before .before .before .before .before .op .given .1)) (call .ensures)
+    subst (Stands (op .before .before .before .before) (call .last .0) (call .result)) (sym (op .op .given .1)) (call .ensures)
 
 same-length-2 : tie.Need-same-length-2
 same-length-2 c = search needs
 
 returns-2 : tie.Need-returns-2
 returns-2 c =
-    let start = c .before .before .before .before .before .before .before .before .before .before .before in
-    record-wrote (start .args .delta .now) _ _ (start .args .at) _ _ _ _ _ _ _ _ _ _ (c .before .before .before .before .before .before .before .op2 .given .1) (seen _ _ _) (seen _ _ _) (c .before .before .put-key-value .ensures)
+    let op = c .before .before .before .before .before .before .before in
+    let s = op .before .before .before .before in
+    record-put (s .args .delta .now) _ _ (s .args .at) _ _ _ _ _ _ _ _ _ _ (op .op2 .given .1) (seen _ _ _) (seen _ _ _)
+    (c .before .before .put-key-value .ensures)
 
 same-length-3 : tie.Need-same-length-3
 same-length-3 c = search needs
 
 returns-3 : tie.Need-returns-3
 returns-3 c =
-    let start = c .before .before .before .before .before .before .before .before .before in
+    let op = c .before .before .before .before .before in
     let call = c .before .before .put-set-max-version in
-    subst (λ (o : Op). Wrote (start .args .at) (opLine (opOf (start .args .delta .now) o)) (start .args .out .now) (call .last .0) (call .result))
-    (sym (c .before .before .before .before .before .op3 .given .1)) (call .ensures)
+    subst (Stands (op .before .before .before .before) (call .last .0) (call .result)) (sym (op .op3 .given .1)) (call .ensures)
 
 pub put-line-spec : {M : Type 1} → statement M
 put-line-spec =

@@ -1,11 +1,18 @@
--- `listing::put_node` meets its contract: four texts, one behind the other. Assumes nothing.
-use mathlib.Core.List.{List, [], _∷_, _++_}
-use Rattle.rules.specs.Listing.{ascii, decimal, lineFeed, opLine}
-use Rattle.listing_text.specs.Wrote.{numbered}
-use Rattle.listing_text.proofs.Texts.{room-first, room-second, room-two, room-three, then, three}
+-- `listing::put_node` meets its contract: two texts, one behind the other. Assumes nothing.
+use Rattle.fields.specs.Numbers.{Bytes}
+use Rattle.rules.specs.Listing.{ascii, opLine}
+use Rattle.listing_text.specs.Texts.{numbered}
+use Rattle.listing_text.proofs.Texts.{fits-first, fits-second, then}
+use Rattle.listing.specs.Shapes.{twoNumbers}
 use borrow.Author.Needs.{needs}
 use Rattle.listing.proofs.put_node.Statement.{statement}
 use Rattle.listing.proofs.put_node.Tie as tie
+
+abbrev number : tie.Start → Bytes
+number s = numbered (ascii "op=node id=") (s .args .number)
+
+abbrev rest : tie.Start → Bytes
+rest s = twoNumbers (ascii " gc=") (s .args .last-gc) (ascii " from=") (s .args .from)
 
 slice-aggregate-put-numbered : tie.Need-slice-aggregate-put-numbered
 slice-aggregate-put-numbered c = search needs
@@ -13,39 +20,21 @@ slice-aggregate-put-numbered c = search needs
 put-numbered-requires : tie.Need-put-numbered-requires
 unfolding opLine
 put-numbered-requires c κs =
-    let start = c .before .before .before in
-    let x = start .args in
-    room-first (x .at) (numbered (ascii "op=node id=") (x .number)) (numbered (ascii " gc=") (x .last-gc) ++ (numbered (ascii " from=") (x .from) ++ lineFeed)) (x .out .now) (start .pre)
+    let s = c .before .before .before in
+    fits-first (s .args .at) (number s) (rest s) (s .args .out .now) (s .pre)
 
-slice-aggregate-put-numbered-2 : tie.Need-slice-aggregate-put-numbered-2
-slice-aggregate-put-numbered-2 c = search needs
+slice-aggregate-put-two-numbers : tie.Need-slice-aggregate-put-two-numbers
+slice-aggregate-put-two-numbers c = search needs
 
-put-numbered-requires-2 : tie.Need-put-numbered-requires-2
+slice-aggregate-put-two-numbers-2 : tie.Need-slice-aggregate-put-two-numbers-2
+slice-aggregate-put-two-numbers-2 c = search needs
+
+put-two-numbers-requires : tie.Need-put-two-numbers-requires
 unfolding opLine
-put-numbered-requires-2 c κs =
-    let start = c .before .before .before .before .before .before .before .before in
-    let x = start .args in
-    room-two (x .at) (numbered (ascii "op=node id=") (x .number)) (numbered (ascii " gc=") (x .last-gc)) (numbered (ascii " from=") (x .from) ++ lineFeed) (x .out .now) _ _ (start .pre) (c .before .before .before .before .put-numbered .ensures)
-
-slice-aggregate-put-numbered-3 : tie.Need-slice-aggregate-put-numbered-3
-slice-aggregate-put-numbered-3 c = search needs
-
-put-numbered-requires-3 : tie.Need-put-numbered-requires-3
-unfolding opLine
-put-numbered-requires-3 c κs =
-    let start = c .before .before .before .before .before .before .before .before .before .before .before .before .before in
-    let x = start .args in
-    room-two _ (numbered (ascii " gc=") (x .last-gc)) (numbered (ascii " from=") (x .from)) lineFeed _ _ _ (room-second (x .at) (numbered (ascii "op=node id=") (x .number)) (numbered (ascii " gc=") (x .last-gc) ++ (numbered (ascii " from=") (x .from) ++ lineFeed)) (x .out .now) _ _ (start .pre) (c .before .before .before .before .before .before .before .before .before .put-numbered .ensures)) (c .before .before .before .before .put-numbered2 .ensures)
-
-slice-aggregate-put-text : tie.Need-slice-aggregate-put-text
-slice-aggregate-put-text c = search needs
-
-put-text-requires : tie.Need-put-text-requires
-unfolding opLine
-put-text-requires c κs =
-    let start = c .before .before .before .before .before .before .before .before .before .before .before .before .before .before .before .before .before .before in
-    let x = start .args in
-    room-three _ (numbered (ascii " gc=") (x .last-gc)) (numbered (ascii " from=") (x .from)) lineFeed _ _ _ (room-second (x .at) (numbered (ascii "op=node id=") (x .number)) (numbered (ascii " gc=") (x .last-gc) ++ (numbered (ascii " from=") (x .from) ++ lineFeed)) (x .out .now) _ _ (start .pre) (c .before .before .before .before .before .before .before .before .before .before .before .before .before .before .put-numbered .ensures)) (c .before .before .before .before .before .before .before .before .before .put-numbered2 .ensures) _ _ (c .before .before .before .before .put-numbered3 .ensures)
+put-two-numbers-requires c κs =
+    let one = c .before .before .before .before .before in
+    let s = one .before .before .before .before in
+    fits-second (s .args .at) (number s) (rest s) (s .args .out .now) _ _ (s .pre) (one .put-numbered .ensures)
 
 same-length : tie.Need-same-length
 same-length c = search needs
@@ -53,10 +42,10 @@ same-length c = search needs
 returns : tie.Need-returns
 unfolding opLine
 returns c =
-    let start = c .before .before .before .before .before .before .before .before .before .before .before .before .before .before .before .before .before .before .before .before .before in
-    let x = start .args in
-    then (x .at) (numbered (ascii "op=node id=") (x .number)) (numbered (ascii " gc=") (x .last-gc) ++ (numbered (ascii " from=") (x .from) ++ lineFeed)) (x .out .now) _ _ _ _ (start .pre) (c .before .before .before .before .before .before .before .before .before .before .before .before .before .before .before .before .before .put-numbered .ensures)
-    (three _ (numbered (ascii " gc=") (x .last-gc)) (numbered (ascii " from=") (x .from)) lineFeed _ _ _ (room-second (x .at) (numbered (ascii "op=node id=") (x .number)) (numbered (ascii " gc=") (x .last-gc) ++ (numbered (ascii " from=") (x .from) ++ lineFeed)) (x .out .now) _ _ (start .pre) (c .before .before .before .before .before .before .before .before .before .before .before .before .before .before .before .before .before .put-numbered .ensures)) (c .before .before .before .before .before .before .before .before .before .before .before .before .put-numbered2 .ensures) _ _ (c .before .before .before .before .before .before .before .put-numbered3 .ensures) _ _ (c .before .before .put-text .ensures))
+    let end = c .before .before in
+    let one = end .before .before .before .before .before .before in
+    let s = one .before .before .before .before in
+    then (s .args .at) (number s) (rest s) (s .args .out .now) _ _ _ _ (s .pre) (one .put-numbered .ensures) (end .put-two-numbers .ensures)
 
 pub put-node-spec : {M : Type 1} → statement M
 put-node-spec =
@@ -64,11 +53,8 @@ put-node-spec =
     (tie.spec
     slice-aggregate-put-numbered
     put-numbered-requires
-    slice-aggregate-put-numbered-2
-    put-numbered-requires-2
-    slice-aggregate-put-numbered-3
-    put-numbered-requires-3
-    slice-aggregate-put-text
-    put-text-requires
+    slice-aggregate-put-two-numbers
+    slice-aggregate-put-two-numbers-2
+    put-two-numbers-requires
     same-length
     returns)

@@ -1,12 +1,14 @@
 -- `listing::put_set_max_version` meets its contract: two texts, one behind the other. Assumes nothing.
-use mathlib.Core.List.{List, [], _∷_, _++_}
-use Rattle.rules.specs.Listing.{ascii, decimal, lineFeed, opLine}
-use Rattle.listing_text.specs.Wrote.{numbered, named}
-use Rattle.listing.specs.Front.{versionText, textsText}
-use Rattle.listing_text.proofs.Texts.{room-first, room-second, then}
+use Rattle.fields.specs.Numbers.{Bytes}
+use Rattle.rules.specs.Listing.{ascii, lineFeed, opLine}
+use Rattle.listing_text.specs.Texts.{numbered}
+use Rattle.listing_text.proofs.Texts.{fits-first, fits-second, then}
 use borrow.Author.Needs.{needs}
 use Rattle.listing.proofs.put_set_max_version.Statement.{statement}
 use Rattle.listing.proofs.put_set_max_version.Tie as tie
+
+abbrev max : tie.Start → Bytes
+max s = numbered (ascii "op=max version=") (s .args .max)
 
 slice-aggregate-put-numbered : tie.Need-slice-aggregate-put-numbered
 slice-aggregate-put-numbered c = search needs
@@ -14,9 +16,8 @@ slice-aggregate-put-numbered c = search needs
 put-numbered-requires : tie.Need-put-numbered-requires
 unfolding opLine
 put-numbered-requires c κs =
-    let start = c .before .before .before in
-    let x = start .args in
-    room-first (x .at) (numbered (ascii "op=max version=") (x .max)) (lineFeed) (x .out .now) (start .pre)
+    let s = c .before .before .before in
+    fits-first (s .args .at) (max s) lineFeed (s .args .out .now) (s .pre)
 
 slice-aggregate-put-text : tie.Need-slice-aggregate-put-text
 slice-aggregate-put-text c = search needs
@@ -24,9 +25,9 @@ slice-aggregate-put-text c = search needs
 put-text-requires : tie.Need-put-text-requires
 unfolding opLine
 put-text-requires c κs =
-    let start = c .before .before .before .before .before .before .before .before in
-    let x = start .args in
-    room-second (x .at) (numbered (ascii "op=max version=") (x .max)) (lineFeed) (x .out .now) _ _ (start .pre) (c .before .before .before .before .put-numbered .ensures)
+    let one = c .before .before .before .before in
+    let s = one .before .before .before .before in
+    fits-second (s .args .at) (max s) lineFeed (s .args .out .now) _ _ (s .pre) (one .put-numbered .ensures)
 
 same-length : tie.Need-same-length
 same-length c = search needs
@@ -34,9 +35,10 @@ same-length c = search needs
 returns : tie.Need-returns
 unfolding opLine
 returns c =
-    let start = c .before .before .before .before .before .before .before .before .before .before .before in
-    let x = start .args in
-    then (x .at) (numbered (ascii "op=max version=") (x .max)) (lineFeed) (x .out .now) _ _ _ _ (start .pre) (c .before .before .before .before .before .before .before .put-numbered .ensures) (c .before .before .put-text .ensures)
+    let end = c .before .before in
+    let one = end .before .before .before .before .before in
+    let s = one .before .before .before .before in
+    then (s .args .at) (max s) lineFeed (s .args .out .now) _ _ _ _ (s .pre) (one .put-numbered .ensures) (end .put-text .ensures)
 
 pub put-set-max-version-spec : {M : Type 1} → statement M
 put-set-max-version-spec =

@@ -1,6 +1,5 @@
 -- `listing_samples::main` is safe and ends: it goes through the arguments. Assumes nothing.
-use Prim.Native.Nat.{ℕ, _-_, _≤_}
-use native.Mathlib.Omega.{arith}
+use Prim.Native.Nat.{_-_}
 use borrow.Author.Needs.{needs}
 use Rattle.listing_samples.proofs.main.Statement.{statement}
 use Rattle.listing_samples.proofs.main.Tie as tie

@@ -4,22 +4,25 @@ use mathlib.Core.Path.{_≡_, sym, _∙_}
 use mathlib.Core.List.{List}
 use native.Mathlib.Omega.{arith}
 use native.Mathlib.Nat.{le-of-eq}
-use lib.ListN.{length, take, replicate, length-replicate}
+use lib.ListN.{length, replicate, length-replicate}
 use lib.Seq.{length-take-le}
-use Rattle.rules.specs.Listing.{listing}
-use Rattle.rules.specs.declared.Written.the-variants.{Bytes, Refused}
-use Rattle.listing.specs.Front.{frontAnswer}
+use Rattle.rules.specs.Listing.{listDelta}
+use Rattle.rules.specs.declared.Written.the-variants.{Bytes}
+use Rattle.listing.specs.Shapes.{longestListing}
 use Rattle.listing.proofs.Lines.{front-fits, front-within}
 use borrow.Author.Needs.{needs}
 use Rattle.listing_show.proofs.show.Statement.{statement}
 use Rattle.listing_show.proofs.show.Tie as tie
 
 -- the buffer
-room : 81979 ≤ length {A = ℕ} (replicate 81979 0)
-room = le-of-eq (sym (length-replicate {A = ℕ} 81979 0))
+abbrev buffer : List ℕ
+buffer = replicate longestListing 0
 
-within : (l left : List ℕ) (n k : ℕ) → 81979 ≤ n → length left ≡ n → frontAnswer (listing l) n ≡ Bytes k → k ≤ length left
-within l left n k h e f = omega (arith, front-within l n k h f)
+room : longestListing ≤ length buffer
+room = le-of-eq (sym (length-replicate {A = ℕ} longestListing 0))
+
+within : (l left : List ℕ) (k : ℕ) → length left ≡ length buffer → listDelta l buffer .answer ≡ Bytes k → k ≤ length left
+within l left k e f = omega (arith, front-within l buffer room k f)
 
 slice-aggregate-list-delta : tie.Need-slice-aggregate-list-delta
 slice-aggregate-list-delta c = search needs
@@ -31,11 +34,14 @@ enum-known-listed : tie.Need-enum-known-listed
 enum-known-listed c = search needs
 
 array-share-prefix-output : tie.Need-array-share-prefix-output
-array-share-prefix-output c = within _ (c .before .before .before .before .list-delta .last .1 .0) _ _ room (c .before .before .before .before .list-delta .kept .1 .0) (sym (c .before .before .before .before .list-delta .ensures .0) ∙ c .before .listed .given .1)
+array-share-prefix-output c =
+    let call = c .before .before .before .before .list-delta in
+    within _ (call .last .1 .0) _ (call .kept .1 .0) (sym (call .ensures .0) ∙ c .before .listed .given .1)
 
 slice-aggregate-write-all : tie.Need-slice-aggregate-write-all
 slice-aggregate-write-all c =
-    sym (length-take-le _ _ (within _ (c .before .before .before .before .before .list-delta .last .1 .0) _ _ room (c .before .before .before .before .before .list-delta .kept .1 .0) (sym (c .before .before .before .before .before .list-delta .ensures .0) ∙ c .before .before .listed .given .1)))
+    let call = c .before .before .before .before .before .list-delta in
+    sym (length-take-le _ _ (within _ (call .last .1 .0) _ (call .kept .1 .0) (sym (call .ensures .0) ∙ c .before .before .listed .given .1)))
 
 write-all-requires : tie.Need-write-all-requires
 write-all-requires c κs = search needs
@@ -44,7 +50,7 @@ enum-told : tie.Need-enum-told
 enum-told c = search needs
 
 expect-requires : tie.Need-expect-requires
-expect-requires c κs = absurd (front-fits _ _ _ room (sym (c .before .before .before .list-delta .ensures .0) ∙ c .enum-told .given .1))
+expect-requires c κs = absurd (front-fits _ buffer room _ (sym (c .before .before .before .list-delta .ensures .0) ∙ c .enum-told .given .1))
 
 returns : tie.Need-returns
 returns c = search needs

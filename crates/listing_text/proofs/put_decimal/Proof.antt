@@ -1,14 +1,13 @@
 -- `listing_text::put_decimal` meets its contract: the digits of what is left, put now, give what the contract says. Assumes nothing.
-use Prim.Native.Nat.{ℕ, zero, suc, _+_, _-_, _*_, _/_, _%_, _^_, _≤_, _<_}
-use mathlib.Core.Path.{_≡_, refl, ap, sym, _∙_, subst}
+use Prim.Native.Nat.{ℕ, _+_, _/_, _%_, _^_, _≤_, _<_}
+use mathlib.Core.Path.{_≡_, refl, ap, sym, _∙_}
 use mathlib.Core.List.{List, [], _∷_, _++_}
 use native.Mathlib.Omega.{arith}
 use lib.ListN.{length, set, length-set, length-append}
 use Rattle.fields.specs.Parts.{put}
 use Rattle.fields.proofs.Parts.{put-snoc, put-one}
 use Rattle.rules.specs.Listing.{decimal}
-use Rattle.listing_text.specs.Wrote.{Wrote}
-use Rattle.listing_text.proofs.Texts.{decimal-one, decimal-more, decimal-some}
+use Rattle.listing_text.proofs.Texts.{Put, decimal-one, decimal-more, decimal-some}
 use borrow.Author.Needs.{needs}
 use Rattle.listing_text.proofs.put_decimal.Statement.{statement}
 use Rattle.listing_text.proofs.put_decimal.Tie as tie
@@ -30,19 +29,25 @@ module _ (at left i : ℕ) (h : 10 ≤ left) (g : left < 2 ^ 64) (e : i + 1 ≡ 
 
 -- the first digit, which is written last
 first : (at left i v : ℕ) (l m : List ℕ) (b end : ℕ) → left < 10 → i + 1 ≡ at + length (decimal left) → i < length m → b ≡ 48 + left
-    → put at (decimal left) m ≡ put at (decimal v) l → end ≡ at + length (decimal v) → Wrote at (decimal v) l (set m i b) end
+    → put at (decimal left) m ≡ put at (decimal v) l → end ≡ at + length (decimal v) → Put at (decimal v) l (set m i b) end
 first at left i v l m b end h e k q p z =
     let one : decimal left ≡ (48 + left) ∷ [] = decimal-one left h in
-    let j : i ≡ at = omega (arith, ap length one) in
-    record {
-      stands =
-          ap (λ (n : ℕ). set m n b) j ∙ sym (put-one at b m (omega arith)) ∙ ap (λ (x : ℕ). put at (x ∷ []) m) q ∙ ap (λ (r : List ℕ). put at r m) (sym one) ∙ p;
-      behind = z;
-    }
+    let j : i ≡ at = omega (arith, ap length one) in (
+      z,
+      ap (λ (n : ℕ). set m n b) j
+          ∙ sym (put-one at b m (omega arith))
+          ∙ ap (λ (x : ℕ). put at (x ∷ []) m) q
+          ∙ ap (λ (r : List ℕ). put at r m) (sym one)
+          ∙ p,
+    )
 
 abbrev Inv-loop : tie.InvT-loop
 Inv-loop out₀ at v end i₀ left₀ out i left =
-    (left ≤ v) × (length out ≡ length out₀) × (i + 1 ≡ at + length (decimal left)) × (length (decimal left) ≤ length (decimal v)) × (put at (decimal left) out ≡ put at (decimal v) out₀)
+    (left ≤ v)
+    × (length out ≡ length out₀)
+    × (i + 1 ≡ at + length (decimal left))
+    × (length (decimal left) ≤ length (decimal v))
+    × (put at (decimal left) out ≡ put at (decimal v) out₀)
 
 abbrev μ-loop : tie.MeasureT-loop
 μ-loop out₀ at v end i₀ left₀ out i left = left
@@ -69,7 +74,8 @@ sub-i-2 : tie.Need-sub-i-2 Inv-loop μ-loop
 sub-i-2 c =
     let at-loop = c .before .before in
     let a = at-loop .before .before .before .args in
-    omega (arith, before (a .at) (at-loop .loop .left) (at-loop .loop .i) (c .before .loop-test .taken) (omega arith) (at-loop .loop .inv .2), decimal-some (at-loop .loop .left / 10))
+    let b = before (a .at) (at-loop .loop .left) (at-loop .loop .i) (c .before .loop-test .taken) (omega arith) (at-loop .loop .inv .2) in
+    omega (arith, b, decimal-some (at-loop .loop .left / 10))
 
 loop-less : tie.Need-loop-less Inv-loop μ-loop
 loop-less c = search needs
@@ -86,7 +92,8 @@ loop-again c =
       simp length-set (inv .1),
       omega (arith, decimal-some (left / 10)),
       omega arith,
-      turn (a .at) left i (c .before .loop-test .taken) (omega arith) (inv .2) (at-loop .loop .out) _ (c .digit .result) (omega arith) (c .digit .ensures) (inv .4),
+      turn (a .at) left i (c .before .loop-test .taken) (omega arith) (inv .2) (at-loop .loop .out) _ (c .digit .result) (omega arith) (c .digit .ensures)
+          (inv .4),
     )
 
 digit-requires-2 : tie.Need-digit-requires-2 Inv-loop μ-loop
@@ -103,8 +110,8 @@ returns c =
     let at-loop = c .before .before in
     let a = at-loop .before .before .before .args in
     let inv = at-loop .loop .inv in
-    first (a .at) (at-loop .loop .left) (at-loop .loop .i) (a .v) (a .out .now) (at-loop .loop .out) (c .digit2 .result) _ (c .before .loop-test .left) (inv .2) (omega arith) (c .digit2 .ensures) (inv .4)
-    (ap (λ (n : ℕ). a .at + n) (at-loop .before .decimal-len .ensures .0))
+    first (a .at) (at-loop .loop .left) (at-loop .loop .i) (a .v) (a .out .now) (at-loop .loop .out) (c .digit2 .result) _ (c .before .loop-test .left)
+    (inv .2) (omega arith) (c .digit2 .ensures) (inv .4) (ap (λ (n : ℕ). a .at + n) (at-loop .before .decimal-len .ensures .0))
 
 pub put-decimal-spec : {M : Type 1} → statement M
 put-decimal-spec =

@@ -1,7 +1,7 @@
 -- `listing_text::put_shown` meets its contract: what is left of the text, put now as it is shown, gives what the contract says. Assumes nothing.
-use Prim.Native.Nat.{ℕ, zero, suc, _+_, _-_, _*_, _/_, _%_, _≤_, _<_}
-use mathlib.Core.Path.{_≡_, refl, ap, sym, _∙_, subst}
-use mathlib.Core.List.{List, [], _∷_, _++_}
+use Prim.Native.Nat.{ℕ, _+_, _-_, _≤_, _<_}
+use mathlib.Core.Path.{_≡_, refl, ap, sym, _∙_}
+use mathlib.Core.List.{List, [], _∷_}
 use native.Mathlib.Omega.{arith}
 use native.Mathlib.Nat.{add-zero}
 use native.Mathlib.Numerals.{add-one}
@@ -10,8 +10,7 @@ use lib.Seq.{drop-cons}
 use Rattle.fields.specs.Parts.{put}
 use Rattle.fields.proofs.Parts.{put-next, put-nil}
 use Rattle.rules.specs.Listing.{shownByte, shownBytes}
-use Rattle.listing_text.specs.Wrote.{Wrote}
-use Rattle.listing_text.proofs.Texts.{shown-long}
+use Rattle.listing_text.proofs.Texts.{Put, shown-long}
 use borrow.Author.Needs.{needs}
 use Rattle.listing_text.proofs.put_shown.Statement.{statement}
 use Rattle.listing_text.proofs.put_shown.Tie as tie
@@ -20,19 +19,20 @@ next : (src : List ℕ) (i : ℕ) → i < length src → shownBytes (drop i src)
 unfolding shownBytes
 next src i h = ap shownBytes (drop-cons src i 0 h) ∙ ap (λ (k : ℕ). shownByte (getD src i 0) ∷ shownBytes (drop k src)) (sym (add-one i))
 
-turn : (src l : List ℕ) (at i b : ℕ) (t : List ℕ) → i < length src → at + length src ≤ length l → b ≡ shownByte (getD src i 0) → put (at + i) (shownBytes (drop i src)) l ≡ t
-    → put (at + (i + 1)) (shownBytes (drop (i + 1) src)) (set l (at + i) b) ≡ t
+turn : (src l : List ℕ) (at i b : ℕ) (t : List ℕ) → i < length src → at + length src ≤ length l → b ≡ shownByte (getD src i 0)
+    → put (at + i) (shownBytes (drop i src)) l ≡ t → put (at + (i + 1)) (shownBytes (drop (i + 1) src)) (set l (at + i) b) ≡ t
 turn src l at i b t h g q e =
     put-next at i b (shownBytes (drop (i + 1) src)) l (omega arith)
     ∙ ap (λ (x : ℕ). put (at + i) (x ∷ shownBytes (drop (i + 1) src)) l) q
     ∙ ap (λ (r : List ℕ). put (at + i) r l) (sym (next src i h))
     ∙ e
 
-done : (src l m : List ℕ) (at i : ℕ) → i ≤ length src → length src ≤ i → put (at + i) (shownBytes (drop i src)) m ≡ put at (shownBytes src) l → Wrote at (shownBytes src) l m (at + i)
+done : (src l m : List ℕ) (at i : ℕ) → i ≤ length src → length src ≤ i → put (at + i) (shownBytes (drop i src)) m ≡ put at (shownBytes src) l
+    → Put at (shownBytes src) l m (at + i)
 unfolding shownBytes
 done src l m at i h g e =
     let z : drop i src ≡ [] = drop-of-length-le src g in
-    record { stands = sym (put-nil (at + i) m) ∙ (rw z at e); behind = omega (arith, shown-long src) }
+    (omega (arith, shown-long src), sym (put-nil (at + i) m) ∙ (rw z at e))
 
 abbrev Inv-loop : tie.InvT-loop
 Inv-loop out₀ at text i₀ out i =
@@ -67,7 +67,9 @@ loop-again c =
     let at-loop = c .before .before .before in
     let a = at-loop .before .before .before .args in
     let inv = at-loop .loop .inv in
-    (omega arith, simp length-set (inv .1), turn (a .text .now) _ _ _ _ _ (c .before .before .loop-test .taken) (omega (arith, shown-long (a .text .now))) (c .shown .ensures) (inv .2))
+    let taken = c .before .before .loop-test .taken in
+    let long = shown-long (a .text .now) in
+    (omega arith, simp length-set (inv .1), turn (a .text .now) _ _ _ _ _ taken (omega (arith, long)) (c .shown .ensures) (inv .2))
 
 add-result : tie.Need-add-result Inv-loop μ-loop
 add-result c = omega (arith, shown-long (c .before .before .before .before .args .text .now))

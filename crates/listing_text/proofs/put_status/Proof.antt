@@ -1,9 +1,9 @@
 -- `listing_text::put_status` meets its contract: the text of each status. Assumes nothing.
-use Prim.Native.Nat.{ℕ, zero, suc, _+_, _-_, _*_, _/_, _%_, _≤_, _<_}
-use mathlib.Core.Path.{_≡_, refl, ap, sym, _∙_, subst}
+use mathlib.Core.Path.{sym, subst}
 use Rattle.rules.specs.declared.Status.{Status}
 use Rattle.rules.specs.Listing.{statusText}
-use Rattle.listing_text.specs.Wrote.{Wrote, Room}
+use Rattle.listing_text.specs.Texts.{TextFits}
+use Rattle.listing_text.proofs.Texts.{Put}
 use borrow.Author.Needs.{needs}
 use Rattle.listing_text.proofs.put_status.Statement.{statement}
 use Rattle.listing_text.proofs.put_status.Tie as tie
@@ -17,7 +17,7 @@ slice-aggregate-put-text c = search needs
 put-text-requires : tie.Need-put-text-requires
 put-text-requires c κs =
     let start = c .before .before .before .before .before in
-    subst (λ (s : Status). Room (start .args .at) (statusText s) (start .args .out .now)) (c .before .before .enum-told .given .1) (start .pre)
+    subst (λ (s : Status). TextFits (start .args .at) (statusText s) (start .args .out .now)) (c .before .before .enum-told .given .1) (start .pre)
 
 enum-told-2 : tie.Need-enum-told-2
 enum-told-2 c = search needs
@@ -28,7 +28,7 @@ slice-aggregate-put-text-2 c = search needs
 put-text-requires-2 : tie.Need-put-text-requires-2
 put-text-requires-2 c κs =
     let start = c .before .before .before .before .before in
-    subst (λ (s : Status). Room (start .args .at) (statusText s) (start .args .out .now)) (c .before .before .enum-told2 .given .1) (start .pre)
+    subst (λ (s : Status). TextFits (start .args .at) (statusText s) (start .args .out .now)) (c .before .before .enum-told2 .given .1) (start .pre)
 
 enum-told-3 : tie.Need-enum-told-3
 enum-told-3 c = search needs
@@ -39,7 +39,7 @@ slice-aggregate-put-text-3 c = search needs
 put-text-requires-3 : tie.Need-put-text-requires-3
 put-text-requires-3 c κs =
     let start = c .before .before .before .before .before in
-    subst (λ (s : Status). Room (start .args .at) (statusText s) (start .args .out .now)) (c .before .before .enum-told3 .given .1) (start .pre)
+    subst (λ (s : Status). TextFits (start .args .at) (statusText s) (start .args .out .now)) (c .before .before .enum-told3 .given .1) (start .pre)
 
 same-length : tie.Need-same-length
 same-length c = search needs
@@ -48,7 +48,7 @@ returns : tie.Need-returns
 returns c =
     let start = c .before .before .before .before .before .before .before .before in
     let call = c .before .before .put-text in
-    subst (λ (s : Status). Wrote (start .args .at) (statusText s) (start .args .out .now) (call .last .0) (call .result))
+    subst (λ (s : Status). Put (start .args .at) (statusText s) (start .args .out .now) (call .last .0) (call .result))
     (sym (c .before .before .before .before .before .enum-told .given .1)) (call .ensures)
 
 same-length-2 : tie.Need-same-length-2
@@ -58,7 +58,7 @@ returns-2 : tie.Need-returns-2
 returns-2 c =
     let start = c .before .before .before .before .before .before .before .before in
     let call = c .before .before .put-text2 in
-    subst (λ (s : Status). Wrote (start .args .at) (statusText s) (start .args .out .now) (call .last .0) (call .result))
+    subst (λ (s : Status). Put (start .args .at) (statusText s) (start .args .out .now) (call .last .0) (call .result))
     (sym (c .before .before .before .before .before .enum-told2 .given .1)) (call .ensures)
 
 same-length-3 : tie.Need-same-length-3
@@ -68,7 +68,7 @@ returns-3 : tie.Need-returns-3
 returns-3 c =
     let start = c .before .before .before .before .before .before .before .before in
     let call = c .before .before .put-text3 in
-    subst (λ (s : Status). Wrote (start .args .at) (statusText s) (start .args .out .now) (call .last .0) (call .result))
+    subst (λ (s : Status). Put (start .args .at) (statusText s) (start .args .out .now) (call .last .0) (call .result))
     (sym (c .before .before .before .before .before .enum-told3 .given .1)) (call .ensures)
 
 pub put-status-spec : {M : Type 1} → statement M

@@ -8,21 +8,22 @@ use lib.Dec.{leb}
 use lib.ListN.{length}
 use borrow.Author.Tests.{leb-true, leb-false}
 use Rattle.rules.specs.Listing.{decimal}
-use Rattle.listing_text.specs.Wrote.{Wrote, Room}
+use Rattle.listing_text.specs.Texts.{TextFits}
+use Rattle.listing_text.proofs.Texts.{Put}
 use Rattle.replay_words.specs.Printing.{page, say}
 use Rattle.replay_words.proofs.Said.{said, unsaid}
 use borrow.Author.Needs.{needs}
 use Rattle.replay_words.proofs.print.decimal.Statement.{statement}
 use Rattle.replay_words.proofs.print.decimal.Tie as tie
 
-room : (at n : ℕ) (t l : List ℕ) (r : Bool) → n ≡ length t → r ≡ leb (at + n) (length l) → r ≡ true → Room at t l
+room : (at n : ℕ) (t l : List ℕ) (r : Bool) → n ≡ length t → r ≡ leb (at + n) (length l) → r ≡ true → TextFits at t l
 room at n t l r e p q = let h = leb-true (at + n) (length l) (sym p ∙ q) in omega arith
 
 none : (at n : ℕ) (t l : List ℕ) (r : Bool) → n ≡ length t → r ≡ leb (at + n) (length l) → r ≡ false → length l < at + length t
 none at n t l r e p q = let h = leb-false (at + n) (length l) (sym p ∙ q) in omega arith
 
-written : (at r : ℕ) (t l m : List ℕ) → Room at t l → Wrote at t l m r → page r m ≡ say t (page at l)
-written at r t l m h w = said at r t l m h (w .behind) (w .stands)
+written : (at r : ℕ) (t l m : List ℕ) → TextFits at t l → Put at t l m r → page r m ≡ say t (page at l)
+written at r t l m h w = said at r t l m h (w .0) (w .1)
 
 decimal-len-requires : tie.Need-decimal-len-requires
 decimal-len-requires c κs = search needs
