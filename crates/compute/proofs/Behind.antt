@@ -13,7 +13,7 @@ use Rattle.rules.specs.Compute.{toldOf, fromOf}
 use Rattle.digest_read.specs.Held.{pairOf}
 use Rattle.digest_read.specs.declared.Pair.{Pair}
 use Rattle.table_read.specs.Find.{entryAt}
-use Rattle.compute_order.specs.Line.{goes}
+use Rattle.compute_order.specs.Line.{isStale}
 use Rattle.compute.specs.Plan.{fromAt, stalenessOf}
 use Rattle.compute.specs.declared.Staleness.{Staleness}
 use Rattle.compute.specs.declared.Staleness.the-variants.{UpToDate, From}
@@ -36,7 +36,7 @@ module _ (own gc max : ℕ) where
 -- ---- a node
 
 module _ (excluded : List ℕ) (ds : List NodeDigest) (t : Table) (p n : ℕ) (e : n ≡ entryAt t p .number) where
-  is-so : (b c : Bool) → among n excluded ≡ b → ltb (toldOf n ds .max) (entryAt t p .node .max) ≡ c → goes excluded ds t p ≡ (not b && c)
+  is-so : (b c : Bool) → among n excluded ≡ b → ltb (toldOf n ds .max) (entryAt t p .node .max) ≡ c → isStale excluded ds t p ≡ (not b && c)
   is-so b c f g =
       ap₂ (λ (x : Bool) (y : Bool). not x && y) (ap (λ (k : ℕ). among k excluded) (sym e) ∙ f)
       (ap (λ (k : ℕ). ltb (toldOf k ds .max) (entryAt t p .node .max)) (sym e) ∙ g)
@@ -58,20 +58,23 @@ module _ (excluded : List ℕ) (ds : List NodeDigest) (t : Table) (p n : ℕ) (e
     pub behind : r .max < m → (w x : ℕ) → w ≡ entryAt t p .node .last-gc → x ≡ fromOf w (r .«last_gc») (r .max) → From x ≡ stalenessOf excluded ds t p
     behind h w x q k =
         let yes : ltb (toldOf n ds .max) (entryAt t p .node .max) ≡ true = lt-ltb (toldOf n ds .max) (entryAt t p .node .max) (rw (← told-max, ← own) h) in
-        let is : x ≡ fromAt ds t p = k ∙ (λ i. fromOf (q i) (told i .«last_gc») (told i .max)) ∙ ap (λ (j : ℕ). fromOf (entryAt t p .node .last-gc) (toldOf j ds .last-gc) (toldOf j ds .max)) e in
+        let is : x ≡ fromAt ds t p =
+        k
+        ∙ (λ i. fromOf (q i) (told i .«last_gc») (told i .max))
+        ∙ ap (λ (j : ℕ). fromOf (entryAt t p .node .last-gc) (toldOf j ds .last-gc) (toldOf j ds .max)) e in
         ap From is ∙ ap (λ (x : Bool). pick x (From (fromAt ds t p)) UpToDate) (sym (is-so false true (sym f ∙ g) yes))
 
 -- what an answer says
 module _ (excluded : List ℕ) (ds : List NodeDigest) (t : Table) (p : ℕ) (r : Staleness) (e : r ≡ stalenessOf excluded ds t p) where
-  pub goes-from : (x : ℕ) → r ≡ From x → (goes excluded ds t p ≡ true) × (x ≡ fromAt ds t p)
-  goes-from x f = go (goes excluded ds t p) (sym f ∙ e)
+  pub told-stale : (x : ℕ) → r ≡ From x → (isStale excluded ds t p ≡ true) × (x ≡ fromAt ds t p)
+  told-stale x f = go (isStale excluded ds t p) (sym f ∙ e)
     where
       go : (b : Bool) → From x ≡ pick b (From (fromAt ds t p)) UpToDate → (b ≡ true) × (x ≡ fromAt ds t p)
       go true q = (refl, cc)
       go false q = let z : _≡_ {A = ℕ} 0 1 = cc in absurd (omega arith)
 
-  pub goes-not : r ≡ UpToDate → goes excluded ds t p ≡ false
-  goes-not f = go (goes excluded ds t p) (sym f ∙ e)
+  pub told-level : r ≡ UpToDate → isStale excluded ds t p ≡ false
+  told-level f = go (isStale excluded ds t p) (sym f ∙ e)
     where
       go : (b : Bool) → UpToDate ≡ pick b (From (fromAt ds t p)) UpToDate → b ≡ false
       go true q = let z : _≡_ {A = ℕ} 0 1 = cc in absurd (omega arith)

@@ -1,6 +1,6 @@
 -- The call to compute, case by case: refused by its numbers, by the digest, or done. Assumes nothing.
 use Prim.Native.Nat.{ℕ, _+_, _-_, _≤_, _<_}
-use mathlib.Core.Path.{_≡_, refl, sym, ap, _∙_}
+use mathlib.Core.Path.{_≡_, refl, sym, ap, _∙_, subst}
 use mathlib.Core.Bool.{Bool, true, false}
 use mathlib.Core.List.{List}
 use native.Mathlib.Omega.{arith}
@@ -9,12 +9,13 @@ use native.Mathlib.Nat.{add-zero, zero-add}
 use lib.Dec.{leb, eqb}
 use borrow.Author.Tests.{leb-true, eqb-true, le-leb, lt-leb}
 use borrow.Rule.Slice.PartMut.{putMid}
+use Rattle.fields.specs.Numbers.{Bytes}
 use Rattle.fields.specs.Choice.{pick}
 use Rattle.fields.specs.Parts.{put}
 use Rattle.fields.proofs.Choice.{and-left, and-right, pick-true, pick-false}
 use Rattle.fields.proofs.Parts.{length-part}
 use Rattle.fields.proofs.Lent.{seen, lent-put}
-use Rattle.rules.specs.Given.{Given, given}
+use Rattle.rules.specs.Given.{Given, Gives, given}
 use Rattle.rules.specs.Sizes.{leastMtu, maxDelta}
 use Rattle.rules.specs.Table.{Table}
 use Rattle.rules.specs.Digest.{NodeDigest, DigestRead, Entries, Refused, readDigest}
@@ -26,8 +27,10 @@ use Rattle.rules.specs.Lent.{fromTable, lentCompute}
 use Rattle.rules.proofs.Accepted.{cut-bytes}
 use Rattle.rules.specs.declared.Refusal.the-variants.{BadMtu, NoPlace, BadTies, BadTable}
 use Rattle.compute_write.specs.declared.Sent.{Sent}
+use Rattle.compute_write.proofs.Steps.{gives}
 use Rattle.rules.specs.declared.Computed.{Computed}
 use Rattle.rules.specs.declared.Computed.the-variants as computed
+use Rattle.compute.specs.Plan.{atFront, deltaIn}
 use Rattle.compute.specs.Asking.{mtuFits, isFree, askedOf}
 use Rattle.compute.specs.declared.Asked.{Asked}
 use Rattle.compute.specs.declared.Asked.the-variants as asked
@@ -45,7 +48,8 @@ module _ (mtu place room ties nodes : ℕ) where
   granted e = go (mtuFits mtu) (isFree place mtu room) refl (eqb ties nodes) refl e
     where
       go : (a b : Bool) → isFree place mtu room ≡ b → (c : Bool) → eqb ties nodes ≡ c
-          → pick a (pick b (pick c asked.Good (asked.Refused BadTies)) (asked.Refused NoPlace)) (asked.Refused BadMtu) ≡ asked.Good → Granted mtu place room ties nodes
+          → pick a (pick b (pick c asked.Good (asked.Refused BadTies)) (asked.Refused NoPlace)) (asked.Refused BadMtu) ≡ asked.Good
+          → Granted mtu place room ties nodes
       go true true f true g q =
           record {
             before = leb-true place room (and-left (leb place room) (leb mtu (room - place)) f);
@@ -62,11 +66,11 @@ delta-fits : (excluded ties : List ℕ) (mtu : ℕ) (ds : List NodeDigest) (t : 
 unfolding deltaFor
 delta-fits excluded ties mtu ds t = cut-bytes mtu _
 
-module _ (excluded ties : List ℕ) (mtu place : ℕ) (digest : List ℕ) (t : Table) (l : List ℕ) where
+module _ (excluded ties : List ℕ) (mtu place : ℕ) (digest : Bytes) (t : Table) (l : Bytes) where
   abbrev numbers : Asked
   numbers = askedOf mtu place (length l) (length ties) (length t)
 
-  abbrev on : Asked → Given Computed (List ℕ)
+  abbrev on : Asked → Given Computed Bytes
   on asked.Good = onDigest excluded ties mtu place (readDigest digest) t l
   on (asked.Refused r) = given (computed.Refused r) l
 
@@ -75,49 +79,51 @@ module _ (excluded ties : List ℕ) (mtu place : ℕ) (digest : List ℕ) (t : T
   by-numbers = go (mtuFits mtu) (isFree place mtu (length l)) (eqb (length ties) (length t))
     where
       go : (a b c : Bool) → on (pick a (pick b (pick c asked.Good (asked.Refused BadTies)) (asked.Refused NoPlace)) (asked.Refused BadMtu))
-          ≡ pick a (pick b (pick c (onDigest excluded ties mtu place (readDigest digest) t l) (given (computed.Refused BadTies) l)) (given (computed.Refused NoPlace) l)) (given (computed.Refused BadMtu) l)
+          ≡ pick a (pick b (pick c (on asked.Good) (on (asked.Refused BadTies))) (on (asked.Refused NoPlace))) (on (asked.Refused BadMtu))
       go true true true = refl
       go true true false = refl
       go true false c = refl
       go false b c = refl
 
   -- 7, 8, 15
-  pub by-refused : (r : Refusal) → numbers ≡ asked.Refused r → given (computed.Refused r) l ≡ compute excluded ties mtu place digest t l
-  by-refused r e = ap on (sym e) ∙ by-numbers
+  pub by-refused : (r : Refusal) → numbers ≡ asked.Refused r → Gives (compute excluded ties mtu place digest t l) (computed.Refused r) l
+  by-refused r e = gives _ _ (compute excluded ties mtu place digest t l) (ap on (sym e) ∙ by-numbers)
 
   -- 9, 13, 9
-  pub by-digest : (r : Refusal) → numbers ≡ asked.Good → readDigest digest ≡ Refused r → given (computed.Refused r) l ≡ compute excluded ties mtu place digest t l
-  by-digest r e f = ap (λ (d : DigestRead). onDigest excluded ties mtu place d t l) (sym f) ∙ ap on (sym e) ∙ by-numbers
+  pub by-digest : (r : Refusal) → numbers ≡ asked.Good → readDigest digest ≡ Refused r
+      → Gives (compute excluded ties mtu place digest t l) (computed.Refused r) l
+  by-digest r e f =
+      gives _ _ (compute excluded ties mtu place digest t l)
+      (ap (λ (d : DigestRead). onDigest excluded ties mtu place d t l) (sym f) ∙ ap on (sym e) ∙ by-numbers)
 
   -- the delta is written
-  pub by-delta : (ds : List NodeDigest) (rest : List ℕ) → numbers ≡ asked.Good → readDigest digest ≡ Entries ds rest
+  by-delta : (ds : List NodeDigest) (rest : List ℕ) → numbers ≡ asked.Good → readDigest digest ≡ Entries ds rest
       → written (deltaFor excluded ties mtu ds t) place l ≡ compute excluded ties mtu place digest t l
   by-delta ds rest e f = ap (λ (d : DigestRead). onDigest excluded ties mtu place d t l) (sym f) ∙ ap on (sym e) ∙ by-numbers
 
   -- what was written into the part of the datagram that is as long as the MTU
-  pub by-part : (ds : List NodeDigest) (rest : List ℕ) (r : Sent) (after : List ℕ) → place + mtu ≤ length l → numbers ≡ asked.Good → readDigest digest ≡ Entries ds rest
-      → let seen : List ℕ = take (place + mtu - place) (drop place l) in
-      let d : List Op = deltaFor excluded ties (length seen) ds t in
-      r .ops ≡ length d → r .bytes ≡ length (deltaBytes d) → after ≡ put 0 (deltaBytes d) seen → length after ≡ length seen
-      → given (computed.Delta (r .ops) (r .bytes)) (putMid place (place + mtu - place) l after) ≡ compute excluded ties mtu place digest t l
-  by-part ds rest r after h e f a b c k =
-      let long : length (take (place + mtu - place) (drop place l)) ≡ mtu = ap length (seen place mtu l) ∙ length-part place mtu l h in
+  pub by-part : (ds : List NodeDigest) (rest : Bytes) (r : Sent) (after : Bytes) → place + mtu ≤ length l → numbers ≡ asked.Good
+      → readDigest digest ≡ Entries ds rest → let part : Bytes = take (place + mtu - place) (drop place l) in
+      Gives (deltaIn excluded ties ds t part) r after → length after ≡ length part
+      → Gives (compute excluded ties mtu place digest t l) (computed.Delta (r .ops) (r .bytes)) (putMid place (place + mtu - place) l after)
+  by-part ds rest r after h e f g k =
+      let part : Bytes = take (place + mtu - place) (drop place l) in
+      let long : length part ≡ mtu = ap length (seen place mtu l) ∙ length-part place mtu l h in
       let d : List Op = deltaFor excluded ties mtu ds t in
-      let is : deltaFor excluded ties (length (take (place + mtu - place) (drop place l))) ds t ≡ d = ap (λ (n : ℕ). deltaFor excluded ties n ds t) long in
-      let back : putMid place (place + mtu - place) l after ≡ put place (deltaBytes d) l =
-      lent-put place mtu 0 (deltaBytes d) l after h (rw zero-add (delta-fits excluded ties mtu ds t))
-      (c ∙ ap (λ (os : List Op). put 0 (deltaBytes os) (take (place + mtu - place) (drop place l))) is) k
+      let own = subst (λ (n : ℕ). Gives (atFront (deltaFor excluded ties n ds t) part) r after) long g in
+      let whole : putMid place (place + mtu - place) l after ≡ put place (deltaBytes d) l =
+      lent-put place mtu 0 (deltaBytes d) l after h (rw zero-add (delta-fits excluded ties mtu ds t)) (own .1) k
       ∙ ap (λ (n : ℕ). put n (deltaBytes d) l) (add-zero place) in
-      (λ i. given (computed.Delta ((a ∙ ap length is) i) ((b ∙ ap (λ (os : List Op). length (deltaBytes os)) is) i)) (back i)) ∙ by-delta ds rest e f
+      gives _ _ (compute excluded ties mtu place digest t l) ((λ i. given (computed.Delta (own .0 i .ops) (own .0 i .bytes)) (whole i)) ∙ by-delta ds rest e f)
 
 -- ---- 14
 
-pub bad-table : (excluded ties : List ℕ) (mtu place : ℕ) (digest l datagram : List ℕ) → valid l ≡ false
-    → given (computed.Refused BadTable) datagram ≡ lentCompute excluded ties mtu place digest datagram l
+pub bad-table : (excluded ties : List ℕ) (mtu place : ℕ) (digest l datagram : Bytes) → valid l ≡ false
+    → Gives (lentCompute excluded ties mtu place digest datagram l) (computed.Refused BadTable) datagram
 unfolding fromTable
-bad-table excluded ties mtu place digest l datagram e = sym (pick-false (valid l) _ _ e)
+bad-table excluded ties mtu place digest l datagram e = gives _ _ _ (sym (pick-false (valid l) _ _ e))
 
-pub good-table : (excluded ties : List ℕ) (mtu place : ℕ) (digest l datagram : List ℕ) → valid l ≡ true
+pub good-table : (excluded ties : List ℕ) (mtu place : ℕ) (digest l datagram : Bytes) → valid l ≡ true
     → compute excluded ties mtu place digest (decode l) datagram ≡ lentCompute excluded ties mtu place digest datagram l
 unfolding fromTable
 good-table excluded ties mtu place digest l datagram e = sym (pick-true (valid l) _ _ e)

@@ -9,13 +9,14 @@ use lib.ListN.{length, getD, set, length-set}
 use lib.Seq.{getD-set-same, getD-set-other}
 use Rattle.fields.specs.Choice.{_∈_}
 use Rattle.fields.proofs.Choice.{in-none}
+use Rattle.rules.specs.Sizes.{maxNodes}
 use Rattle.rules.specs.Table.{Table}
 use Rattle.rules.specs.Digest.{NodeDigest}
 use Rattle.rules.specs.Compute.{stale}
-use Rattle.compute_stale.specs.Arranged.{span, listed, insert, arranged}
-use Rattle.compute_stale.proofs.Arranged.{insert-in, insert-agree, arranged-start, arranged-takes, arranged-leaves, arranged-in}
+use Rattle.compute_stale.specs.Arranged.{span, listed, insert, putIn, arranged}
+use Rattle.compute_stale.proofs.Arranged.{insert-in, length-put-in, listed-put-in, insert-agree, arranged-start, arranged-takes, arranged-leaves, arranged-in}
 use Rattle.table_read.specs.Find.{entryAt}
-use Rattle.compute_order.specs.Line.{rankOf, ahead, rankAt, aheadAt, staleAt, goes, soonerAt}
+use Rattle.compute_order.specs.Line.{rankFor, ahead, rankAt, aheadAt, staleAt, isStale, soonerAt}
 use Rattle.compute_order.proofs.Lined.{ahead-is}
 use Rattle.compute.specs.Plan.{fromAt, Planned}
 
@@ -31,13 +32,14 @@ module _ (excluded : List ℕ) (ds : List NodeDigest) (ties : List ℕ) (t : Tab
   pub record Upto (n i : ℕ) (line froms counts : List ℕ) : Type 0 where
     pub within : i ≤ length t
     pub few : n ≤ length t - i
-    pub line-long : length line ≡ 8
-    pub froms-long : length froms ≡ 8
-    pub counts-long : length counts ≡ 8
-    pub is : listed n line ≡ arranged (goes excluded ds t) (soonerAt ds ties t) i (length t - i)
+    pub line-long : length line ≡ maxNodes
+    pub froms-long : length froms ≡ maxNodes
+    pub counts-long : length counts ≡ maxNodes
+    pub is : listed n line ≡ arranged (isStale excluded ds t) (soonerAt ds ties t) i (length t - i)
     pub right : (p : ℕ) → p ∈ listed n line → Right froms counts p
 
-  pub none-yet : (i : ℕ) (line froms counts : List ℕ) → i ≡ length t → length line ≡ 8 → length froms ≡ 8 → length counts ≡ 8 → Upto 0 i line froms counts
+  pub none-yet : (i : ℕ) (line froms counts : List ℕ) → i ≡ length t → length line ≡ maxNodes → length froms ≡ maxNodes → length counts ≡ maxNodes
+      → Upto 0 i line froms counts
   unfolding span
   none-yet i line froms counts e a b c =
       record {
@@ -46,12 +48,13 @@ module _ (excluded : List ℕ) (ds : List NodeDigest) (ties : List ℕ) (t : Tab
         line-long = a;
         froms-long = b;
         counts-long = c;
-        is = sym (ap (λ (k : ℕ). arranged (goes excluded ds t) (soonerAt ds ties t) i (k - i)) (sym e) ∙ arranged-start (goes excluded ds t) (soonerAt ds ties t) i);
+        is = sym (arranged-start (isStale excluded ds t) (soonerAt ds ties t) i)
+            ∙ ap (λ (k : ℕ). arranged (isStale excluded ds t) (soonerAt ds ties t) i (k - i)) e;
         right = λ p m. absurd (in-none m);
       }
 
   -- where from and count are right, the rank is the node's
-  rank-is : (froms counts : List ℕ) (p : ℕ) → Right froms counts p → rankAt t froms counts ties p ≡ rankOf (staleAt ds ties t p)
+  rank-is : (froms counts : List ℕ) (p : ℕ) → Right froms counts p → rankAt t froms counts ties p ≡ rankFor (staleAt ds ties t p)
   rank-is froms counts p r =
       λ j. record { from = r .0 j; max = entryAt t p .node .max; count = r .1 j; tie = getD ties p 0; number = entryAt t p .number }
 
@@ -59,13 +62,13 @@ module _ (excluded : List ℕ) (ds : List NodeDigest) (ties : List ℕ) (t : Tab
     -- the places in line are from i on
     pub above : (p : ℕ) → p ∈ listed n line → (i ≤ p) × (p < length t)
     above p m =
-        let b = arranged-in (goes excluded ds t) (soonerAt ds ties t) i (length t - i) (subst (λ (l : List ℕ). p ∈ l) (u .is) m) in
+        let b = arranged-in (isStale excluded ds t) (soonerAt ds ties t) i (length t - i) (subst (λ (l : List ℕ). p ∈ l) (u .is) m) in
         let g = b .0 in
         let k = b .1 in
         let w = u .within in
         (g, omega arith)
 
-    pub stays : goes excluded ds t (i - 1) ≡ false → Upto n (i - 1) line froms counts
+    pub stays : isStale excluded ds t (i - 1) ≡ false → Upto n (i - 1) line froms counts
     stays e =
         let w = u .within in
         let f = u .few in
@@ -75,11 +78,11 @@ module _ (excluded : List ℕ) (ds : List NodeDigest) (ties : List ℕ) (t : Tab
           line-long = u .line-long;
           froms-long = u .froms-long;
           counts-long = u .counts-long;
-          is = u .is ∙ sym (arranged-leaves (goes excluded ds t) (soonerAt ds ties t) i (length t) h w e);
+          is = u .is ∙ sym (arranged-leaves (isStale excluded ds t) (soonerAt ds ties t) i (length t) h w e);
           right = u .right;
         }
 
-    module _ (few : length t ≤ 8) (x y : ℕ) (fx : x ≡ fromAt ds t (i - 1)) (fy : y ≡ countAt (i - 1)) where
+    module _ (few : length t ≤ maxNodes) (x y : ℕ) (fx : x ≡ fromAt ds t (i - 1)) (fy : y ≡ countAt (i - 1)) where
       abbrev froms′ : List ℕ
       froms′ = set froms (i - 1) x
 
@@ -105,27 +108,31 @@ module _ (excluded : List ℕ) (ds : List NodeDigest) (ties : List ℕ) (t : Tab
           ap₂ ahead (rank-is froms′ counts′ (i - 1) own-right) (rank-is froms′ counts′ q (others-right q m))
           ∙ ahead-is (staleAt ds ties t (i - 1)) (staleAt ds ties t q)
 
-      pub joins : goes excluded ds t (i - 1) ≡ true → (line′ : List ℕ) → length line′ ≡ 8
-          → listed (n + 1) line′ ≡ insert (aheadAt t froms′ counts′ ties) (i - 1) (listed n line) → Upto (n + 1) (i - 1) line′ froms′ counts′
-      joins e line′ long q =
+      pub joins : isStale excluded ds t (i - 1) ≡ true → (line′ : List ℕ) → line′ ≡ putIn (aheadAt t froms′ counts′ ties) n (i - 1) line
+          → Upto (n + 1) (i - 1) line′ froms′ counts′
+      joins e line′ put =
           let w = u .within in
           let f = u .few in
+          let long = u .line-long in
+          let room : n < length line = omega arith in
+          let q : listed (n + 1) line′ ≡ insert (aheadAt t froms′ counts′ ties) (i - 1) (listed n line) =
+          ap (listed (n + 1)) put ∙ listed-put-in (aheadAt t froms′ counts′ ties) n (i - 1) line room in
           record {
             within = omega arith;
             few = omega arith;
-            line-long = long;
+            line-long = ap length put ∙ length-put-in (aheadAt t froms′ counts′ ties) n (i - 1) line room ∙ long;
             froms-long = length-set froms (i - 1) x ∙ u .froms-long;
             counts-long = length-set counts (i - 1) y ∙ u .counts-long;
             is = q
                 ∙ insert-agree (aheadAt t froms′ counts′ ties) (soonerAt ds ties t) (i - 1) (listed n line) agree
                 ∙ ap (insert (soonerAt ds ties t) (i - 1)) (u .is)
-                ∙ sym (arranged-takes (goes excluded ds t) (soonerAt ds ties t) i (length t) h w e);
+                ∙ sym (arranged-takes (isStale excluded ds t) (soonerAt ds ties t) i (length t) h w e);
             right = λ p m. ⊎-elim (λ s. subst (Right froms′ counts′) (sym s) own-right) (λ o. others-right p o)
                 (insert-in (aheadAt t froms′ counts′ ties) (i - 1) (listed n line) (subst (λ (l : List ℕ). p ∈ l) q m));
           }
 
   -- all nodes are through
-  pub all-in-line : (n i : ℕ) (line froms counts : List ℕ) → length t ≤ 8 → i ≡ 0 → Upto n i line froms counts
+  pub all-in-line : (n i : ℕ) (line froms counts : List ℕ) → length t ≤ maxNodes → i ≡ 0 → Upto n i line froms counts
       → Planned excluded ds ties t (record { line = line; froms = froms; count = n })
   all-in-line n i line froms counts h z u =
       let f = u .few in
@@ -134,6 +141,6 @@ module _ (excluded : List ℕ) (ds : List NodeDigest) (ties : List ℕ) (t : Tab
         count-low = omega arith;
         line-long = u .line-long;
         froms-long = u .froms-long;
-        in-line = u .is ∙ ap₂ (arranged (goes excluded ds t) (soonerAt ds ties t)) z e;
+        in-line = u .is ∙ ap₂ (arranged (isStale excluded ds t) (soonerAt ds ties t)) z e;
         from-of = λ p m. u .right p m .0;
       }

@@ -4,20 +4,24 @@ use mathlib.Core.Path.{_≡_, refl, ap, ap₂, _∙_, subst}
 use mathlib.Core.List.{List, [], _∷_, _++_, map}
 use native.Mathlib.Nat.{zero-add, sub-zero}
 use lib.ListN.{length, getD}
+use Rattle.fields.specs.Numbers.{Bytes}
 use Rattle.fields.specs.Choice.{_∈_, here, later}
 use Rattle.fields.specs.Parts.{put}
 use Rattle.rules.specs.Given.{given}
 use Rattle.rules.specs.Table.{Table}
 use Rattle.rules.specs.Digest.{NodeDigest}
-use Rattle.rules.specs.Delta.{Op, NodeOp, deltaBytes}
-use Rattle.rules.specs.Compute.{stale, bodyOps, allOps, cut, ordered, staleNodes, deltaFor}
+use Rattle.rules.specs.Delta.{Op, deltaBytes}
+use Rattle.rules.specs.Compute.{allOps, cut, ordered, staleNodes, deltaFor}
 use Rattle.compute_stale.specs.Arranged.{listed}
-use Rattle.table_read.specs.Find.{entryAt}
 use Rattle.compute_order.specs.Line.{staleAt}
 use Rattle.compute_order.proofs.Lined.{line-nodes, line-in}
-use Rattle.compute_write.specs.Sending.{opsAt, counts, behind, sending}
-use Rattle.compute.specs.Plan.{fromAt, Planned}
+use Rattle.compute_write.specs.Sending.{opsOfNode, opsAt, counts, behind, sending}
+use Rattle.compute.specs.Plan.{fromAt, Planned, atFront, deltaIn}
 use Rattle.compute.specs.declared.Plan.{Plan}
+
+-- behind nothing
+from-none : (os : List Op) (l : Bytes) → behind 0 0 os l ≡ atFront os l
+from-none os l = λ i. given (counts (zero-add (length os) i) (zero-add (length (deltaBytes os)) i)) (put 0 (deltaBytes os) l)
 
 module _ (excluded : List ℕ) (ds : List NodeDigest) (ties : List ℕ) (t : Table) where
   -- the operations of nodes at places whose froms are right
@@ -25,8 +29,7 @@ module _ (excluded : List ℕ) (ds : List NodeDigest) (ties : List ℕ) (t : Tab
   unfolding opsAt allOps
   ops-at froms [] h = refl
   ops-at froms (p ∷ l) h =
-      ap₂ (λ (from : ℕ) (os : List Op). (NodeOp (entryAt t p .number) (entryAt t p .node .last-gc) from ∷ bodyOps (entryAt t p .node .max) (stale from (entryAt t p .node .recs))) ++ os)
-      (h p (here refl)) (ops-at froms l (λ q m. h q (later m)))
+      ap₂ (λ (from : ℕ) (os : List Op). opsOfNode t p from ++ os) (h p (here refl)) (ops-at froms l (λ q m. h q (later m)))
 
   module _ (r : Plan) (k : Planned excluded ds ties t r) where
     planned : opsAt t (r .froms) (listed (r .count) (r .line)) ≡ allOps (ordered (staleNodes excluded ds ties t))
@@ -35,12 +38,10 @@ module _ (excluded : List ℕ) (ds : List NodeDigest) (ties : List ℕ) (t : Tab
         ∙ ap (λ (l : List ℕ). allOps (map (staleAt ds ties t) l)) (k .in-line)
         ∙ ap allOps (line-nodes excluded ds ties t)
 
-    pub delta-is : (l : List ℕ) → let d : List Op = deltaFor excluded ties (length l) ds t in
-        sending 0 0 (opsAt t (r .froms) (listed (r .count) (r .line))) l ≡ given (counts (length d) (length (deltaBytes d))) (put 0 (deltaBytes d) l)
+    pub delta-is : (l : Bytes) → sending 0 0 (opsAt t (r .froms) (listed (r .count) (r .line))) l ≡ deltaIn excluded ties ds t l
     unfolding sending deltaFor
     delta-is l =
-        (λ i. behind 0 0 (cut (sub-zero (length l) i) (planned i)) l)
-        ∙ (λ i. given (counts (zero-add (length (cut (length l) (allOps (ordered (staleNodes excluded ds ties t))))) i) (zero-add (length (deltaBytes (cut (length l) (allOps (ordered (staleNodes excluded ds ties t)))))) i)) (put 0 (deltaBytes (cut (length l) (allOps (ordered (staleNodes excluded ds ties t))))) l))
+        (λ i. behind 0 0 (cut (sub-zero (length l) i) (planned i)) l) ∙ from-none (cut (length l) (allOps (ordered (staleNodes excluded ds ties t)))) l
 
     pub line-within : (p : ℕ) → p ∈ listed (r .count) (r .line) → p < length t
     line-within p m = line-in excluded ds ties t (subst (λ (l : List ℕ). p ∈ l) (k .in-line) m)

@@ -8,13 +8,13 @@ use Rattle.rules.specs.declared.Refusal.the-variants.{BadMtu, NoPlace, BadTies}
 use Rattle.compute.specs.declared.Asked.{Asked}
 use Rattle.compute.specs.declared.Asked.the-variants.{Good, Refused}
 
-abbrev pub mtuFits : ℕ → Bool
+abbrev pub mtuFits : (mtu : ℕ) → Bool
 mtuFits mtu = leb leastMtu mtu && leb mtu maxDelta
 
 -- a whole MTU is free from the place on, in so much room
-abbrev pub isFree : ℕ → ℕ → ℕ → Bool
+abbrev pub isFree : (place mtu room : ℕ) → Bool
 isFree place mtu room = leb place room && leb mtu (room - place)
 
-unfoldable pub askedOf : ℕ → ℕ → ℕ → ℕ → ℕ → Asked
+unfoldable pub askedOf : (mtu place room ties nodes : ℕ) → Asked
 askedOf mtu place room ties nodes =
     pick (mtuFits mtu) (pick (isFree place mtu room) (pick (eqb ties nodes) Good (Refused BadTies)) (Refused NoPlace)) (Refused BadMtu)

@@ -11,17 +11,15 @@ ghost use mathlib.Core.Path.{_≡_};
 ghost use mathlib.Core.Bool.{true};
 ghost use Prim.Native.Nat.{_+_, _≤_, _<_};
 ghost use lib.ListN.{length};
-ghost use Rattle.fields.specs.Parts.{put};
 ghost use Rattle.rules.specs.Given.{Gives};
-ghost use Rattle.rules.specs.Delta.{deltaBytes};
-ghost use Rattle.rules.specs.Compute.{fromOf, deltaFor, compute};
+ghost use Rattle.rules.specs.Compute.{fromOf, compute};
 ghost use Rattle.rules.specs.Layout.{decode, valid};
 ghost use Rattle.table.specs.Fits.{LaidTable};
 ghost use Rattle.table.specs.Tests.{nodesOf};
 ghost use Rattle.digest_read.specs.Held.{entriesIn};
 ghost use Rattle.rules.specs.Lent.{lentCompute};
 ghost use Rattle.compute.specs.Asking.{mtuFits, isFree, askedOf};
-ghost use Rattle.compute.specs.Plan.{stalenessOf, Planned};
+ghost use Rattle.compute.specs.Plan.{stalenessOf, Planned, deltaIn};
 
 // How a digest stands to a node of the table.
 pub enum Staleness {
@@ -103,15 +101,13 @@ pub fn write_delta(
     part: &mut [u8],
 ) -> Sent
     requires { ⌜ LaidTable (now table) × (nodesOf (now table) ≤ length (now ties)) ⌝ }
-    ensures { λ r. ⌜ (r .ops ≡ length (deltaFor (now (excluded .entry)) (now (ties .entry)) (length (now (part .entry))) (entriesIn digest) (decode (now (table .entry)))))
-        × (r .bytes ≡ length (deltaBytes (deltaFor (now (excluded .entry)) (now (ties .entry)) (length (now (part .entry))) (entriesIn digest) (decode (now (table .entry))))))
-        × (now (part .exit)
-        ≡ put 0 (deltaBytes (deltaFor (now (excluded .entry)) (now (ties .entry)) (length (now (part .entry))) (entriesIn digest) (decode (now (table .entry))))) (now (part .entry))) ⌝ }
+    ensures { λ r. ⌜ Gives (deltaIn (now (excluded .entry)) (now (ties .entry)) (entriesIn digest) (decode (now (table .entry))) (now (part .entry)))
+        r (now (part .exit)) ⌝ }
 {
-    let p = line_up(table, digest, excluded, ties);
-    let line = p.line;
-    let froms = p.froms;
-    compute_write::send(table, &froms, &line, p.count, part)
+    let plan = line_up(table, digest, excluded, ties);
+    let line = plan.line;
+    let froms = plan.froms;
+    compute_write::write_nodes(table, &froms, &line, plan.count, part)
 }
 
 // Whether a call can go ahead, by its numbers alone.
@@ -167,8 +163,8 @@ pub fn compute_good(
     place: usize,
 ) -> Computed
     requires { ⌜ valid (now table) ≡ true ⌝ }
-    ensures { λ r. ⌜ Gives (compute (now (excluded .entry)) (now (ties .entry)) mtu place (now (digest .entry)) (decode (now (table .entry))) (now (datagram .entry)))
-        r (now (datagram .exit)) ⌝ }
+    ensures { λ r. ⌜ Gives (compute (now (excluded .entry)) (now (ties .entry)) mtu place (now (digest .entry))
+        (decode (now (table .entry))) (now (datagram .entry))) r (now (datagram .exit)) ⌝ }
 {
     let asked = ask(
         mtu,
@@ -206,8 +202,8 @@ pub fn compute(
     datagram: &mut [u8],
     place: usize,
 ) -> Computed
-    ensures { λ r. ⌜ Gives (lentCompute (now (excluded .entry)) (now (ties .entry)) mtu place (now (digest .entry)) (now (datagram .entry)) (now (table .entry)))
-        r (now (datagram .exit)) ⌝ }
+    ensures { λ r. ⌜ Gives (lentCompute (now (excluded .entry)) (now (ties .entry)) mtu place (now (digest .entry))
+        (now (datagram .entry)) (now (table .entry))) r (now (datagram .exit)) ⌝ }
 {
     if table_check::check_table(table) {
         return compute_good(table, digest, mtu, excluded, ties, datagram, place);

@@ -10,235 +10,314 @@ use lib.ListN.{length, take, drop, length-append, length-drop, take-append-drop}
 use lib.Dec.{leb}
 use borrow.Author.Tests.{leb-true, leb-false, le-leb, lt-leb}
 use borrow.Rule.Slice.PartMut.{putMid}
+use Rattle.fields.specs.Numbers.{Bytes}
 use Rattle.fields.specs.Choice.{pick}
 use Rattle.fields.specs.Parts.{put}
 use Rattle.fields.specs.Blocks.{flat}
 use Rattle.fields.proofs.Choice.{pick-true, pick-false}
 use Rattle.fields.proofs.Parts.{length-put, put-nil, put-behind, put-rest}
 use Rattle.fields.proofs.Lent.{lent-rest, seen-rest}
-use Rattle.rules.specs.Given.{Given, given}
+use Rattle.rules.specs.Given.{Given, Gives, given}
 use Rattle.rules.specs.Node.{KeyValue}
 use Rattle.rules.specs.Delta.{Op, NodeOp, KeyValueOp, SetMaxVersionOp, opBytes, sizeOf, deltaBytes}
 use Rattle.rules.specs.Compute.{keyValueOps, bodyOps, cut}
 use Rattle.rules.proofs.Accepted.{cut-bytes}
-use Rattle.delta_write.specs.Written.{WritesOp, writeOp}
+use Rattle.delta_write.specs.Written.{writeOp}
 use Rattle.delta_write.specs.declared.Wrote.{Wrote}
-use Rattle.delta_write.specs.declared.Wrote.the-variants.{Bytes, NoFit}
+use Rattle.delta_write.specs.declared.Wrote.the-variants as wrote
 use Rattle.compute_write.specs.Sending.{counts, behind, sending, closed}
 use Rattle.compute_write.specs.declared.Sent.{Sent}
 
+-- what an equation of two outcomes says
+pub gives : {A M : Type 0} (a : A) (m : M) (of : Given A M) → given a m ≡ of → Gives of a m
+gives a m of e = (ap (λ (x : Given _ _). x .answer) e, ap (λ (x : Given _ _). x .lent) e)
+
+pub gives-as : {A M : Type 0} {of other : Given A M} {a : A} {m : M} → of ≡ other → Gives of a m → Gives other a m
+gives-as e g = (g .0 ∙ ap (λ (x : Given _ _). x .answer) e, g .1 ∙ ap (λ (x : Given _ _). x .lent) e)
+
 -- ---- what a writer did
 
-pub size-low : (o : Op) → 1 ≤ sizeOf o
+size-low : (o : Op) → 1 ≤ sizeOf o
 unfolding sizeOf opBytes
 size-low (NodeOp n g f) = omega arith
 size-low (KeyValueOp r) = omega arith
 size-low (SetMaxVersionOp m) = omega arith
 
 -- it fitted
-pub record Took (o : Op) (m : List ℕ) (n : ℕ) (after : List ℕ) : Type 0 where
-  pub size : n ≡ sizeOf o
-  pub fits : sizeOf o ≤ length m
-  pub front : after ≡ put 0 (opBytes o) m
+record Took (o : Op) (m : Bytes) (n : ℕ) (after : Bytes) : Type 0 where
+  size : n ≡ sizeOf o
+  fits : sizeOf o ≤ length m
+  front : after ≡ put 0 (opBytes o) m
 
-pub took : (o : Op) (m : List ℕ) (answer : Wrote) (after : List ℕ) (n : ℕ) → WritesOp o m answer after → answer ≡ Bytes n → Took o m n after
+took : (o : Op) (m : Bytes) (answer : Wrote) (after : Bytes) (n : ℕ) → Gives (writeOp o m) answer after → answer ≡ wrote.Bytes n → Took o m n after
 unfolding writeOp
 took o m answer after n w e = go (leb (sizeOf o) (length m)) refl (sym e ∙ w .0) (w .1)
   where
-    go : (t : Bool) → leb (sizeOf o) (length m) ≡ t → Bytes n ≡ pick t (given (Bytes (sizeOf o)) (put 0 (opBytes o) m)) (given NoFit m) .answer
-        → after ≡ pick t (given (Bytes (sizeOf o)) (put 0 (opBytes o) m)) (given NoFit m) .lent → Took o m n after
+    does : Bool → Given Wrote Bytes
+    does t = pick t (given (wrote.Bytes (sizeOf o)) (put 0 (opBytes o) m)) (given wrote.NoFit m)
+
+    go : (t : Bool) → leb (sizeOf o) (length m) ≡ t → wrote.Bytes n ≡ does t .answer → after ≡ does t .lent → Took o m n after
     go true q a b = record { size = cc; fits = leb-true (sizeOf o) (length m) q; front = b }
     go false q a b = let z : _≡_ {A = ℕ} 0 1 = cc in absurd (omega arith)
 
 -- it did not
-pub record Left (o : Op) (m after : List ℕ) : Type 0 where
-  pub over : length m < sizeOf o
-  pub same : after ≡ m
+record Left (o : Op) (m after : Bytes) : Type 0 where
+  over : length m < sizeOf o
+  same : after ≡ m
 
-pub left : (o : Op) (m : List ℕ) (answer : Wrote) (after : List ℕ) → WritesOp o m answer after → answer ≡ NoFit → Left o m after
+left : (o : Op) (m : Bytes) (answer : Wrote) (after : Bytes) → Gives (writeOp o m) answer after → answer ≡ wrote.NoFit → Left o m after
 unfolding writeOp
 left o m answer after w e = go (leb (sizeOf o) (length m)) refl (sym e ∙ w .0) (w .1)
   where
-    go : (t : Bool) → leb (sizeOf o) (length m) ≡ t → NoFit ≡ pick t (given (Bytes (sizeOf o)) (put 0 (opBytes o) m)) (given NoFit m) .answer
-        → after ≡ pick t (given (Bytes (sizeOf o)) (put 0 (opBytes o) m)) (given NoFit m) .lent → Left o m after
+    does : Bool → Given Wrote Bytes
+    does t = pick t (given (wrote.Bytes (sizeOf o)) (put 0 (opBytes o) m)) (given wrote.NoFit m)
+
+    go : (t : Bool) → leb (sizeOf o) (length m) ≡ t → wrote.NoFit ≡ does t .answer → after ≡ does t .lent → Left o m after
     go true q a b = let z : _≡_ {A = ℕ} 0 1 = cc in absurd (omega arith)
     go false q a b = record { over = leb-false (sizeOf o) (length m) q; same = b }
 
--- ---- the outcome, step by step
+-- ---- the outcome, by the first operation that is left
 
--- an operation that fits
-pub one-more : (ops used : ℕ) (o : Op) (rest : List Op) (l : List ℕ) → used ≤ length l → sizeOf o ≤ length l - used
+-- it fits
+one-more : (ops used : ℕ) (o : Op) (rest : List Op) (l : Bytes) → used ≤ length l → sizeOf o ≤ length l - used
     → sending ops used (o ∷ rest) l ≡ sending (ops + 1) (used + sizeOf o) rest (put used (opBytes o) l)
 unfolding sending cut deltaBytes flat sizeOf
 one-more ops used o rest l h g =
     let n : ℕ = length (opBytes o) in
-    let l′ : List ℕ = put used (opBytes o) l in
+    let l′ : Bytes = put used (opBytes o) l in
     let os : List Op = cut (length l - used - n) rest in
     let long : length l′ ≡ length l = length-put used (opBytes o) l (omega arith) in
     let room : length l - used - n ≡ length l′ - (used + n) = rw long (omega arith) in
     let small : length (flat opBytes os) ≤ length l - used - n = cut-bytes (length l - used - n) rest in
+    let stored = sym (put-behind used (opBytes o) (flat opBytes os) l (omega arith)) in
     ap (λ (xs : List Op). behind ops used xs l) (pick-true (leb n (length l - used)) _ _ (le-leb n (length l - used) g))
-    ∙ (λ i. given (counts (op-count ops (length os) i) (byte-count used (opBytes o) (flat opBytes os) i)) (sym (put-behind used (opBytes o) (flat opBytes os) l (omega arith)) i))
+    ∙ (λ i. given (counts (op-count ops (length os) i) (byte-count used (opBytes o) (flat opBytes os) i)) (stored i))
     ∙ ap (λ (k : ℕ). behind (ops + 1) (used + n) (cut k rest) l′) room
   where
     op-count : (a b : ℕ) → a + suc b ≡ a + 1 + b
     op-count a b = omega arith
 
-    byte-count : (a : ℕ) (x y : List ℕ) → a + length (x ++ y) ≡ a + length x + length y
+    byte-count : (a : ℕ) (x y : Bytes) → a + length (x ++ y) ≡ a + length x + length y
     byte-count a x y = rw length-append (omega arith)
 
 -- nothing is written any more
-nothing : (ops used : ℕ) (l : List ℕ) → behind ops used [] l ≡ given (counts ops used) l
+nothing : (ops used : ℕ) (l : Bytes) → behind ops used [] l ≡ given (counts ops used) l
 unfolding deltaBytes flat
 nothing ops used l = λ i. given (counts (add-zero ops i) (add-zero used i)) (put-nil used l i)
 
--- none is left
-pub none-left : (ops used : ℕ) (l : List ℕ) → sending ops used [] l ≡ given (counts ops used) l
+-- there is none
+none-left : (ops used : ℕ) (l : Bytes) → sending ops used [] l ≡ given (counts ops used) l
 unfolding sending cut
 none-left ops used l = nothing ops used l
 
--- a Node that does not fit ends the delta
-pub node-ends : (ops used n g f : ℕ) (rest : List Op) (l : List ℕ) → length l - used < sizeOf (NodeOp n g f)
-    → sending ops used (NodeOp n g f ∷ rest) l ≡ given (counts ops used) l
-unfolding sending cut
-node-ends ops used n g f rest l h =
-    ap (λ (os : List Op). behind ops used os l) (pick-false (leb (sizeOf (NodeOp n g f)) (length l - used)) _ _ (lt-leb (sizeOf (NodeOp n g f)) (length l - used) h))
-    ∙ nothing ops used l
+module _ (ops used : ℕ) (rest : List Op) (l : Bytes) where
+  -- a Node that does not fit ends the delta
+  node-ends : (n g f : ℕ) → length l - used < sizeOf (NodeOp n g f) → sending ops used (NodeOp n g f ∷ rest) l ≡ given (counts ops used) l
+  unfolding sending cut
+  node-ends n g f h =
+      ap (λ (os : List Op). behind ops used os l)
+      (pick-false (leb (sizeOf (NodeOp n g f)) (length l - used)) _ _ (lt-leb (sizeOf (NodeOp n g f)) (length l - used) h))
+      ∙ nothing ops used l
 
--- so does a record
-pub record-ends : (ops used : ℕ) (r : KeyValue) (rest : List Op) (l : List ℕ) → length l - used < sizeOf (KeyValueOp r)
-    → sending ops used (KeyValueOp r ∷ rest) l ≡ given (counts ops used) l
-unfolding sending cut
-record-ends ops used r rest l h =
-    ap (λ (os : List Op). behind ops used os l) (pick-false (leb (sizeOf (KeyValueOp r)) (length l - used)) _ _ (lt-leb (sizeOf (KeyValueOp r)) (length l - used) h))
-    ∙ nothing ops used l
+  -- so does a record
+  record-ends : (r : KeyValue) → length l - used < sizeOf (KeyValueOp r) → sending ops used (KeyValueOp r ∷ rest) l ≡ given (counts ops used) l
+  unfolding sending cut
+  record-ends r h =
+      ap (λ (os : List Op). behind ops used os l)
+      (pick-false (leb (sizeOf (KeyValueOp r)) (length l - used)) _ _ (lt-leb (sizeOf (KeyValueOp r)) (length l - used) h))
+      ∙ nothing ops used l
 
--- a SetMaxVersion that does not fit is dropped
-pub max-dropped : (ops used m : ℕ) (rest : List Op) (l : List ℕ) → length l - used < sizeOf (SetMaxVersionOp m)
-    → sending ops used (SetMaxVersionOp m ∷ rest) l ≡ sending ops used rest l
-unfolding sending cut
-max-dropped ops used m rest l h =
-    ap (λ (os : List Op). behind ops used os l) (pick-false (leb (sizeOf (SetMaxVersionOp m)) (length l - used)) _ _ (lt-leb (sizeOf (SetMaxVersionOp m)) (length l - used) h))
+  -- a SetMaxVersion that does not fit is dropped
+  max-dropped : (m : ℕ) → length l - used < sizeOf (SetMaxVersionOp m) → sending ops used (SetMaxVersionOp m ∷ rest) l ≡ sending ops used rest l
+  unfolding sending cut
+  max-dropped m h =
+      ap (λ (os : List Op). behind ops used os l)
+      (pick-false (leb (sizeOf (SetMaxVersionOp m)) (length l - used)) _ _ (lt-leb (sizeOf (SetMaxVersionOp m)) (length l - used) h))
 
--- ---- the same through the part of the datagram that a writer is lent, from `used` on
+-- ---- the part of the datagram that a writer is lent, from `used` on
 
-module _ (used : ℕ) (l : List ℕ) (h : used ≤ length l) where
-  -- the whole once the part has come back
-  abbrev pub whole : List ℕ → List ℕ
-  whole after = putMid used (length l - used) l after
+-- as the writer sees it
+abbrev pub lent : (used : ℕ) (datagram : Bytes) → Bytes
+lent used l = take (length l - used) (drop used l)
 
-  -- the part as the writer sees it
-  abbrev pub seen : List ℕ
-  seen = take (length l - used) (drop used l)
+-- the whole datagram once the part has come back
+abbrev pub back : (used : ℕ) (datagram after : Bytes) → Bytes
+back used l after = putMid used (length l - used) l after
 
-  seen-is : seen ≡ drop used l
-  seen-is = seen-rest used l
+lent-long : (used : ℕ) (l : Bytes) → length (lent used l) ≡ length l - used
+lent-long used l = ap length (seen-rest used l) ∙ length-drop used l
 
-  seen-long : length seen ≡ length l - used
-  seen-long = ap length seen-is ∙ length-drop used l
+back-same : (used : ℕ) (l after : Bytes) → after ≡ lent used l → back used l after ≡ l
+back-same used l after e = lent-rest used l after ∙ ap (λ (r : Bytes). take used l ++ r) (e ∙ seen-rest used l) ∙ take-append-drop used l
 
-  -- an operation was written: the next state, and that it still fits
-  pub record Stepped (ops n : ℕ) (rest : List Op) (after : List ℕ) (t : Given Sent (List ℕ)) : Type 0 where
-    pub low : 1 ≤ n
-    pub fits : used + n ≤ length l
-    pub long : length (whole after) ≡ length l
-    pub same : sending (ops + 1) (used + n) rest (whole after) ≡ t
+back-put : (used : ℕ) (vs l after : Bytes) → used ≤ length l → after ≡ put 0 vs (lent used l) → back used l after ≡ put used vs l
+back-put used vs l after h e =
+    lent-rest used l after
+    ∙ ap (λ (r : Bytes). take used l ++ r) (e ∙ ap (put 0 vs) (seen-rest used l))
+    ∙ put-rest used 0 vs l h
+    ∙ ap (λ (m : ℕ). put m vs l) (add-zero used)
 
-  by-took : (ops n : ℕ) (o : Op) (rest : List Op) (after : List ℕ) (t : Given Sent (List ℕ)) → Took o seen n after → sending ops used (o ∷ rest) l ≡ t → Stepped ops n rest after t
-  unfolding sizeOf
-  by-took ops n o rest after t k q =
-      let size : n ≡ sizeOf o = k .size in
-      let fits : sizeOf o ≤ length l - used = subst (λ (m : ℕ). sizeOf o ≤ m) seen-long (k .fits) in
-      let is : whole after ≡ put used (opBytes o) l =
-      lent-rest used l after
-      ∙ ap (λ (r : List ℕ). take used l ++ r) (k .front ∙ ap (put 0 (opBytes o)) seen-is)
-      ∙ put-rest used 0 (opBytes o) l h
-      ∙ ap (λ (m : ℕ). put m (opBytes o) l) (add-zero used) in
-      let low = size-low o in
-      record {
-        low = omega arith;
-        fits = omega arith;
-        long = ap length is ∙ length-put used (opBytes o) l (omega arith);
-        same = (λ i. sending (ops + 1) (used + size i) rest (is i)) ∙ sym (one-more ops used o rest l h fits) ∙ q;
-      }
+-- an operation did not fit: the datagram is as it was
+not-written : (used : ℕ) (o : Op) (l : Bytes) (answer : Wrote) (after : Bytes) → Gives (writeOp o (lent used l)) answer after → answer ≡ wrote.NoFit
+    → (length l - used < sizeOf o) × (back used l after ≡ l)
+not-written used o l answer after p e =
+    let k = left o (lent used l) answer after p e in
+    (subst (λ (m : ℕ). m < sizeOf o) (lent-long used l) (k .over), back-same used l after (k .same))
 
-  pub stepped : (ops n : ℕ) (o : Op) (rest : List Op) (answer : Wrote) (after : List ℕ) (t : Given Sent (List ℕ)) → WritesOp o seen answer after → answer ≡ Bytes n
-      → sending ops used (o ∷ rest) l ≡ t → Stepped ops n rest after t
-  stepped ops n o rest answer after t w e q = by-took ops n o rest after t (took o seen answer after n w e) q
+-- ---- how far writing has come
 
-  -- an operation did not fit: the datagram is as it was
-  pub unchanged : (o : Op) (answer : Wrote) (after : List ℕ) → WritesOp o seen answer after → answer ≡ NoFit → (length l - used < sizeOf o) × (whole after ≡ l)
-  unchanged o answer after w e =
-      let k = left o seen answer after w e in (
-        subst (λ (m : ℕ). m < sizeOf o) seen-long (k .over),
-        lent-rest used l after ∙ ap (λ (r : List ℕ). take used l ++ r) (k .same ∙ seen-is) ∙ take-append-drop used l,
-      )
+-- so many operations stand in the first used bytes of the datagram, and these are left
+pub record Writing : Type 0 where
+  pub ops : ℕ
+  pub used : ℕ
+  pub left : List Op
+  pub datagram : Bytes
+
+abbrev pub writing : (ops used : ℕ) (left : List Op) (datagram : Bytes) → Writing
+writing ops used left l = record { ops = ops; used = used; left = left; datagram = l }
+
+abbrev pub outcome : Writing → Given Sent Bytes
+outcome w = sending (w .ops) (w .used) (w .left) (w .datagram)
+
+-- it went on from a to b, with the same outcome
+pub record Reached (a b : Writing) : Type 0 where
+  pub room : b .used ≤ length (b .datagram)
+  pub few : b .ops ≤ b .used
+  pub long : length (b .datagram) ≡ length (a .datagram)
+  pub same : outcome b ≡ outcome a
+
+pub at-first : (os : List Op) (l : Bytes) → Reached (writing 0 0 os l) (writing 0 0 os l)
+at-first os l = record { room = omega arith; few = omega arith; long = refl; same = refl }
+
+pub from-here : {a b : Writing} → Reached a b → Reached b b
+from-here w = record { room = w .room; few = w .few; long = refl; same = refl }
+
+pub then : {a b c : Writing} → Reached a b → Reached b c → Reached a c
+then v w = record { room = w .room; few = w .few; long = w .long ∙ v .long; same = w .same ∙ v .same }
+
+module _ {a : Writing} {ops used : ℕ} {l : Bytes} where
+  -- what is left, said otherwise
+  pub left-is : {os xs : List Op} → os ≡ xs → Reached a (writing ops used os l) → Reached a (writing ops used xs l)
+  left-is e w = record { room = w .room; few = w .few; long = w .long; same = ap (λ (ys : List Op). sending ops used ys l) (sym e) ∙ w .same }
+
+  -- nothing is left
+  pub all-written : Reached a (writing ops used [] l) → Gives (outcome a) (counts ops used) l
+  all-written w = gives (counts ops used) l (outcome a) (sym (none-left ops used l) ∙ w .same)
+
+  module _ {rest : List Op} {after : Bytes} where
+    by-took : (o : Op) (n : ℕ) → Took o (lent used l) n after → Reached a (writing ops used (o ∷ rest) l)
+        → Reached a (writing (ops + 1) (used + n) rest (back used l after))
+    unfolding sizeOf
+    by-took o n k w =
+        let size : n ≡ sizeOf o = k .size in
+        let fits : sizeOf o ≤ length l - used = subst (λ (m : ℕ). sizeOf o ≤ m) (lent-long used l) (k .fits) in
+        let is : back used l after ≡ put used (opBytes o) l = back-put used (opBytes o) l after (w .room) (k .front) in
+        let h = w .room in
+        let few = w .few in
+        let low = size-low o in
+        let long : length (back used l after) ≡ length l = ap length is ∙ length-put used (opBytes o) l (omega arith) in
+        record {
+          room = rw long (omega arith);
+          few = omega arith;
+          long = long ∙ w .long;
+          same = (λ i. sending (ops + 1) (used + size i) rest (is i)) ∙ sym (one-more ops used o rest l h fits) ∙ w .same;
+        }
+
+    module _ {o : Op} {answer : Wrote} (p : Gives (writeOp o (lent used l)) answer after) where
+      -- an operation was written
+      pub op-written : {n : ℕ} → answer ≡ wrote.Bytes n → Reached a (writing ops used (o ∷ rest) l)
+          → Reached a (writing (ops + 1) (used + n) rest (back used l after))
+      op-written {n} e w = by-took o n (took o (lent used l) answer after n p e) w
+
+      -- one did not fit
+      pub unfit-long : answer ≡ wrote.NoFit → Reached a (writing ops used (o ∷ rest) l) → length (back used l after) ≡ length (a .datagram)
+      unfit-long e w = ap length (not-written used o l answer after p e .1) ∙ w .long
+
+      -- it ends the delta
+      unfit-ends : answer ≡ wrote.NoFit → (length l - used < sizeOf o → sending ops used (o ∷ rest) l ≡ given (counts ops used) l)
+          → Reached a (writing ops used (o ∷ rest) l) → Gives (outcome a) (counts ops used) (back used l after)
+      unfit-ends e ends w =
+          let u = not-written used o l answer after p e in
+          gives (counts ops used) _ (outcome a) (ap (given (counts ops used)) (u .1) ∙ sym (ends (u .0)) ∙ w .same)
+
+    -- a Node that does not fit ends the delta
+    pub node-unfit : {n g f : ℕ} {answer : Wrote} → Gives (writeOp (NodeOp n g f) (lent used l)) answer after → answer ≡ wrote.NoFit
+        → Reached a (writing ops used (NodeOp n g f ∷ rest) l) → Gives (outcome a) (counts ops used) (back used l after)
+    node-unfit {n} {g} {f} p e w = unfit-ends p e (node-ends ops used rest l n g f) w
+
+    -- so does a record
+    pub record-unfit : {r : KeyValue} {answer : Wrote} → Gives (writeOp (KeyValueOp r) (lent used l)) answer after → answer ≡ wrote.NoFit
+        → Reached a (writing ops used (KeyValueOp r ∷ rest) l) → Gives (outcome a) (counts ops used) (back used l after)
+    record-unfit {r} p e w = unfit-ends p e (record-ends ops used rest l r) w
 
   -- a node's SetMaxVersion was written, dropped, or not due
-  pub record Closed (ops : ℕ) (r : Sent) (rest : List Op) (after : List ℕ) (t : Given Sent (List ℕ)) : Type 0 where
-    pub few : r .ops ≤ r .bytes
-    pub fits : used + r .bytes ≤ length l
-    pub long : length (whole after) ≡ length l
-    pub same : sending (ops + r .ops) (used + r .bytes) rest (whole after) ≡ t
+  module _ {rest : List Op} {r : Sent} {after : Bytes} where
+    idle : r ≡ counts 0 0 → after ≡ lent used l → Reached a (writing ops used rest l)
+        → Reached a (writing (ops + r .ops) (used + r .bytes) rest (back used l after))
+    idle e f w =
+        let x : r .ops ≡ 0 = ap (λ (s : Sent). s .ops) e in
+        let y : r .bytes ≡ 0 = ap (λ (s : Sent). s .bytes) e in
+        let is : back used l after ≡ l = back-same used l after f in
+        let room = w .room in
+        let few = w .few in
+        record {
+          room = rw is (omega arith);
+          few = omega arith;
+          long = ap length is ∙ w .long;
+          same = (λ i. sending (ops + x i) (used + y i) rest (is i)) ∙ (λ i. sending (add-zero ops i) (add-zero used i) rest l) ∙ w .same;
+        }
 
-  -- nothing changed
-  idle : (ops : ℕ) (r : Sent) (rest : List Op) (after : List ℕ) (t : Given Sent (List ℕ)) → r ≡ counts 0 0 → after ≡ seen → sending ops used rest l ≡ t → Closed ops r rest after t
-  idle ops r rest after t e f q =
-      let a : r .ops ≡ 0 = ap (λ (x : Sent). x .ops) e in
-      let b : r .bytes ≡ 0 = ap (λ (x : Sent). x .bytes) e in
-      let is : whole after ≡ l = lent-rest used l after ∙ ap (λ (x : List ℕ). take used l ++ x) (f ∙ seen-is) ∙ take-append-drop used l in
-      record {
-        few = omega arith;
-        fits = omega arith;
-        long = ap length is;
-        same = (λ i. sending (ops + a i) (used + b i) rest (is i)) ∙ (λ i. sending (add-zero ops i) (add-zero used i) rest l) ∙ q;
-      }
+    max-first : (m : ℕ) → Gives (closed 0 m (lent used l)) r after → Reached a (writing ops used (SetMaxVersionOp m ∷ rest) l)
+        → Reached a (writing (ops + r .ops) (used + r .bytes) rest (back used l after))
+    max-first m p w = go (leb (sizeOf o) (length (lent used l))) refl (p .0) (p .1)
+      where
+        o : Op
+        o = SetMaxVersionOp m
 
-  pub closes : (ops m : ℕ) (recs : List KeyValue) (n : ℕ) (rest : List Op) (r : Sent) (after : List ℕ) (t : Given Sent (List ℕ)) → n ≡ length recs
-      → r ≡ closed n m seen .answer → after ≡ closed n m seen .lent → sending ops used (bodyOps m recs ++ rest) l ≡ t → Closed ops r (keyValueOps recs ++ rest) after t
+        does : Bool → Given Sent Bytes
+        does b = pick b (given (counts 1 (sizeOf o)) (put 0 (opBytes o) (lent used l))) (given (counts 0 0) (lent used l))
+
+        go : (b : Bool) → leb (sizeOf o) (length (lent used l)) ≡ b → r ≡ does b .answer → after ≡ does b .lent
+            → Reached a (writing (ops + r .ops) (used + r .bytes) rest (back used l after))
+        go true q e f =
+            let k : Took o (lent used l) (r .bytes) after =
+            record { size = ap (λ (s : Sent). s .bytes) e; fits = leb-true (sizeOf o) (length (lent used l)) q; front = f } in
+            let one : 1 ≡ r .ops = sym (ap (λ (s : Sent). s .ops) e) in
+            subst (λ (k : ℕ). Reached a (writing (ops + k) (used + r .bytes) rest (back used l after))) one (by-took o (r .bytes) k w)
+        go false q e f =
+            let over : length l - used < sizeOf o = subst (λ (k : ℕ). k < sizeOf o) (lent-long used l) (leb-false (sizeOf o) (length (lent used l)) q) in
+            idle e f (record { room = w .room; few = w .few; long = w .long; same = sym (max-dropped ops used rest l m over) ∙ w .same })
+
+  pub max-written : (m : ℕ) (recs : List KeyValue) (n : ℕ) (rest : List Op) {r : Sent} {after : Bytes} → n ≡ length recs
+      → Gives (closed n m (lent used l)) r after → Reached a (writing ops used (bodyOps m recs ++ rest) l)
+      → Reached a (writing (ops + r .ops) (used + r .bytes) (keyValueOps recs ++ rest) (back used l after))
   unfolding keyValueOps
-  closes ops m (x ∷ xs) n rest r after t e f g q = idle ops r (keyValueOps (x ∷ xs) ++ rest) after t (f ∙ ap (λ (k : ℕ). closed k m seen .answer) e) (g ∙ ap (λ (k : ℕ). closed k m seen .lent) e) q
-  closes ops m [] n rest r after t e f g q =
-      go (leb (sizeOf (SetMaxVersionOp m)) (length seen)) refl (f ∙ ap (λ (k : ℕ). closed k m seen .answer) e) (g ∙ ap (λ (k : ℕ). closed k m seen .lent) e)
-    where
-      o : Op
-      o = SetMaxVersionOp m
-
-      go : (b : Bool) → leb (sizeOf o) (length seen) ≡ b → r ≡ pick b (given (counts 1 (sizeOf o)) (put 0 (opBytes o) seen)) (given (counts 0 0) seen) .answer
-          → after ≡ pick b (given (counts 1 (sizeOf o)) (put 0 (opBytes o) seen)) (given (counts 0 0) seen) .lent → Closed ops r rest after t
-      go false p a b =
-          idle ops r rest after t a b
-          (sym (max-dropped ops used m rest l (subst (λ (k : ℕ). k < sizeOf o) seen-long (leb-false (sizeOf o) (length seen) p))) ∙ q)
-      go true p a b =
-          let k : Took o seen (sizeOf o) after = record { size = refl; fits = leb-true (sizeOf o) (length seen) p; front = b } in
-          let w = by-took ops (sizeOf o) o rest after t k q in
-          let x : r .ops ≡ 1 = ap (λ (y : Sent). y .ops) a in
-          let z : r .bytes ≡ sizeOf o = ap (λ (y : Sent). y .bytes) a in
-          let low = size-low o in
-          let room = w .fits in
-          record { few = omega arith; fits = omega arith; long = w .long; same = (λ i. sending (ops + x i) (used + z i) rest (whole after)) ∙ w .same }
+  max-written m [] n rest {r} {after} e p w = max-first m (subst (λ (k : ℕ). Gives (closed k m (lent used l)) r after) e p) w
+  max-written m (x ∷ xs) n rest {r} {after} e p w =
+      let q = subst (λ (k : ℕ). Gives (closed k m (lent used l)) r after) e p in
+      idle (q .0) (q .1) w
 
 -- ---- the SetMaxVersion of a node with n stale records
 
-pub not-due : (n m : ℕ) (l : List ℕ) → (n ≡ 0 → ⊥) → (counts 0 0 ≡ closed n m l .answer) × (l ≡ closed n m l .lent)
+pub not-due : (n m : ℕ) (l : Bytes) → (n ≡ 0 → ⊥) → Gives (closed n m l) (counts 0 0) l
 not-due zero m l h = absurd (h refl)
 not-due (suc n) m l h = (refl, refl)
 
-module _ (n m : ℕ) (l : List ℕ) (answer : Wrote) (after : List ℕ) (z : n ≡ 0) (w : WritesOp (SetMaxVersionOp m) l answer after) where
-  tests : (t : Bool) → leb (sizeOf (SetMaxVersionOp m)) (length l) ≡ t
-      → pick t (given (counts 1 (sizeOf (SetMaxVersionOp m))) (put 0 (opBytes (SetMaxVersionOp m)) l)) (given (counts 0 0) l) ≡ closed n m l
-  tests t e =
-      ap (λ (b : Bool). pick b (given (counts 1 (sizeOf (SetMaxVersionOp m))) (put 0 (opBytes (SetMaxVersionOp m)) l)) (given (counts 0 0) l)) (sym e)
+module _ (n m : ℕ) (l : Bytes) (answer : Wrote) (after : Bytes) (z : n ≡ 0) (w : Gives (writeOp (SetMaxVersionOp m) l) answer after) where
+  abbrev o : Op
+  o = SetMaxVersionOp m
+
+  due : (t : Bool) → leb (sizeOf o) (length l) ≡ t → pick t (given (counts 1 (sizeOf o)) (put 0 (opBytes o) l)) (given (counts 0 0) l) ≡ closed n m l
+  due t e =
+      ap (λ (b : Bool). pick b (given (counts 1 (sizeOf o)) (put 0 (opBytes o) l)) (given (counts 0 0) l)) (sym e)
       ∙ ap (λ (j : ℕ). closed j m l) (sym z)
 
-  pub max-sent : (k : ℕ) → answer ≡ Bytes k → (counts 1 k ≡ closed n m l .answer) × (after ≡ closed n m l .lent)
+  pub max-sent : (k : ℕ) → answer ≡ wrote.Bytes k → Gives (closed n m l) (counts 1 k) after
   max-sent k e =
-      let s = took (SetMaxVersionOp m) l answer after k w e in
-      let q = tests true (le-leb (sizeOf (SetMaxVersionOp m)) (length l) (s .fits)) in
-      (ap (counts 1) (s .size) ∙ ap (λ (x : Given Sent (List ℕ)). x .answer) q, s .front ∙ ap (λ (x : Given Sent (List ℕ)). x .lent) q)
+      let s = took o l answer after k w e in
+      gives (counts 1 k) after (closed n m l) ((λ i. given (counts 1 (s .size i)) (s .front i)) ∙ due true (le-leb (sizeOf o) (length l) (s .fits)))
 
-  pub max-left : answer ≡ NoFit → (counts 0 0 ≡ closed n m l .answer) × (after ≡ closed n m l .lent)
+  pub max-left : answer ≡ wrote.NoFit → Gives (closed n m l) (counts 0 0) after
   max-left e =
-      let s = left (SetMaxVersionOp m) l answer after w e in
-      let q = tests false (lt-leb (sizeOf (SetMaxVersionOp m)) (length l) (s .over)) in
-      (ap (λ (x : Given Sent (List ℕ)). x .answer) q, s .same ∙ ap (λ (x : Given Sent (List ℕ)). x .lent) q)
+      let s = left o l answer after w e in
+      gives (counts 0 0) after (closed n m l) (ap (given (counts 0 0)) (s .same) ∙ due false (lt-leb (sizeOf o) (length l) (s .over)))

@@ -1,12 +1,13 @@
 -- `compute::compute` meets its contract: 14 exactly where the table is not valid, else the rule on it. Assumes nothing.
-use mathlib.Core.Path.{sym, ap, _∙_}
-use Rattle.fields.specs.Numbers.{Bytes}
-use Rattle.rules.specs.Given.{Given}
-use Rattle.rules.specs.declared.Computed.{Computed}
+use mathlib.Core.Path.{sym, _∙_}
+use Rattle.compute_write.proofs.Steps.{gives-as}
 use Rattle.compute.proofs.Calling.{bad-table, good-table}
 use borrow.Author.Needs.{needs}
 use Rattle.compute.proofs.compute.Statement.{statement}
 use Rattle.compute.proofs.compute.Tie as tie
+
+abbrev entry : tie.After-check-table → tie.Start
+entry c = c .before .before .before .before .before .before
 
 check-table-requires : tie.Need-check-table-requires
 check-table-requires c κs = search needs
@@ -19,16 +20,17 @@ same-length c = search needs
 
 returns : tie.Need-returns
 returns c =
-    let a = c .before .before .before .before .before .before .before .before .before .before .before .args in
-    let call = c .before .before .compute-good .ensures in
-    let e = good-table (a .excluded .now) (a .ties .now) (a .mtu) (a .place) (a .digest .now) (a .table .now) (a .datagram .now) (sym (c .before .before .before .before .before .check-table .ensures) ∙ c .before .before .before .before .if1 .taken) in
-    (call .0 ∙ ap (λ (x : Given Computed Bytes). x .answer) e, call .1 ∙ ap (λ (x : Given Computed Bytes). x .lent) e)
+    let checked = c .before .before .before .before .before in
+    let a = entry checked .args in
+    let good = sym (checked .check-table .ensures) ∙ c .before .before .before .before .if1 .taken in
+    gives-as (good-table (a .excluded .now) (a .ties .now) (a .mtu) (a .place) (a .digest .now) (a .table .now) (a .datagram .now) good)
+    (c .before .before .compute-good .ensures)
 
 returns-2 : tie.Need-returns-2
 returns-2 c =
-    let a = c .before .before .before .before .before .before .before .args in
-    let e = bad-table (a .excluded .now) (a .ties .now) (a .mtu) (a .place) (a .digest .now) (a .table .now) (a .datagram .now) (sym (c .before .check-table .ensures) ∙ c .if1 .left) in
-    (ap (λ (x : Given Computed Bytes). x .answer) e, ap (λ (x : Given Computed Bytes). x .lent) e)
+    let a = entry (c .before) .args in
+    bad-table (a .excluded .now) (a .ties .now) (a .mtu) (a .place) (a .digest .now) (a .table .now) (a .datagram .now)
+    (sym (c .before .check-table .ensures) ∙ c .if1 .left)
 
 pub compute-spec : {M : Type 1} → statement M
 compute-spec =

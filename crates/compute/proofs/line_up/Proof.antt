@@ -1,124 +1,203 @@
 -- `compute::line_up` meets its contract: the nodes from i on stand in line. Assumes nothing.
 use Prim.Native.Nat.{ℕ, _-_, _≤_, _<_}
-use mathlib.Core.Path.{refl, sym, _∙_}
+use mathlib.Core.Path.{_≡_, refl, sym, _∙_}
+use mathlib.Core.Bool.{true}
+use mathlib.Core.List.{List}
 use native.Mathlib.Omega.{arith}
-use lib.ListN.{length, length-set}
+use lib.ListN.{length, set, length-set}
 use borrow.Author.Needs.{needs}
+use Rattle.fields.specs.Numbers.{Bytes}
+use Rattle.rules.specs.Sizes.{maxNodes}
 use Rattle.rules.specs.Table.{Table}
+use Rattle.rules.specs.Digest.{NodeDigest}
 use Rattle.rules.specs.Compute.{stale}
 use Rattle.rules.specs.Layout.{decode}
 use Rattle.table.specs.Tests.{nodesOf}
 use Rattle.table.proofs.Tables.{length-decode}
+use Rattle.table_read.specs.Find.{entryAt}
 use Rattle.table_read.proofs.Located.{lent-node, node-long, count-low, recs-are}
 use Rattle.digest_read.specs.Held.{entriesIn}
-use Rattle.compute.proofs.Behind.{goes-from, goes-not}
+use Rattle.compute_order.specs.Line.{isStale}
+use Rattle.compute.specs.Plan.{fromAt}
+use Rattle.compute.proofs.Behind.{told-stale, told-level}
 use Rattle.compute.proofs.Lining.{Upto, none-yet, above, stays, joins, all-in-line}
 use Rattle.compute.proofs.line_up.Statement.{statement}
 use Rattle.compute.proofs.line_up.Tie as tie
 
 abbrev Inv-loop : tie.InvT-loop
-Inv-loop s d excluded ties line₀ froms₀ counts₀ n₀ i₀ line froms counts n i = Upto excluded (entriesIn d) ties (decode s) n i line froms counts
+Inv-loop table digest excluded ties line₀ froms₀ counts₀ n₀ i₀ line froms counts n i =
+    Upto excluded (entriesIn digest) ties (decode table) n i line froms counts
 
 abbrev μ-loop : tie.MeasureT-loop
-μ-loop s d excluded ties line₀ froms₀ counts₀ n₀ i₀ line froms counts n i = i
+μ-loop table digest excluded ties line₀ froms₀ counts₀ n₀ i₀ line froms counts n i = i
 
-few-nodes : (c : tie.Start Inv-loop μ-loop) → length (decode (c .args .table .now)) ≤ 8
-few-nodes c = rw length-decode (c .pre .0 .few)
+-- ---- the places of the walk that the proof speaks of, and the way from each to the one before
 
--- the next node stands in the table
-next-in : (c : tie.In-loop Inv-loop μ-loop) → c .before .loop .i - 1 < nodesOf (c .before .before .before .before .before .before .args .table .now)
-next-in c =
+abbrev Start : Type 0
+Start = tie.Start Inv-loop μ-loop
+
+abbrev Turn : Type 0
+Turn = tie.In-loop Inv-loop μ-loop
+
+-- the node is stale, and its from is told
+abbrev Told : Type 0
+Told = tie.After-known-told Inv-loop μ-loop
+
+-- its stale records are counted
+abbrev Counted : Type 0
+Counted = tie.After-count-stale Inv-loop μ-loop
+
+abbrev entry : Turn → Start
+entry c = c .before .before .before .before .before .before
+
+abbrev turn : Told → Turn
+turn c = c .before .before .before .before
+
+abbrev told : Counted → Told
+told c = c .before .before
+
+-- ---- what they are about
+
+abbrev table : Start → Table
+table s = decode (s .args .table .now)
+
+abbrev digest : Start → List NodeDigest
+digest s = entriesIn (s .args .digest)
+
+few-nodes : (s : Start) → length (table s) ≤ maxNodes
+few-nodes s = rw length-decode (s .pre .0 .few)
+
+-- the turn's node stands in the table
+node-in : (c : Turn) → c .before .loop .i - 1 < nodesOf (entry c .args .table .now)
+node-in c =
     let w = c .before .loop .inv .within in
-    let e = length-decode (c .before .before .before .before .before .before .args .table .now) in
+    let e = length-decode (entry c .args .table .now) in
     let h = c .loop-test .taken in
     omega arith
 
-next-low : (c : tie.In-loop Inv-loop μ-loop) → c .before .loop .i - 1 < 8
-next-low c = let w = next-in c in let f = c .before .before .before .before .before .before .pre .0 .few in omega arith
+node-low : (c : Turn) → c .before .loop .i - 1 < maxNodes
+node-low c = let w = node-in c in let f = entry c .pre .0 .few in omega arith
+
+-- it is stale, with this from
+is-stale : (c : Told) → let s = entry (turn c) in
+    let p : ℕ = turn c .before .loop .i - 1 in
+    (isStale (s .args .excluded .now) (digest s) (table s) p ≡ true) × (c .before .from .given .0 .0 ≡ fromAt (digest s) (table s) p)
+is-stale c =
+    let s = entry (turn c) in
+    let p : ℕ = turn c .before .loop .i - 1 in
+    told-stale (s .args .excluded .now) (digest s) (table s) p _ (c .before .before .before .stale-from .ensures) _ (c .before .from .given .1)
+
+-- so many of its records are above it
+stale-count : (c : Counted) → let s = entry (turn (told c)) in
+    let p : ℕ = turn (told c) .before .loop .i - 1 in
+    c .count-stale .result ≡ length (stale (fromAt (digest s) (table s) p) (entryAt (table s) p .node .recs))
+stale-count c =
+    let t = turn (told c) in
+    let s = entry t in
+    let recs = recs-are (s .args .table .now) (s .pre .0) (t .before .loop .i - 1) (node-in t) _ (c .before .node-of .ensures) in
+    c .count-stale .ensures ∙ (λ k. length (stale (is-stale (told c) .1 k) (recs k)))
+
+-- the lists by place are as long as they were
+froms-long : (c : Counted) (x : ℕ) → let q = turn (told c) .before in length (set (q .loop .froms) (q .loop .i - 1) x) ≡ maxNodes
+froms-long c x = let q = turn (told c) .before in length-set (q .loop .froms) (q .loop .i - 1) x ∙ q .loop .inv .froms-long
+
+counts-long : (c : Counted) (x : ℕ) → let q = turn (told c) .before in length (set (q .loop .counts) (q .loop .i - 1) x) ≡ maxNodes
+counts-long c x = let q = turn (told c) .before in length-set (q .loop .counts) (q .loop .i - 1) x ∙ q .loop .inv .counts-long
+
+-- ---- the needs: a node's turn
 
 byte-at-requires : tie.Need-byte-at-requires Inv-loop μ-loop
 byte-at-requires c κs = let e = c .before .before .before .pre .0 .long in omega arith
 
 loop-holds : tie.Need-loop-holds Inv-loop μ-loop
 loop-holds c =
-    let a = c .before .before .before .before .args in
-    none-yet (a .excluded .now) (entriesIn (a .digest)) (a .ties .now) (decode (a .table .now)) (c .byte-at .result) _ _ _ (c .byte-at .ensures .0 ∙ sym (length-decode (a .table .now))) refl refl refl
+    let s = c .before .before .before .before in
+    let count = c .byte-at .ensures .0 ∙ sym (length-decode (s .args .table .now)) in
+    none-yet (s .args .excluded .now) (digest s) (s .args .ties .now) (table s) (c .byte-at .result) _ _ _ count refl refl refl
 
 sub-i : tie.Need-sub-i Inv-loop μ-loop
 sub-i c = search needs
 
 stale-from-requires : tie.Need-stale-from-requires Inv-loop μ-loop
-stale-from-requires c κs = (c .before .before .before .before .before .before .pre .0, next-in c)
+stale-from-requires c κs = (entry c .pre .0, node-in c)
 
 enum-known-from : tie.Need-enum-known-from Inv-loop μ-loop
 enum-known-from c = search needs
 
+-- ---- the needs: it is stale
+
 mul-froms : tie.Need-mul-froms Inv-loop μ-loop
-mul-froms c = let w = next-low (c .before .before .before .before) in omega arith
+mul-froms c = let w = node-low (turn c) in omega arith
 
 array-write-froms : tie.Need-array-write-froms Inv-loop μ-loop
-array-write-froms c = next-low (c .before .before .before .before)
+array-write-froms c = node-low (turn c)
 
 node-of-requires : tie.Need-node-of-requires Inv-loop μ-loop
-node-of-requires c κs = lent-node (c .before .before .before .before .before .before .before .before .before .before .args .table .now) (c .before .before .before .before .before .before .before .before .before .before .pre .0) _ (next-in (c .before .before .before .before))
+node-of-requires c κs = let t = turn c in lent-node (entry t .args .table .now) (entry t .pre .0) _ (node-in t)
 
 count-stale-requires : tie.Need-count-stale-requires Inv-loop μ-loop
 count-stale-requires c κs =
-    let q = c .before .before .before .before .before .before .before .before .before .before .before in
-    let h = next-in (c .before .before .before .before .before) in
-    (node-long (q .args .table .now) (q .pre .0) _ h _ (c .node-of .ensures), count-low (q .args .table .now) (q .pre .0) _ h _ (c .node-of .ensures))
+    let t = turn (c .before) in
+    let l : Bytes = entry t .args .table .now in
+    let laid = entry t .pre .0 in
+    (node-long l laid _ (node-in t) _ (c .node-of .ensures), count-low l laid _ (node-in t) _ (c .node-of .ensures))
 
 mul-counts : tie.Need-mul-counts Inv-loop μ-loop
-mul-counts c = let w = next-low (c .before .before .before .before .before .before) in omega arith
+mul-counts c = let w = node-low (turn (told c)) in omega arith
 
 array-write-counts : tie.Need-array-write-counts Inv-loop μ-loop
-array-write-counts c = next-low (c .before .before .before .before .before .before)
+array-write-counts c = node-low (turn (told c))
 
 slice-aggregate-queue : tie.Need-slice-aggregate-queue Inv-loop μ-loop
-slice-aggregate-queue c = let q = c .before .before .before .before .before .before .before .before in sym (length-set (q .loop .froms) (q .loop .i - 1) _ ∙ q .loop .inv .froms-long)
+slice-aggregate-queue c = sym (froms-long (c .before) _)
 
 slice-aggregate-queue-2 : tie.Need-slice-aggregate-queue-2 Inv-loop μ-loop
-slice-aggregate-queue-2 c = let q = c .before .before .before .before .before .before .before .before .before in sym (length-set (q .loop .counts) (q .loop .i - 1) _ ∙ q .loop .inv .counts-long)
+slice-aggregate-queue-2 c = sym (counts-long (c .before .before) _)
 
 queue-requires : tie.Need-queue-requires Inv-loop μ-loop
 queue-requires c κs =
-    let q = c .before .before .before .before .before .before .before .before .before .before in
-    let b = q .before .before .before .before .before in
-    let a = b .args in
-    let u = q .loop .inv in
-    let h : 0 < q .loop .i = c .before .before .before .before .before .before .before .before .before .loop-test .taken in
-    let few = few-nodes b in
+    let k = c .before .before .before in
+    let t = turn (told k) in
+    let s = entry t in
+    let w = t .before .loop in
+    let u = w .inv in
+    let few = few-nodes s in
     let less = u .few in
-    let within = u .within in (
-      b .pre .0 .long,
-      b .pre .0 .few,
-      next-in (c .before .before .before .before .before .before .before .before .before),
-      b .pre .1,
-      length-set (q .loop .froms) (q .loop .i - 1) _ ∙ u .froms-long,
-      length-set (q .loop .counts) (q .loop .i - 1) _ ∙ u .counts-long,
+    let within = u .within in
+    let h : 0 < w .i = t .loop-test .taken in
+    let places = above (s .args .excluded .now) (digest s) (s .args .ties .now) (table s) (w .n) (w .i) (w .line) (w .froms) (w .counts) u h in (
+      s .pre .0 .long,
+      s .pre .0 .few,
+      node-in t,
+      s .pre .1,
+      froms-long k _,
+      counts-long k _,
       omega arith,
       u .line-long,
-      λ x m. rw (length-decode (a .table .now)) at (above (a .excluded .now) (entriesIn (a .digest)) (a .ties .now) (decode (a .table .now)) (q .loop .n) (q .loop .i) (q .loop .line) (q .loop .froms) (q .loop .counts) u h x m .1),
+      λ x m. rw (length-decode (s .args .table .now)) at (places x m .1),
     )
 
 add-n : tie.Need-add-n Inv-loop μ-loop
-add-n c = let u = c .before .before .before .before .before .before .before .before .before .before .before .loop .inv .few in let few = few-nodes (c .before .before .before .before .before .before .before .before .before .before .before .before .before .before .before .before) in omega arith
+add-n c =
+    let t = turn (told (c .before .before .before .before)) in
+    let u = t .before .loop .inv .few in
+    let few = few-nodes (entry t) in
+    omega arith
 
 loop-less : tie.Need-loop-less Inv-loop μ-loop
 loop-less c = search needs
 
 loop-again : tie.Need-loop-again Inv-loop μ-loop
 loop-again c =
-    let q = c .before .before .before .before .before .before .before .before .before .before .before in
-    let b = q .before .before .before .before .before in
-    let a = b .args in
-    let t : Table = decode (a .table .now) in
-    let i : ℕ = q .loop .i - 1 in
-    let g = goes-from (a .excluded .now) (entriesIn (a .digest)) t i _ (c .before .before .before .before .before .before .before .before .before .stale-from .ensures) _ (c .before .before .before .before .before .before .before .from .given .1) in
-    let recs = recs-are (a .table .now) (b .pre .0) i (next-in (c .before .before .before .before .before .before .before .before .before .before)) _ (c .before .before .before .before .before .node-of .ensures) in
-    let count = c .before .before .before .before .count-stale .ensures .0 ∙ (λ k. length (stale (g .1 k) (recs k))) in
-    joins (a .excluded .now) (entriesIn (a .digest)) (a .ties .now) t (q .loop .n) (q .loop .i) (q .loop .line) (q .loop .froms) (q .loop .counts) (q .loop .inv) (c .before .before .before .before .before .before .before .before .before .before .loop-test .taken)
-    (few-nodes b) _ _ (g .1) count (g .0) _ (c .queue .ensures .0) (c .queue .ensures .1)
+    let k = c .before .before .before .before in
+    let t = turn (told k) in
+    let s = entry t in
+    let w = t .before .loop in
+    let goes = is-stale (told k) in
+    joins (s .args .excluded .now) (digest s) (s .args .ties .now) (table s) (w .n) (w .i) (w .line) (w .froms) (w .counts) (w .inv) (t .loop-test .taken)
+    (few-nodes s) _ _ (goes .1) (stale-count k) (goes .0) _ (c .queue .ensures)
+
+-- ---- the needs: it is up to date, and the end
 
 enum-told : tie.Need-enum-told Inv-loop μ-loop
 enum-told c = search needs
@@ -128,18 +207,18 @@ loop-less-2 c = search needs
 
 loop-again-2 : tie.Need-loop-again-2 Inv-loop μ-loop
 loop-again-2 c =
-    let q = c .before .before .before .before in
-    let a = q .before .before .before .before .before .args in
-    let t : Table = decode (a .table .now) in
-    stays (a .excluded .now) (entriesIn (a .digest)) (a .ties .now) t (q .loop .n) (q .loop .i) (q .loop .line) (q .loop .froms) (q .loop .counts) (q .loop .inv) (c .before .before .before .loop-test .taken)
-    (goes-not (a .excluded .now) (entriesIn (a .digest)) t (q .loop .i - 1) _ (c .before .before .stale-from .ensures) (c .enum-told .given .1))
+    let t = c .before .before .before in
+    let s = entry t in
+    let w = t .before .loop in
+    stays (s .args .excluded .now) (digest s) (s .args .ties .now) (table s) (w .n) (w .i) (w .line) (w .froms) (w .counts) (w .inv) (t .loop-test .taken)
+    (told-level (s .args .excluded .now) (digest s) (table s) (w .i - 1) _ (c .before .before .stale-from .ensures) (c .enum-told .given .1))
 
 returns : tie.Need-returns Inv-loop μ-loop
 returns c =
-    let q = c .before in
-    let a = q .before .before .before .before .before .args in
-    all-in-line (a .excluded .now) (entriesIn (a .digest)) (a .ties .now) (decode (a .table .now)) (q .loop .n) (q .loop .i) (q .loop .line) (q .loop .froms) (q .loop .counts)
-    (few-nodes (q .before .before .before .before .before)) (omega arith) (q .loop .inv)
+    let s = c .before .before .before .before .before .before in
+    let w = c .before .loop in
+    all-in-line (s .args .excluded .now) (digest s) (s .args .ties .now) (table s) (w .n) (w .i) (w .line) (w .froms) (w .counts)
+    (few-nodes s) (omega arith) (w .inv)
 
 pub line-up-spec : {M : Type 1} → statement M
 line-up-spec =

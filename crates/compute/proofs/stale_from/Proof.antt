@@ -6,6 +6,9 @@ use borrow.Author.Needs.{needs}
 use Rattle.compute.proofs.stale_from.Statement.{statement}
 use Rattle.compute.proofs.stale_from.Tie as tie
 
+abbrev entry : tie.After-is-excluded → tie.Start
+entry c = c .before .before .before .before
+
 number-at-requires : tie.Need-number-at-requires
 number-at-requires c κs = search needs
 
@@ -14,10 +17,10 @@ is-excluded-requires c κs = search needs
 
 returns : tie.Need-returns
 returns c =
-    let a = c .before .before .before .before .before .args in
-    let number = c .before .before .number-at .ensures in
-    let out = c .before .is-excluded .ensures in
-    left-out (a .excluded .now) (entriesIn (a .digest)) (decode (a .table .now)) (a .p) _ number _ out (c .if1 .taken)
+    let q = c .before in
+    let a = entry q .args in
+    left-out (a .excluded .now) (entriesIn (a .digest)) (decode (a .table .now)) (a .p) _ (q .before .number-at .ensures) _ (q .is-excluded .ensures)
+    (c .if1 .taken)
 
 told-requires : tie.Need-told-requires
 told-requires c κs = search needs
@@ -27,10 +30,11 @@ max-at-requires c κs = search needs
 
 returns-2 : tie.Need-returns-2
 returns-2 c =
-    let a = c .before .before .before .before .before .before .before .before .args in
-    let number = c .before .before .before .before .before .number-at .ensures in
-    let out = c .before .before .before .before .is-excluded .ensures in
-    level (a .excluded .now) (entriesIn (a .digest)) (decode (a .table .now)) (a .p) _ number _ out (c .before .before .before .if1 .left) _ (c .before .before .told .ensures) _ (c .before .max-at .ensures) (c .if2 .taken)
+    let told = c .before .before in
+    let q = told .before .before in
+    let a = entry q .args in
+    level (a .excluded .now) (entriesIn (a .digest)) (decode (a .table .now)) (a .p) _ (q .before .number-at .ensures) _ (q .is-excluded .ensures)
+    (told .before .if1 .left) _ (told .told .ensures) _ (c .before .max-at .ensures) (c .if2 .taken)
 
 last-gc-at-requires : tie.Need-last-gc-at-requires
 last-gc-at-requires c κs = search needs
@@ -40,10 +44,13 @@ from-of-requires c κs = search needs
 
 returns-3 : tie.Need-returns-3
 returns-3 c =
-    let a = c .before .before .before .before .before .before .before .before .before .before .args in
-    let number = c .before .before .before .before .before .before .before .number-at .ensures in
-    let out = c .before .before .before .before .before .before .is-excluded .ensures in
-    behind (a .excluded .now) (entriesIn (a .digest)) (decode (a .table .now)) (a .p) _ number _ out (c .before .before .before .before .before .if1 .left) _ (c .before .before .before .before .told .ensures) _ (c .before .before .before .max-at .ensures) (c .before .before .if2 .left) _ _ (c .before .last-gc-at .ensures) (c .from-of .ensures)
+    let more = c .before .before in
+    let told = more .before .before in
+    let q = told .before .before in
+    let a = entry q .args in
+    behind (a .excluded .now) (entriesIn (a .digest)) (decode (a .table .now)) (a .p) _ (q .before .number-at .ensures) _ (q .is-excluded .ensures)
+    (told .before .if1 .left) _ (told .told .ensures) _ (more .before .max-at .ensures) (more .if2 .left) _ _ (c .before .last-gc-at .ensures)
+    (c .from-of .ensures)
 
 pub stale-from-spec : {M : Type 1} → statement M
 stale-from-spec =

@@ -1,56 +1,51 @@
 -- `compute::write_delta` meets its contract: the line is the rules' line, and what is written of it their delta. Assumes nothing.
-use mathlib.Core.Path.{ap, _∙_}
-use Rattle.fields.specs.Numbers.{Bytes}
-use Rattle.rules.specs.Given.{Given}
 use Rattle.rules.specs.Layout.{decode}
 use Rattle.table.proofs.Tables.{length-decode}
 use Rattle.digest_read.specs.Held.{entriesIn}
-use Rattle.compute_write.specs.declared.Sent.{Sent}
+use Rattle.compute_write.proofs.Steps.{gives-as}
 use Rattle.compute.proofs.Whole.{delta-is, line-within}
 use borrow.Author.Needs.{needs}
 use Rattle.compute.proofs.write_delta.Statement.{statement}
 use Rattle.compute.proofs.write_delta.Tie as tie
 
+abbrev entry : tie.After-line-up → tie.Start
+entry c = c .before .before .before .before .before
+
 line-up-requires : tie.Need-line-up-requires
 line-up-requires c κs = search needs
 
-slice-aggregate-send : tie.Need-slice-aggregate-send
-slice-aggregate-send c = search needs
+slice-aggregate-write-nodes : tie.Need-slice-aggregate-write-nodes
+slice-aggregate-write-nodes c = search needs
 
-slice-aggregate-send-2 : tie.Need-slice-aggregate-send-2
-slice-aggregate-send-2 c = search needs
+slice-aggregate-write-nodes-2 : tie.Need-slice-aggregate-write-nodes-2
+slice-aggregate-write-nodes-2 c = search needs
 
-send-requires : tie.Need-send-requires
-send-requires c κs =
-    let q = c .before .before .before .before .before .before .before .before .before .before in
-    let a = q .args in
-    let k = c .before .before .before .before .before .line-up .ensures in (
-      q .pre .0,
-      k .froms-long,
-      k .line-long,
-      k .count-low,
-      λ p m. rw (length-decode (a .table .now)) at (line-within (a .excluded .now) (entriesIn (a .digest)) (a .ties .now) (decode (a .table .now)) _ k p m),
-    )
+write-nodes-requires : tie.Need-write-nodes-requires
+write-nodes-requires c κs =
+    let planned = c .before .before .before .before .before in
+    let s = entry planned in
+    let a = s .args in
+    let k = planned .line-up .ensures in
+    let within = line-within (a .excluded .now) (entriesIn (a .digest)) (a .ties .now) (decode (a .table .now)) _ k in
+    (s .pre .0, k .froms-long, k .line-long, k .count-low, λ p m. rw (length-decode (a .table .now)) at (within p m))
 
 same-length : tie.Need-same-length
 same-length c = search needs
 
 returns : tie.Need-returns
 returns c =
-    let a = c .before .before .before .before .before .before .before .before .before .before .before .before .before .args in
-    let k = c .before .before .before .before .before .before .before .before .line-up .ensures in
-    let call = c .before .before .send .ensures in
-    let e = delta-is (a .excluded .now) (entriesIn (a .digest)) (a .ties .now) (decode (a .table .now)) _ k (a .part .now) in
-    let f = call .0 ∙ ap (λ (x : Given Sent Bytes). x .answer) e in
-    (ap (λ (x : Sent). x .ops) f, ap (λ (x : Sent). x .bytes) f, call .1 ∙ ap (λ (x : Given Sent Bytes). x .lent) e)
+    let planned = c .before .before .before .before .before .before .before .before in
+    let a = entry planned .args in
+    let is = delta-is (a .excluded .now) (entriesIn (a .digest)) (a .ties .now) (decode (a .table .now)) _ (planned .line-up .ensures) (a .part .now) in
+    gives-as is (c .before .before .write-nodes .ensures)
 
 pub write-delta-spec : {M : Type 1} → statement M
 write-delta-spec =
     tie.close
     (tie.spec
     line-up-requires
-    slice-aggregate-send
-    slice-aggregate-send-2
-    send-requires
+    slice-aggregate-write-nodes
+    slice-aggregate-write-nodes-2
+    write-nodes-requires
     same-length
     returns)
