@@ -1,142 +1,215 @@
--- Demand 3's end by calls of `exchange::exchange` alone: after any run, as many of them as the publisher holds records and nodes, with nothing excluded and nothing
--- refused, make every max equal, and both tables then hold the same Set records.
-use Prim.Native.Nat.{ℕ, _≤_, suc}
+-- Demand 3's end by calls of `exchange::exchange`: after any run, let there be calls of it, and beats and offers between them. As many whole calls as the
+-- publisher holds records and nodes make every max equal, and both tables then hold the same Set records.
+use Prim.Native.Nat.{ℕ, _≤_, _<_, _+_, suc}
 use mathlib.Core.Path.{_≡_, _∙_, ap, refl, subst, sym}
-use mathlib.Core.Bool.{false≢true, true}
+use mathlib.Core.Bool.{Bool, _&&_, false, false≢true, true}
 use mathlib.Core.List.{List, [], _∷_, _++_}
 use mathlib.Core.Option.{some}
-use lib.ListN.{length}
+use native.Mathlib.Omega.{arith}
+use lib.Dec.{leb, ltb}
+use borrow.Author.Tests.{ltb-true}
+use Rattle.fields.specs.Choice.{pick}
 use Rattle.fields.proofs.Choice.{and-intro, and-left, and-right}
 use Rattle.rules.specs.Node.{KeyValue, Node}
+use Rattle.rules.specs.Sizes.{numbers}
 use Rattle.rules.specs.Table.{nodeOf, obeys}
 use Rattle.rules.specs.Given.{Given}
 use Rattle.rules.specs.Apply.{plainWays}
 use Rattle.rules.specs.Layout.{decode}
-use Rattle.rules.specs.World.{Applying, Computing, Digesting, Event, Exchange, freshTable}
-use Rattle.rules.specs.Demand3.{Holds, Quiet, SameMax, Wide, exchangeOf, exchanges, holdings}
+use Rattle.rules.specs.World.{Applying, Beating, Computing, Digesting, Event, Followers, Offering, Publishers, Side, freshTable}
+use Rattle.rules.specs.Demand3.{Answered, Asked, Holds, NotBegun, SameMax, Stage, allQuiet, ending, holdings, isNone, leastWidth, onward, quiet, unlimited}
+use Rattle.rules.specs.declared.Heartbeat.{Heartbeat}
 use Rattle.rules.specs.declared.Status.the-variants.{Set}
 use Rattle.exchange.specs.declared.Exchanged.{Exchanged}
 use Rattle.exchange.specs.declared.Exchanged.the-variants as exchanged
-use Rattle.exchange.specs.LentWorld.{LentWorld, lentAfter, lentHappen, lentStart}
-use Rattle.exchange.specs.LentDemand3.{LentSound, allLentGranted, lentGranted}
-use Rattle.exchange.specs.Exchanging.{Lending, ExchangeLent, lentExchange}
-use Rattle.exchange.specs.Runs.{AllPlain, Plain, afterExchanges, allExchanged, eventsOf, exchangedTo, grantedAs, isGranted, runOf}
+use Rattle.exchange.specs.LentWorld.{LentWorld, lentAfter, lentCalls, lentHappen, lentStart}
+use Rattle.exchange.specs.LentDemand3.{LentSound, lentGranted, lentWholes}
+use Rattle.exchange.specs.Exchanging.{ExchangeLent, Lending, lentExchange}
+use Rattle.exchange.specs.Runs.{Act, Beats, Exchanges, Hubs, Offers, afterAct, afterActs, allFit, eventsOf, fits, grantedAs, hubs, isWhole, runOf, wholeCalls}
 use Rattle.exchange.proofs.LentDemand3.{lent-append, lent-demand3}
-use Rattle.exchange.proofs.Runs.{exchange-granted, exchange-run}
+use Rattle.exchange.proofs.Runs.{allLentGranted, exchange-granted, exchange-run}
 
--- ---- calls as quiet exchanges
+-- ---- the count of a run and what follows it
 
-abbrev quietOf : Lending → Quiet
-quietOf g =
-    record {
-      digest-place = 0;
-      digest-datagram = g .digest;
-      ties = g .ties;
-      mtu = g .mtu;
-      delta-place = 0;
-      delta-datagram = g .delta;
-      now = g .clock;
-      answers = g .answers;
-    }
+quiet-append : (es fs : List Event) → allQuiet es ≡ true → allQuiet fs ≡ true → allQuiet (es ++ fs) ≡ true
+unfolding allQuiet
+quiet-append [] fs a b = b
+quiet-append (e ∷ es) fs a b = and-intro (quiet e) _ (and-left (quiet e) _ a) (quiet-append es fs (and-right (quiet e) _ a) b)
 
-quiets : List Lending → List Quiet
-quiets [] = []
-quiets (g ∷ gs) = quietOf g ∷ quiets gs
+-- what comes before takes nothing away
+before : (es fs : List Event) (n : ℕ) (st : Stage) (w : LentWorld) → ((s : Stage) → n ≤ lentWholes plainWays s fs (lentAfter plainWays es w)) → n ≤ lentWholes plainWays st (es ++ fs) w
+unfolding lentWholes lentAfter
+before [] fs n st w h = h st
+before (e ∷ es) fs n st w h =
+    go (unlimited e && lentGranted plainWays e w) (before es fs n (onward e st) (lentHappen plainWays e w) h) (before es fs n NotBegun (lentHappen plainWays e w) h)
+  where
+    go : (b : Bool)
+        → n ≤ lentWholes plainWays (onward e st) (es ++ fs) (lentHappen plainWays e w)
+        → n ≤ lentWholes plainWays NotBegun (es ++ fs) (lentHappen plainWays e w)
+        → n ≤ pick b (ending e st + lentWholes plainWays (onward e st) (es ++ fs) (lentHappen plainWays e w)) (lentWholes plainWays NotBegun (es ++ fs) (lentHappen plainWays e w))
+    go true x y = omega arith
+    go false x y = y
 
-length-quiets : (gs : List Lending) → length (quiets gs) ≡ length gs
-unfolding quiets
-length-quiets [] = refl
-length-quiets (g ∷ gs) = ap suc (length-quiets gs)
+one-step : (e : Event) (es : List Event) (st : Stage) (w : LentWorld) → unlimited e ≡ true → lentGranted plainWays e w ≡ true → lentWholes plainWays st (e ∷ es) w ≡ ending e st + lentWholes plainWays (onward e st) es (lentHappen plainWays e w)
+unfolding lentWholes
+one-step e es st w u g =
+    ap (λ (b : Bool). pick b (ending e st + lentWholes plainWays (onward e st) es (lentHappen plainWays e w)) (lentWholes plainWays NotBegun es (lentHappen plainWays e w)))
+    (and-intro (unlimited e) (lentGranted plainWays e w) u g)
 
-wide-quiets : (gs : List Lending) → AllPlain gs → Wide (quiets gs)
-unfolding AllPlain Wide quiets
-wide-quiets [] p = tt
-wide-quiets (g ∷ gs) p = (p .0 .wide, wide-quiets gs (p .1))
+-- a call with nothing excluded, a wide MTU and all its events granted is one
+module _ (g : Lending) (fs : List Event) (n : ℕ) (st : Stage) (w : LentWorld) where
+  abbrev asking : Event
+  asking = Digesting (g .unasked) 0 (g .digest)
 
--- nothing is excluded, so the three events are those of a quiet exchange
-events-quiet : (g : Lending) → Plain g → eventsOf g ≡ exchangeOf (quietOf g)
-events-quiet g p =
-    λ i. Digesting (p .all-asked i) 0 (g .digest) ∷ Computing (p .all-sent i) (g .ties) (g .mtu) 0 (g .delta) ∷ Applying (g .clock) (g .answers) ∷ []
+  abbrev answering : Event
+  answering = Computing (g .unsent) (g .ties) (g .mtu) 0 (g .delta)
 
--- a granted call is all its events
+  abbrev taking-in : Event
+  taking-in = Applying (g .clock) (g .answers)
+
+  counted : (isNone (g .unasked) && (isNone (g .unsent) && leb leastWidth (g .mtu))) ≡ true
+      → allLentGranted (eventsOf g) w ≡ true
+      → n ≤ lentWholes plainWays NotBegun fs (lentAfter plainWays (eventsOf g) w)
+      → suc n ≤ lentWholes plainWays st (eventsOf g ++ fs) w
+  unfolding lentAfter allLentGranted
+  counted p a h =
+      let x = lentHappen plainWays asking w in
+      let y = lentHappen plainWays answering x in
+      let b = and-right (lentGranted plainWays asking w) _ a in
+      let c = and-right (lentGranted plainWays answering x) _ b in
+      let i = one-step asking (answering ∷ taking-in ∷ fs) st w (and-left (isNone (g .unasked)) _ p) (and-left (lentGranted plainWays asking w) _ a) in
+      let j = one-step answering (taking-in ∷ fs) Asked x (and-right (isNone (g .unasked)) _ p) (and-left (lentGranted plainWays answering x) _ b) in
+      let k = one-step taking-in fs Answered y refl (and-left (lentGranted plainWays taking-in y) _ c) in
+      omega arith
+
+-- ---- a call, a beat, an offer
+
+abbrev hubsOf : LentWorld → Hubs
+hubsOf w = hubs (w .publisher) (w .follower)
+
+-- the quiet run that an act is
+record Ran (a : Act) (w : LentWorld) : Type 0 where
+  events : List Event
+  calm : allQuiet events ≡ true
+  ends : hubsOf (lentAfter plainWays events w) ≡ afterAct a (hubsOf w)
+  counts : (fs : List Event) (n : ℕ) (st : Stage)
+      → ((s : Stage) → n ≤ lentWholes plainWays s fs (lentAfter plainWays events w))
+      → pick (isWhole a (hubsOf w)) (suc n) n ≤ lentWholes plainWays st (events ++ fs) w
+
+-- whatever a call of the exchange answers
+quiet-run : (g : Lending) (a : Exchanged) → allQuiet (runOf g a) ≡ true
+unfolding allQuiet
+quiet-run g (exchanged.Done ops bytes nodes) = refl
+quiet-run g (exchanged.NoDigest r) = refl
+quiet-run g (exchanged.NoDelta r) = refl
+quiet-run g (exchanged.NotApplied r at) = refl
+
+-- a granted one is all its events
 granted-run : (g : Lending) (a : Exchanged) (l : List ℕ) → grantedAs a l ≡ true → runOf g a ≡ eventsOf g
 granted-run g (exchanged.Done ops bytes nodes) l e = refl
 granted-run g (exchanged.NoDigest r) l e = absurd (false≢true e)
 granted-run g (exchanged.NoDelta r) l e = absurd (false≢true e)
 granted-run g (exchanged.NotApplied r at) l e = absurd (false≢true e)
 
-granted-append : (es fs : List Event) (w : LentWorld) → allLentGranted plainWays es w ≡ true → allLentGranted plainWays fs (lentAfter plainWays es w) ≡ true → allLentGranted plainWays (es ++ fs) w ≡ true
-unfolding allLentGranted lentAfter
-granted-append [] fs w g h = h
-granted-append (e ∷ es) fs w g h =
-    and-intro (lentGranted plainWays e w) _ (and-left (lentGranted plainWays e w) _ g) (granted-append es fs (lentHappen plainWays e w) (and-right (lentGranted plainWays e w) _ g) h)
+module _ (w : LentWorld) where
+  ran-exchange : (g : Lending) → g .clock < numbers → Ran (Exchanges g) w
+  ran-exchange g clock =
+      record {
+        events = run;
+        calm = quiet-run g (came-to .answer);
+        ends = ap hubsOf (exchange-run g w clock .1);
+        counts = λ fs n st h. go (isWhole (Exchanges g) (hubsOf w)) refl fs n st h;
+      }
+    where
+      came-to : Given Exchanged ExchangeLent
+      came-to = lentExchange g (w .publisher) (w .follower)
+
+      run : List Event
+      run = runOf g (came-to .answer)
+
+      go : (b : Bool) → isWhole (Exchanges g) (hubsOf w) ≡ b → (fs : List Event) (n : ℕ) (st : Stage) → ((s : Stage) → n ≤ lentWholes plainWays s fs (lentAfter plainWays run w)) → pick b (suc n) n ≤ lentWholes plainWays st (run ++ fs) w
+      go true q fs n st h =
+          let plain = and-left (isNone (g .unasked) && (isNone (g .unsent) && leb leastWidth (g .mtu))) _ q in
+          let granted = and-right (isNone (g .unasked) && (isNone (g .unsent) && leb leastWidth (g .mtu))) _ q in
+          let all-of-it = granted-run g (came-to .answer) (came-to .lent .answers) granted in
+          subst (λ (es : List Event). suc n ≤ lentWholes plainWays st (es ++ fs) w) (sym all-of-it)
+          (counted g fs n st w plain (exchange-granted g w clock ∙ granted)
+          (subst (λ (es : List Event). n ≤ lentWholes plainWays NotBegun fs (lentAfter plainWays es w)) all-of-it (h NotBegun)))
+      go false q fs n st h = before run fs n st w h
+
+  ran-beat : (s : Side) (i : ℕ) → Ran (Beats s i) w
+  unfolding allQuiet lentAfter lentHappen
+  ran-beat s i = record { events = Beating s i ∷ []; calm = refl; ends = at s; counts = λ fs n st h. before (Beating s i ∷ []) fs n st w h }
+    where
+      at : (s : Side) → hubsOf (lentCalls plainWays (Beating s i) w) ≡ afterAct (Beats s i) (hubsOf w)
+      at Publishers = refl
+      at Followers = refl
+
+  ran-offer : (s : Side) (i : ℕ) (b : Heartbeat) → ltb (b .0) numbers ≡ true → Ran (Offers s i b) w
+  unfolding allQuiet lentAfter lentHappen
+  ran-offer s i b fit = record { events = Offering s i b ∷ []; calm = refl; ends = rw fit (at s); counts = λ fs n st h. before (Offering s i b ∷ []) fs n st w h }
+    where
+      at : (s : Side) → hubsOf (lentCalls plainWays (Offering s i b) w) ≡ afterAct (Offers s i b) (hubsOf w)
+      at Publishers = refl
+      at Followers = refl
+
+  ran : (a : Act) → fits a ≡ true → Ran a w
+  ran (Exchanges g) fit = ran-exchange g (ltb-true _ _ fit)
+  ran (Beats s i) fit = ran-beat s i
+  ran (Offers s i b) fit = ran-offer s i b fit
 
 -- ---- one after the other
 
--- a granted call
-module _ (c : Lending) (w : LentWorld) (p : Plain c) (g : isGranted (lentExchange c (w .publisher) (w .follower)) ≡ true) where
-  abbrev came-to : Given Exchanged ExchangeLent
-  came-to = lentExchange c (w .publisher) (w .follower)
+-- the quiet run that they all are
+record AllRan (acts : List Act) (w : LentWorld) : Type 0 where
+  events : List Event
+  calm : allQuiet events ≡ true
+  ends : hubsOf (lentAfter plainWays events w) ≡ afterActs acts (hubsOf w)
+  counts : (st : Stage) → wholeCalls acts (hubsOf w) ≤ lentWholes plainWays st events w
 
-  -- the world that it leaves
-  abbrev left : LentWorld
-  left = exchangedTo (came-to .lent .follower) (exchange-run c w (p .clock-fits) .0) w
-
-  one : lentAfter plainWays (exchangeOf (quietOf c)) w ≡ left
-  one =
-      ap (λ (x : List Event). lentAfter plainWays x w) (sym (granted-run c (came-to .answer) (came-to .lent .answers) g ∙ events-quiet c p))
-      ∙ exchange-run c w (p .clock-fits) .1
-
-  one-granted : allLentGranted plainWays (exchangeOf (quietOf c)) w ≡ true
-  one-granted = ap (λ (x : List Event). allLentGranted plainWays x w) (sym (events-quiet c p)) ∙ exchange-granted c w (p .clock-fits) ∙ g
-
--- the run of all calls: granted, and it ends with the follower's bytes that the calls leave
-record Ran (gs : List Lending) (w : LentWorld) : Type 0 where
-  way : Exchange
-  ends : lentAfter plainWays (exchanges (quiets gs)) w ≡ exchangedTo (afterExchanges gs (w .publisher) (w .follower)) way w
-  grants : allLentGranted plainWays (exchanges (quiets gs)) w ≡ true
-
-runs : (gs : List Lending) (w : LentWorld) → AllPlain gs → allExchanged gs (w .publisher) (w .follower) ≡ true → Ran gs w
-unfolding AllPlain allExchanged afterExchanges exchanges quiets lentAfter allLentGranted
-runs [] w p g = record { way = w .exchange; ends = refl; grants = refl }
-runs (c ∷ cs) w p g =
-    let h = and-left (isGranted (lentExchange c (w .publisher) (w .follower))) _ g in
-    let next = runs cs (left c w (p .0) h) (p .1) (and-right (isGranted (lentExchange c (w .publisher) (w .follower))) _ g) in
-    let e = one c w (p .0) h in
+runs : (acts : List Act) (w : LentWorld) → allFit acts ≡ true → AllRan acts w
+unfolding allFit afterActs wholeCalls allQuiet lentAfter lentWholes
+runs [] w fit = record { events = []; calm = refl; ends = refl; counts = λ st. omega arith }
+runs (a ∷ acts) w fit =
+    let one = ran w a (and-left (fits a) _ fit) in
+    let x = lentAfter plainWays (one .events) w in
+    let rest = runs acts x (and-right (fits a) _ fit) in
     record {
-      way = next .way;
-      ends = lent-append plainWays (exchangeOf (quietOf c)) (exchanges (quiets cs)) w ∙ ap (lentAfter plainWays (exchanges (quiets cs))) e ∙ next .ends;
-      grants =
-          granted-append (exchangeOf (quietOf c)) (exchanges (quiets cs)) w (one-granted c w (p .0) h)
-          (subst (λ (x : LentWorld). allLentGranted plainWays (exchanges (quiets cs)) x ≡ true) (sym e) (next .grants));
+      events = one .events ++ rest .events;
+      calm = quiet-append (one .events) (rest .events) (one .calm) (rest .calm);
+      ends = ap hubsOf (lent-append plainWays (one .events) (rest .events) w) ∙ rest .ends ∙ ap (afterActs acts) (one .ends);
+      counts =
+          λ st.
+          one .counts (rest .events) (wholeCalls acts (afterAct a (hubsOf w))) st
+          (λ s. subst (λ (h : Hubs). wholeCalls acts h ≤ lentWholes plainWays s (rest .events) x) (one .ends) (rest .counts s));
     }
 
 module _ (is : List ℕ) (ok : obeys (freshTable is) ≡ true) where
-  -- After any run the calls make every node's max the same in both tables.
-  pub exchanges-close : (es : List Event) (gs : List Lending)
-      → AllPlain gs
-      → let w = lentAfter plainWays es (lentStart is) in allExchanged gs (w .publisher) (w .follower) ≡ true
-      → holdings (decode (w .publisher)) ≤ length gs
-      → SameMax (decode (w .publisher)) (decode (afterExchanges gs (w .publisher) (w .follower)))
-  exchanges-close es gs p g h =
+  -- After any run the whole calls make every node's max the same in both tables.
+  pub exchanges-close : (es : List Event) (acts : List Act)
+      → allFit acts ≡ true
+      → let w = lentAfter plainWays es (lentStart is) in let h = hubs (w .publisher) (w .follower) in holdings (decode (h .publisher)) ≤ wholeCalls acts h
+      → SameMax (decode (afterActs acts h .publisher)) (decode (afterActs acts h .follower))
+  exchanges-close es acts fit held =
       let w = lentAfter plainWays es (lentStart is) in
-      let r = runs gs w p g in
-      subst (λ (x : LentWorld). SameMax (decode (x .publisher)) (decode (x .follower))) (r .ends)
-      (lent-demand3 is ok .closing-count es (quiets gs) (wide-quiets gs p) (r .grants) (subst (λ (n : ℕ). holdings (decode (w .publisher)) ≤ n) (sym (length-quiets gs)) h))
+      let r = runs acts w fit in
+      subst (λ (x : Hubs). SameMax (decode (x .publisher)) (decode (x .follower))) (r .ends)
+      (lent-demand3 is ok .closing-count es (r .events) (r .calm) (let k = r .counts NotBegun in omega arith))
 
   -- So that in the end every Set record of the publisher has arrived, and the follower has no other.
-  pub exchanges-arrive : (es : List Event) (gs : List Lending)
-      → AllPlain gs
-      → let w = lentAfter plainWays es (lentStart is) in allExchanged gs (w .publisher) (w .follower) ≡ true
-      → holdings (decode (w .publisher)) ≤ length gs
+  pub exchanges-arrive : (es : List Event) (acts : List Act)
+      → allFit acts ≡ true
+      → let w = lentAfter plainWays es (lentStart is) in let h = hubs (w .publisher) (w .follower) in holdings (decode (h .publisher)) ≤ wholeCalls acts h
       → (i : ℕ) (p f : Node)
-      → nodeOf i (decode (w .publisher)) ≡ some p
-      → nodeOf i (decode (afterExchanges gs (w .publisher) (w .follower))) ≡ some f
+      → nodeOf i (decode (afterActs acts h .publisher)) ≡ some p
+      → nodeOf i (decode (afterActs acts h .follower)) ≡ some f
       → (s : KeyValue)
       → s .status ≡ Set
       → (Holds p s → Holds f s) × (Holds f s → Holds p s)
-  exchanges-arrive es gs p g h i a b x y =
+  exchanges-arrive es acts fit held i p f a b =
       let w = lentAfter plainWays es (lentStart is) in
-      let r = runs gs w p g in
-      let end = subst (LentSound is) (lent-append plainWays es (exchanges (quiets gs)) (lentStart is) ∙ r .ends) (lent-demand3 is ok .at-every-moment (es ++ exchanges (quiets gs))) in
-      end .claims i a b x y .same-set (exchanges-close es gs p g h i a b x y)
+      let r = runs acts w fit in
+      let sound = subst (LentSound is) (lent-append plainWays es (r .events) (lentStart is)) (lent-demand3 is ok .at-every-moment (es ++ r .events)) in
+      let publisher-is = ap (λ (x : Hubs). nodeOf i (decode (x .publisher))) (r .ends) in
+      let follower-is = ap (λ (x : Hubs). nodeOf i (decode (x .follower))) (r .ends) in
+      sound .claims i p f (publisher-is ∙ a) (follower-is ∙ b) .same-set (exchanges-close es acts fit held i p f a b)

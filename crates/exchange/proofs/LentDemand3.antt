@@ -1,12 +1,12 @@
 -- Demand 3 of the calls on lent bytes: the theorem. It is that of the rules (Demand3 of `rules`), read in the bytes: these are at every moment the
 -- encodings of the tables of which that theorem speaks. Nothing is assumed but that the fresh tables obey document 01's rules: at most eight
 -- nodes, ascending numbers below 2^64.
-use Prim.Native.Nat.{_≤_, ℕ}
+use Prim.Native.Nat.{_+_, _≤_, ℕ}
 use mathlib.Core.Bool.{Bool, _&&_, true}
 use mathlib.Core.List.{List, [], _++_, _∷_}
 use mathlib.Core.Option.{some}
 use mathlib.Core.Path.{_∙_, _≡_, ap, refl, subst, subst₂, sym}
-use lib.ListN.{length}
+use Rattle.fields.specs.Choice.{pick}
 use Rattle.rules.specs.Given.{Given, given}
 use Rattle.rules.specs.Node.{KeyValue, Node}
 use Rattle.rules.specs.Table.{Table, nodeOf, numbersOf, obeys}
@@ -16,7 +16,7 @@ use Rattle.rules.specs.Apply.{Lawful, Ways, plainWays}
 use Rattle.rules.specs.Layout.{decode, encode}
 use Rattle.rules.specs.Lent.{TableAndList}
 use Rattle.rules.specs.World.{Applying, Beating, Computing, DeltaSent, DigestSent, Digesting, Event, Exchange, Idle, Offering, Removing, World, Writing, after, freshTable, happen, possible, start}
-use Rattle.rules.specs.Demand3.{AllRise, Holds, Quiet, SameMax, Sound, Wide, allGranted, exchanges, granted, holdings, isApplied, isComputed, noRoom, wroteDelta, wroteDigest}
+use Rattle.rules.specs.Demand3.{AllRise, Holds, NotBegun, SameMax, Sound, Stage, allQuiet, ending, granted, holdings, isApplied, isComputed, noRoom, onward, unlimited, wholes, wroteDelta, wroteDigest}
 use Rattle.rules.specs.declared.Status.the-variants.{Set}
 use Rattle.rules.specs.declared.Computed.{Computed}
 use Rattle.rules.specs.declared.Computed.the-variants as computed
@@ -31,7 +31,7 @@ use Rattle.rules.proofs.Moments.{InOrder, moment, moments, next-event}
 use Rattle.rules.proofs.Obeys.{facts-table}
 use Rattle.table.proofs.Tables.{decode-encode, valid-encode}
 use Rattle.exchange.specs.LentWorld.{LentWorld, lentAfter, lentHappen, lentStart}
-use Rattle.exchange.specs.LentDemand3.{LentDemand3, LentSound, allLentGranted, lentGranted, lentIsApplied, lentIsComputed}
+use Rattle.exchange.specs.LentDemand3.{LentDemand3, LentSound, lentGranted, lentIsApplied, lentIsComputed, lentWholes}
 use Rattle.exchange.proofs.LentWorld.{after-lent, apply-encoded, from-encoded, happen-lent, lent, lent-run}
 
 -- ---- the answers are the same
@@ -60,15 +60,16 @@ module _ (ways : Ways) (w : World) (p : obeys (w .publisher) ≡ true) (f : obey
       go (DigestSent b) = refl
       go (DeltaSent b) = ap (λ (o : Given Applied TableAndList). noRoom (o .answer) (o .lent .list)) (apply-encoded (w .follower) f ways b now answers)
 
-all-granted-lent : (ways : Ways) → Lawful ways → (is : List ℕ) (es : List Event) (w : World) → InOrder is w → allLentGranted ways es (lent w) ≡ allGranted ways es w
-unfolding allLentGranted allGranted
-all-granted-lent ways law is [] w o = refl
-all-granted-lent ways law is (e ∷ es) w o =
+-- and so is the count
+wholes-lent : (ways : Ways) → Lawful ways → (is : List ℕ) (es : List Event) (st : Stage) (w : World) → InOrder is w → lentWholes ways st es (lent w) ≡ wholes ways st es w
+unfolding lentWholes wholes
+wholes-lent ways law is [] st w o = refl
+wholes-lent ways law is (e ∷ es) st w o =
     let p = facts-table (w .publisher) (o .publisher-ok) in
     let f = facts-table (w .follower) (o .follower-ok) in
-    ap (λ (b : Bool). b && allLentGranted ways es (lentHappen ways e (lent w))) (granted-lent ways w p f e)
-    ∙ ap (λ (x : LentWorld). granted ways e w && allLentGranted ways es x) (happen-lent ways w p f e)
-    ∙ ap (λ (b : Bool). granted ways e w && b) (all-granted-lent ways law is es (happen ways e w) (next-event ways law is w o e .order))
+    let rest : (s : Stage) → lentWholes ways s es (lentHappen ways e (lent w)) ≡ wholes ways s es (happen ways e w) =
+    λ s. ap (lentWholes ways s es) (happen-lent ways w p f e) ∙ wholes-lent ways law is es s (happen ways e w) (next-event ways law is w o e .order) in
+    λ z. pick (unlimited e && granted-lent ways w p f e z) (ending e st + rest (onward e st) z) (rest NotBegun z)
 
 -- ---- the claims read in the bytes
 
@@ -133,41 +134,40 @@ module _ (ways : Ways) (law : Lawful ways) (is : List ℕ) (ok : obeys (freshTab
         subst₂ AllRise (follower-is is w (order es) ∙ c) (follower-is is x (order-on es fs) ∙ d) (r .1),
       )
 
-  lent-closing : (es : List Event) (qs : List Quiet)
-      → Wide qs
-      → allLentGranted ways (exchanges qs) (lentAfter ways es (lentStart is)) ≡ true
-      → holdings (decode (lentAfter ways es (lentStart is) .publisher)) ≤ length qs
-      → SameMax (decode (lentAfter ways (exchanges qs) (lentAfter ways es (lentStart is)) .publisher)) (decode (lentAfter ways (exchanges qs) (lentAfter ways es (lentStart is)) .follower))
-  lent-closing es qs wide g h =
+  lent-closing : (es fs : List Event)
+      → allQuiet fs ≡ true
+      → holdings (decode (lentAfter ways es (lentStart is) .publisher)) ≤ lentWholes ways NotBegun fs (lentAfter ways es (lentStart is))
+      → SameMax (decode (lentAfter ways fs (lentAfter ways es (lentStart is)) .publisher)) (decode (lentAfter ways fs (lentAfter ways es (lentStart is)) .follower))
+  lent-closing es fs calm h =
       let w = ran es in
-      let x = after ways (exchanges qs) w in
+      let x = after ways fs w in
       let l = lent-run ways law is ok es in
-      let granted-is = sym (all-granted-lent ways law is (exchanges qs) w (order es)) ∙ ap (allLentGranted ways (exchanges qs)) (sym l) ∙ g in
-      let held = subst (λ (t : Table). holdings t ≤ length qs) (ap (λ (y : LentWorld). decode (y .publisher)) l ∙ sym (publisher-is is w (order es))) h in
-      let z = sym (lent-on es (exchanges qs)) in
+      let held =
+      subst₂ (λ (t : Table) (n : ℕ). holdings t ≤ n) (ap (λ (y : LentWorld). decode (y .publisher)) l ∙ sym (publisher-is is w (order es)))
+      (ap (lentWholes ways NotBegun fs) l ∙ wholes-lent ways law is fs NotBegun w (order es)) h in
+      let z = sym (lent-on es fs) in
       subst₂ SameMax
-      (publisher-is is x (order-on es (exchanges qs)) ∙ ap (λ (y : LentWorld). decode (y .publisher)) z)
-      (follower-is is x (order-on es (exchanges qs)) ∙ ap (λ (y : LentWorld). decode (y .follower)) z)
-      (closing ways law is ok es qs wide granted-is held)
+      (publisher-is is x (order-on es fs) ∙ ap (λ (y : LentWorld). decode (y .publisher)) z)
+      (follower-is is x (order-on es fs) ∙ ap (λ (y : LentWorld). decode (y .follower)) z)
+      (closing ways law is ok es fs calm held)
 
   -- The demand, of the bytes that the entry points leave.
   pub lent-demand3-as : LentDemand3 ways is
   lent-demand3-as = record { at-every-moment = lent-sound; between-moments = lent-never-falls; closing-count = lent-closing }
 
   -- So that in the end every Set record of the publisher has arrived, and the follower has no other.
-  pub lent-all-arrives : (es : List Event) (qs : List Quiet)
-      → Wide qs
-      → allLentGranted ways (exchanges qs) (lentAfter ways es (lentStart is)) ≡ true
-      → holdings (decode (lentAfter ways es (lentStart is) .publisher)) ≤ length qs
+  pub lent-all-arrives : (es fs : List Event)
+      → allQuiet fs ≡ true
+      → holdings (decode (lentAfter ways es (lentStart is) .publisher)) ≤ lentWholes ways NotBegun fs (lentAfter ways es (lentStart is))
       → (i : ℕ) (p f : Node)
-      → nodeOf i (decode (lentAfter ways (exchanges qs) (lentAfter ways es (lentStart is)) .publisher)) ≡ some p
-      → nodeOf i (decode (lentAfter ways (exchanges qs) (lentAfter ways es (lentStart is)) .follower)) ≡ some f
+      → nodeOf i (decode (lentAfter ways fs (lentAfter ways es (lentStart is)) .publisher)) ≡ some p
+      → nodeOf i (decode (lentAfter ways fs (lentAfter ways es (lentStart is)) .follower)) ≡ some f
       → (s : KeyValue)
       → s .status ≡ Set
       → (Holds p s → Holds f s) × (Holds f s → Holds p s)
-  lent-all-arrives es qs wide g h i p f a b =
-      let end = subst (LentSound is) (lent-append ways es (exchanges qs) (lentStart is)) (lent-sound (es ++ exchanges qs)) in
-      end .claims i p f a b .same-set (lent-closing es qs wide g h i p f a b)
+  lent-all-arrives es fs calm h i p f a b =
+      let end = subst (LentSound is) (lent-append ways es fs (lentStart is)) (lent-sound (es ++ fs)) in
+      end .claims i p f a b .same-set (lent-closing es fs calm h i p f a b)
 
 -- of the calls that the entry points promise
 pub lent-demand3 : (is : List ℕ) → obeys (freshTable is) ≡ true → LentDemand3 plainWays is

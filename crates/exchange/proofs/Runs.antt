@@ -2,7 +2,7 @@
 use Prim.Native.Nat.{ℕ, _<_}
 use mathlib.Core.Path.{_≡_, _∙_, ap, refl}
 use mathlib.Core.Bool.{Bool, _&&_, false, true}
-use mathlib.Core.List.{List}
+use mathlib.Core.List.{List, [], _∷_}
 use lib.Dec.{ltb}
 use borrow.Author.Tests.{lt-ltb}
 use Rattle.fields.specs.Choice.{pick}
@@ -21,8 +21,13 @@ use Rattle.rules.specs.declared.Applied.{Applied}
 use Rattle.rules.specs.declared.Applied.the-variants as applied
 use Rattle.exchange.specs.LentWorld.{LentWorld, lentAfter, lentCalls, lentHappen, onWay}
 use Rattle.exchange.specs.Exchanging.{Lending, afterComputing, afterDigesting, lentAnswer, lentExchange, exchangedAs, withDigest}
-use Rattle.exchange.specs.LentDemand3.{allLentGranted, lentGranted}
+use Rattle.exchange.specs.LentDemand3.{lentGranted}
 use Rattle.exchange.specs.Runs.{IsRun, eventsOf, exchangedTo, grantedAs, isGranted, runOf}
+
+-- the calls of a run are all granted
+unfoldable pub allLentGranted : List Event → LentWorld → Bool
+allLentGranted [] w = true
+allLentGranted (e ∷ es) w = lentGranted plainWays e w && allLentGranted es (lentHappen plainWays e w)
 
 and-true : (b : Bool) → (b && true) ≡ b
 and-true true = refl
@@ -94,7 +99,7 @@ module _ (g : Lending) (w : LentWorld) (clock : g .clock < numbers) where
   -- ---- nothing refused
 
   -- The call grants what its three events grant.
-  pub exchange-granted : allLentGranted plainWays (eventsOf g) w ≡ isGranted (lentExchange g (w .publisher) (w .follower))
+  pub exchange-granted : allLentGranted (eventsOf g) w ≡ isGranted (lentExchange g (w .publisher) (w .follower))
   unfolding lentExchange lentAnswer allLentGranted
   exchange-granted = asked (told .answer) refl
     where

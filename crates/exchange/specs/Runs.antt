@@ -1,16 +1,20 @@
--- A call of `exchange::exchange` as a run of the world of lent bytes, and many of them one after the other. So demand 3 (LentDemand3) speaks of that
+-- A call of `exchange::exchange` as a run of the world of lent bytes, and many of them one after the other, among beats and offers. So demand 3 (LentDemand3) speaks of that
 -- function; the theorems are in proofs/Runs and proofs/Closing.
-use Prim.Native.Nat.{_≤_, _<_}
+use Prim.Native.Nat.{ℕ, suc}
 use mathlib.Core.Path.{_≡_}
 use mathlib.Core.Bool.{Bool, true, false, _&&_}
 use mathlib.Core.List.{List, [], _∷_}
+use lib.Dec.{leb, ltb}
 use Rattle.fields.specs.Numbers.{Bytes}
+use Rattle.fields.specs.Choice.{pick}
 use Rattle.rules.specs.Sizes.{numbers}
 use Rattle.rules.specs.Given.{Given}
 use Rattle.rules.specs.Apply.{plainWays}
-use Rattle.rules.specs.World.{Exchange, Event, Digesting, Computing, Applying}
-use Rattle.rules.specs.Demand3.{noRoom, leastWidth}
+use Rattle.rules.specs.Lent.{lentBeat, lentOffer}
+use Rattle.rules.specs.World.{Exchange, Event, Digesting, Computing, Applying, Side, Publishers, Followers}
+use Rattle.rules.specs.Demand3.{noRoom, leastWidth, isNone}
 use Rattle.rules.specs.declared.Applied.the-variants as applied
+use Rattle.rules.specs.declared.Heartbeat.{Heartbeat}
 use Rattle.exchange.specs.declared.Exchanged.{Exchanged}
 use Rattle.exchange.specs.declared.Exchanged.the-variants as exchanged
 use Rattle.exchange.specs.LentWorld.{LentWorld, lentAfter}
@@ -50,26 +54,53 @@ grantedAs (exchanged.NotApplied r at) l = false
 abbrev pub isGranted : (outcome : Given Exchanged ExchangeLent) → Bool
 isGranted o = grantedAs (o .answer) (o .lent .answers)
 
--- ---- one after the other
+-- ---- one after the other, among beats and offers
 
--- the follower's bytes afterwards
-unfoldable pub afterExchanges : (lendings : List Lending) (publisher follower : Bytes) → Bytes
-afterExchanges [] publisher follower = follower
-afterExchanges (g ∷ gs) publisher follower = afterExchanges gs publisher (lentExchange g publisher follower .lent .follower)
+-- What goes on once writes, deletes and removals cease: calls of the exchange, and beats and offers on either side
+pub data Act : Type 0 where
+  Exchanges : Lending → Act
+  Beats : Side → ℕ → Act
+  Offers : Side → ℕ → Heartbeat → Act
 
--- nothing refused in any of them
-unfoldable pub allExchanged : (lendings : List Lending) (publisher follower : Bytes) → Bool
-allExchanged [] publisher follower = true
-allExchanged (g ∷ gs) publisher follower =
-    isGranted (lentExchange g publisher follower) && allExchanged gs publisher (lentExchange g publisher follower .lent .follower)
+-- the bytes of the two tables
+pub record Hubs : Type 0 where
+  pub publisher : Bytes
+  pub follower : Bytes
 
--- nothing is excluded, the MTU is wide enough for every record, and the clock is a number of eight bytes, as every clock in code is
-pub record Plain (g : Lending) : Type 0 where
-  pub all-asked : g .unasked ≡ []
-  pub all-sent : g .unsent ≡ []
-  pub wide : leastWidth ≤ g .mtu
-  pub clock-fits : g .clock < numbers
+abbrev pub hubs : (publisher follower : Bytes) → Hubs
+hubs p f = record { publisher = p; follower = f }
 
-unfoldable pub AllPlain : (lendings : List Lending) → Type 0
-AllPlain [] = Unit {0}
-AllPlain (g ∷ gs) = Plain g × AllPlain gs
+abbrev pub onHub : (side : Side) (f : Bytes → Bytes) (hubs : Hubs) → Hubs
+onHub Publishers f h = hubs (f (h .publisher)) (h .follower)
+onHub Followers f h = hubs (h .publisher) (f (h .follower))
+
+abbrev pub afterAct : (act : Act) (hubs : Hubs) → Hubs
+afterAct (Exchanges g) h = hubs (h .publisher) (lentExchange g (h .publisher) (h .follower) .lent .follower)
+afterAct (Beats s i) h = onHub s (λ l. lentBeat i l .lent) h
+afterAct (Offers s i b) h = onHub s (λ l. lentOffer i b l .lent) h
+
+unfoldable pub afterActs : (acts : List Act) (hubs : Hubs) → Hubs
+afterActs [] h = h
+afterActs (a ∷ acts) h = afterActs acts (afterAct a h)
+
+-- clocks and heartbeats are numbers of eight bytes, as they are in code
+abbrev pub fits : (act : Act) → Bool
+fits (Exchanges g) = ltb (g .clock) numbers
+fits (Beats s i) = true
+fits (Offers s i b) = ltb (b .0) numbers
+
+unfoldable pub allFit : (acts : List Act) → Bool
+allFit [] = true
+allFit (a ∷ acts) = fits a && allFit acts
+
+-- a call of the exchange with no node excluded, an MTU of 135 or more, and nothing refused
+abbrev pub isWhole : (act : Act) (hubs : Hubs) → Bool
+isWhole (Exchanges g) h =
+    (isNone (g .unasked) && (isNone (g .unsent) && leb leastWidth (g .mtu))) && isGranted (lentExchange g (h .publisher) (h .follower))
+isWhole (Beats s i) h = false
+isWhole (Offers s i b) h = false
+
+-- how many there are
+unfoldable pub wholeCalls : (acts : List Act) (hubs : Hubs) → ℕ
+wholeCalls [] h = 0
+wholeCalls (a ∷ acts) h = pick (isWhole a h) (suc (wholeCalls acts (afterAct a h))) (wholeCalls acts (afterAct a h))
