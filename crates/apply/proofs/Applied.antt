@@ -47,7 +47,7 @@ use Rattle.delta_read.specs.Plain.{opsFrom}
 use Rattle.delta_read.proofs.Plain.{good-plain}
 use Rattle.table.specs.Fits.{FitsEntry, LaidNode}
 use Rattle.table.specs.Changes.{withNode, withMax, withGc, withRecs, freshEntry}
-use Rattle.table.specs.Tests.{countOf, recsOf}
+use Rattle.table.specs.Tests.{countOf, recsIn}
 use Rattle.table.proofs.Nodes.{laid-node, decode-encode-node}
 use Rattle.table.proofs.Changed.{fresh-bytes}
 use Rattle.table.proofs.Places.{length-recs}
@@ -129,10 +129,10 @@ module _ (b : List ℕ) (o : Rising b) (gc : ℕ) (gc-fits : gc < numbers) where
 
 -- the records are taken, and max is the delta's
 module _ (clock : ℕ) (s : List ℕ) (at max : ℕ) (e : Entry) (c₁ : List ℕ) (d : decodeNode c₁ ≡ e) (h : Header) (i : h ≡ headerOf (decodeNode c₁ .node)) (r : Bool) (c₂ : List ℕ)
-    (t : Tried (takeAll (h .max) (h .«last_gc») clock (recsFrom s at) (recsOf c₁)) c₁ r c₂) where
-  as-grown : withMax max (withRecs (takeAll (h .max) (h .«last_gc») clock (recsFrom s at) (recsOf c₁)) (decodeNode c₁)) ≡ grown clock s at max e
+    (t : Tried (takeAll (h .max) (h .«last_gc») clock (recsFrom s at) (recsIn c₁)) c₁ r c₂) where
+  as-grown : withMax max (withRecs (takeAll (h .max) (h .«last_gc») clock (recsFrom s at) (recsIn c₁)) (decodeNode c₁)) ≡ grown clock s at max e
   as-grown =
-      ap (λ (x : Header). withMax max (withRecs (takeAll (x .max) (x .«last_gc») clock (recsFrom s at) (recsOf c₁)) (decodeNode c₁))) i
+      ap (λ (x : Header). withMax max (withRecs (takeAll (x .max) (x .«last_gc») clock (recsFrom s at) (recsIn c₁)) (decodeNode c₁))) i
       ∙ ap (grown clock s at max) d
 
   has : r ≡ hasRoom (grown clock s at max e .node .recs)

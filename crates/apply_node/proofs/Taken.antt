@@ -34,7 +34,7 @@ use Rattle.delta_read.specs.Plain.{opsFrom}
 use Rattle.delta_read.proofs.Plain.{plain-next}
 use Rattle.delta_read.proofs.Reading.{Within, op-within}
 use Rattle.table.specs.Changes.{withRecs, recOf}
-use Rattle.table.specs.Tests.{countOf, recsOf}
+use Rattle.table.specs.Tests.{countOf, recsIn}
 use Rattle.table.specs.Fits.{FitsRec, FitsEntry, LaidNode}
 use Rattle.table.proofs.Nodes.{decode-encode-node, laid-node}
 use Rattle.table.proofs.Places.{recAt, length-recs}
@@ -78,13 +78,13 @@ module _ (held gc version : ℕ) where
 -- ---- where a key belongs
 
 module _ (key b : List ℕ) where
-  pub last-of-none : 0 ≡ countOf b → findKey key (recsOf b) ≡ Free (countOf b)
+  pub last-of-none : 0 ≡ countOf b → findKey key (recsIn b) ≡ Free (countOf b)
   last-of-none e =
-      sym (start (toKey key) (recsOf b)) ∙ end (toKey key) (recsOf b) 0 (omega (arith, length-recs b)) ∙ ap Free e
+      sym (start (toKey key) (recsIn b)) ∙ end (toKey key) (recsIn b) 0 (omega (arith, length-recs b)) ∙ ap Free e
 
-  pub behind-last : keysRise (recsOf b) ≡ true → (j : ℕ) → j + 1 ≡ countOf b → orderOf key (recAt j b .kv .key) ≡ More → findKey key (recsOf b) ≡ Free (countOf b)
+  pub behind-last : keysRise (recsIn b) ≡ true → (j : ℕ) → j + 1 ≡ countOf b → orderOf key (recAt j b .kv .key) ≡ More → findKey key (recsIn b) ≡ Free (countOf b)
   behind-last s j e q =
-      sym (half-more key b s j (omega arith) q) ∙ end (toKey key) (recsOf b) (j + 1) (omega (arith, length-recs b)) ∙ ap Free e
+      sym (half-more key b s j (omega arith) q) ∙ end (toKey key) (recsIn b) (j + 1) (omega (arith, length-recs b)) ∙ ap Free e
 
 -- ---- storing one
 
@@ -134,38 +134,38 @@ module _ (b : List ℕ) (o : Rising b) (l : List Rec) where
 
 module _ (b : List ℕ) (o : Rising b) where
   -- nothing changes
-  pub as-it-is : Tried (recsOf b) b true b
-  as-it-is = with-room b o (recsOf b) (o .laid .fits .each) (o .keys) (o .laid .fits .few) b (sym (o .laid .is))
+  pub as-it-is : Tried (recsIn b) b true b
+  as-it-is = with-room b o (recsIn b) (o .laid .fits .each) (o .keys) (o .laid .fits .few) b (sym (o .laid .is))
 
   module _ (r : Rec) (f : FitsRec r) (j : ℕ) where
-    each : (x : Rec) → x ∈ store r (recsOf b) → FitsRec x
-    each = store-each FitsRec r (recsOf b) f (o .laid .fits .each)
+    each : (x : Rec) → x ∈ store r (recsIn b) → FitsRec x
+    each = store-each FitsRec r (recsIn b) f (o .laid .fits .each)
 
-    keys : keysRise (store r (recsOf b)) ≡ true
-    keys = sorted-keys (store r (recsOf b)) (sorted-store r (recsOf b) (keys-sorted (recsOf b) (o .keys)))
+    keys : keysRise (store r (recsIn b)) ≡ true
+    keys = sorted-keys (store r (recsIn b)) (sorted-store r (recsIn b) (keys-sorted (recsIn b) (o .keys)))
 
-    pub stored-at : findKey (keyOf r) (recsOf b) ≡ At j → (b′ : List ℕ) → b′ ≡ encodeNode (withRecs (set (recsOf b) j r) (decodeNode b)) → Tried (store r (recsOf b)) b true b′
+    pub stored-at : findKey (keyOf r) (recsIn b) ≡ At j → (b′ : List ℕ) → b′ ≡ encodeNode (withRecs (set (recsIn b) j r) (decodeNode b)) → Tried (store r (recsIn b)) b true b′
     stored-at e b′ q =
-        let s : store r (recsOf b) ≡ set (recsOf b) j r = store-at r (recsOf b) j e in
-        let n : length (store r (recsOf b)) ≡ length (recsOf b) = ap length s ∙ length-set (recsOf b) j r in
-        with-room b o (store r (recsOf b)) each keys (omega (arith, n, o .laid .fits .few)) b′ (q ∙ ap (λ (l : List Rec). encodeNode (withRecs l (decodeNode b))) (sym s))
+        let s : store r (recsIn b) ≡ set (recsIn b) j r = store-at r (recsIn b) j e in
+        let n : length (store r (recsIn b)) ≡ length (recsIn b) = ap length s ∙ length-set (recsIn b) j r in
+        with-room b o (store r (recsIn b)) each keys (omega (arith, n, o .laid .fits .few)) b′ (q ∙ ap (λ (l : List Rec). encodeNode (withRecs l (decodeNode b))) (sym s))
 
-    module _ (e : findKey (keyOf r) (recsOf b) ≡ Free j) where
-      s : store r (recsOf b) ≡ insertAt j r (recsOf b)
-      s = store-free r (recsOf b) j e
+    module _ (e : findKey (keyOf r) (recsIn b) ≡ Free j) where
+      s : store r (recsIn b) ≡ insertAt j r (recsIn b)
+      s = store-free r (recsIn b) j e
 
-      longer : length (store r (recsOf b)) ≡ suc (countOf b)
-      longer = ap length s ∙ length-insert j r (recsOf b) (free-in (toKey (keyOf r)) (recsOf b) j e) ∙ ap suc (length-recs b)
+      longer : length (store r (recsIn b)) ≡ suc (countOf b)
+      longer = ap length s ∙ length-insert j r (recsIn b) (free-in (toKey (keyOf r)) (recsIn b) j e) ∙ ap suc (length-recs b)
 
-      pub stored-new : countOf b < maxRecords → (b′ : List ℕ) → b′ ≡ encodeNode (withRecs (insertAt j r (recsOf b)) (decodeNode b)) → Tried (store r (recsOf b)) b true b′
+      pub stored-new : countOf b < maxRecords → (b′ : List ℕ) → b′ ≡ encodeNode (withRecs (insertAt j r (recsIn b)) (decodeNode b)) → Tried (store r (recsIn b)) b true b′
       stored-new h b′ q =
-          with-room b o (store r (recsOf b)) each keys (omega (arith, longer)) b′ (q ∙ ap (λ (l : List Rec). encodeNode (withRecs l (decodeNode b))) (sym s))
+          with-room b o (store r (recsIn b)) each keys (omega (arith, longer)) b′ (q ∙ ap (λ (l : List Rec). encodeNode (withRecs l (decodeNode b))) (sym s))
 
-      pub no-room : countOf b ≡ maxRecords → Tried (store r (recsOf b)) b false b
-      no-room h = without-room b o (store r (recsOf b)) (omega (arith, longer))
+      pub no-room : countOf b ≡ maxRecords → Tried (store r (recsIn b)) b false b
+      no-room h = without-room b o (store r (recsIn b)) (omega (arith, longer))
 
       pub place-fits : j ≤ countOf b
-      place-fits = omega (arith, free-in (toKey (keyOf r)) (recsOf b) j e, length-recs b)
+      place-fits = omega (arith, free-in (toKey (keyOf r)) (recsIn b) j e, length-recs b)
 
 -- ---- taking one
 
@@ -180,16 +180,16 @@ module _ (held gc clock : ℕ) (r : KeyValue) (l : List Rec) where
 
 -- the callee saw the key and the value as parts of the delta's bytes
 pub took : (s b b′ : List ℕ) (r : Bool) (k n v m version : ℕ) (st : Status) (held gc clock start : ℕ) → takesAs held gc version st ≡ true → start ≡ startAt (scheduled st) clock
-    → Tried (store (recOf (take (k + n - k) (drop k s)) (take (v + m - v) (drop v s)) version st start) (recsOf b)) b r b′
-    → Tried (takeOne held gc clock (carried s k n v m version st) (recsOf b)) b r b′
+    → Tried (store (recOf (take (k + n - k) (drop k s)) (take (v + m - v) (drop v s)) version st start) (recsIn b)) b r b′
+    → Tried (takeOne held gc clock (carried s k n v m version st) (recsIn b)) b r b′
 took s b b′ r k n v m version st held gc clock start e q t =
     let p : recOf (take (k + n - k) (drop k s)) (take (v + m - v) (drop v s)) version st start ≡ stamp clock (carried s k n v m version st) = rw (seen k n s, seen v m s, q) in
-    subst (λ (l : List Rec). Tried l b r b′) (ap (λ (x : Rec). store x (recsOf b)) p ∙ taken held gc clock (carried s k n v m version st) (recsOf b) e) t
+    subst (λ (l : List Rec). Tried l b r b′) (ap (λ (x : Rec). store x (recsIn b)) p ∙ taken held gc clock (carried s k n v m version st) (recsIn b) e) t
 
 pub passed : (s b : List ℕ) (k n v m version : ℕ) (st : Status) (held gc clock : ℕ) → Rising b → takesAs held gc version st ≡ false
-    → Tried (takeOne held gc clock (carried s k n v m version st) (recsOf b)) b true b
+    → Tried (takeOne held gc clock (carried s k n v m version st) (recsIn b)) b true b
 passed s b k n v m version st held gc clock o e =
-    subst (λ (l : List Rec). Tried l b true b) (skipped held gc clock (carried s k n v m version st) (recsOf b) e) (as-it-is b o)
+    subst (λ (l : List Rec). Tried l b true b) (skipped held gc clock (carried s k n v m version st) (recsIn b) e) (as-it-is b o)
 
 -- ---- one operation
 
@@ -197,7 +197,7 @@ pub inside : (len : ℕ) (o : Op) (k n v m ver : ℕ) (st : Status) → o ≡ Re
 inside len o k n v m ver st e h = rw e at h
 
 module _ (held gc clock : ℕ) (s b : List ℕ) (o : Op) where
-  module _ (k n v m ver : ℕ) (st : Status) (e : o ≡ Record k n v m ver st) (r : Bool) (b′ : List ℕ) (t : Tried (takeOne held gc clock (carried s k n v m ver st) (recsOf b)) b r b′) where
+  module _ (k n v m ver : ℕ) (st : Status) (e : o ≡ Record k n v m ver st) (r : Bool) (b′ : List ℕ) (t : Tried (takeOne held gc clock (carried s k n v m ver st) (recsIn b)) b r b′) where
     pub step-taken : r ≡ true → Stepped held gc clock (opOf s o) b Taken b′
     step-taken q = rw e (record { step = sym (ap (λ (x : Bool). pick x Taken Full) (sym (t .room) ∙ q)); rising = t .rising; node = λ _. t .node q })
 
@@ -238,14 +238,14 @@ module _ (held gc clock : ℕ) where
 
   module _ (ops : List rule.Op) (l : List Rec) where
     pub goes-on : (o : rule.Op) → stepOf held gc clock o l ≡ Taken
-        → takeAll held gc clock (rule.recsOf (o ∷ ops)) l ≡ takeAll held gc clock (rule.recsOf ops) (afterOp held gc clock o l)
-    unfolding takeAll takeOne rule.recsOf
+        → takeAll held gc clock (rule.recsIn (o ∷ ops)) l ≡ takeAll held gc clock (rule.recsIn ops) (afterOp held gc clock o l)
+    unfolding takeAll takeOne rule.recsIn
     goes-on (rule.NodeOp n g f) e = let z : _≡_ {A = ℕ} 0 1 = cc in absurd (omega arith)
     goes-on (rule.KeyValueOp r) e = refl
     goes-on (rule.SetMaxVersionOp m) e = refl
 
-    pub ends : (o : rule.Op) → stepOf held gc clock o l ≡ Over → takeAll held gc clock (rule.recsOf (o ∷ ops)) l ≡ afterOp held gc clock o l
-    unfolding takeAll rule.recsOf
+    pub ends : (o : rule.Op) → stepOf held gc clock o l ≡ Over → takeAll held gc clock (rule.recsIn (o ∷ ops)) l ≡ afterOp held gc clock o l
+    unfolding takeAll rule.recsIn
     ends (rule.NodeOp n g f) e = refl
     ends (rule.KeyValueOp r) e = go (hasRoom (takeOne held gc clock r l)) e
       where
@@ -254,16 +254,16 @@ module _ (held gc clock : ℕ) where
         go false e = let z : _≡_ {A = ℕ} 0 1 = cc in absurd (omega arith)
     ends (rule.SetMaxVersionOp m) e = let z : _≡_ {A = ℕ} 0 1 = cc in absurd (omega arith)
 
-    pub given : (o : rule.Op) → stepOf held gc clock o l ≡ Full → hasRoom (takeAll held gc clock (rule.recsOf (o ∷ ops)) l) ≡ false
-    unfolding takeAll takeOne rule.recsOf
+    pub given : (o : rule.Op) → stepOf held gc clock o l ≡ Full → hasRoom (takeAll held gc clock (rule.recsIn (o ∷ ops)) l) ≡ false
+    unfolding takeAll takeOne rule.recsIn
     given (rule.NodeOp n g f) e = let z : _≡_ {A = ℕ} 0 1 = cc in absurd (omega arith)
     given (rule.KeyValueOp r) e = go (hasRoom (takeOne held gc clock r l)) refl e
       where
-        go : (t : Bool) → hasRoom (takeOne held gc clock r l) ≡ t → pick t Taken Full ≡ Full → hasRoom (takeAll held gc clock (rule.recsOf ops) (takeOne held gc clock r l)) ≡ false
+        go : (t : Bool) → hasRoom (takeOne held gc clock r l) ≡ t → pick t Taken Full ≡ Full → hasRoom (takeAll held gc clock (rule.recsIn ops) (takeOne held gc clock r l)) ≡ false
         go true q e = let z : _≡_ {A = ℕ} 0 1 = cc in absurd (omega arith)
         go false q e =
             let h : maxRecords < length (takeOne held gc clock r l) = leb-false _ _ q in
-            lt-leb (length (takeAll held gc clock (rule.recsOf ops) (takeOne held gc clock r l))) maxRecords (omega (arith, grows (rule.recsOf ops) (takeOne held gc clock r l)))
+            lt-leb (length (takeAll held gc clock (rule.recsIn ops) (takeOne held gc clock r l))) maxRecords (omega (arith, grows (rule.recsIn ops) (takeOne held gc clock r l)))
     given (rule.SetMaxVersionOp m) e = let z : _≡_ {A = ℕ} 0 1 = cc in absurd (omega arith)
 
 -- ---- the loop over the operations
@@ -273,45 +273,45 @@ abbrev pub So-far : ℕ → ℕ → ℕ → List ℕ → ℕ → List ℕ → Li
 So-far held gc clock s at b₀ b i =
     Rising b
     × (i ≤ length s)
-    × (decodeNode b ≡ withRecs (recsOf b) (decodeNode b₀))
-    × (takeAll held gc clock (recsFrom s i) (recsOf b) ≡ takeAll held gc clock (recsFrom s at) (recsOf b₀))
+    × (decodeNode b ≡ withRecs (recsIn b) (decodeNode b₀))
+    × (takeAll held gc clock (recsFrom s i) (recsIn b) ≡ takeAll held gc clock (recsFrom s at) (recsIn b₀))
 
 module _ (held gc clock : ℕ) (s : List ℕ) (at : ℕ) (b₀ : List ℕ) where
   whole : List Rec
-  whole = takeAll held gc clock (recsFrom s at) (recsOf b₀)
+  whole = takeAll held gc clock (recsFrom s at) (recsIn b₀)
 
   finish : (b′ : List ℕ) (l : List Rec) → Rising b′ → decodeNode b′ ≡ withRecs l (decodeNode b₀) → l ≡ whole → Tried whole b₀ true b′
   finish b′ l o d q =
-      let n : length (recsOf b′) ≡ length whole = ap (λ (e : Entry). length (e .node .recs)) d ∙ ap length q in
+      let n : length (recsIn b′) ≡ length whole = ap (λ (e : Entry). length (e .node .recs)) d ∙ ap length q in
       record { room = sym (le-leb (length whole) maxRecords (omega (arith, n, o .laid .fits .few))); rising = o; node = λ _. d ∙ ap (λ (r : List Rec). withRecs r (decodeNode b₀)) q }
 
   module _ (b : List ℕ) (i : ℕ) (inv : So-far held gc clock s at b₀ b i) where
-    pub nothing-left : opsFrom s i ≡ [] → Tried (takeAll held gc clock (recsFrom s at) (recsOf b₀)) b₀ true b
-    unfolding whole recsFrom rule.recsOf takeAll
-    nothing-left e = finish b (recsOf b) (inv .0) (inv .2) (sym (ap (λ (os : List rule.Op). takeAll held gc clock (rule.recsOf os) (recsOf b)) e) ∙ inv .3)
+    pub nothing-left : opsFrom s i ≡ [] → Tried (takeAll held gc clock (recsFrom s at) (recsIn b₀)) b₀ true b
+    unfolding whole recsFrom rule.recsIn takeAll
+    nothing-left e = finish b (recsIn b) (inv .0) (inv .2) (sym (ap (λ (os : List rule.Op). takeAll held gc clock (rule.recsIn os) (recsIn b)) e) ∙ inv .3)
 
     module _ (h : i < length s) (o : Op) (next : ℕ) (e : opAt s i ≡ Got o next) (r : Step) (b′ : List ℕ) (t : Stepped held gc clock (opOf s o) b r b′) where
       ops : opsFrom s i ≡ opOf s o ∷ opsFrom s next
       ops = plain-next s i o next h e
 
-      left : takeAll held gc clock (rule.recsOf (opOf s o ∷ opsFrom s next)) (recsOf b) ≡ whole
+      left : takeAll held gc clock (rule.recsIn (opOf s o ∷ opsFrom s next)) (recsIn b) ≡ whole
       unfolding whole recsFrom
-      left = sym (ap (λ (os : List rule.Op). takeAll held gc clock (rule.recsOf os) (recsOf b)) ops) ∙ inv .3
+      left = sym (ap (λ (os : List rule.Op). takeAll held gc clock (rule.recsIn os) (recsIn b)) ops) ∙ inv .3
 
-      with-new : (r ≡ Full → ⊥) → decodeNode b′ ≡ withRecs (afterOp held gc clock (opOf s o) (recsOf b)) (decodeNode b₀)
-      with-new f = t .node f ∙ ap (withRecs (afterOp held gc clock (opOf s o) (recsOf b))) (inv .2)
+      with-new : (r ≡ Full → ⊥) → decodeNode b′ ≡ withRecs (afterOp held gc clock (opOf s o) (recsIn b)) (decodeNode b₀)
+      with-new f = t .node f ∙ ap (withRecs (afterOp held gc clock (opOf s o) (recsIn b))) (inv .2)
 
-      pub stops : r ≡ Over → Tried (takeAll held gc clock (recsFrom s at) (recsOf b₀)) b₀ true b′
+      pub stops : r ≡ Over → Tried (takeAll held gc clock (recsFrom s at) (recsIn b₀)) b₀ true b′
       unfolding whole
       stops q =
-          finish b′ (afterOp held gc clock (opOf s o) (recsOf b)) (t .rising) (with-new (λ f. let z : _≡_ {A = ℕ} 0 1 = cc in absurd (omega arith)))
-          (sym (ends held gc clock (opsFrom s next) (recsOf b) (opOf s o) (sym (t .step) ∙ q)) ∙ left)
+          finish b′ (afterOp held gc clock (opOf s o) (recsIn b)) (t .rising) (with-new (λ f. let z : _≡_ {A = ℕ} 0 1 = cc in absurd (omega arith)))
+          (sym (ends held gc clock (opsFrom s next) (recsIn b) (opOf s o) (sym (t .step) ∙ q)) ∙ left)
 
-      pub has-none : r ≡ Full → Tried (takeAll held gc clock (recsFrom s at) (recsOf b₀)) b₀ false b′
+      pub has-none : r ≡ Full → Tried (takeAll held gc clock (recsFrom s at) (recsIn b₀)) b₀ false b′
       unfolding whole
       has-none q =
           record {
-            room = sym (ap hasRoom (sym left) ∙ given held gc clock (opsFrom s next) (recsOf b) (opOf s o) (sym (t .step) ∙ q));
+            room = sym (ap hasRoom (sym left) ∙ given held gc clock (opsFrom s next) (recsIn b) (opOf s o) (sym (t .step) ∙ q));
             rising = t .rising;
             node = λ f. let z : _≡_ {A = ℕ} 0 1 = cc in absurd (omega arith);
           }
@@ -321,10 +321,10 @@ module _ (held gc clock : ℕ) (s : List ℕ) (at : ℕ) (b₀ : List ℕ) where
       goes q =
           let w : Within (length s) i (Got o next) = subst (Within (length s) i) e (op-within s i) in
           let d = with-new (λ f. let z : _≡_ {A = ℕ} 0 1 = cc in absurd (omega arith)) in
-          let l : recsOf b′ ≡ afterOp held gc clock (opOf s o) (recsOf b) = ap (λ (x : Entry). x .node .recs) d in (
+          let l : recsIn b′ ≡ afterOp held gc clock (opOf s o) (recsIn b) = ap (λ (x : Entry). x .node .recs) d in (
             t .rising,
             w .1,
             d ∙ ap (λ (x : List Rec). withRecs x (decodeNode b₀)) (sym l),
-            ap (takeAll held gc clock (rule.recsOf (opsFrom s next))) l
-                ∙ sym (goes-on held gc clock (opsFrom s next) (recsOf b) (opOf s o) (sym (t .step) ∙ q)) ∙ left,
+            ap (takeAll held gc clock (rule.recsIn (opsFrom s next))) l
+                ∙ sym (goes-on held gc clock (opsFrom s next) (recsIn b) (opOf s o) (sym (t .step) ∙ q)) ∙ left,
           )

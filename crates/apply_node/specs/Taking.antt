@@ -16,7 +16,7 @@ use Rattle.rules.specs.Layout.{decodeNode}
 use Rattle.rules.specs.Delta as rule
 use Rattle.rules.specs.declared.Status.{Status}
 use Rattle.table.specs.Changes.{withRecs}
-use Rattle.table.specs.Tests.{recsOf}
+use Rattle.table.specs.Tests.{recsIn}
 use Rattle.table.specs.Fits.{LaidNode}
 use Rattle.apply_node.specs.declared.Step.{Step}
 use Rattle.apply_node.specs.declared.Step.the-variants.{Taken, Full, Over}
@@ -34,7 +34,7 @@ carried s k n v m version status = record { key = part k n s; value = part v m s
 -- a node's bytes are laid out, and its keys rise
 pub record Rising (b : Bytes) : Type 0 where
   pub laid : LaidNode b
-  pub keys : keysRise (recsOf b) ≡ true
+  pub keys : keysRise (recsIn b) ≡ true
 
 -- no more than 32 keys
 abbrev pub hasRoom : (recs : List Rec) → Bool
@@ -62,6 +62,6 @@ stepOf held gc clock (rule.KeyValueOp r) l = pick (hasRoom (takeOne held gc cloc
 stepOf held gc clock (rule.SetMaxVersionOp m) l = Taken
 
 pub record Stepped (held gc clock : ℕ) (o : rule.Op) (b : Bytes) (r : Step) (b′ : Bytes) : Type 0 where
-  pub step : r ≡ stepOf held gc clock o (recsOf b)
+  pub step : r ≡ stepOf held gc clock o (recsIn b)
   pub rising : Rising b′
-  pub node : (r ≡ Full → ⊥) → decodeNode b′ ≡ withRecs (afterOp held gc clock o (recsOf b)) (decodeNode b)
+  pub node : (r ≡ Full → ⊥) → decodeNode b′ ≡ withRecs (afterOp held gc clock o (recsIn b)) (decodeNode b)

@@ -17,7 +17,7 @@ ghost use Rattle.delta_read.specs.Places.{Inside, opOf};
 ghost use Rattle.delta_read.specs.NodeDeltas.{recsFrom};
 ghost use Rattle.table_read.specs.Find.{findKey};
 ghost use Rattle.table_read.specs.declared.Place.the-variants.{Free};
-ghost use Rattle.table.specs.Tests.{countOf, recsOf};
+ghost use Rattle.table.specs.Tests.{countOf, recsIn};
 ghost use Rattle.table.specs.Changes.{recOf};
 ghost use Rattle.apply_node.specs.Taking.{takesAs, carried, Rising, Tried, takeOne, Stepped};
 
@@ -61,7 +61,7 @@ fn takes(held: u64, last_gc: u64, version: u64, status: Status) -> bool
 // Whether the key comes behind all keys of the node.
 fn comes_last(node: &[u8], key: &[u8]) -> bool
     requires { ⌜ Rising (now node) ⌝ }
-    ensures { λ r. ⌜ (r ≡ true → findKey (now (key .entry)) (recsOf (now (node .entry))) ≡ Free (countOf (now (node .entry)))) ⌝ }
+    ensures { λ r. ⌜ (r ≡ true → findKey (now (key .entry)) (recsIn (now (node .entry))) ≡ Free (countOf (now (node .entry)))) ⌝ }
 {
     let n = fields::byte_at(node, layout::RECORD_COUNT);
     if n == 0 {
@@ -77,7 +77,7 @@ fn comes_last(node: &[u8], key: &[u8]) -> bool
 // The place of the record with this key. Records often come in the order of their keys, so the last key is looked at first.
 fn find_key(node: &[u8], key: &[u8]) -> Place
     requires { ⌜ Rising (now node) ⌝ }
-    ensures { λ r. ⌜ r ≡ findKey (now (key .entry)) (recsOf (now (node .entry))) ⌝ }
+    ensures { λ r. ⌜ r ≡ findKey (now (key .entry)) (recsIn (now (node .entry))) ⌝ }
 {
     if comes_last(node, key) {
         return Place::Free(fields::byte_at(node, layout::RECORD_COUNT));
@@ -96,7 +96,7 @@ fn store_record(
 ) -> bool
     requires { ⌜ Rising (now node) × (length (now key) ≤ maxKey) × (length (now value) ≤ maxValue) ⌝ }
     ensures { λ r. ⌜ Tried
-        (store (recOf (now (key .entry)) (now (value .entry)) version status start) (recsOf (now (node .entry))))
+        (store (recOf (now (key .entry)) (now (value .entry)) version status start) (recsIn (now (node .entry))))
         (now (node .entry)) r (now (node .exit)) ⌝ }
 {
     let found = find_key(node, key);
@@ -132,7 +132,7 @@ fn take_record(
     requires { ⌜ Rising (now node)
         × (keyat + keylen ≤ length (now delta)) × (valueat + valuelen ≤ length (now delta)) × (keylen ≤ maxKey) × (valuelen ≤ maxValue) ⌝ }
     ensures { λ r. ⌜ Tried
-        (takeOne held «last_gc» clock (carried (now (delta .entry)) keyat keylen valueat valuelen version status) (recsOf (now (node .entry))))
+        (takeOne held «last_gc» clock (carried (now (delta .entry)) keyat keylen valueat valuelen version status) (recsIn (now (node .entry))))
         (now (node .entry)) r (now (node .exit)) ⌝ }
 {
     if takes(held, last_gc, version, status) {
@@ -202,7 +202,7 @@ pub fn take_records(
 ) -> bool
     requires { ⌜ Rising (now node) × (at ≤ length (now delta)) ⌝ }
     ensures { λ r. ⌜ Tried
-        (takeAll held «last_gc» clock (recsFrom (now (delta .entry)) at) (recsOf (now (node .entry))))
+        (takeAll held «last_gc» clock (recsFrom (now (delta .entry)) at) (recsIn (now (node .entry))))
         (now (node .entry)) r (now (node .exit)) ⌝ }
 {
     let mut i = at;

@@ -13,7 +13,7 @@ use Rattle.rules.specs.Delta.{Op, KeyValueOp}
 use Rattle.rules.specs.Compute.{stale, keyValueOps, bodyOps}
 use Rattle.rules.specs.Layout.{decodeRec, decode}
 use Rattle.table.specs.Fits.{LaidTable}
-use Rattle.table.specs.Tests.{nodesOf, recsOf}
+use Rattle.table.specs.Tests.{nodesOf, recsIn}
 use Rattle.table.proofs.Places.{nodeBytes, length-recs}
 use Rattle.table_read.specs.Find.{entryAt}
 use Rattle.table_read.proofs.Located.{recs-are, count-low}
@@ -63,7 +63,7 @@ module _ (l : Bytes) (o : LaidTable l) (p : ℕ) (h : p < nodesOf l) (b : Bytes)
   few : length (versionsIn b) ≤ maxRecords
   few = rw (length-versions, length-recs) (count-low l o p h b e)
 
-  are : recsOf b ≡ recs
+  are : recsIn b ≡ recs
   are = recs-are l o p h b e
 
   listed-are : listed (r .count) (r .at) ≡ placesAbove from (versions recs)

@@ -8,7 +8,7 @@ use lib.ListN.{length, getD}
 use Rattle.rules.specs.Node.{Rec}
 use Rattle.rules.specs.Table.{Entry}
 use Rattle.rules.specs.Layout.{decodeRec, decodeNode, decode}
-use Rattle.table.specs.Tests.{countOf, nodesOf, recsOf}
+use Rattle.table.specs.Tests.{countOf, nodesOf, recsIn}
 use Rattle.table.proofs.Tables.{length-decode}
 use Rattle.table.proofs.Places.{recAt, recs-at, length-recs, nodeAt, decode-at}
 use Rattle.inspect.specs.Look.{elementAt}
@@ -37,10 +37,10 @@ module _ {A : Type 0} (rule : Option Entry → A) (l : List ℕ) (i : ℕ) where
 
 -- and of the record in place j of a node's
 module _ {A : Type 0} (rule : Option Rec → A) (b : List ℕ) (j : ℕ) where
-  pub rec-there : j < countOf b → (r : A) → r ≡ rule (some (recAt j b)) → r ≡ rule (elementAt j (recsOf b))
+  pub rec-there : j < countOf b → (r : A) → r ≡ rule (some (recAt j b)) → r ≡ rule (elementAt j (recsIn b))
   rec-there h r p =
       let d : Rec = decodeRec [] in
-      p ∙ ap (λ (e : Rec). rule (some e)) (sym (recs-at j b d h)) ∙ ap rule (sym (element-in (recsOf b) j d (rw length-recs h)))
+      p ∙ ap (λ (e : Rec). rule (some e)) (sym (recs-at j b d h)) ∙ ap rule (sym (element-in (recsIn b) j d (rw length-recs h)))
 
-  pub no-rec-there : countOf b ≤ j → rule none ≡ rule (elementAt j (recsOf b))
-  no-rec-there h = ap rule (sym (element-out (recsOf b) j (rw length-recs h)))
+  pub no-rec-there : countOf b ≤ j → rule none ≡ rule (elementAt j (recsIn b))
+  no-rec-there h = ap rule (sym (element-out (recsIn b) j (rw length-recs h)))

@@ -12,7 +12,7 @@ ghost use mathlib.Core.Bool.{true};
 ghost use mathlib.Core.Option.{some};
 ghost use Rattle.rules.specs.Table.{keysRise};
 ghost use Rattle.rules.specs.Layout.{decodeNode, decode, valid};
-ghost use Rattle.table.specs.Tests.{recsOf};
+ghost use Rattle.table.specs.Tests.{recsIn};
 ghost use Rattle.table.specs.Fits.{LaidNode};
 ghost use Rattle.inspect.specs.Look.{nodeCount, nodeNumber, nodeHeader, recordCount, recordOn, readRecord, recordByKeyOn, recordByKey};
 ghost use Rattle.inspect.specs.Look.{lentNodeCount, lentNodeNumber, lentNodeHeader, lentRecordCount, lentReadRecord, lentRecordByKey};
@@ -168,7 +168,7 @@ pub fn record_at(table: &[u8], number: u64, j: usize) -> RecordRead
 
 // The record of a key in a node's bytes: 1.
 fn record_keyed(node: &[u8], key: &[u8]) -> RecordRead
-    requires { ⌜ LaidNode (now node) × (keysRise (recsOf (now node)) ≡ true) ⌝ }
+    requires { ⌜ LaidNode (now node) × (keysRise (recsIn (now node)) ≡ true) ⌝ }
     ensures { λ r. ⌜ r ≡ recordByKeyOn (now (key .entry)) (some (decodeNode (now (node .entry)) .node)) ⌝ }
 {
     if Record::KEY < key.len() {

@@ -13,7 +13,7 @@ use Rattle.rules.specs.Node.{Rec}
 use Rattle.rules.specs.Layout.{recWidth, nodeWidth, decodeRec, decode, valid}
 use Rattle.rules.specs.Lent.{fromTable}
 use Rattle.rules.specs.declared.Refusal.the-variants.{NoNode, NoPlace, BadTable}
-use Rattle.table.specs.Tests.{keyLength, valueLength, countOf, recsOf}
+use Rattle.table.specs.Tests.{keyLength, valueLength, countOf, recsIn}
 use Rattle.table.proofs.Places.{recBytes, recAt}
 use Rattle.table.proofs.Laid.{laid-key, laid-value}
 use Rattle.table_read.specs.Find.{spanIn}
@@ -47,13 +47,13 @@ module _ (n : ℕ) (l : List ℕ) (v : valid l ≡ true) {start end : ℕ} (e : 
       (text-within n l v e j g (textOffset Value) m fits value refl, text-there n l v e j g (textOffset Value) m fits value refl)
 
   -- of what stands in place j of the node
-  place-stands : (x : Text) → Stands l (placeOn x start j (elementAt j (recsOf node))) (recordBytes x (elementAt j (recsOf node)))
+  place-stands : (x : Text) → Stands l (placeOn x start j (elementAt j (recsIn node))) (recordBytes x (elementAt j (recsIn node)))
   place-stands x = go (ltb j (countOf node)) refl
     where
       There : Option Rec → Type 0
       There o = Stands l (placeOn x start j o) (recordBytes x o)
 
-      go : (t : Bool) → ltb j (countOf node) ≡ t → There (elementAt j (recsOf node))
+      go : (t : Bool) → ltb j (countOf node) ≡ t → There (elementAt j (recsIn node))
       go true q = let g : j < countOf node = ltb-true _ _ q in subst There (rec-there (λ (o : Option Rec). o) node j g _ refl) (rec-stands x g)
       go false q = subst There (no-rec-there (λ (o : Option Rec). o) node j (ltb-false _ _ q)) (refused-stands l (Refused NoPlace) refl refl)
 

@@ -21,7 +21,7 @@ use Rattle.rules.specs.declared.Refusal.{Refusal}
 use Rattle.rules.specs.declared.Refusal.the-variants.{NodeFull, Exhausted}
 use Rattle.rules.specs.declared.Answer.the-variants as plain
 use Rattle.table.specs.Changes.{withNode, withMax, recOf}
-use Rattle.table.specs.Tests.{recsOf}
+use Rattle.table.specs.Tests.{recsIn}
 use Rattle.table.specs.Fits.{FitsEntry, LaidNode}
 use Rattle.table.proofs.Nodes.{decode-encode-node, laid-node}
 use Rattle.table_read.specs.declared.Place.{Place}
@@ -85,7 +85,7 @@ module _ (b : List ℕ) (o : LaidNode b) (m : ℕ) (h : m < numbers) (s : List �
   max-laid = subst LaidNode (sym e) (laid-node (withMax m (decodeNode b)) fits)
 
   -- the records stay
-  pub max-recs : recsOf b ≡ recsOf s
+  pub max-recs : recsIn b ≡ recsIn s
   max-recs = ap (λ (x : Entry). x .node .recs) (sym max-read)
 
   -- and so does the room for the key

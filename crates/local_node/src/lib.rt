@@ -19,7 +19,7 @@ ghost use Rattle.rules.specs.Sizes.{maxKey, maxValue};
 ghost use Rattle.rules.specs.Node.{sameStatus};
 ghost use Rattle.rules.specs.Table.{keysRise};
 ghost use Rattle.rules.specs.Layout.{nodeWidth, encodeNode, decodeNode};
-ghost use Rattle.table.specs.Tests.{countOf, recsOf};
+ghost use Rattle.table.specs.Tests.{countOf, recsIn};
 ghost use Rattle.table.specs.Fits.{LaidNode};
 ghost use Rattle.table.specs.Places.{recAt};
 ghost use Rattle.table.specs.Changes.{recOf};
@@ -78,7 +78,7 @@ fn place_record(
     status: Status,
     start: u64,
 )
-    requires { ⌜ LaidNode (now node) × (findKey (now key) (recsOf (now node)) ≡ place) × (fullAt place (nodeIn (now node)) ≡ false)
+    requires { ⌜ LaidNode (now node) × (findKey (now key) (recsIn (now node)) ≡ place) × (fullAt place (nodeIn (now node)) ≡ false)
         × (length (now key) ≤ maxKey) × (length (now value) ≤ maxValue) ⌝ }
     ensures { λ _. ⌜ now (node .exit) ≡ encodeNode
         (withStored (recOf (now (key .entry)) (now (value .entry)) version status start) (decodeNode (now (node .entry)))) ⌝ }
@@ -98,7 +98,7 @@ fn grant(
     status: Status,
     start: u64,
 ) -> Answer
-    requires { ⌜ LaidNode (now node) × (findKey (now key) (recsOf (now node)) ≡ place) × (length (now key) ≤ maxKey) × (length (now value) ≤ maxValue) ⌝ }
+    requires { ⌜ LaidNode (now node) × (findKey (now key) (recsIn (now node)) ≡ place) × (length (now key) ≤ maxKey) × (length (now value) ≤ maxValue) ⌝ }
     ensures { λ r. ⌜ Gives (nodeGranted place (now (key .entry)) (changeOf (now (value .entry)) status start) (now (node .entry))) r (now (node .exit)) ⌝ }
 {
     if is_full(node, place) {
@@ -115,7 +115,7 @@ fn grant(
 
 // A set of record `j`, which has the key: nothing to change, 6, or the change.
 fn set_at(node: &mut [u8], j: usize, key: &[u8], value: &[u8], status: Status, start: u64) -> Answer
-    requires { ⌜ LaidNode (now node) × (findKey (now key) (recsOf (now node)) ≡ At j) × (length (now key) ≤ maxKey) × (length (now value) ≤ maxValue) ⌝ }
+    requires { ⌜ LaidNode (now node) × (findKey (now key) (recsIn (now node)) ≡ At j) × (length (now key) ≤ maxKey) × (length (now value) ≤ maxValue) ⌝ }
     ensures { λ r. ⌜ Gives (nodeSetAt j (now (key .entry)) (changeOf (now (value .entry)) status start) (now (node .entry))) r (now (node .exit)) ⌝ }
 {
     if is_same(node, j, value, status) {
@@ -126,7 +126,7 @@ fn set_at(node: &mut [u8], j: usize, key: &[u8], value: &[u8], status: Status, s
 
 // A set: 1, nothing to change, 5, 6, or the change.
 fn set_key(node: &mut [u8], key: &[u8], value: &[u8], status: Status, start: u64) -> Answer
-    requires { ⌜ LaidNode (now node) × (keysRise (recsOf (now node)) ≡ true) ⌝ }
+    requires { ⌜ LaidNode (now node) × (keysRise (recsIn (now node)) ≡ true) ⌝ }
     ensures { λ r. ⌜ Gives (nodeSet (now (key .entry)) (changeOf (now (value .entry)) status start) (now (node .entry))) r (now (node .exit)) ⌝ }
 {
     if Record::KEY < key.len() {
@@ -153,7 +153,7 @@ fn copy_value(node: &[u8], j: usize, out: &mut [u8]) -> usize
 
 // A delete of record `j`, which has the key, or one after TTL, which keeps the value: 6, or the record is scheduled.
 fn delete_at(node: &mut [u8], j: usize, key: &[u8], keeps: bool, clock: u64) -> Answer
-    requires { ⌜ LaidNode (now node) × (findKey (now key) (recsOf (now node)) ≡ At j) × (length (now key) ≤ maxKey) ⌝ }
+    requires { ⌜ LaidNode (now node) × (findKey (now key) (recsIn (now node)) ≡ At j) × (length (now key) ≤ maxKey) ⌝ }
     ensures { λ r. ⌜ Gives (nodeDropped j keeps clock (now (key .entry)) (now (node .entry))) r (now (node .exit)) ⌝ }
 {
     if keeps {
@@ -166,7 +166,7 @@ fn delete_at(node: &mut [u8], j: usize, key: &[u8], keeps: bool, clock: u64) -> 
 
 // A delete, or one after TTL: 1, 3, 6, or the key's record is scheduled.
 fn delete_key(node: &mut [u8], key: &[u8], keeps: bool, clock: u64) -> Answer
-    requires { ⌜ LaidNode (now node) × (keysRise (recsOf (now node)) ≡ true) ⌝ }
+    requires { ⌜ LaidNode (now node) × (keysRise (recsIn (now node)) ≡ true) ⌝ }
     ensures { λ r. ⌜ Gives (nodeCalled (deleting keeps clock) (now (key .entry)) (now (node .entry))) r (now (node .exit)) ⌝ }
 {
     if Record::KEY < key.len() {
@@ -180,7 +180,7 @@ fn delete_key(node: &mut [u8], key: &[u8], keeps: bool, clock: u64) -> Answer
 
 // One of the four calls at a key of a node. The deletes bring no value.
 pub fn write_node(node: &mut [u8], kind: Kind, key: &[u8], value: &[u8], clock: u64) -> Answer
-    requires { ⌜ LaidNode (now node) × (keysRise (recsOf (now node)) ≡ true) ⌝ }
+    requires { ⌜ LaidNode (now node) × (keysRise (recsIn (now node)) ≡ true) ⌝ }
     ensures { λ r. ⌜ Gives (nodeCalled (callOf kind (now (value .entry)) clock) (now (key .entry)) (now (node .entry))) r (now (node .exit)) ⌝ }
 {
     match kind {

@@ -22,7 +22,7 @@ use Rattle.rules.specs.Local.{foundOf, lookupOn}
 use Rattle.rules.specs.Layout.{recWidths, recPlace, recWidth, nodeWidth, decodeRec, decodeNode, decode, valid}
 use Rattle.rules.specs.Lent.{fromTable, lentLookup}
 use Rattle.rules.specs.declared.Refusal.the-variants.{TooLong, BadTable}
-use Rattle.table.specs.Tests.{valueLength, countOf, recsOf}
+use Rattle.table.specs.Tests.{valueLength, countOf, recsIn}
 use Rattle.table.specs.Fits.{LaidNode}
 use Rattle.table.proofs.Places.{recBytes, recAt, recs-at, in-rec}
 use Rattle.table.proofs.Laid.{rec-long, laid-value}
@@ -39,21 +39,21 @@ use Rattle.lookup.specs.declared.Found.the-variants.{At, Nothing, Refuse
 
 -- ---- what the search for the key says of the place, in the bytes of a node that begins at `start`
 
-module _ (k b : List ℕ) (start : ℕ) {p : Place} (f : p ≡ findKey k (recsOf b)) where
-  pub value-place : {j : ℕ} → p ≡ place.At j → (r : Found) → r ≡ foundRec start j (recAt j b) → r ≡ findRec k start 0 (recsOf b)
+module _ (k b : List ℕ) (start : ℕ) {p : Place} (f : p ≡ findKey k (recsIn b)) where
+  pub value-place : {j : ℕ} → p ≡ place.At j → (r : Found) → r ≡ foundRec start j (recAt j b) → r ≡ findRec k start 0 (recsIn b)
   unfolding findRec
   value-place {j} h r q =
       q
       ∙ sym (search-at (toKey k) (λ (x : Rec). sameBytes k (x .kv .key)) (key-hit k) (foundRec start) Nothing (findRec k start) (λ m. refl) (λ m a l. refl)
-      (recsOf b) (decodeRec []) 0 j (sym f ∙ h)
-      ∙ ap (λ (m : ℕ). foundRec start m (getD (recsOf b) j (decodeRec []))) (zero-add j)
+      (recsIn b) (decodeRec []) 0 j (sym f ∙ h)
+      ∙ ap (λ (m : ℕ). foundRec start m (getD (recsIn b) j (decodeRec []))) (zero-add j)
       ∙ ap (foundRec start j) (recs-at j b (decodeRec []) (rec-in b k j (sym f ∙ h))))
 
-  pub value-nowhere : keysRise (recsOf b) ≡ true → {j : ℕ} → p ≡ place.Free j → Nothing ≡ findRec k start 0 (recsOf b)
+  pub value-nowhere : keysRise (recsIn b) ≡ true → {j : ℕ} → p ≡ place.Free j → Nothing ≡ findRec k start 0 (recsIn b)
   unfolding findRec
   value-nowhere s {j} h =
       sym (search-free (toKey k) (λ (x : Rec). sameBytes k (x .kv .key)) (key-hit k) (foundRec start) Nothing (findRec k start) (λ m. refl) (λ m a l. refl)
-      (recsOf b) 0 j (recs-ordered b s k) (sym f ∙ h))
+      (recsIn b) 0 j (recs-ordered b s k) (sym f ∙ h))
 
 -- ---- the node is held: what stands in the table from `start` on
 
@@ -115,18 +115,18 @@ module _ (n : ℕ) (l : List ℕ) (v : valid l ≡ true) {start end : ℕ} (e : 
       b : List ℕ
       b = part start nodeWidth l
 
-      key : (p : Place) → p ≡ findKey k (recsOf b) → Means l (findRec k start 0 (recsOf b)) (foundOf (shown (find k (recsOf b))))
+      key : (p : Place) → p ≡ findKey k (recsIn b) → Means l (findRec k start 0 (recsIn b)) (foundOf (shown (find k (recsIn b))))
       key (place.At j) f =
-          subst (λ (x : Found). Means l x (foundOf (shown (find k (recsOf b))))) (value-place k b start f refl (foundRec start j (recAt j b)) refl)
+          subst (λ (x : Found). Means l x (foundOf (shown (find k (recsIn b))))) (value-place k b start f refl (foundRec start j (recAt j b)) refl)
           (subst (λ (x : Option Rec). Means l (foundRec start j (recAt j b)) (foundOf (shown x))) (sym (rec-found b k j (sym f)))
           (rec-means j (rec-in b k j (sym f))))
       key (place.Free j) f =
-          subst (λ (x : Found). Means l x (foundOf (shown (find k (recsOf b))))) (value-nowhere k b start f (held-rises n l v e) refl)
+          subst (λ (x : Found). Means l x (foundOf (shown (find k (recsIn b))))) (value-nowhere k b start f (held-rises n l v e) refl)
           (omega arith, ap (λ (x : Option Rec). foundOf (shown x)) (sym (rec-missing b k j (held-rises n l v e) (sym f))))
 
       long : (t : Bool)
-          → Means l (pick t (findRec k start 0 (recsOf b)) (Refused TooLong)) (pick t (foundOf (shown (find k (recsOf b)))) (rule.NotFound TooLong))
-      long true = key (findKey k (recsOf b)) refl
+          → Means l (pick t (findRec k start 0 (recsIn b)) (Refused TooLong)) (pick t (foundOf (shown (find k (recsIn b)))) (rule.NotFound TooLong))
+      long true = key (findKey k (recsIn b)) refl
       long false = (omega arith, refl)
 
 -- in a good table

@@ -14,7 +14,7 @@ ghost use lib.ListN.{length};
 ghost use Rattle.fields.specs.Parts.{part};
 ghost use Rattle.rules.specs.Table.{keysRise};
 ghost use Rattle.rules.specs.Layout.{recPlace, recWidth, tableWidth, decodeRec, decodeNode, decode, valid};
-ghost use Rattle.table.specs.Tests.{countOf, recsOf};
+ghost use Rattle.table.specs.Tests.{countOf, recsIn};
 ghost use Rattle.table.specs.Fits.{LaidNode};
 ghost use Rattle.lookup.specs.Lookup.{foundRec, findOn, foundIn, lentFind, Within, Hands, partOf, valuePart, lentValuePart};
 
@@ -50,7 +50,7 @@ fn in_record(node: &[u8], start: usize, j: usize) -> Found
 
 // The value of the key in a node's bytes, which begin at `start` in the table: 1.
 fn in_node(node: &[u8], start: usize, key: &[u8]) -> Found
-    requires { ⌜ LaidNode (now node) × (keysRise (recsOf (now node)) ≡ true) × (start ≤ tableWidth) ⌝ }
+    requires { ⌜ LaidNode (now node) × (keysRise (recsIn (now node)) ≡ true) × (start ≤ tableWidth) ⌝ }
     ensures { λ r. ⌜ r ≡ findOn (now (key .entry)) start (some (decodeNode (now (node .entry)) .node)) ⌝ }
 {
     if Record::KEY < key.len() {

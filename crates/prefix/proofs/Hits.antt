@@ -16,25 +16,25 @@ use Rattle.rules.specs.Node.{hits, hitsFrom}
 use Rattle.rules.specs.Local.{listInto}
 use Rattle.rules.specs.declared.Refusal.the-variants.{NoPlace}
 use Rattle.rules.specs.declared.Listed.the-variants as listed
-use Rattle.table.specs.Tests.{countOf, recsOf}
+use Rattle.table.specs.Tests.{countOf, recsIn}
 use Rattle.table.proofs.Places.{recAt, recs-drop, length-recs}
 
 -- the hits from record j on
 abbrev pub hitsLeft : List ℕ → ℕ → List ℕ → List ℕ
-hitsLeft k j b = hitsFrom k j (drop j (recsOf b))
+hitsLeft k j b = hitsFrom k j (drop j (recsIn b))
 
 -- nothing is left behind the last record
 pub none-left : (k b : List ℕ) (j : ℕ) → countOf b ≤ j → hitsLeft k j b ≡ []
 unfolding hitsFrom
-none-left k b j h = ap (hitsFrom k j) (drop-of-length-le (recsOf b) {i = j} (rw length-recs h))
+none-left k b j h = ap (hitsFrom k j) (drop-of-length-le (recsIn b) {i = j} (rw length-recs h))
 
 module _ (k b : List ℕ) (j : ℕ) (h : j < countOf b) where
   step : (t : Bool) → hits k (recAt j b) ≡ t → hitsLeft k j b ≡ pick t (j ∷ hitsLeft k (j + 1) b) (hitsLeft k (j + 1) b)
   unfolding hitsFrom
   step t e =
       ap (hitsFrom k j) (recs-drop j b h)
-      ∙ ap (λ (s : Bool). pick s (j ∷ hitsFrom k (suc j) (drop (suc j) (recsOf b))) (hitsFrom k (suc j) (drop (suc j) (recsOf b)))) e
-      ∙ ap (λ (m : ℕ). pick t (j ∷ hitsFrom k m (drop m (recsOf b))) (hitsFrom k m (drop m (recsOf b)))) (sym (add-one j))
+      ∙ ap (λ (s : Bool). pick s (j ∷ hitsFrom k (suc j) (drop (suc j) (recsIn b))) (hitsFrom k (suc j) (drop (suc j) (recsIn b)))) e
+      ∙ ap (λ (m : ℕ). pick t (j ∷ hitsFrom k m (drop m (recsIn b))) (hitsFrom k m (drop m (recsIn b)))) (sym (add-one j))
 
   pub step-hit : hits k (recAt j b) ≡ true → hitsLeft k j b ≡ j ∷ hitsLeft k (j + 1) b
   step-hit e = step true e

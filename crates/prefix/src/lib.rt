@@ -18,7 +18,7 @@ ghost use Rattle.rules.specs.Node.{hits, hitsFrom};
 ghost use Rattle.rules.specs.Local.{prefixOn, prefixed};
 ghost use Rattle.rules.specs.Layout.{recPlace, recWidth, decodeRec, decodeNode, decode, valid};
 ghost use Rattle.rules.specs.Lent.{lentPrefixed};
-ghost use Rattle.table.specs.Tests.{countOf, recsOf};
+ghost use Rattle.table.specs.Tests.{countOf, recsIn};
 ghost use Rattle.table.specs.Fits.{LaidNode};
 
 // Whether record `j` of a node's bytes is a hit.
@@ -43,7 +43,7 @@ fn is_hit(node: &[u8], j: usize, prefix: &[u8]) -> bool
 // How many hits a node has.
 fn count_hits(node: &[u8], prefix: &[u8]) -> usize
     requires { ⌜ LaidNode (now node) ⌝ }
-    ensures { λ r. ⌜ r ≡ length (hitsFrom (now (prefix .entry)) 0 (recsOf (now (node .entry)))) ⌝ }
+    ensures { λ r. ⌜ r ≡ length (hitsFrom (now (prefix .entry)) 0 (recsIn (now (node .entry)))) ⌝ }
 {
     let n = fields::byte_at(node, layout::RECORD_COUNT);
     let mut found = 0;
@@ -59,8 +59,8 @@ fn count_hits(node: &[u8], prefix: &[u8]) -> usize
 
 // The places of a node's hits, to the front of a list that has room for them.
 fn write_hits(node: &[u8], prefix: &[u8], out: &mut [u8])
-    requires { ⌜ LaidNode (now node) × (length (hitsFrom (now prefix) 0 (recsOf (now node))) ≤ length (now out)) ⌝ }
-    ensures { λ _. ⌜ now (out .exit) ≡ put 0 (hitsFrom (now (prefix .entry)) 0 (recsOf (now (node .entry)))) (now (out .entry)) ⌝ }
+    requires { ⌜ LaidNode (now node) × (length (hitsFrom (now prefix) 0 (recsIn (now node))) ≤ length (now out)) ⌝ }
+    ensures { λ _. ⌜ now (out .exit) ≡ put 0 (hitsFrom (now (prefix .entry)) 0 (recsIn (now (node .entry)))) (now (out .entry)) ⌝ }
 {
     let n = fields::byte_at(node, layout::RECORD_COUNT);
     let mut next = 0;

@@ -22,7 +22,7 @@ use Rattle.rules.specs.Table.{Entry, Table, removeAll}
 use Rattle.rules.specs.Layout.{nodePlace, encodeNode, decodeNode, encode, decode}
 use Rattle.rules.proofs.Records.{gc-below}
 use Rattle.rules.proofs.Keeps.{length-keep}
-use Rattle.table.specs.Tests.{countOf, nodesOf, recsOf}
+use Rattle.table.specs.Tests.{countOf, nodesOf, recsIn}
 use Rattle.table.specs.Fits.{FitsEntry, FitsTable, LaidNode, LaidTable}
 use Rattle.table.specs.Changes.{withNode, withGc, withRecs, withoutRec}
 use Rattle.table.proofs.Nodes.{decode-encode-node, laid-node}
@@ -185,7 +185,7 @@ fits-set t i e h o f =
 
 module _ (b : List ℕ) (o : LaidNode b) where
   module _ (j : ℕ) (h : j < countOf b) where
-    held : j < length (recsOf b)
+    held : j < length (recsIn b)
     held = rw length-recs h
 
     -- the two writes of a record that goes
@@ -215,7 +215,7 @@ module _ (b : List ℕ) (o : LaidNode b) where
 
       pub taken-count : suc (countOf s) ≡ countOf b
       taken-count =
-          ap suc (sym (length-recs s) ∙ ap (λ (x : Entry). length (x .node .recs)) is) ∙ length-remove j (recsOf b) held ∙ length-recs b
+          ap suc (sym (length-recs s) ∙ ap (λ (x : Entry). length (x .node .recs)) is) ∙ length-remove j (recsIn b) held ∙ length-recs b
 
       pub node-goes : (due : Rec → Bool) → goes due (recAt j b) ≡ true → doneFrom due j (decodeNode s) ≡ doneFrom due j (decodeNode b)
       node-goes due t = ap (doneFrom due j) is ∙ step-goes due (decodeNode b) j (recAt j b) held (recs-at j b (recAt j b) h) t

@@ -15,7 +15,7 @@ use Rattle.rules.specs.Node.{Rec}
 use Rattle.rules.specs.Table.{Entry}
 use Rattle.rules.specs.Layout.{recWidths, recPlace, nodePlace, recWidth, nodeWidth, decodeRec, decodeNode, encodeNode, decode}
 use Rattle.table.specs.Fits.{FitsRec, LaidNode, LaidTable}
-use Rattle.table.specs.Tests.{keyLength, valueLength, countOf, nodesOf, recsOf}
+use Rattle.table.specs.Tests.{keyLength, valueLength, countOf, nodesOf, recsIn}
 use Rattle.table.proofs.Nodes.{laid-node}
 use Rattle.table.proofs.Tables.{length-decode}
 use Rattle.table.proofs.Places.{recBytes, recAt, recs-at, length-recs, nodeBytes}
@@ -39,7 +39,7 @@ module _ (b : List ℕ) (o : LaidNode b) where
     pub laid-rec : FitsRec (recAt j b)
     laid-rec =
         let d : Rec = decodeRec [] in
-        o .fits .each (recAt j b) (subst (λ (r : Rec). r ∈ recsOf b) (recs-at j b d h) (in-at (recsOf b) j d (rw length-recs h)))
+        o .fits .each (recAt j b) (subst (λ (r : Rec). r ∈ recsIn b) (recs-at j b d h) (in-at (recsIn b) j d (rw length-recs h)))
 
     pub rec-long : length (recBytes j b) ≡ recWidth
     rec-long = length-part (recPlace j) recWidth b (omega (arith, o .long, o .few))

@@ -24,7 +24,7 @@ use Rattle.rules.specs.Node.{Rec, Node, beats}
 use Rattle.rules.specs.Table.{Entry, recObeys, nodeObeys, entryObeys, keysRise, versions, differ}
 use Rattle.rules.specs.Layout.{recPlace, recWidth, nodeWidths, nodeWidth, nodeFields, encodeRec, decodeRec, encodeNode, decodeNode}
 use Rattle.table.specs.Fits.{FitsEntry, LaidNode}
-use Rattle.table.specs.Tests.{recGood, nodeTests, nodeGood, countOf, maxOf, recsOf}
+use Rattle.table.specs.Tests.{recGood, nodeTests, nodeGood, countOf, maxIn, recsIn}
 use Rattle.table.proofs.Records.{ObeysRec, rec-obeys, obeys-rec, fits-rec, length-rec, decode-encode-rec, encode-decode-rec, obeys-decode-rec, rec-good, every-no}
 
 -- ---- the fields of a node's bytes
@@ -161,8 +161,8 @@ node-good e o =
     let zs : allZero (part (recPlace n) ((maxRecords - n) * recWidth) (encodeNode e)) ≡ true =
     rw (fl, rest) at
     (fit-zeros (maxRecords * recWidth) (recPlace 0) (flat encodeRec (e .node .recs)) (encodeNode e) (rw fl (omega (arith, o .few))) (node-field e 5 (omega arith)) (rw length-node (omega arith))) in
-    let rise : keysRise (recsOf (encodeNode e)) ≡ true = ap (λ (x : Entry). keysRise (x .node .recs)) (decode-encode-node e f) ∙ o .rise in
-    let other : differ (versions (recsOf (encodeNode e))) ≡ true = ap (λ (x : Entry). differ (versions (x .node .recs))) (decode-encode-node e f) ∙ o .differing in
+    let rise : keysRise (recsIn (encodeNode e)) ≡ true = ap (λ (x : Entry). keysRise (x .node .recs)) (decode-encode-node e f) ∙ o .rise in
+    let other : differ (versions (recsIn (encodeNode e))) ≡ true = ap (λ (x : Entry). differ (versions (x .node .recs))) (decode-encode-node e f) ∙ o .differing in
     rw (nodeGood, count-is e f, max-is e f, le-leb n maxRecords (o .few), goods, rise, other, zs)
 
 -- ---- bytes that pass the tests
@@ -189,8 +189,8 @@ module _ (b : List ℕ) (long : length b ≡ nodeWidth) (h : AreBytes b) (good :
   block-long : (i : ℕ) → i < countOf b → length (part (i * recWidth) recWidth (drop (recPlace 0) b)) ≡ recWidth
   block-long i g = length-part (i * recWidth) recWidth (drop (recPlace 0) b) (omega (arith, few-records, room-long))
 
-  each-good : (i : ℕ) → i < countOf b → recGood (maxOf b) (part (i * recWidth) recWidth (drop (recPlace 0) b)) ≡ true
-  each-good i g = all-blocks-at (recGood (maxOf b)) recWidth (countOf b) (drop (recPlace 0) b) (at 1) i g
+  each-good : (i : ℕ) → i < countOf b → recGood (maxIn b) (part (i * recWidth) recWidth (drop (recPlace 0) b)) ≡ true
+  each-good i g = all-blocks-at (recGood (maxIn b)) recWidth (countOf b) (drop (recPlace 0) b) (at 1) i g
 
   -- they are those of the node that is read in them
   pub encode-decode-node : encodeNode (decodeNode b) ≡ b
@@ -202,7 +202,7 @@ module _ (b : List ℕ) (long : length b ≡ nodeWidth) (h : AreBytes b) (good :
       ap allZero (part-drop (n * recWidth) ((maxRecords - n) * recWidth) (recPlace 0) b) ∙ at 4 in
       let room : blocks maxRecords recWidth encodeRec (unblock recWidth decodeRec n (drop (recPlace 0) b)) ≡ part (recPlace 0) (maxRecords * recWidth) b =
       blocks-back encodeRec decodeRec recWidth length-rec maxRecords n (drop (recPlace 0) b) room-long few-records
-      (λ i g. encode-decode-rec (maxOf b) (part (i * recWidth) recWidth (drop (recPlace 0) b)) (block-long i g) (room-bytes i) (each-good i g)) rest
+      (λ i g. encode-decode-rec (maxIn b) (part (i * recWidth) recWidth (drop (recPlace 0) b)) (block-long i g) (room-bytes i) (each-good i g)) rest
       ∙ behind-header b long in
       rw (length-unblock recWidth decodeRec n (drop (recPlace 0) b), room, number (offset nodeWidths 0) 8 (omega arith), number (offset nodeWidths 1) 8 (omega arith), number (offset nodeWidths 2) 8 (omega arith), number (offset nodeWidths 3) 8 (omega arith), number (offset nodeWidths 4) 1 (omega arith))
       (joined-whole nodeWidths b long)
@@ -216,14 +216,14 @@ module _ (b : List ℕ) (long : length b ≡ nodeWidth) (h : AreBytes b) (good :
       let below : (a : ℕ) → a + 8 ≤ nodeWidth → natOf (part a 8 b) < numbers = λ a g. nat-part a 8 b h (omega arith) in
       let d : Rec = decodeRec [] in
       let ll : length l ≡ n = length-unblock recWidth decodeRec n (drop (recPlace 0) b) in
-      let one : (i : ℕ) → i < length l → recObeys (maxOf b) (getD l i d) ≡ true =
-      λ i g. ap (recObeys (maxOf b)) (unblock-at recWidth decodeRec i n (drop (recPlace 0) b) d (omega arith))
-      ∙ obeys-rec (maxOf b) _
-      (obeys-decode-rec (maxOf b) (part (i * recWidth) recWidth (drop (recPlace 0) b)) (block-long i (omega arith)) (room-bytes i) (each-good i (omega arith))) in
+      let one : (i : ℕ) → i < length l → recObeys (maxIn b) (getD l i d) ≡ true =
+      λ i g. ap (recObeys (maxIn b)) (unblock-at recWidth decodeRec i n (drop (recPlace 0) b) d (omega arith))
+      ∙ obeys-rec (maxIn b) _
+      (obeys-decode-rec (maxIn b) (part (i * recWidth) recWidth (drop (recPlace 0) b)) (block-long i (omega arith)) (room-bytes i) (each-good i (omega arith))) in
       record {
         number-high = below 0 (omega arith);
         few = rw ll few-records;
-        each = all-in (recObeys (maxOf b)) l (at-in (λ r. recObeys (maxOf b) r ≡ true) l d one);
+        each = all-in (recObeys (maxIn b)) l (at-in (λ r. recObeys (maxIn b) r ≡ true) l d one);
         rise = at 2;
         differing = at 3;
         max-high = below 16 (omega arith);

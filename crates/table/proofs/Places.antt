@@ -17,22 +17,22 @@ use Rattle.rules.specs.Sizes.{maxNodes, maxRecords}
 use Rattle.rules.specs.Node.{Rec}
 use Rattle.rules.specs.Table.{Entry}
 use Rattle.rules.specs.Layout.{nodePlace, recPlace, recWidths, recWidth, nodeWidths, nodeWidth, tableWidth, decodeRec, decodeNode, decode}
-use Rattle.table.specs.Tests.{countOf, nodesOf, recsOf, recGood}
+use Rattle.table.specs.Tests.{countOf, nodesOf, recsIn, recGood}
 pub use Rattle.table.specs.Places.{recBytes, recAt}
 
 -- ---- in a node's bytes
 
-pub length-recs : (b : List ℕ) → length (recsOf b) ≡ countOf b
+pub length-recs : (b : List ℕ) → length (recsIn b) ≡ countOf b
 unfolding decodeNode
 length-recs b = length-unblock recWidth decodeRec (countOf b) (drop (recPlace 0) b)
 
-pub recs-drop : (i : ℕ) (b : List ℕ) → i < countOf b → drop i (recsOf b) ≡ recAt i b ∷ drop (suc i) (recsOf b)
+pub recs-drop : (i : ℕ) (b : List ℕ) → i < countOf b → drop i (recsIn b) ≡ recAt i b ∷ drop (suc i) (recsIn b)
 unfolding decodeNode
 recs-drop i b h =
     unblock-drop recWidth decodeRec i (countOf b) (drop (recPlace 0) b) h
     ∙ ap (λ (r : List ℕ). decodeRec r ∷ drop (suc i) (unblock recWidth decodeRec (countOf b) (drop (recPlace 0) b))) (part-drop (i * recWidth) recWidth (recPlace 0) b)
 
-pub recs-at : (i : ℕ) (b : List ℕ) (d : Rec) → i < countOf b → getD (recsOf b) i d ≡ recAt i b
+pub recs-at : (i : ℕ) (b : List ℕ) (d : Rec) → i < countOf b → getD (recsIn b) i d ≡ recAt i b
 unfolding decodeNode
 recs-at i b d h = unblock-at recWidth decodeRec i (countOf b) (drop (recPlace 0) b) d h ∙ ap decodeRec (part-drop (i * recWidth) recWidth (recPlace 0) b)
 

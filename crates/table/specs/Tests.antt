@@ -47,23 +47,23 @@ recGood max b = every (recTests max b)
 
 -- ---- a node's bytes
 
-abbrev pub maxOf : (node : Bytes) → ℕ
-maxOf b = natOf (part (offset nodeWidths 2) 8 b)
+abbrev pub maxIn : (node : Bytes) → ℕ
+maxIn b = natOf (part (offset nodeWidths 2) 8 b)
 
 abbrev pub countOf : (node : Bytes) → ℕ
 countOf b = natOf (part (offset nodeWidths 4) 1 b)
 
 -- the records that stand in a node's bytes
-abbrev pub recsOf : (node : Bytes) → List Rec
-recsOf b = decodeNode b .node .recs
+abbrev pub recsIn : (node : Bytes) → List Rec
+recsIn b = decodeNode b .node .recs
 
 -- at most 32 records, each good, their keys rising, their versions different, zeros behind them
 abbrev pub nodeTests : (node : Bytes) → List Bool
 nodeTests b =
     leb (countOf b) maxRecords
-    ∷ allBlocks (recGood (maxOf b)) recWidth (countOf b) (drop (offset nodeWidths 5) b)
-    ∷ keysRise (recsOf b)
-    ∷ differ (versions (recsOf b))
+    ∷ allBlocks (recGood (maxIn b)) recWidth (countOf b) (drop (offset nodeWidths 5) b)
+    ∷ keysRise (recsIn b)
+    ∷ differ (versions (recsIn b))
     ∷ allZero (part (offset nodeWidths 5 + countOf b * recWidth) ((maxRecords - countOf b) * recWidth) b)
     ∷ []
 

@@ -14,7 +14,7 @@ ghost use Rattle.rules.specs.Sizes.{maxNodes, maxRecords, maxKey, maxValue};
 ghost use Rattle.rules.specs.Table.{keysRise, versions, among, differ, rising, numbersOf};
 ghost use Rattle.rules.specs.Layout.{recPlace, nodePlace, recWidth, nodeWidth, tableWidth, decodeRec, decode, valid};
 ghost use Rattle.table_check.specs.Mask.{maskBytes};
-ghost use Rattle.table.specs.Tests.{keyLength, clean, recGood, nodeGood, countOf, recsOf, nodesOf};
+ghost use Rattle.table.specs.Tests.{keyLength, clean, recGood, nodeGood, countOf, recsIn, nodesOf};
 
 // The bytes of the mask.
 const MASK: usize = 2 * Record::VALUE;
@@ -99,7 +99,7 @@ fn check_records(node: &[u8], n: usize, max: u64) -> bool
 // The versions of a node's records, in its first `n` places.
 fn versions_of(node: &[u8], n: usize) -> [u64; Header::RECORDS]
     requires { ⌜ (length (now node) ≡ nodeWidth) × (n ≤ maxRecords) × (n ≡ countOf (now node)) ⌝ }
-    ensures { λ r. ⌜ (length r ≡ maxRecords) × (take n r ≡ versions (recsOf (now (node .entry)))) ⌝ }
+    ensures { λ r. ⌜ (length r ≡ maxRecords) × (take n r ≡ versions (recsIn (now (node .entry)))) ⌝ }
 {
     let mut vs = [0u64; Header::RECORDS];
     let mut i = 0;
@@ -170,7 +170,7 @@ fn key_below(x: &[u8], y: &[u8]) -> bool
 fn keys_rise(node: &[u8], n: usize, max: u64) -> bool
     requires { ⌜ (length (now node) ≡ nodeWidth) × (n ≤ maxRecords) × (n ≡ countOf (now node))
         × (allBlocks (recGood max) recWidth n (drop (recPlace 0) (now node)) ≡ true) ⌝ }
-    ensures { λ r. ⌜ r ≡ keysRise (recsOf (now (node .entry))) ⌝ }
+    ensures { λ r. ⌜ r ≡ keysRise (recsIn (now (node .entry))) ⌝ }
 {
     let mut i = 0;
     while i + 1 < n {

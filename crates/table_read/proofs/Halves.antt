@@ -18,7 +18,7 @@ use Rattle.rules.specs.Node.{Rec}
 use Rattle.rules.specs.Table.{keysRise}
 use Rattle.rules.proofs.Records.{Above, Sorted}
 use Rattle.rules.proofs.Obeys.{keys-sorted}
-use Rattle.table.specs.Tests.{countOf, recsOf}
+use Rattle.table.specs.Tests.{countOf, recsIn}
 use Rattle.table.proofs.Places.{recAt, recs-at, recs-drop, length-recs}
 use Rattle.table_read.specs.Find.{further, seek, findBy, toKey, findKey}
 use Rattle.table_read.specs.declared.Place.{Place}
@@ -88,29 +88,29 @@ before (b ∷ l) s zero d h x m = absurd (in-none m)
 before (b ∷ l) s (suc j) d h x (here e) = subst (λ (y : Rec). lessBytes (y .kv .key) (getD l j d .kv .key) ≡ true) (sym e) (s .0 (getD l j d) (in-at l j d (le-of-suc-le-suc h)))
 before (b ∷ l) s (suc j) d h x (later m) = before l (s .1) j d (le-of-suc-le-suc h) x m
 
-module _ (k b : List ℕ) (s : keysRise (recsOf b) ≡ true) (j : ℕ) (h : j < countOf b) where
-  below : (x : Rec) → x ∈ take j (recsOf b) → lessBytes (x .kv .key) (recAt j b .kv .key) ≡ true
+module _ (k b : List ℕ) (s : keysRise (recsIn b) ≡ true) (j : ℕ) (h : j < countOf b) where
+  below : (x : Rec) → x ∈ take j (recsIn b) → lessBytes (x .kv .key) (recAt j b .kv .key) ≡ true
   below x m =
       let d : Rec = recAt j b in
-      subst (λ (y : Rec). lessBytes (x .kv .key) (y .kv .key) ≡ true) (recs-at j b d h) (before (recsOf b) (keys-sorted (recsOf b) s) j d (rw length-recs h) x m)
+      subst (λ (y : Rec). lessBytes (x .kv .key) (y .kv .key) ≡ true) (recs-at j b d h) (before (recsIn b) (keys-sorted (recsIn b) s) j d (rw length-recs h) x m)
 
-  inside : j ≤ length (recsOf b)
+  inside : j ≤ length (recsIn b)
   inside = rw length-recs (omega arith)
 
-  at-same : orderOf k (recAt j b .kv .key) ≡ Same → (x : Rec) → x ∈ take j (recsOf b) → toKey k x ≡ More
+  at-same : orderOf k (recAt j b .kv .key) ≡ Same → (x : Rec) → x ∈ take j (recsIn b) → toKey k x ≡ More
   at-same q x m =
       more-order k (x .kv .key) (subst (λ (y : List ℕ). lessBytes (x .kv .key) y ≡ true) (sym (same-true k (recAt j b .kv .key) (order-same k (recAt j b .kv .key) q))) (below x m))
 
-  at-more : orderOf k (recAt j b .kv .key) ≡ More → (x : Rec) → x ∈ take j (recsOf b) → toKey k x ≡ More
+  at-more : orderOf k (recAt j b .kv .key) ≡ More → (x : Rec) → x ∈ take j (recsIn b) → toKey k x ≡ More
   at-more q x m = more-order k (x .kv .key) (less-trans (x .kv .key) (recAt j b .kv .key) k (below x m) (order-more k (recAt j b .kv .key) q))
 
-  pub half-same : orderOf k (recAt j b .kv .key) ≡ Same → At j ≡ findKey k (recsOf b)
+  pub half-same : orderOf k (recAt j b .kv .key) ≡ Same → At j ≡ findKey k (recsIn b)
   half-same q =
-      sym (step-same (toKey k) (recsOf b) j (recAt j b) (recs-drop j b h) q) ∙ behind-early (toKey k) (recsOf b) j inside (at-same q)
+      sym (step-same (toKey k) (recsIn b) j (recAt j b) (recs-drop j b h) q) ∙ behind-early (toKey k) (recsIn b) j inside (at-same q)
 
-  pub half-less : orderOf k (recAt j b .kv .key) ≡ Less → findKey k (take j (recsOf b)) ≡ findKey k (recsOf b)
-  half-less q = before-late (toKey k) (recsOf b) j (recAt j b) (recs-drop j b h) q
+  pub half-less : orderOf k (recAt j b .kv .key) ≡ Less → findKey k (take j (recsIn b)) ≡ findKey k (recsIn b)
+  half-less q = before-late (toKey k) (recsIn b) j (recAt j b) (recs-drop j b h) q
 
-  pub half-more : orderOf k (recAt j b .kv .key) ≡ More → further (j + 1) (findKey k (drop (j + 1) (recsOf b))) ≡ findKey k (recsOf b)
+  pub half-more : orderOf k (recAt j b .kv .key) ≡ More → further (j + 1) (findKey k (drop (j + 1) (recsIn b))) ≡ findKey k (recsIn b)
   half-more q =
-      sym (step-more (toKey k) (recsOf b) j (recAt j b) (recs-drop j b h) q) ∙ behind-early (toKey k) (recsOf b) j inside (at-more q)
+      sym (step-more (toKey k) (recsIn b) j (recAt j b) (recs-drop j b h) q) ∙ behind-early (toKey k) (recsIn b) j inside (at-more q)

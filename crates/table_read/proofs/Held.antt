@@ -22,7 +22,7 @@ use Rattle.rules.specs.Lent.{stored}
 use Rattle.rules.specs.Layout.{nodePlace, nodeWidth, encodeNode, decodeNode, encode, decode, valid}
 use Rattle.table.specs.Changes.{withNode}
 use Rattle.table.specs.Fits.{LaidNode}
-use Rattle.table.specs.Tests.{nodesOf, recsOf}
+use Rattle.table.specs.Tests.{nodesOf, recsIn}
 use Rattle.table.proofs.Nodes.{length-node}
 use Rattle.table.proofs.Tables.{valid-long, valid-few, encode-decode}
 use Rattle.table_read.specs.Find.{toNode, findNode, spanOf, spanIn, startFrom, nodeStart}
@@ -74,7 +74,7 @@ module _ (n : ℕ) (l : List ℕ) (v : valid l ≡ true) where
     pub held-laid : LaidNode bytes
     held-laid = rw (at .starts) (node-laid l v (at .i) few)
 
-    pub held-rises : keysRise (recsOf bytes) ≡ true
+    pub held-rises : keysRise (recsIn bytes) ≡ true
     held-rises = rw (at .starts) (node-rises l v (at .i) few)
 
     pub held-node : nodeOf n (decode l) ≡ some (decodeNode bytes .node)

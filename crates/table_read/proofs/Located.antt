@@ -13,7 +13,7 @@ use Rattle.rules.specs.Table.{Entry}
 use Rattle.rules.specs.Layout.{recWidth, nodeWidths, nodeWidth, tableWidth, decodeRec, decodeNode, decode}
 use Rattle.table.specs.Changes.{freshEntry}
 use Rattle.table.specs.Fits.{LaidTable, LaidNode}
-use Rattle.table.specs.Tests.{keyLength, valueLength, countOf, nodesOf, recsOf}
+use Rattle.table.specs.Tests.{keyLength, valueLength, countOf, nodesOf, recsIn}
 use Rattle.table.proofs.Places.{nodeBytes, nodeAt, recBytes, decode-at, recs-at, length-recs}
 use Rattle.table.proofs.Laid.{rec-long, laid-key, laid-value, laid-at}
 use Rattle.table_read.specs.Find.{entryAt}
@@ -52,7 +52,7 @@ module _ (l : Bytes) (o : LaidTable l) (p : ℕ) (h : p < nodesOf l) where
     pub laid : LaidNode b
     laid = subst LaidNode (sym e) (laid-at l o p h)
 
-    pub recs-are : recsOf b ≡ entryAt (decode l) p .node .recs
+    pub recs-are : recsIn b ≡ entryAt (decode l) p .node .recs
     recs-are = ap (λ (x : Entry). x .node .recs) (ap decodeNode e ∙ sym (entry-at l p h))
 
     pub node-long : length b ≡ nodeWidth

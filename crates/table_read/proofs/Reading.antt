@@ -21,7 +21,7 @@ use Rattle.rules.specs.Table.{nodeOf, keysRise}
 use Rattle.rules.specs.Layout.{recWidth, nodeWidths, nodeWidth, tableWidth, decodeRec, decodeNode, decode, valid}
 use Rattle.rules.specs.declared.Record.{Record}
 use Rattle.table.specs.Fits.{LaidNode}
-use Rattle.table.specs.Tests.{keyLength, valueLength, countOf, recsOf}
+use Rattle.table.specs.Tests.{keyLength, valueLength, countOf, recsIn}
 use Rattle.table.proofs.Tables.{valid-long}
 use Rattle.table.proofs.Places.{recBytes, recAt, length-recs}
 use Rattle.table.proofs.Laid.{rec-long, laid-key, laid-value}
@@ -61,8 +61,8 @@ module _ (n : ℕ) (l : List ℕ) (v : valid l ≡ true) {s : Span} (f : s ≡ s
   pub lent-count : offset nodeWidths 4 < length (lentNode start end l)
   lent-count = omega (arith, lent-long)
 
-  pub lent-rises : keysRise (recsOf (lentNode start end l)) ≡ true
-  lent-rises = ap (λ (b : List ℕ). keysRise (recsOf b)) (node-seen n l v held) ∙ held-rises n l v held
+  pub lent-rises : keysRise (recsIn (lentNode start end l)) ≡ true
+  lent-rises = ap (λ (b : List ℕ). keysRise (recsIn b)) (node-seen n l v held) ∙ held-rises n l v held
 
   lent-node : some (decodeNode (lentNode start end l) .node) ≡ nodeOf n (decode l)
   lent-node = ap (λ (b : List ℕ). some (decodeNode b .node)) (node-seen n l v held) ∙ sym (held-node n l v held)
@@ -128,7 +128,7 @@ module _ {A M : Type 0} (found : Given A M) (k : List ℕ) where
 -- ---- the record
 
 -- its place, found by its key, is one of the node's
-pub key-in : (k b : List ℕ) {p : Place} → p ≡ findKey k (recsOf b) → {j : ℕ} → p ≡ At j → j < countOf b
+pub key-in : (k b : List ℕ) {p : Place} → p ≡ findKey k (recsIn b) → {j : ℕ} → p ≡ At j → j < countOf b
 key-in k b f {j} h = rec-in b k j (sym f ∙ h)
 
 module _ (b : List ℕ) (o : LaidNode b) (j : ℕ) (h : j < countOf b) where
@@ -149,13 +149,13 @@ rec-read b j x e r p = p ∙ ap (λ (y : List ℕ). recordOf (decodeRec y)) e
 pub ruleset lent-rec-needs = (key-in, rec-few)
 
 -- what it says, by a rule that says it of the key's record, or of none
-module _ {A : Type 0} (rule : Option Rec → A) (k b : List ℕ) {p : Place} (f : p ≡ findKey k (recsOf b)) where
-  pub rec-says : {j : ℕ} → p ≡ At j → (r : A) → r ≡ rule (some (recAt j b)) → r ≡ rule (find k (recsOf b))
+module _ {A : Type 0} (rule : Option Rec → A) (k b : List ℕ) {p : Place} (f : p ≡ findKey k (recsIn b)) where
+  pub rec-says : {j : ℕ} → p ≡ At j → (r : A) → r ≡ rule (some (recAt j b)) → r ≡ rule (find k (recsIn b))
   rec-says {j} h r q = q ∙ ap rule (sym (rec-found b k j (sym f ∙ h)))
 
-  pub no-rec-says : keysRise (recsOf b) ≡ true → {j : ℕ} → p ≡ Free j → rule none ≡ rule (find k (recsOf b))
+  pub no-rec-says : keysRise (recsIn b) ≡ true → {j : ℕ} → p ≡ Free j → rule none ≡ rule (find k (recsIn b))
   no-rec-says s {j} h = ap rule (sym (rec-missing b k j s (sym f ∙ h)))
 
 -- how many there are
-pub counted : (b : List ℕ) (k : ℕ) → k ≡ countOf b → k ≡ length (recsOf b)
+pub counted : (b : List ℕ) (k : ℕ) → k ≡ countOf b → k ≡ length (recsIn b)
 counted b k e = e ∙ sym (length-recs b)

@@ -21,7 +21,7 @@ use Rattle.rules.specs.Table.{Entry, Table, nodeOf, numbersOf, keysRise}
 use Rattle.rules.specs.Layout.{decodeNode, decodeRec, decode, valid}
 use Rattle.rules.proofs.Records.{Above, Sorted}
 use Rattle.rules.proofs.Obeys.{Ascending, number-in, keys-sorted, rising-asc}
-use Rattle.table.specs.Tests.{countOf, nodesOf, recsOf}
+use Rattle.table.specs.Tests.{countOf, nodesOf, recsIn}
 use Rattle.table.specs.Fits.{LaidNode}
 use Rattle.table.proofs.Tables.{ObeysTable, table-obeys, node-obeys, valid-obeys, valid-laid, length-decode}
 use Rattle.table.proofs.Places.{recAt, recs-at, length-recs, nodeBytes, nodeAt, decode-at}
@@ -178,28 +178,28 @@ module _ (l : List ℕ) (v : valid l ≡ true) where
     pub node-laid : LaidNode (nodeBytes i l)
     node-laid = laid-at l (valid-laid l v) i h
 
-    pub node-rises : keysRise (recsOf (nodeBytes i l)) ≡ true
+    pub node-rises : keysRise (recsIn (nodeBytes i l)) ≡ true
     node-rises =
         let d : Entry = decodeNode [] in
         node-obeys (decode l) facts (nodeAt i l) (subst (λ (e : Entry). e ∈ decode l) (decode-at i l d h) (in-at (decode l) i d (rw length-decode h))) .rise
 
 -- ---- in the bytes of a node whose keys rise
 
-pub recs-ordered : (b : List ℕ) → keysRise (recsOf b) ≡ true → (k : List ℕ) → Ordered (toKey k) (recsOf b)
-recs-ordered b s k = ordered-recs k (recsOf b) (keys-sorted (recsOf b) s)
+pub recs-ordered : (b : List ℕ) → keysRise (recsIn b) ≡ true → (k : List ℕ) → Ordered (toKey k) (recsIn b)
+recs-ordered b s k = ordered-recs k (recsIn b) (keys-sorted (recsIn b) s)
 
-pub rec-in : (b k : List ℕ) (j : ℕ) → findKey k (recsOf b) ≡ At j → j < countOf b
-rec-in b k j e = rw length-recs at (place-in (toKey k) (recsOf b) j e)
+pub rec-in : (b k : List ℕ) (j : ℕ) → findKey k (recsIn b) ≡ At j → j < countOf b
+rec-in b k j e = rw length-recs at (place-in (toKey k) (recsIn b) j e)
 
-pub rec-found : (b k : List ℕ) (j : ℕ) → findKey k (recsOf b) ≡ At j → find k (recsOf b) ≡ some (recAt j b)
+pub rec-found : (b k : List ℕ) (j : ℕ) → findKey k (recsIn b) ≡ At j → find k (recsIn b) ≡ some (recAt j b)
 unfolding find
 rec-found b k j e =
     search-at (toKey k) (λ (r : Rec). sameBytes k (r .kv .key)) (key-hit k) (λ (i : ℕ) (r : Rec). some r) none (λ (i : ℕ) (l : List Rec). find k l)
-    (λ i. refl) (λ i a l. refl) (recsOf b) (decodeRec []) 0 j e
+    (λ i. refl) (λ i a l. refl) (recsIn b) (decodeRec []) 0 j e
     ∙ ap (λ (r : Rec). some r) (recs-at j b (decodeRec []) (rec-in b k j e))
 
-pub rec-missing : (b k : List ℕ) (j : ℕ) → keysRise (recsOf b) ≡ true → findKey k (recsOf b) ≡ Free j → find k (recsOf b) ≡ none
+pub rec-missing : (b k : List ℕ) (j : ℕ) → keysRise (recsIn b) ≡ true → findKey k (recsIn b) ≡ Free j → find k (recsIn b) ≡ none
 unfolding find
 rec-missing b k j s e =
     search-free (toKey k) (λ (r : Rec). sameBytes k (r .kv .key)) (key-hit k) (λ (i : ℕ) (r : Rec). some r) none (λ (i : ℕ) (l : List Rec). find k l)
-    (λ i. refl) (λ i a l. refl) (recsOf b) 0 j (recs-ordered b s k) e
+    (λ i. refl) (λ i a l. refl) (recsIn b) 0 j (recs-ordered b s k) e

@@ -11,7 +11,7 @@ ghost use lib.ListN.{length};
 ghost use Rattle.rules.specs.Sizes.{maxNodes, maxKey, maxValue};
 ghost use Rattle.rules.specs.Table.{keysRise, among};
 ghost use Rattle.rules.specs.Layout.{recWidth, nodeWidth, tableWidth, decodeRec, decodeNode, decode, valid};
-ghost use Rattle.table.specs.Tests.{keyLength, valueLength, nodesOf, recsOf};
+ghost use Rattle.table.specs.Tests.{keyLength, valueLength, nodesOf, recsIn};
 ghost use Rattle.table.specs.Fits.{LaidNode};
 ghost use Rattle.table_read.specs.Find.{findNode, findKey, spanIn, entryAt, headerOf, recordOf};
 
@@ -118,8 +118,8 @@ pub fn node_span(table: &[u8], number: u64) -> Span
 
 // The place of the record with this key in a node's bytes, whose keys rise. It is sought by halves.
 pub fn search_key(node: &[u8], key: &[u8]) -> Place
-    requires { ⌜ LaidNode (now node) × (keysRise (recsOf (now node)) ≡ true) ⌝ }
-    ensures { λ r. ⌜ r ≡ findKey (now (key .entry)) (recsOf (now (node .entry))) ⌝ }
+    requires { ⌜ LaidNode (now node) × (keysRise (recsIn (now node)) ≡ true) ⌝ }
+    ensures { λ r. ⌜ r ≡ findKey (now (key .entry)) (recsIn (now (node .entry))) ⌝ }
 {
     let mut low = 0;
     let mut high = fields::byte_at(node, layout::RECORD_COUNT);

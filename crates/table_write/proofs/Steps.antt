@@ -19,7 +19,7 @@ use Rattle.rules.specs.Node.{Rec}
 use Rattle.rules.specs.Delta.{statusByte}
 use Rattle.rules.specs.Layout.{recPlace, nodePlace, recWidths, recWidth, nodeWidths, nodeWidth, tableWidths, tableWidth, encodeRec, encodeNode, decodeNode, decodeRec, encode, decode}
 use Rattle.rules.specs.declared.Status.{Status}
-use Rattle.table.specs.Tests.{countOf, nodesOf, recsOf}
+use Rattle.table.specs.Tests.{countOf, nodesOf, recsIn}
 use Rattle.table.specs.Fits.{LaidNode, LaidTable}
 use Rattle.table.specs.Changes.{withRecAt, withNewRec, withoutRec, freshEntry, recOf}
 use Rattle.table.proofs.Tables.{length-decode}
@@ -146,7 +146,7 @@ module _ (b : List ℕ) (o : LaidNode b) (j : ℕ) (r : Rec) where
 pub record-gone : (b : List ℕ) → LaidNode b → (j : ℕ) → j < countOf b → withoutBlock (offset nodeWidths 4) recWidth j b ≡ encodeNode (withoutRec j (decodeNode b))
 record-gone b o j h =
     ap₂ (λ (n : ℕ) (l : List ℕ). lessBlock (offset nodeWidths 4) recWidth j n l) (sym (length-recs b)) (sym (o .is))
-    ∙ less-suc (offset nodeWidths 4) recWidth j (length (recsOf b)) (encodeNode (decodeNode b))
+    ∙ less-suc (offset nodeWidths 4) recWidth j (length (recsIn b)) (encodeNode (decodeNode b))
     ∙ node-rec-remove (decodeNode b) (o .fits .few) j (decodeRec []) (rw length-recs h)
 
 -- ---- the nodes of a table

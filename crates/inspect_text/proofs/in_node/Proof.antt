@@ -4,7 +4,7 @@ use mathlib.Core.Path.{_≡_, ap, sym, _∙_}
 use native.Mathlib.Omega.{arith}
 use lib.ListN.{length}
 use Rattle.rules.specs.declared.Record.{Record}
-use Rattle.table.specs.Tests.{countOf, recsOf}
+use Rattle.table.specs.Tests.{countOf, recsIn}
 use Rattle.table.proofs.Places.{recAt}
 use Rattle.table_read.specs.Find.{recordOf}
 use Rattle.table_read.proofs.Reading.{rec-fits, rec-read}
@@ -32,7 +32,7 @@ read c =
 answer : (c : tie.After-read-record) (x : Text) (n : ℕ)
     → let a = c .before .before .before .before .before .args in
     a .text ≡ x → n ≡ length (textOf x (recAt (a .j) (a .node .now)))
-    → At (textPlace x (a .start) (a .j)) n ≡ placeOn (a .text) (a .start) (a .j) (elementAt (a .j) (recsOf (a .node .now)))
+    → At (textPlace x (a .start) (a .j)) n ≡ placeOn (a .text) (a .start) (a .j) (elementAt (a .j) (recsIn (a .node .now)))
 answer c x n e q =
     let t = c .before .before in
     let a = t .before .before .before .args in

@@ -8,7 +8,7 @@ use Rattle.rules.specs.Given.{Gives}
 use Rattle.rules.specs.Node.{Call}
 use Rattle.rules.specs.Table.{keysRise}
 use Rattle.table.specs.Fits.{LaidNode}
-use Rattle.table.specs.Tests.{recsOf}
+use Rattle.table.specs.Tests.{recsIn}
 use Rattle.table_read.specs.Find.{spanIn}
 use Rattle.table_read.specs.declared.Span.the-variants.{Held}
 use Rattle.table_read.proofs.Held.{node-end, node-fits, node-seen, held-laid, held-rises}
@@ -47,7 +47,7 @@ write-node-requires : tie.Need-write-node-requires
 write-node-requires c κs =
     let f = c .before .before in
     let v = entry f .pre in
-    subst (λ (b : List ℕ). LaidNode b × (keysRise (recsOf b) ≡ true)) (sym (node-seen _ _ v (held f))) (held-laid _ _ v (held f), held-rises _ _ v (held f))
+    subst (λ (b : List ℕ). LaidNode b × (keysRise (recsIn b) ≡ true)) (sym (node-seen _ _ v (held f))) (held-laid _ _ v (held f), held-rises _ _ v (held f))
 
 enum-told : tie.Need-enum-told
 enum-told c = search needs

@@ -7,7 +7,7 @@ use Rattle.rules.specs.Given.{Gives}
 use Rattle.rules.specs.Sizes.{maxKey}
 use Rattle.rules.specs.Node.{Decision}
 use Rattle.rules.specs.declared.Refusal.the-variants.{TooLong, NoKey}
-use Rattle.table.specs.Tests.{recsOf}
+use Rattle.table.specs.Tests.{recsIn}
 use Rattle.table_read.specs.Find.{findKey}
 use Rattle.table_read.specs.declared.Place.the-variants.{At}
 use Rattle.table_read.proofs.Searched.{rec-found, rec-missing}
@@ -29,7 +29,7 @@ key-fits c = omega arith
 
 -- where the key stands
 stands : (c : tie.After-j)
-    → let a = entry (searched (c .before .before)) .args in findKey (a .key .now) (recsOf (a .node .now)) ≡ At (c .j .given .0 .0)
+    → let a = entry (searched (c .before .before)) .args in findKey (a .key .now) (recsIn (a .node .now)) ≡ At (c .j .given .0 .0)
 stands c = sym (c .before .before .search-key .ensures) ∙ c .j .given .1
 
 returns : tie.Need-returns

@@ -9,7 +9,7 @@ use Rattle.rules.specs.Sizes.{maxRecords}
 use Rattle.rules.specs.Node.{Rec}
 use Rattle.rules.specs.Layout.{encodeNode, decodeNode}
 use Rattle.table.specs.Changes.{withRecs, recOf}
-use Rattle.table.specs.Tests.{recsOf, countOf}
+use Rattle.table.specs.Tests.{recsIn, countOf}
 use Rattle.table.proofs.Places.{length-recs}
 use Rattle.table_read.specs.Find.{findKey, toKey}
 use Rattle.table_read.specs.declared.Place.{Place}
@@ -28,17 +28,17 @@ abbrev entry-2 : tie.After-place2 → tie.Start
 entry-2 c = c .before .before .before .before .before
 
 -- where the key stands, or belongs
-stands : (c : tie.After-place) → findKey (entry c .args .key .now) (recsOf (entry c .args .node .now)) ≡ At (c .place .given .0 .0)
+stands : (c : tie.After-place) → findKey (entry c .args .key .now) (recsIn (entry c .args .node .now)) ≡ At (c .place .given .0 .0)
 stands c = entry c .pre .1 ∙ c .place .given .1
 
-belongs : (c : tie.After-place2) → findKey (entry-2 c .args .key .now) (recsOf (entry-2 c .args .node .now)) ≡ Free (c .place2 .given .0 .0)
+belongs : (c : tie.After-place2) → findKey (entry-2 c .args .key .now) (recsIn (entry-2 c .args .node .now)) ≡ Free (c .place2 .given .0 .0)
 belongs c = entry-2 c .pre .1 ∙ c .place2 .given .1
 
 has-room : (c : tie.After-place2) → countOf (entry-2 c .args .node .now) < maxRecords
 has-room c =
     let st = entry-2 c in
     let b : List ℕ = st .args .node .now in
-    omega (arith, length-recs b, leb-false maxRecords (length (recsOf b)) (ap (λ (p : Place). fullAt p (nodeIn b)) (sym (c .place2 .given .1)) ∙ st .pre .2))
+    omega (arith, length-recs b, leb-false maxRecords (length (recsIn b)) (ap (λ (p : Place). fullAt p (nodeIn b)) (sym (c .place2 .given .1)) ∙ st .pre .2))
 
 enum-known-place : tie.Need-enum-known-place
 enum-known-place c = search needs
@@ -58,7 +58,7 @@ insert-record-requires c κs =
     let st = entry-2 p in
     let b : List ℕ = st .args .node .now in (
       st .pre .0,
-      omega (arith, length-recs b, free-in (toKey (st .args .key .now)) (recsOf b) (p .place2 .given .0 .0) (belongs p)),
+      omega (arith, length-recs b, free-in (toKey (st .args .key .now)) (recsIn b) (p .place2 .given .0 .0) (belongs p)),
       has-room p,
       st .pre .3,
       st .pre .4,
@@ -73,7 +73,7 @@ returns c =
     let a = entry p .args in
     let b : List ℕ = a .node .now in
     let r : Rec = recOf (a .key .now) (a .value .now) (a .version) (a .status) (a .start) in
-    c .before .before .put-record .ensures ∙ ap (λ (l : List Rec). encodeNode (withRecs l (decodeNode b))) (sym (store-at r (recsOf b) (p .place .given .0 .0) (stands p)))
+    c .before .before .put-record .ensures ∙ ap (λ (l : List Rec). encodeNode (withRecs l (decodeNode b))) (sym (store-at r (recsIn b) (p .place .given .0 .0) (stands p)))
 
 same-length-2 : tie.Need-same-length-2
 same-length-2 c = search needs
@@ -84,7 +84,7 @@ returns-2 c =
     let a = entry-2 p .args in
     let b : List ℕ = a .node .now in
     let r : Rec = recOf (a .key .now) (a .value .now) (a .version) (a .status) (a .start) in
-    c .before .before .insert-record .ensures ∙ ap (λ (l : List Rec). encodeNode (withRecs l (decodeNode b))) (sym (store-free r (recsOf b) (p .place2 .given .0 .0) (belongs p)))
+    c .before .before .insert-record .ensures ∙ ap (λ (l : List Rec). encodeNode (withRecs l (decodeNode b))) (sym (store-free r (recsIn b) (p .place2 .given .0 .0) (belongs p)))
 
 pub place-record-spec : {M : Type 1} → statement M
 place-record-spec =

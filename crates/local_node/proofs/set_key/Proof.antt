@@ -9,7 +9,7 @@ use Rattle.rules.specs.Given.{Gives}
 use Rattle.rules.specs.Sizes.{maxKey, maxValue}
 use Rattle.rules.specs.Node.{Change, Decision, Refuse, allowed, unlessSame, find}
 use Rattle.rules.specs.declared.Refusal.the-variants.{TooLong}
-use Rattle.table.specs.Tests.{recsOf}
+use Rattle.table.specs.Tests.{recsIn}
 use Rattle.table_read.specs.Find.{findKey}
 use Rattle.table_read.specs.declared.Place.the-variants.{At, Free}
 use Rattle.table_read.proofs.Searched.{rec-found, rec-missing}
@@ -22,11 +22,11 @@ use Rattle.local_node.proofs.set_key.Tie as tie
 
 long : (k : List ℕ) (ch : Change) (b : List ℕ) → maxKey < length k → setting k ch (nodeIn b) ≡ Refuse TooLong
 unfolding setting
-long k ch b h = key-long k (ch .value) (allowed k (nodeIn b) (unlessSame (find k (recsOf b)) ch)) h
+long k ch b h = key-long k (ch .value) (allowed k (nodeIn b) (unlessSame (find k (recsIn b)) ch)) h
 
 long-value : (k : List ℕ) (ch : Change) (b : List ℕ) → length k ≤ maxKey → maxValue < length (ch .value) → setting k ch (nodeIn b) ≡ Refuse TooLong
 unfolding setting
-long-value k ch b g h = value-long k (ch .value) (allowed k (nodeIn b) (unlessSame (find k (recsOf b)) ch)) g h
+long-value k ch b g h = value-long k (ch .value) (allowed k (nodeIn b) (unlessSame (find k (recsIn b)) ch)) g h
 
 abbrev entry : tie.Else1 → tie.Start
 entry c = c .before .before .before .before
@@ -45,11 +45,11 @@ value-fits c = omega arith
 
 -- where the key stands, or belongs
 stands : (c : tie.After-j)
-    → let a = entry (searched (c .before .before) .before) .args in findKey (a .key .now) (recsOf (a .node .now)) ≡ At (c .j .given .0 .0)
+    → let a = entry (searched (c .before .before) .before) .args in findKey (a .key .now) (recsIn (a .node .now)) ≡ At (c .j .given .0 .0)
 stands c = sym (c .before .before .search-key .ensures) ∙ c .j .given .1
 
 belongs : (c : tie.After-j2)
-    → let a = entry (searched (c .before .before) .before) .args in findKey (a .key .now) (recsOf (a .node .now)) ≡ Free (c .j2 .given .0 .0)
+    → let a = entry (searched (c .before .before) .before) .args in findKey (a .key .now) (recsIn (a .node .now)) ≡ Free (c .j2 .given .0 .0)
 belongs c = sym (c .before .before .search-key .ensures) ∙ c .j2 .given .1
 
 returns : tie.Need-returns

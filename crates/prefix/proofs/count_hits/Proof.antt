@@ -8,13 +8,13 @@ use native.Mathlib.Nat.{zero-add}
 use lib.ListN.{length}
 use borrow.Author.Needs.{needs}
 use Rattle.rules.specs.Node.{hitsFrom}
-use Rattle.table.specs.Tests.{countOf, recsOf}
+use Rattle.table.specs.Tests.{countOf, recsIn}
 use Rattle.prefix.proofs.Hits.{hitsLeft, none-left, count-hit, count-miss}
 use Rattle.prefix.proofs.count_hits.Statement.{statement}
 use Rattle.prefix.proofs.count_hits.Tie as tie
 
 abbrev Inv-loop : tie.InvT-loop
-Inv-loop b prefix n found₀ j₀ found j = (j ≤ n) × (found ≤ j) × (found + length (hitsLeft prefix j b) ≡ length (hitsFrom prefix 0 (recsOf b)))
+Inv-loop b prefix n found₀ j₀ found j = (j ≤ n) × (found ≤ j) × (found + length (hitsLeft prefix j b) ≡ length (hitsFrom prefix 0 (recsIn b)))
 
 abbrev μ-loop : tie.MeasureT-loop
 μ-loop b prefix n found₀ j₀ found j = n - j
@@ -28,7 +28,7 @@ byte-at-requires c κs = search needs
 loop-holds : tie.Need-loop-holds Inv-loop μ-loop
 loop-holds c =
     let a = c .before .before .before .args in
-    (omega arith, omega arith, zero-add (length (hitsFrom (a .prefix .now) 0 (recsOf (a .node .now)))))
+    (omega arith, omega arith, zero-add (length (hitsFrom (a .prefix .now) 0 (recsIn (a .node .now)))))
 
 is-hit-requires : tie.Need-is-hit-requires Inv-loop μ-loop
 is-hit-requires c κs = (c .before .before .before .before .before .pre, within c)
@@ -51,7 +51,7 @@ loop-again c =
     let b : List ℕ = a .node .now in
     let j : ℕ = q .loop .j in
     let left : ℕ = length (hitsLeft k (j + 1) b) in
-    let n : ℕ = length (hitsFrom k 0 (recsOf b)) in
+    let n : ℕ = length (hitsFrom k 0 (recsIn b)) in
     ⊎-elim
     (λ w. (
       omega arith,

@@ -10,7 +10,7 @@ use borrow.Author.Needs.{needs}
 use Rattle.fields.specs.Parts.{put}
 use Rattle.fields.proofs.Parts.{put-nil}
 use Rattle.rules.specs.Node.{hitsFrom}
-use Rattle.table.specs.Tests.{countOf, recsOf}
+use Rattle.table.specs.Tests.{countOf, recsIn}
 use Rattle.prefix.proofs.Hits.{hitsLeft, none-left, count-hit, count-miss, put-hit, put-miss, hit-room}
 use Rattle.prefix.proofs.write_hits.Statement.{statement}
 use Rattle.prefix.proofs.write_hits.Tie as tie
@@ -19,8 +19,8 @@ abbrev Inv-loop : tie.InvT-loop
 Inv-loop b prefix out₀ n next₀ j₀ out next j =
     (j ≤ n)
     × (length out ≡ length out₀)
-    × (next + length (hitsLeft prefix j b) ≡ length (hitsFrom prefix 0 (recsOf b)))
-    × (put next (hitsLeft prefix j b) out ≡ put 0 (hitsFrom prefix 0 (recsOf b)) out₀)
+    × (next + length (hitsLeft prefix j b) ≡ length (hitsFrom prefix 0 (recsIn b)))
+    × (put next (hitsLeft prefix j b) out ≡ put 0 (hitsFrom prefix 0 (recsIn b)) out₀)
 
 abbrev μ-loop : tie.MeasureT-loop
 μ-loop b prefix out₀ n next₀ j₀ out next j = n - j
@@ -44,7 +44,7 @@ byte-at-requires c κs = search needs
 loop-holds : tie.Need-loop-holds Inv-loop μ-loop
 loop-holds c =
     let a = c .before .before .before .before .args in
-    (omega arith, refl, zero-add (length (hitsFrom (a .prefix .now) 0 (recsOf (a .node .now)))), refl)
+    (omega arith, refl, zero-add (length (hitsFrom (a .prefix .now) 0 (recsIn (a .node .now)))), refl)
 
 is-hit-requires : tie.Need-is-hit-requires Inv-loop μ-loop
 is-hit-requires c κs = (c .before .before .before .before .before .before .pre .0, within c)
@@ -78,8 +78,8 @@ loop-again c =
     let f : ℕ = q .loop .next in
     let h = within (i .before) in
     let left : List ℕ = hitsLeft k (j + 1) b in
-    let n : ℕ = length (hitsFrom k 0 (recsOf b)) in
-    let all : List ℕ = put 0 (hitsFrom k 0 (recsOf b)) (s .args .out .now) in
+    let n : ℕ = length (hitsFrom k 0 (recsIn b)) in
+    let all : List ℕ = put 0 (hitsFrom k 0 (recsIn b)) (s .args .out .now) in
     ⊎-elim
     (λ w. let e = sym (i .is-hit .ensures) ∙ w .0 .taken in (
       omega arith,

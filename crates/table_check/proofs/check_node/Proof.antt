@@ -13,14 +13,14 @@ use Rattle.fields.proofs.Choice.{and-last}
 use Rattle.rules.specs.Table.{versions, differ}
 use Rattle.rules.specs.Sizes.{maxRecords}
 use Rattle.rules.specs.Layout.{recPlace, recWidth, nodeWidth}
-use Rattle.table.specs.Tests.{recGood, nodeTests, nodeGood, countOf, maxOf, recsOf}
+use Rattle.table.specs.Tests.{recGood, nodeTests, nodeGood, countOf, maxIn, recsIn}
 use Rattle.table.proofs.Nodes.{node-stop}
 use borrow.Author.Needs.{needs}
 use Rattle.table_check.proofs.check_node.Statement.{statement}
 use Rattle.table_check.proofs.check_node.Tie as tie
 
 -- the tests of a node's bytes, as the calls answer them
-module _ (b : List ℕ) (n max : ℕ) (en : n ≡ countOf b) (em : max ≡ maxOf b) where
+module _ (b : List ℕ) (n max : ℕ) (en : n ≡ countOf b) (em : max ≡ maxIn b) where
   records-test : (t : Bool) → t ≡ allBlocks (recGood max) recWidth n (drop (recPlace 0) b) → getD (nodeTests b) 1 true ≡ t
   records-test t e = sym (e ∙ ap₂ (λ (m k : ℕ). allBlocks (recGood m) recWidth k (drop (recPlace 0) b)) em en)
 
@@ -30,7 +30,7 @@ module _ (b : List ℕ) (n max : ℕ) (en : n ≡ countOf b) (em : max ≡ maxOf
       let p : nodeWidth - recPlace n ≡ (maxRecords - n) * recWidth = omega arith in
       sym (e ∙ ap (λ (k : ℕ). allZero (take k (drop (recPlace n) b))) p ∙ ap (λ (k : ℕ). allZero (part (recPlace k) ((maxRecords - k) * recWidth) b)) en)
 
-different : (b vs : List ℕ) (n : ℕ) (t : Bool) → t ≡ differ (take n vs) → take n vs ≡ versions (recsOf b) → getD (nodeTests b) 3 true ≡ t
+different : (b vs : List ℕ) (n : ℕ) (t : Bool) → t ≡ differ (take n vs) → take n vs ≡ versions (recsIn b) → getD (nodeTests b) 3 true ≡ t
 different b vs n t e f = sym (e ∙ ap differ f)
 
 all-pass : (b : List ℕ) (t : Bool) → getD (nodeTests b) 0 true ≡ true → getD (nodeTests b) 1 true ≡ true → getD (nodeTests b) 2 true ≡ true

@@ -15,7 +15,7 @@ use Rattle.fields.proofs.Lent.{seen}
 use Rattle.rules.specs.Node.{Rec}
 use Rattle.rules.specs.Table.{keysRise}
 use Rattle.rules.specs.Layout.{recPlace, recWidth, nodeWidth, decodeRec}
-use Rattle.table.specs.Tests.{countOf, recsOf, recGood, keyLength}
+use Rattle.table.specs.Tests.{countOf, recsIn, recGood, keyLength}
 use Rattle.rules.specs.Sizes.{maxRecords, maxKey}
 use Rattle.fields.proofs.Parts.{length-part}
 use Rattle.table.proofs.Records.{good-key}
@@ -25,7 +25,7 @@ use Rattle.table_check.proofs.keys_rise.Statement.{statement}
 use Rattle.table_check.proofs.keys_rise.Tie as tie
 
 abbrev Inv-loop : tie.InvT-loop
-Inv-loop b n max i₀ i = (i ≤ n) × (keysRise (drop i (recsOf b)) ≡ keysRise (recsOf b))
+Inv-loop b n max i₀ i = (i ≤ n) × (keysRise (drop i (recsIn b)) ≡ keysRise (recsIn b))
 
 abbrev μ-loop : tie.MeasureT-loop
 μ-loop b n max i₀ i = n - i
@@ -49,7 +49,7 @@ module _ (b : List ℕ) (n max i : ℕ) (e : length b ≡ nodeWidth) (h : i + 1 
       → t ≡ lessBytes (decodeRec (take (recPlace i + recWidth - recPlace i) (drop (recPlace i) b)) .kv .key)
       (decodeRec (take (recPlace i + recWidth + recWidth - (recPlace i + recWidth)) (drop (recPlace i + recWidth) b)) .kv .key)
       → n ≡ countOf b
-      → keysRise (drop i (recsOf b)) ≡ (t && keysRise (drop (i + 1) (recsOf b)))
+      → keysRise (drop i (recsIn b)) ≡ (t && keysRise (drop (i + 1) (recsIn b)))
   unfolding keysRise
   turn t q m =
       let s : t ≡ lessBytes (recAt i b .kv .key) (recAt (suc i) b .kv .key) =
@@ -130,7 +130,7 @@ returns-2 : tie.Need-returns-2 Inv-loop μ-loop
 returns-2 c =
     let q = c .before in
     let b : List ℕ = q .before .before .args .node .now in
-    sym (few (drop (q .loop .i) (recsOf b)) (rw (length-drop, length-recs) (omega arith))) ∙ q .loop .inv .1
+    sym (few (drop (q .loop .i) (recsIn b)) (rw (length-drop, length-recs) (omega arith))) ∙ q .loop .inv .1
 
 pub keys-rise-spec : {M : Type 1} → statement M
 keys-rise-spec =

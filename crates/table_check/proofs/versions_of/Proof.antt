@@ -12,38 +12,38 @@ use Rattle.rules.specs.Node.{Rec}
 use Rattle.rules.specs.Table.{versions}
 use Rattle.rules.specs.Sizes.{maxRecords}
 use Rattle.rules.specs.Layout.{recPlace, nodeWidth}
-use Rattle.table.specs.Tests.{countOf, recsOf}
+use Rattle.table.specs.Tests.{countOf, recsIn}
 use Rattle.table.proofs.Places.{recs-drop, version-at, recAt, length-recs}
 use borrow.Author.Needs.{needs}
 use Rattle.table_check.proofs.versions_of.Statement.{statement}
 use Rattle.table_check.proofs.versions_of.Tie as tie
 
 abbrev Inv-loop : tie.InvT-loop
-Inv-loop b n vs₀ i₀ vs i = (i ≤ n) × (length vs ≡ maxRecords) × (take i vs ++ versions (drop i (recsOf b)) ≡ versions (recsOf b))
+Inv-loop b n vs₀ i₀ vs i = (i ≤ n) × (length vs ≡ maxRecords) × (take i vs ++ versions (drop i (recsIn b)) ≡ versions (recsIn b))
 
 abbrev μ-loop : tie.MeasureT-loop
 μ-loop b n vs₀ i₀ vs i = n - i
 
 -- one version more
 turn : (b vs : List ℕ) (i x : ℕ) (t : List ℕ) → length b ≡ nodeWidth → i < countOf b → countOf b ≤ maxRecords → length vs ≡ maxRecords → x ≡ natOf (part (recPlace i + 98) 8 b)
-    → take i vs ++ versions (drop i (recsOf b)) ≡ t → take (i + 1) (set vs i x) ++ versions (drop (i + 1) (recsOf b)) ≡ t
+    → take i vs ++ versions (drop i (recsIn b)) ≡ t → take (i + 1) (set vs i x) ++ versions (drop (i + 1) (recsIn b)) ≡ t
 unfolding versions
 turn b vs i x t e h g l q p =
     let v : x ≡ recAt i b .kv .version = q ∙ sym (version-at i b e (omega arith)) in
-    ap (λ (k : ℕ). take k (set vs i x) ++ versions (drop k (recsOf b))) (add-one i)
-    ∙ ap (λ (r : List ℕ). r ++ versions (drop (suc i) (recsOf b))) (take-suc-set vs i x (omega arith))
-    ∙ append-assoc (take i vs) (x ∷ []) (versions (drop (suc i) (recsOf b)))
-    ∙ ap (λ (y : ℕ). take i vs ++ (y ∷ versions (drop (suc i) (recsOf b)))) v
+    ap (λ (k : ℕ). take k (set vs i x) ++ versions (drop k (recsIn b))) (add-one i)
+    ∙ ap (λ (r : List ℕ). r ++ versions (drop (suc i) (recsIn b))) (take-suc-set vs i x (omega arith))
+    ∙ append-assoc (take i vs) (x ∷ []) (versions (drop (suc i) (recsIn b)))
+    ∙ ap (λ (y : ℕ). take i vs ++ (y ∷ versions (drop (suc i) (recsIn b)))) v
     ∙ ap (λ (r : List Rec). take i vs ++ versions r) (sym (recs-drop i b h))
     ∙ p
 
 -- at the end
-over : (b vs : List ℕ) (i n : ℕ) (t : List ℕ) → i ≡ n → n ≡ countOf b → take i vs ++ versions (drop i (recsOf b)) ≡ t → take n vs ≡ t
+over : (b vs : List ℕ) (i n : ℕ) (t : List ℕ) → i ≡ n → n ≡ countOf b → take i vs ++ versions (drop i (recsIn b)) ≡ t → take n vs ≡ t
 unfolding versions
 over b vs i n t p q e =
     ap (λ (k : ℕ). take k vs) (sym p)
     ∙ sym (append-nil (take i vs))
-    ∙ ap (λ (r : List Rec). take i vs ++ versions r) (sym (drop-of-length-le (recsOf b) {i = i} (rw length-recs (omega arith))))
+    ∙ ap (λ (r : List Rec). take i vs ++ versions r) (sym (drop-of-length-le (recsIn b) {i = i} (rw length-recs (omega arith))))
     ∙ e
 
 loop-holds : tie.Need-loop-holds Inv-loop μ-loop

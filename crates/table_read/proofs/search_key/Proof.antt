@@ -9,7 +9,7 @@ use Rattle.fields.specs.Order.{orderOf}
 use Rattle.rules.specs.Sizes.{maxKey}
 use Rattle.rules.specs.Node.{Rec}
 use Rattle.rules.specs.Layout.{decodeRec}
-use Rattle.table.specs.Tests.{keyLength, countOf, recsOf}
+use Rattle.table.specs.Tests.{keyLength, countOf, recsIn}
 use Rattle.table.proofs.Places.{length-recs, recAt}
 use Rattle.table.proofs.Laid.{laid-key, rec-long}
 use Rattle.table_read.specs.Find.{further, toKey, findKey}
@@ -21,7 +21,7 @@ use Rattle.table_read.proofs.search_key.Tie as tie
 
 abbrev Inv-loop : tie.InvT-loop
 Inv-loop b key low₀ high₀ low high =
-    (low ≤ high) × (high ≤ countOf b) × (further low (findKey key (drop low (recsOf b))) ≡ findKey key (recsOf b)) × (findKey key (take high (recsOf b)) ≡ findKey key (recsOf b))
+    (low ≤ high) × (high ≤ countOf b) × (further low (findKey key (drop low (recsIn b))) ≡ findKey key (recsIn b)) × (findKey key (take high (recsIn b)) ≡ findKey key (recsIn b))
 
 abbrev μ-loop : tie.MeasureT-loop
 μ-loop b key low₀ high₀ low high = high - low
@@ -58,7 +58,7 @@ loop-holds : tie.Need-loop-holds Inv-loop μ-loop
 loop-holds c =
     let a = c .before .before .before .args in
     let n = c .byte-at .ensures .0 in
-    (omega arith, omega (arith, n), start (toKey (a .key .now)) (recsOf (a .node .now)), ap (findKey (a .key .now)) (take-all (c .byte-at .result) (recsOf (a .node .now)) (rw length-recs (omega (arith, n)))))
+    (omega arith, omega (arith, n), start (toKey (a .key .now)) (recsIn (a .node .now)), ap (findKey (a .key .now)) (take-all (c .byte-at .result) (recsIn (a .node .now)) (rw length-recs (omega (arith, n)))))
 
 add-j : tie.Need-add-j Inv-loop μ-loop
 add-j c = omega (arith, c .before .before .byte-at .ensures .1)
@@ -124,7 +124,7 @@ returns-2 c =
     let q = c .before in
     let s = q .before .before .before .before in
     let e : q .loop .high ≡ q .loop .low = omega arith in
-    sym (met (toKey (s .args .key .now)) (recsOf (s .args .node .now)) (q .loop .low) (ap (λ (n : ℕ). findKey (s .args .key .now) (take n (recsOf (s .args .node .now)))) (sym e) ∙ q .loop .inv .3) (q .loop .inv .2))
+    sym (met (toKey (s .args .key .now)) (recsIn (s .args .node .now)) (q .loop .low) (ap (λ (n : ℕ). findKey (s .args .key .now) (take n (recsIn (s .args .node .now)))) (sym e) ∙ q .loop .inv .3) (q .loop .inv .2))
 
 pub search-key-spec : {M : Type 1} → statement M
 search-key-spec =
