@@ -1,15 +1,13 @@
 -- Going through the operations without the verdict, step by step; and that of an accepted delta they are its operations (`good-plain`).
 -- Assumes nothing.
 use Prim.Native.Nat.{ℕ, zero, suc, _+_, _-_, _≤_, _<_}
-use mathlib.Core.Path.{_≡_, refl, ap, ap₂, sym, _∙_, subst}
+use mathlib.Core.Path.{_≡_, refl, ap, sym, _∙_, subst}
 use mathlib.Core.List.{List, [], _∷_}
 use native.Mathlib.Omega.{arith}
 use native.Mathlib.Nat.{not-suc-le-zero, sub-zero}
 use lib.ListN.{length, drop, length-drop}
 use borrow.Author.Tests.{le-leb, lt-leb}
-use mathlib.Core.Logic.{_⊎_, inl, inr}
-use lib.Dec.{leb}
-use Rattle.fields.specs.Choice.{pick}
+use mathlib.Core.Logic.{inl, inr}
 use Rattle.rules.specs.Sizes.{maxDelta}
 use Rattle.rules.specs.Delta as rule
 use Rattle.rules.specs.declared.Refusal.{Refusal}

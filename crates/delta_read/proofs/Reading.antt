@@ -1,32 +1,28 @@
 -- Reading at a place is the rules' reading of what stands from there on: `read-at`, an equation, so that an operation is accepted exactly
 -- where the rules accept it and refused with exactly their number. An operation takes at least a byte and ends within the bytes (`op-next`).
 -- Assumes nothing.
-use Prim.Native.Nat.{ℕ, zero, suc, _+_, _-_, _≤_, _<_}
-use mathlib.Core.Path.{_≡_, refl, ap, sym, _∙_, subst}
+use Prim.Native.Nat.{ℕ, zero, suc, _+_, _≤_, _<_}
+use mathlib.Core.Path.{_≡_, refl}
 use mathlib.Core.Logic.{_⊎_, inl, inr}
-use mathlib.Core.Bool.{Bool, true, false}
-use mathlib.Core.List.{List, [], _∷_}
+use mathlib.Core.Bool.{true, false}
+use mathlib.Core.List.{List}
 use native.Mathlib.Omega.{arith}
 use native.Mathlib.Decide.{decLe}
-use lib.ListN.{length, take, drop, length-drop}
+use lib.ListN.{length, drop, length-drop}
 use lib.Seq.{drop-drop}
-use lib.Dec.{leb, ltb}
+use lib.Dec.{leb}
 use borrow.Author.Tests.{le-leb, lt-leb}
-use Rattle.fields.specs.Choice.{pick}
 use Rattle.fields.specs.Numbers.{natOf}
 use Rattle.fields.specs.Parts.{part}
 use Rattle.rules.specs.Sizes.{maxKey, maxValue}
 use Rattle.rules.specs.Delta as rule
 use Rattle.rules.specs.declared.Status.{Status}
-use Rattle.rules.specs.declared.Refusal.{Refusal}
-use Rattle.rules.specs.declared.Refusal.the-variants.{TooLong, Cut, BadTag}
-use Rattle.delta_read.specs.declared.Op.{Op}
-use Rattle.delta_read.specs.declared.Op.the-variants.{Node, KeyValue, SetMaxVersion}
+use Rattle.rules.specs.declared.Refusal.the-variants.{BadTag}
 use Rattle.delta_read.specs.declared.OpRead.{OpRead}
 use Rattle.delta_read.specs.declared.OpRead.the-variants.{Got, Bad}
 use Rattle.delta_read.specs.declared.TextRead.{TextRead}
 use Rattle.delta_read.specs.declared.TextRead.the-variants as text
-use Rattle.delta_read.specs.Places.{opOf, meant, textAt, onText, statusOf, nodeAt, versionAt, valueAt, keyValueAt, setMaxVersionAt, taggedAt, opAt, Inside, widthOf}
+use Rattle.delta_read.specs.Places.{meant, textAt, onText, statusOf, nodeAt, versionAt, valueAt, keyValueAt, setMaxVersionAt, taggedAt, opAt, Inside, widthOf}
 
 -- ---- one field
 

@@ -13,7 +13,6 @@ use Rattle.rules.specs.Table.{among}
 use Rattle.rules.specs.Delta as rule
 use Rattle.rules.specs.declared.Status.{Status}
 use Rattle.rules.specs.declared.Status.the-variants.{Set, Delete, Ttl}
-use Rattle.rules.specs.declared.Refusal.{Refusal}
 use Rattle.rules.specs.declared.Refusal.the-variants.{TooLong, Cut, BadTag, OutOfOrder, NodeTwice, TooMany}
 use Rattle.delta_read.specs.declared.Op.{Op}
 use Rattle.delta_read.specs.declared.Op.the-variants.{Node, KeyValue, SetMaxVersion}

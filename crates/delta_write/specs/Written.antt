@@ -6,7 +6,7 @@ use lib.Dec.{leb}
 use Rattle.fields.specs.Choice.{pick}
 use Rattle.fields.specs.Numbers.{Bytes}
 use Rattle.fields.specs.Parts.{put}
-use Rattle.rules.specs.Given.{Given, Gives, given}
+use Rattle.rules.specs.Given.{Given, given}
 use Rattle.rules.specs.Delta.{Op, KeyValueOp, opBytes, sizeOf}
 use Rattle.rules.specs.declared.Status.{Status}
 use Rattle.delta_write.specs.declared.Wrote.{Wrote}
@@ -17,7 +17,3 @@ writeOp o l = pick (leb (sizeOf o) (length l)) (given (wrote.Bytes (sizeOf o)) (
 
 abbrev pub keyValue : (key value : Bytes) (version : ℕ) (status : Status) → Op
 keyValue k v n s = KeyValueOp (record { key = k; value = v; version = n; status = s })
-
--- what is promised of an operation's writing, for proofs that go by the operation
-abbrev pub WritesOp : (op : Op) (datagram : Bytes) (answer : Wrote) (after : Bytes) → Type 0
-WritesOp o l answer after = Gives (writeOp o l) answer after

@@ -8,16 +8,15 @@ use mathlib.Core.List.{List, [], _∷_, _++_, append-assoc, append-nil}
 use native.Mathlib.Omega.{arith}
 use native.Mathlib.Numerals.{add-one}
 use native.Mathlib.Nat.{suc-mul, zero-mul, add-mul, add-sub-cancel-left, le-of-suc-le-suc, not-suc-le-zero, add-zero, zero-add}
-use lib.Dec.{eqb, lit<}
+use lib.Dec.{eqb}
 use lib.ListN.{length, take, drop, getD, set, length-append, length-take, length-drop, length-replicate, take-append-drop, drop-of-length-le, replicate-append-replicate}
 use lib.Seq.{take-at, drop-at, length-take-le, drop-drop, take-append-add, take-add, take-all, split-at, set-split}
 use borrow.Author.Tests.{eqb-true}
 use Rattle.fields.specs.Choice.{_∈_, here, later}
-use Rattle.fields.specs.Numbers.{natOf, bytesOf, AreBytes}
+use Rattle.fields.specs.Numbers.{bytesOf}
 use Rattle.fields.specs.Parts.{part, put}
 use Rattle.fields.specs.Blocks.{zeros, allZero, fit, flat, blocks, unblock, allBlocks, insertAt, removeAt}
 use Rattle.fields.proofs.Choice.{and-left, and-right, and-intro}
-use Rattle.fields.proofs.Numbers.{bytes-none, bytes-cons, bytes-append, bytes-take}
 use Rattle.fields.proofs.Parts.{part-right, part-add, part-part, part-drop, part-whole, part-at, put-at, put-mid, length-part}
 
 -- ---- zeros
@@ -48,29 +47,12 @@ unfolding allZero zeros
 all-zero zero = refl
 all-zero (suc n) = all-zero n
 
-pub zeros-all : (xs : List ℕ) → xs ≡ zeros (length xs) → allZero xs ≡ true
-zeros-all xs e = ap allZero e ∙ all-zero (length xs)
-
 pub bytes-zero : (n : ℕ) → bytesOf n 0 ≡ zeros n
 unfolding bytesOf zeros
 bytes-zero zero = refl
 bytes-zero (suc n) = ap (λ (r : List ℕ). 0 ∷ r) (bytes-zero n)
 
-pub nat-zero : (n : ℕ) → natOf (zeros n) ≡ 0
-unfolding natOf zeros
-nat-zero zero = refl
-nat-zero (suc n) = omega (arith, nat-zero n)
-
-pub bytes-zeros : (n : ℕ) → AreBytes (zeros n)
-unfolding zeros
-bytes-zeros zero = bytes-none
-bytes-zeros (suc n) = bytes-cons 0 (zeros n) (lit< tt) (bytes-zeros n)
-
 -- ---- a list in n places, the others zero
-
-pub bytes-fit : (n : ℕ) (xs : List ℕ) → AreBytes xs → AreBytes (fit n xs)
-unfolding fit
-bytes-fit n xs h = bytes-take n (xs ++ zeros n) (bytes-append xs (zeros n) h (bytes-zeros n))
 
 pub length-fit : (n : ℕ) (xs : List ℕ) → length (fit n xs) ≡ n
 unfolding fit
@@ -175,11 +157,6 @@ module _ {A : Type 0} (enc : A → List ℕ) (w : ℕ) (wide : (a : A) → lengt
   pub length-flat-take : (i : ℕ) (es : List A) → i ≤ length es → length (flat enc (take i es)) ≡ i * w
   length-flat-take i es h = rw (length-flat (take i es), length-take-le i es h)
 
-  -- the block at i, with what stands before it and after it
-  pub flat-split : (i : ℕ) (d : A) (es : List A) → i < length es → flat enc es ≡ flat enc (take i es) ++ (enc (getD es i d) ++ flat enc (drop (suc i) es))
-  unfolding flat
-  flat-split i d es h = ap (flat enc) (split-at es i d h) ∙ flat-append (take i es) (getD es i d ∷ drop (suc i) es)
-
   -- the blocks are the encodings and then zeros
   pub blocks-is : (n k : ℕ) (es : List A) → length es + k ≡ n → blocks n w enc es ≡ flat enc es ++ zeros (k * w)
   unfolding blocks
@@ -191,15 +168,6 @@ module _ {A : Type 0} (enc : A → List ℕ) (w : ℕ) (wide : (a : A) → lengt
   pub length-blocks : (n : ℕ) (es : List A) → length (blocks n w enc es) ≡ n * w
   unfolding blocks
   length-blocks n es = length-fit (n * w) (flat enc es)
-
-  pub bytes-flat : (es : List A) → ((a : A) → a ∈ es → AreBytes (enc a)) → AreBytes (flat enc es)
-  unfolding flat
-  bytes-flat [] h = bytes-none
-  bytes-flat (a ∷ es) h = bytes-append (enc a) (flat enc es) (h a (here refl)) (bytes-flat es (λ x m. h x (later m)))
-
-  pub bytes-blocks : (n : ℕ) (es : List A) → ((a : A) → a ∈ es → AreBytes (enc a)) → AreBytes (blocks n w enc es)
-  unfolding blocks
-  bytes-blocks n es h = bytes-fit (n * w) (flat enc es) (bytes-flat es h)
 
   -- the blocks of two lists joined, and with an element between them
   pub blocks-two : (n k : ℕ) (xs ys : List A) → length xs + length ys + k ≡ n → blocks n w enc (xs ++ ys) ≡ flat enc xs ++ (flat enc ys ++ zeros (k * w))

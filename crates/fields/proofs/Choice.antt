@@ -46,9 +46,6 @@ module _ (a b : Bool) where
       go true e = e
       go false e = absurd (false≢true e)
 
-  pub and-true : a && b ≡ true → (a ≡ true) × (b ≡ true)
-  and-true e = (and-left e, and-right e)
-
   pub and-yes : a ≡ true → a && b ≡ b
   and-yes e = ap (λ (t : Bool). t && b) e
 
@@ -71,10 +68,6 @@ every-at [] e k = refl
 every-at (t ∷ ts) e zero = and-left t (every ts) e
 every-at (t ∷ ts) e (suc k) = every-at ts (and-right t (every ts) e) k
 
-pub at-every : (ts : List Bool) → ((k : ℕ) → k < length ts → getD ts k true ≡ true) → every ts ≡ true
-at-every [] h = refl
-at-every (t ∷ ts) h = and-intro t (every ts) (h 0 (suc-le-suc zero-le)) (at-every ts (λ k g. h (suc k) (suc-le-suc g)))
-
 -- ---- what stands in a list
 
 pub in-none : {A : Type 0} {x : A} → x ∈ [] → ⊥
@@ -85,10 +78,6 @@ in-cons (here e) = inl e
 in-cons (later m) = inr m
 
 module _ {A : Type 0} where
-  pub in-left : {x : A} {xs : List A} (ys : List A) → x ∈ xs → x ∈ xs ++ ys
-  in-left ys (here e) = here e
-  in-left ys (later m) = later (in-left ys m)
-
   pub in-right : {x : A} (xs : List A) {ys : List A} → x ∈ ys → x ∈ xs ++ ys
   in-right [] m = m
   in-right (a ∷ xs) m = later (in-right xs m)

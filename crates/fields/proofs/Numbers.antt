@@ -2,48 +2,21 @@
 -- the bounds of both. A list of bytes (`AreBytes`) stays one when it is cut, joined or put together. Assumes nothing.
 use Prim.Native.Nat.{ℕ, zero, suc, _+_, _*_, _/_, _%_, _^_, _≤_, _<_}
 use mathlib.Core.Path.{_≡_, refl, ap, ap₂, sym, _∙_, subst}
-use mathlib.Core.Logic.{_⊎_, inl, inr}
 use mathlib.Core.List.{List, [], _∷_, _++_}
 use native.Mathlib.Omega.{arith}
-use native.Mathlib.Nat.{div-lt-iff-lt-mul, div-add-mod', pow-suc, pow-succ', pow-le-pow-right, lt-of-lt-of-le, zero-add, suc-add, mul-one, mul-assoc, div-one, div-div-eq-div-mul}
-use native.Mathlib.Decide.{decLt}
+use native.Mathlib.Nat.{div-lt-iff-lt-mul, div-add-mod', pow-suc, pow-succ', zero-add, suc-add, mul-one, mul-assoc, div-one, div-div-eq-div-mul}
 use lib.Dec.{lit<}
-use lib.ListN.{length, take, drop, getD, List·getD-eq-default}
-use Rattle.fields.specs.Choice.{_∈_, here, later}
+use lib.ListN.{length, take, drop, getD}
+use Rattle.fields.specs.Choice.{here, later}
 use Rattle.fields.specs.Numbers.{natOf, bytesOf, AreBytes}
 use Rattle.fields.specs.Parts.{part, put}
-use Rattle.fields.proofs.Choice.{in-none, in-cons, in-append, in-take, in-drop, in-at, at-in}
-use Rattle.fields.proofs.Parts.{part-cons, part-add, part-put, put-behind, length-part}
+use Rattle.fields.proofs.Choice.{in-take, in-drop, at-in}
+use Rattle.fields.proofs.Parts.{part-cons, part-add, put-behind, length-part}
 
 -- ---- a list of bytes
 
--- by places, as what is known of a slice of `u8` says it
-pub bytes-at : (l : List ℕ) → AreBytes l → (i : ℕ) → getD l i 0 < 256
-bytes-at l h i =
-    elim (decLt i (length l)) [
-      | yes p ↦ h (getD l i 0) (in-at l i 0 p)
-      | no p ↦ rw (List·getD-eq-default l 0 {n = i} (omega arith)) (lit< tt)
-    ]
-
 pub at-bytes : (l : List ℕ) → ((i : ℕ) → getD l i 0 < 256) → AreBytes l
 at-bytes l h = at-in (λ b. b < 256) l 0 (λ i g. h i)
-
-pub bytes-none : AreBytes []
-bytes-none b m = absurd (in-none m)
-
-pub bytes-cons : (x : ℕ) (l : List ℕ) → x < 256 → AreBytes l → AreBytes (x ∷ l)
-bytes-cons x l h g b m = go (in-cons m)
-  where
-    go : (b ≡ x) ⊎ (b ∈ l) → b < 256
-    go (inl e) = omega arith
-    go (inr k) = g b k
-
-pub bytes-append : (xs ys : List ℕ) → AreBytes xs → AreBytes ys → AreBytes (xs ++ ys)
-bytes-append xs ys h g b m = go (in-append xs ys m)
-  where
-    go : (b ∈ xs) ⊎ (b ∈ ys) → b < 256
-    go (inl k) = h b k
-    go (inr k) = g b k
 
 pub bytes-take : (n : ℕ) (l : List ℕ) → AreBytes l → AreBytes (take n l)
 bytes-take n l h b m = h b (in-take n l m)
@@ -55,24 +28,12 @@ pub bytes-part : (at n : ℕ) (l : List ℕ) → AreBytes l → AreBytes (part a
 unfolding part
 bytes-part at n l h = bytes-take n (drop at l) (bytes-drop at l h)
 
-pub bytes-put : (at : ℕ) (vs l : List ℕ) → AreBytes vs → AreBytes l → AreBytes (put at vs l)
-unfolding put
-bytes-put at vs l h g =
-    bytes-append (take at l) (vs ++ drop (at + length vs) l) (bytes-take at l g)
-    (bytes-append vs (drop (at + length vs) l) h (bytes-drop (at + length vs) l g))
-
 -- ---- numbers
 
 pub length-bytesOf : (n v : ℕ) → length (bytesOf n v) ≡ n
 unfolding bytesOf
 length-bytesOf zero v = refl
 length-bytesOf (suc n) v = ap suc (length-bytesOf n (v / 256))
-
--- each of them is a byte
-pub bytes-below : (n v : ℕ) → AreBytes (bytesOf n v)
-unfolding bytesOf
-bytes-below zero v = bytes-none
-bytes-below (suc n) v = bytes-cons (v % 256) (bytesOf n (v / 256)) (omega arith) (bytes-below n (v / 256))
 
 -- a number of n bytes, written and read
 pub nat-bytes : (n v : ℕ) → v < 256 ^ n → natOf (bytesOf n v) ≡ v
@@ -103,10 +64,6 @@ pub nat-below : (bs : List ℕ) → AreBytes bs → natOf bs < 256 ^ length bs
 unfolding natOf
 nat-below [] h = lit< tt
 nat-below (b ∷ bs) h = nat-grow (length bs) (natOf bs) b (nat-below bs (λ x m. h x (later m))) (h b (here refl))
-
--- a number of at most k bytes is one of m for each m from k on
-pub below-pow : {k m v : ℕ} → k ≤ m → v < 256 ^ k → v < 256 ^ m
-below-pow h g = lt-of-lt-of-le g (pow-le-pow-right (lit< tt) h)
 
 -- a number of two pieces: the first is the lower one
 pub nat-append : (xs ys : List ℕ) → natOf (xs ++ ys) ≡ natOf ys * 256 ^ length xs + natOf xs
@@ -159,9 +116,3 @@ nat-step s j k h = rw (part-cons s j k h)
 pub nat-one : (s : List ℕ) (at : ℕ) → at < length s → natOf (part at 1 s) ≡ getD s at 0
 unfolding natOf part
 nat-one s at h = nat-step s at 0 h ∙ zero-add (getD s at 0)
-
--- a number put is read back
-pub read-back : (n at v : ℕ) (l : List ℕ) → v < 256 ^ n → at + n ≤ length l → natOf (part at n (put at (bytesOf n v) l)) ≡ v
-read-back n at v l h g =
-    let e : length (bytesOf n v) ≡ n = length-bytesOf n v in
-    ap natOf (subst (λ (k : ℕ). part at k (put at (bytesOf n v) l) ≡ bytesOf n v) e (part-put at (bytesOf n v) l (rw e g))) ∙ nat-bytes n v h

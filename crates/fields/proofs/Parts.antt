@@ -60,9 +60,6 @@ pub part-right : (m a n : ℕ) (xs ys : List ℕ) → length xs ≡ m → part (
 unfolding part
 part-right m a n xs ys e = rw (← e, part, drop-append-add xs ys a)
 
-pub part-mid : (m a n : ℕ) (pre mid post : List ℕ) → length pre ≡ m → a + n ≤ length mid → part (m + a) n (pre ++ (mid ++ post)) ≡ part a n mid
-part-mid m a n pre mid post e h = part-right m a n pre (mid ++ post) e ∙ part-left a n mid post h
-
 pub part-at : (m n : ℕ) (pre mid post : List ℕ) → length pre ≡ m → length mid ≡ n → part m n (pre ++ (mid ++ post)) ≡ mid
 unfolding part
 part-at m n pre mid post e f = rw (part, drop-at pre (mid ++ post) m e, take-at mid post n f)
@@ -104,16 +101,6 @@ put-snoc at b vs l h =
 pub put-one : (at b : ℕ) (l : List ℕ) → at < length l → put at (b ∷ []) l ≡ set l at b
 put-one at b l h = sym (put-cons at b [] l h) ∙ put-nil (suc at) (set l at b)
 
--- what was there put again
-pub put-same : (at n : ℕ) (l : List ℕ) → at + n ≤ length l → put at (part at n l) l ≡ l
-unfolding put part
-put-same at n l h =
-    let e : length (part at n l) ≡ n = length-part at n l h in
-    ap (λ (k : ℕ). take at l ++ (part at n l ++ drop (at + k) l)) e
-    ∙ ap (λ (r : List ℕ). take at l ++ (part at n l ++ r)) (sym (drop-drop n at l))
-    ∙ ap (λ (r : List ℕ). take at l ++ r) (take-append-drop n (drop at l))
-    ∙ take-append-drop at l
-
 pub put-right : (m a : ℕ) (vs xs ys : List ℕ) → length xs ≡ m → put (m + a) vs (xs ++ ys) ≡ xs ++ put a vs ys
 unfolding put
 put-right m a vs xs ys e =
@@ -142,33 +129,6 @@ unfolding part put
 part-put at vs l h =
     let e : length (take at l) ≡ at = length-take-le at l (omega arith) in
     rw (part, put, drop-at (take at l) _ at e, take-at vs _ (length vs) refl)
-
-module _ (at : ℕ) (vs l : List ℕ) (fits : at + length vs ≤ length l) where
-  head-long : length (take at l) ≡ at
-  head-long = length-take-le at l (omega arith)
-
-  -- what stands before it is as it was
-  pub part-put-before : (a n : ℕ) → a + n ≤ at → part a n (put at vs l) ≡ part a n l
-  unfolding put
-  part-put-before a n h =
-      part-left a n (take at l) (vs ++ drop (at + length vs) l) (rw head-long h)
-      ∙ sym (part-left a n (take at l) (drop at l) (rw head-long h))
-      ∙ ap (part a n) (take-append-drop at l)
-
-  pub part-put-in : (a n : ℕ) → a + n ≤ length vs → part (at + a) n (put at vs l) ≡ part a n vs
-  unfolding put
-  part-put-in a n h = part-right at a n (take at l) _ head-long ∙ part-left a n vs _ h
-
-  pub part-put-after : (a n : ℕ) → at + length vs ≤ a → part a n (put at vs l) ≡ part a n l
-  unfolding put part
-  part-put-after a n h =
-      let k : ℕ = a - (at + length vs) in
-      let e : a ≡ at + (length vs + k) = omega arith in
-      let f : at + length vs + k ≡ a = omega arith in
-      ap (λ (b : ℕ). part b n (put at vs l)) e
-      ∙ part-right at (length vs + k) n (take at l) _ head-long
-      ∙ part-right (length vs) k n vs (drop (at + length vs) l) refl
-      ∙ ap (take n) (drop-drop k (at + length vs) l ∙ ap (λ (b : ℕ). drop b l) f)
 
 -- a put within the rest
 pub put-rest : (a b : ℕ) (vs l : List ℕ) → a ≤ length l → take a l ++ put b vs (drop a l) ≡ put (a + b) vs l

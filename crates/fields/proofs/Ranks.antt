@@ -2,19 +2,18 @@
 -- behind them. Assumes nothing.
 use Prim.Native.Nat.{ℕ, zero, suc, _+_, _*_, _^_, _≤_, _<_}
 use mathlib.Core.Path.{_≡_, refl, ap, ap₂, sym, _∙_, subst}
-use mathlib.Core.Logic.{_⊎_, inl, inr}
 use mathlib.Core.List.{List, [], _∷_, _++_}
 use native.Mathlib.Omega.{arith}
-use native.Mathlib.Nat.{pow-suc, pow-succ', mul-assoc, add-mul, mul-le-mul-right, zero-add, one-mul, suc-add, suc-mul}
+use native.Mathlib.Nat.{pow-succ', mul-assoc, add-mul, mul-le-mul-right, zero-add, one-mul, suc-add, suc-mul}
 use native.Mathlib.Decide.{decLt}
 use lib.Dec.{lit<}
 use lib.ListN.{length, getD, take, drop, length-append, take-append-drop}
 use lib.Seq.{drop-drop}
-use Rattle.fields.specs.Choice.{_∈_, here, later}
+use Rattle.fields.specs.Choice.{here, later}
 use Rattle.fields.specs.Numbers.{AreBytes}
 use Rattle.fields.specs.Order.{orderOf, rankOf}
 use Rattle.fields.specs.Parts.{part}
-use Rattle.fields.specs.declared.Order.the-variants.{Less, Same, More}
+use Rattle.fields.specs.declared.Order.the-variants.{Less, More}
 use Rattle.fields.proofs.Ordered.{order-first-same, order-first-less, order-less, more-order}
 use Rattle.fields.proofs.Parts.{part-cons, part-add, length-part}
 use Rattle.fields.proofs.Numbers.{bytes-part}

@@ -1,14 +1,13 @@
 -- Laws of fields of fixed widths: each stands where its offset says, one is replaced or changed within, and the fields cut out of a list are
 -- of their widths and joined give the part again. Assumes nothing.
 use Prim.Native.Nat.{ℕ, zero, suc, _+_, _≤_, _<_}
-use mathlib.Core.Path.{_≡_, refl, ap, ap₂, sym, _∙_, subst}
-use mathlib.Core.List.{List, [], _∷_, _++_, append-assoc}
-use native.Mathlib.Omega.{arith}
-use native.Mathlib.Nat.{le-of-suc-le-suc, not-suc-le-zero, add-assoc, add-zero}
+use mathlib.Core.Path.{_≡_, refl, ap, sym, _∙_, subst}
+use mathlib.Core.List.{List, [], _∷_, _++_}
+use native.Mathlib.Nat.{le-of-suc-le-suc, not-suc-le-zero, add-assoc}
 use lib.ListN.{length, getD, set, length-append}
 use Rattle.fields.specs.Parts.{part, put}
 use Rattle.fields.specs.Widths.{joined, offset, total, Widths, cutAt}
-use Rattle.fields.proofs.Parts.{part-right, part-add, part-at, part-whole, put-at, put-mid, put-right, length-part}
+use Rattle.fields.proofs.Parts.{part-right, part-add, part-at, part-whole, put-at, put-mid, put-right}
 
 pub field : (ws : List ℕ) (fs : List (List ℕ)) → Widths ws fs → (k : ℕ) → k < length ws → part (offset ws k) (getD ws k 0) (joined fs) ≡ getD fs k []
 unfolding joined
@@ -49,39 +48,9 @@ unfolding joined part
 joined-cut at [] l = refl
 joined-cut at (w ∷ ws) l = ap (λ (r : List ℕ). part at w l ++ r) (joined-cut (at + w) ws l) ∙ sym (part-add at w (total ws) l)
 
--- the fields that stand behind a list
-cut-behind : (m : ℕ) (pre ws : List ℕ) (fs : List (List ℕ)) → length pre ≡ m → Widths ws fs → cutAt m ws (pre ++ joined fs) ≡ fs
-unfolding joined
-cut-behind m pre [] [] e h = refl
-cut-behind m pre [] (f ∷ fs) e h = absurd h
-cut-behind m pre (w ∷ ws) [] e h = absurd h
-cut-behind m pre (w ∷ ws) (f ∷ fs) e h =
-    ap₂ (λ (x : List ℕ) (xs : List (List ℕ)). x ∷ xs) (part-at m w pre f (joined fs) e (h .0))
-    (ap (cutAt (m + w) ws) (sym (append-assoc pre f (joined fs))) ∙ cut-behind (m + w) (pre ++ f) ws fs (simp (length-append, e, h .0)) (h .1))
-
--- the fields cut out of a list that is long enough have the widths
-pub cut-widths : (at : ℕ) (ws l : List ℕ) → at + total ws ≤ length l → Widths ws (cutAt at ws l)
-cut-widths at [] l h = tt
-cut-widths at (w ∷ ws) l h = (length-part at w l (omega arith), cut-widths (at + w) ws l (omega arith))
-
--- field k of those cut out
-pub cut-at : (at : ℕ) (ws l : List ℕ) (k : ℕ) → k < length ws → getD (cutAt at ws l) k [] ≡ part (at + offset ws k) (getD ws k 0) l
-cut-at at [] l k h = absurd (not-suc-le-zero h)
-cut-at at (w ∷ ws) l zero h = ap (λ (j : ℕ). part j w l) (sym (add-zero at))
-cut-at at (w ∷ ws) l (suc k) h =
-    cut-at (at + w) ws l k (le-of-suc-le-suc h) ∙ ap (λ (j : ℕ). part j (getD ws k 0) l) (add-assoc at w (offset ws k))
-
-pub length-cut : (at : ℕ) (ws l : List ℕ) → length (cutAt at ws l) ≡ length ws
-length-cut at [] l = refl
-length-cut at (w ∷ ws) l = ap suc (length-cut (at + w) ws l)
-
 -- a whole structure, cut and joined
 pub joined-whole : (ws l : List ℕ) → length l ≡ total ws → joined (cutAt 0 ws l) ≡ l
 joined-whole ws l e = joined-cut 0 ws l ∙ part-whole (total ws) l e
-
--- fields joined and cut again
-pub cut-joined : (ws : List ℕ) (fs : List (List ℕ)) → Widths ws fs → cutAt 0 ws (joined fs) ≡ fs
-cut-joined ws fs e = cut-behind 0 [] ws fs refl e
 
 -- fields of these widths, of which one is replaced by one as wide
 pub widths-set : (ws : List ℕ) (fs : List (List ℕ)) → Widths ws fs → (k : ℕ) (v : List ℕ) → length v ≡ getD ws k 0 → Widths ws (set fs k v)

@@ -1,5 +1,4 @@
 -- What the two heartbeat calls make of a node's bytes: the answer, and the bytes afterwards.
-use Prim.Native.Nat.{ℕ}
 use Rattle.fields.specs.Choice.{pick}
 use Rattle.fields.specs.Numbers.{Bytes}
 use Rattle.rules.specs.Given.{Given, given}

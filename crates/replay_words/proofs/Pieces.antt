@@ -1,9 +1,8 @@
 -- Laws of the pieces of a list: it is one piece, or its first piece ends at a byte b, and the others are those behind that byte. Assumes nothing.
-use Prim.Native.Nat.{ℕ, zero, suc, _+_, _-_, _≤_, _<_}
-use mathlib.Core.Path.{_≡_, refl, ap, sym, _∙_, subst}
-use mathlib.Core.Bool.{Bool, true, false}
-use mathlib.Core.Logic.{_⊎_, inl, inr}
-use mathlib.Core.List.{List, [], _∷_, _++_}
+use Prim.Native.Nat.{ℕ, suc, _+_, _-_, _≤_, _<_}
+use mathlib.Core.Path.{_≡_, refl, ap, sym, _∙_}
+use mathlib.Core.Logic.{inl, inr}
+use mathlib.Core.List.{List, [], _∷_}
 use native.Mathlib.Omega.{arith}
 use lib.ListN.{length, getD, take, drop, length-drop}
 use lib.Seq.{length-take-le, take-length, drop-drop}
@@ -72,12 +71,6 @@ pub ends-none : (b : ℕ) → ends b [] ≡ 0
 unfolding pieces
 ends-none b = refl
 
-pub ends-below : (b : ℕ) (l : List ℕ) → ends b l ≤ length l
-ends-below b l = elim (apart b l) [
-  | one e p ↦ omega arith
-  | more h p ↦ omega arith
-]
-
 -- how many pieces there are: behind a byte that is b, one fewer
 pub many-at : (b x : ℕ) (l : List ℕ) → x ≡ b → length (pieces b (x ∷ l)) ≡ suc (length (pieces b l))
 many-at b x l e = ap length (pieces-at b x l e)
@@ -88,14 +81,6 @@ length-onto x (p ∷ ps) = refl
 
 pub many-past : (b x : ℕ) (l : List ℕ) → (x ≡ b → ⊥) → length (pieces b (x ∷ l)) ≡ length (pieces b l)
 many-past b x l n = ap length (pieces-past b x l n) ∙ length-onto x (pieces b l)
-
-pub many-below : (b : ℕ) (l : List ℕ) → length (pieces b l) ≤ suc (length l)
-unfolding pieces
-many-below b [] = omega arith
-many-below b (x ∷ l) = elim (true-or-false (eqb x b)) [
-  | inl t ↦ omega (arith, many-at b x l (eqb-true x b t), many-below b l)
-  | inr t ↦ omega (arith, many-past b x l (eqb-false x b t), many-below b l)
-]
 
 pub many-none : (b : ℕ) → length (pieces b []) ≡ 1
 unfolding pieces

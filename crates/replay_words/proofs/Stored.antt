@@ -1,9 +1,8 @@
 -- Laws of a list stored at the front of a lent one, where there is room and where there is none. Assumes nothing.
 use Prim.Native.Nat.{ℕ, _≤_, _<_}
-use mathlib.Core.Path.{_≡_, refl}
+use mathlib.Core.Path.{_≡_}
 use mathlib.Core.List.{List}
 use lib.ListN.{length}
-use lib.Dec.{leb}
 use borrow.Author.Tests.{le-leb, lt-leb}
 use Rattle.fields.specs.Parts.{put}
 use Rattle.replay_words.specs.Reading.{counted, stored}

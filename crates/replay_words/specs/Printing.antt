@@ -1,6 +1,6 @@
 -- What is printed into a lent buffer: texts, one behind the other, of which each stands whole where there is room for it, and else not at all.
 use Prim.Native.Nat.{ℕ, _+_, _/_, _%_}
-use mathlib.Core.List.{List, [], _∷_, _++_}
+use mathlib.Core.List.{List, [], _∷_}
 use lib.ListN.{length}
 use lib.Dec.{leb, ltb}
 use Rattle.fields.specs.Choice.{pick}

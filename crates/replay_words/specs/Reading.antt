@@ -1,10 +1,10 @@
 -- What is read out of a line: its pieces, and the numbers and bytes that they write.
-use Prim.Native.Nat.{ℕ, zero, suc, _+_, _*_, _-_}
-use mathlib.Core.Bool.{Bool, true, false, _&&_}
+use Prim.Native.Nat.{ℕ, suc, _+_, _*_, _-_}
+use mathlib.Core.Bool.{_&&_}
 use mathlib.Core.List.{List, [], _∷_}
-use lib.ListN.{length, getD, drop}
+use lib.ListN.{length}
 use lib.Dec.{eqb, leb, ltb}
-use Rattle.fields.specs.Choice.{pick, all}
+use Rattle.fields.specs.Choice.{pick}
 use Rattle.fields.specs.Order.{sameBytes}
 use Rattle.fields.specs.Parts.{put}
 use Rattle.replay_words.specs.declared.read.Numeral.{Numeral}

@@ -4,7 +4,6 @@ ghost use mathlib.Core.Path.{_≡_};
 ghost use mathlib.Core.List.{[], _∷_};
 ghost use Prim.Native.Nat.{_+_, _/_, _%_, _<_};
 ghost use lib.Dec.{leb};
-ghost use lib.ListN.{length};
 ghost use Rattle.rules.specs.Listing.{decimal};
 ghost use Rattle.replay_words.specs.Printing.{page, say, says, hexDigit, hexTexts, listTexts};
 

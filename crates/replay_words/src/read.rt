@@ -1,7 +1,7 @@
 // Taking a line apart.
 ghost use mathlib.Core.Path.{_≡_};
 ghost use mathlib.Core.List.{[]};
-ghost use Prim.Native.Nat.{_+_, _*_, _≤_, _<_};
+ghost use Prim.Native.Nat.{_+_, _≤_, _<_};
 ghost use lib.ListN.{length, getD, take, drop};
 ghost use Rattle.replay_words.specs.Reading.{pieces, wordsOf, placeIn, withDigit, numeralOf, counted, stored};
 

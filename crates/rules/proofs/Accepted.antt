@@ -8,7 +8,6 @@ use native.Mathlib.Omega.{arith}
 use lib.Dec.{eqb, leb, ltb}
 use lib.ListN.{length, length-append}
 use borrow.Author.Tests.{le-leb, leb-true, lt-ltb, ne-eqb}
-use Rattle.fields.proofs.Lent.{seen}
 use Rattle.fields.proofs.Parts.{part-put}
 use Rattle.fields.specs.Blocks.{flat}
 use Rattle.fields.specs.Choice.{_∈_, here, later, pick}

@@ -19,7 +19,7 @@ use Rattle.rules.proofs.Obeys.{Ascending, OkEntry, OkNode, OkTable, fac
 use Rattle.rules.proofs.Received.{OkDelta, parts-ok}
 use Rattle.rules.proofs.Tables.{applied-table, numbers-remove, numbers-set}
 use Rattle.rules.specs.Apply.{Lawful, Ways, apply, applyEach, applyNode, onNode}
-use Rattle.rules.specs.Delta.{Part, nothingRead, number, partsOf}
+use Rattle.rules.specs.Delta.{Part, nothingRead, partsOf}
 use Rattle.rules.specs.Local.{add, beatOn, call, callOn, gc, gives, localBeat, offer, offerOn, removeNode}
 use Rattle.rules.specs.Node.{Call, Node, Rec, act, beats, decide, due, fresh, offerOf, remove, withHeartbeat}
 use Rattle.rules.specs.Sizes.{maxNodes, numbers, top}

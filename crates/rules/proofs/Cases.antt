@@ -1,12 +1,12 @@
 -- Evidence, and no part of a promise: document 01's bench cases as one table. In each row stands what the rules give, and what the paper says. The
 -- starred ones are marked; the others are here because they tell a wrong rule from the right one. That every row holds is one statement, `all-hold`.
 -- Assumes nothing.
-use Prim.Native.Nat.{ℕ, suc, _+_}
+use Prim.Native.Nat.{ℕ}
 use mathlib.Core.Bool.{Bool, true, false}
-use mathlib.Core.List.{List, [], _∷_, _++_}
+use mathlib.Core.List.{List, [], _∷_}
 use mathlib.Core.Path.{_≡_, refl}
 use lib.ListN.{length, replicate}
-use Rattle.fields.specs.Choice.{pick, all, keep}
+use Rattle.fields.specs.Choice.{all, keep}
 use Rattle.fields.specs.Order.{sameBytes, lessBytes}
 use Rattle.fields.specs.Numbers.{bytesOf}
 use Rattle.rules.specs.Sizes.{maxDelta}
@@ -17,7 +17,6 @@ use Rattle.rules.specs.Digest.{NodeDigest}
 use Rattle.rules.specs.Delta.{Op, sizeOf, NodeDelta, Part, partsOf, maxOf, opBytes, recsOf, textBytes}
 use Rattle.rules.specs.Compute.{fromOf, deltaFor, allOps, byVersion, cut, keyValueOps, ordered, queue, sooner, stale, staleNodes, toldOf}
 use Rattle.rules.specs.Apply.{Taken, applyNode, deltaStatus, newerOf, outcome, plainWays, statusOf, takeAll, takes}
-use Rattle.rules.specs.declared.Heartbeat.{Heartbeat}
 use Rattle.rules.specs.declared.Beat.{Beat}
 use Rattle.rules.specs.declared.Status.{Status}
 use Rattle.rules.specs.declared.Status.the-variants.{Set, Delete, Ttl}

@@ -9,7 +9,6 @@ use native.Mathlib.Omega.{arith}
 use lib.Dec.{leb, ltb}
 use lib.ListN.{length, length-append}
 use borrow.Author.Tests.{le-leb, leb-true, ltb-true}
-use Rattle.fields.proofs.Lent.{seen}
 use Rattle.fields.specs.Blocks.{flat}
 use Rattle.fields.specs.Choice.{pick}
 use Rattle.fields.specs.Numbers.{AreBytes}

@@ -24,7 +24,6 @@ use Rattle.rules.specs.Delta.{NodeDelta}
 use Rattle.rules.specs.Local.{gc}
 use Rattle.rules.specs.Node.{Call, Change, Decision, Deleting, DeletingAfterTtl, Give, KeyValue, Leave, Node, Rec, Refuse, Setting, SettingTtl, act, allowed, beat, beats, brought, decide, due, find, fresh, fullFor, goes, lastGc, offerOf, remove, sameStatus, scheduled, store, unlessSame, wish, withHeartbeat, write}
 use Rattle.rules.specs.Sizes.{maxKey, maxRecords, maxValue, numbers, top}
-use Rattle.rules.specs.World.{start}
 use Rattle.rules.specs.declared.Heartbeat.{Heartbeat}
 use Rattle.rules.specs.declared.Refusal.{Refusal}
 use Rattle.rules.specs.declared.Refusal.the-variants.{Exhausted, NodeFull, TooLong}

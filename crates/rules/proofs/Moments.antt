@@ -9,7 +9,7 @@ use mathlib.Core.Path.{_∙_, _≡_, ap, refl, subst, sym}
 use lib.Dec.{ltb}
 use borrow.Author.Tests.{ltb-true}
 use Rattle.fields.specs.Choice.{here, pick, _∈_}
-use Rattle.rules.specs.Given.{Given, given}
+use Rattle.rules.specs.Given.{Given}
 use Rattle.rules.proofs.Calls.{beat-keeps, call-keeps, offer-keeps, ok-each, ok-remove-all}
 use Rattle.rules.proofs.Deltas.{AllSmall, Chain, follow-node}
 use Rattle.rules.proofs.EachNode.{Seen, at, nodeAt, orFresh, partsIn, seen-applying, seen-beating, seen-digesting, seen-facts, seen-offering, seen-removing, seen-rises, seen-sent, seen-writing}

@@ -1,6 +1,6 @@
 -- What the node deltas of a delta that was read are like: versions rise, none is above max, all have their sizes, no node comes twice.
 -- Assumes nothing.
-use Prim.Native.Nat.{_+_, _<_, _≤_, max, suc, ℕ}
+use Prim.Native.Nat.{_<_, _≤_, ℕ}
 use mathlib.Core.Bool.{Bool, false, true, true≢false}
 use mathlib.Core.List.{List, [], _∷_}
 use mathlib.Core.Logic.{_⊎_, inl, inr}
@@ -13,7 +13,7 @@ use Rattle.fields.specs.Choice.{_∈_, pick}
 use Rattle.rules.proofs.Deltas.{AllSmall, Chain, follow-max, follow-node, follow-record}
 use Rattle.rules.proofs.Next.{Strict}
 use Rattle.rules.proofs.Ops.{Number, SmallKeyValue}
-use Rattle.rules.specs.Delta.{KeyValueOp, NodeDelta, NodeOp, Op, Part, Reading, SetMaxVersionOp, maxOf, number, partsOf, recsOf}
+use Rattle.rules.specs.Delta.{KeyValueOp, NodeDelta, NodeOp, Op, Part, Reading, SetMaxVersionOp, maxOf, partsOf, recsOf}
 use Rattle.rules.specs.Node.{KeyValue}
 use Rattle.rules.specs.Sizes.{maxNodes}
 use Rattle.rules.specs.Table.{among}
@@ -101,27 +101,6 @@ parts-ok (NodeOp n g f ∷ ops) s c a x m = at (in-cons m) (parts-ok ops (c .0) 
     at (inr i) ih = ih i
 parts-ok (KeyValueOp r ∷ ops) s c a x m = parts-ok ops (c .0) (c .2) (a .1) x m
 parts-ok (SetMaxVersionOp y ∷ ops) s c a x m = parts-ok ops (c .0) (c .2) (a .1) x m
-
--- with the nodes seen before there are at most eight
-pub parts-few : (ops : List Op) (s : Reading) → Chain s ops → length (s .seen) ≤ maxNodes → length (partsOf ops) + length (s .seen) ≤ maxNodes
-unfolding Chain partsOf
-parts-few [] s c h = omega arith
-parts-few (NodeOp n g f ∷ ops) s c h =
-    let x = follow-node s (c .0) n g f (c .1) in
-    let k = x .1 in
-    let j : length (c .0 .seen) ≡ suc (length (s .seen)) = ap length (x .2) in
-    let i : length (partsOf ops) + length (c .0 .seen) ≤ maxNodes = parts-few ops (c .0) (c .2) (omega arith) in
-    omega arith
-parts-few (KeyValueOp r ∷ ops) s c h =
-    let x = follow-record s (c .0) r (c .1) in
-    let j : length (c .0 .seen) ≡ length (s .seen) = ap length (x .1) in
-    let i : length (partsOf ops) + length (c .0 .seen) ≤ maxNodes = parts-few ops (c .0) (c .2) (omega arith) in
-    omega arith
-parts-few (SetMaxVersionOp y ∷ ops) s c h =
-    let x = follow-max s (c .0) y (c .1) in
-    let j : length (c .0 .seen) ≡ length (s .seen) = ap length (x .1) in
-    let i : length (partsOf ops) + length (c .0 .seen) ≤ maxNodes = parts-few ops (c .0) (c .2) (omega arith) in
-    omega arith
 
 -- a node seen before does not come again
 pub parts-new : (ops : List Op) (s : Reading) → Chain s ops → (x : Part) → x ∈ partsOf ops → among (x .number) (s .seen) ≡ false

@@ -7,7 +7,7 @@ use mathlib.Core.Path.{_∙_, _≡_, ap, refl}
 use native.Mathlib.Omega.{arith}
 use lib.Dec.{eqb, leb, ltb}
 use lib.ListN.{length}
-use Rattle.fields.proofs.Choice.{and-left, and-right}
+use Rattle.fields.proofs.Choice.{and-right}
 use Rattle.fields.proofs.Ordered.{same-true}
 use Rattle.fields.specs.Choice.{pick}
 use Rattle.fields.specs.Order.{sameBytes}
@@ -15,7 +15,7 @@ use Rattle.fields.specs.Parts.{put}
 use Rattle.rules.specs.Given.{Given, given}
 use Rattle.rules.specs.Apply.{ApplyOutcome, apply, applyEach, applyNode, applyOps, codes, Ways}
 use Rattle.rules.specs.Compute.{compute, onDigest, written}
-use Rattle.rules.specs.Delta.{Faulty, Good, Ops, Part, number, partsOf}
+use Rattle.rules.specs.Delta.{Faulty, Good, Ops, Part, partsOf}
 use Rattle.rules.specs.Digest.{DigestRead, Entries, Refused, digestBytes, digestOf, fitsAt, readDigest, writeDigest}
 use Rattle.rules.specs.Layout.{decode, encode, valid}
 use Rattle.rules.specs.Lent.{TableAndList, both, onTable, stored, storedApply, lentApplyAs}
@@ -187,10 +187,6 @@ apply-refused ways bytes now t l r at = go (ways .reads bytes)
 pub valid-bytes : (l : List ℕ) → valid l ≡ true → encode (decode l) ≡ l
 unfolding valid
 valid-bytes l e = same-true _ _ (and-right (obeys (decode l)) (sameBytes (encode (decode l)) l) e)
-
-pub valid-obeys : (l : List ℕ) → valid l ≡ true → obeys (decode l) ≡ true
-unfolding valid
-valid-obeys l e = and-left (obeys (decode l)) (sameBytes (encode (decode l)) l) e
 
 -- A call whose refusals leave the table leaves the bytes: `refuses` tells a refusal's answers. This serves every call that changes the table.
 pub lent-refused : {A : Type 0} (bad : A) (rule : Table → Outcome A) (refuses : A → Type 0)

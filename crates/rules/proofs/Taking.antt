@@ -176,9 +176,6 @@ takes-high held last-gc s h g = rw (lt-ltb _ _ h, lt-leb _ _ g) (go (scheduled (
     go false = refl
 
 module _ (held last-gc now : ℕ) where
-  abbrev Taken : KeyValue → Type 0
-  Taken s = takes held last-gc s ≡ true
-
   pub sorted-take : (ss : List KeyValue) (l : List Rec) → Sorted l → Sorted (takeAll held last-gc now ss l)
   unfolding takeAll
   sorted-take [] l h = h

@@ -1,7 +1,7 @@
 -- A digest tells one (heartbeat, last_gc, max) for each node. Its bytes (V0): a count of two bytes, then for each node its number,
 -- heartbeat, last_gc and max, eight bytes each.
-use Prim.Native.Nat.{ℕ, _+_, _*_, _-_}
-use mathlib.Core.Bool.{Bool, true, false, not, _&&_}
+use Prim.Native.Nat.{ℕ, _*_, _-_}
+use mathlib.Core.Bool.{Bool, _&&_}
 use mathlib.Core.List.{List, [], _∷_, _++_}
 use lib.ListN.{length, take, drop}
 use lib.Dec.{leb, ltb, eqb}
@@ -11,7 +11,7 @@ use Rattle.fields.specs.Parts.{part, put}
 use Rattle.fields.specs.Blocks.{flat, unblock}
 use Rattle.rules.specs.Given.{Given, given}
 use Rattle.rules.specs.Sizes.{maxNodes}
-use Rattle.rules.specs.Node.{Node, beats}
+use Rattle.rules.specs.Node.{beats}
 use Rattle.rules.specs.Table.{Entry, Table, among}
 use Rattle.rules.specs.declared.Heartbeat.{Heartbeat}
 use Rattle.rules.specs.declared.Refusal.{Refusal}

@@ -1,8 +1,8 @@
 -- The bytes of a table in lent memory. All places are fixed and all numbers little-endian; every byte that is not in use is zero. So a table
 -- that obeys the rules and its bytes determine each other, and a removed reading leaves no byte behind.
 use Prim.Native.Nat.{ℕ, zero, suc, _+_, _*_}
-use mathlib.Core.Bool.{Bool, true, false, _&&_}
-use mathlib.Core.List.{List, [], _∷_, _++_}
+use mathlib.Core.Bool.{Bool, _&&_}
+use mathlib.Core.List.{List, [], _∷_}
 use lib.ListN.{length, drop}
 use Rattle.fields.specs.Numbers.{Bytes, natOf, bytesOf}
 use Rattle.fields.specs.Parts.{part}
@@ -10,7 +10,7 @@ use Rattle.fields.specs.Blocks.{fit, blocks, unblock}
 use Rattle.fields.specs.Widths.{joined, offset, total}
 use Rattle.fields.specs.Order.{sameBytes}
 use Rattle.rules.specs.Sizes.{maxNodes, maxRecords, maxKey, maxValue}
-use Rattle.rules.specs.Node.{KeyValue, Rec, Node, beats}
+use Rattle.rules.specs.Node.{Rec, beats}
 use Rattle.rules.specs.Table.{Entry, Table, obeys}
 use Rattle.rules.specs.Delta.{statusByte}
 use Rattle.rules.specs.declared.Status.{Status}

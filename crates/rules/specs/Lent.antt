@@ -1,7 +1,6 @@
 -- Every call of document 01 on lent memory: the bytes of the table, of the datagram and of the lists, before and after. Number 14 comes first
 -- everywhere. These are what the entry points promise.
 use Prim.Native.Nat.{ℕ}
-use mathlib.Core.Bool.{Bool, true, false}
 use mathlib.Core.List.{List, []}
 use Rattle.fields.specs.Numbers.{Bytes}
 use Rattle.fields.specs.Choice.{pick}
@@ -14,7 +13,6 @@ use Rattle.rules.specs.Compute.{compute}
 use Rattle.rules.specs.Apply.{Ways, plainWays, ApplyOutcome, apply}
 use Rattle.rules.specs.Layout.{encode, decode, valid}
 use Rattle.rules.specs.declared.Heartbeat.{Heartbeat}
-use Rattle.rules.specs.declared.Refusal.{Refusal}
 use Rattle.rules.specs.declared.Refusal.the-variants.{BadTable}
 use Rattle.rules.specs.declared.Answer.{Answer}
 use Rattle.rules.specs.declared.Answer.the-variants as plain

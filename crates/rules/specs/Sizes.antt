@@ -1,5 +1,5 @@
 -- The sizes that document 01 adds. Every definition takes them from here.
-use Prim.Native.Nat.{ℕ, _+_, _-_, _^_}
+use Prim.Native.Nat.{ℕ, _-_, _^_}
 
 -- nodes in a table, and in a digest or a delta
 abbrev pub maxNodes : ℕ

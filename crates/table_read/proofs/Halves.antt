@@ -1,7 +1,7 @@
 -- A search by halves: what one comparison in the middle tells of the whole search. One that comes too late cuts off what stands behind it, whatever
 -- that is. One that comes too early cuts off what stands before it where all of that comes too early as well, and in a list that rises it does.
 -- Assumes nothing.
-use Prim.Native.Nat.{ℕ, zero, suc, _+_, _≤_, _<_, min}
+use Prim.Native.Nat.{ℕ, zero, suc, _+_, _≤_, _<_}
 use mathlib.Core.Path.{_≡_, refl, ap, sym, _∙_, subst}
 use mathlib.Core.Bool.{true}
 use mathlib.Core.List.{List, [], _∷_}

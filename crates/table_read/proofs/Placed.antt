@@ -1,8 +1,8 @@
 -- What the rules make of a table's nodes or of a node's records, in terms of a place. A rule goes from the front by its tests; the code has found a
 -- place and changes the list there: what stands at it is replaced or taken out, or something new comes before it. Two laws say it of any change that
 -- goes on past what the sought comes behind; the rest names them for records by key and nodes by number. Assumes nothing.
-use Prim.Native.Nat.{ℕ, zero, suc, _+_, _≤_, _<_}
-use mathlib.Core.Path.{_≡_, refl, ap, sym, _∙_, subst}
+use Prim.Native.Nat.{ℕ, suc, _+_, _≤_, _<_}
+use mathlib.Core.Path.{_≡_, refl, ap, sym, _∙_}
 use mathlib.Core.Bool.{Bool, true, false}
 use mathlib.Core.List.{List, [], _∷_}
 use native.Mathlib.Omega.{arith}
@@ -11,7 +11,7 @@ use lib.Dec.{eqb, ltb}
 use Rattle.fields.specs.Choice.{pick}
 use Rattle.fields.specs.Parts.{put}
 use Rattle.fields.specs.Blocks.{insertAt, removeAt}
-use Rattle.fields.specs.Order.{sameBytes, lessBytes, orderOf}
+use Rattle.fields.specs.Order.{lessBytes}
 use Rattle.fields.specs.declared.Order.{Order}
 use Rattle.fields.specs.declared.Order.the-variants.{Less, Same, More}
 use Rattle.fields.proofs.Ordered.{order-same, order-less, order-more, less-same, less-not, same-swap}
@@ -27,7 +27,7 @@ use Rattle.table.proofs.Changed.{table-set}
 use Rattle.table_read.specs.Find.{further, seek, findBy, numberOrder, toNode, toKey, findNode, findKey}
 use Rattle.table_read.specs.declared.Place.{Place}
 use Rattle.table_read.specs.declared.Place.the-variants.{At, Free}
-use Rattle.table_read.proofs.Searched.{Ordered, search-at, search-free, node-hit, nodes-ordered, node-in}
+use Rattle.table_read.proofs.Searched.{Ordered, search-at, search-free, node-hit, node-in}
 
 -- ---- any change
 

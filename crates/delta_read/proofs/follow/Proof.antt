@@ -1,7 +1,7 @@
 -- `delta_read::follow` meets its contract: by the kind of operation. Assumes nothing.
-use Prim.Native.Nat.{ℕ, zero, suc, _+_, _-_, _≤_, _<_}
-use mathlib.Core.Path.{_≡_, refl, ap, sym, _∙_, subst}
-use mathlib.Core.List.{List, [], _∷_}
+use Prim.Native.Nat.{ℕ}
+use mathlib.Core.Path.{_≡_}
+use mathlib.Core.List.{List}
 use Rattle.delta_read.specs.declared.Op.{Op}
 use Rattle.delta_read.specs.declared.Op.the-variants.{Node, KeyValue, SetMaxVersion}
 use Rattle.rules.specs.declared.Status.{Status}

@@ -1,11 +1,10 @@
 -- `delta_read::follow_max` meets its contract: one law for each way out. Assumes nothing.
-use Prim.Native.Nat.{ℕ, zero, suc, _+_, _-_, _≤_, _<_}
-use mathlib.Core.Path.{_≡_, refl, ap, sym, _∙_, subst}
+use Prim.Native.Nat.{ℕ, zero, suc, _≤_, _<_}
+use mathlib.Core.Path.{_≡_, refl}
 use borrow.Author.Tests.{le-leb, lt-leb}
-use native.Mathlib.Omega.{arith}
 use Rattle.rules.specs.declared.Refusal.the-variants.{OutOfOrder}
 use Rattle.delta_read.specs.declared.Followed.the-variants.{Under, Fault}
-use Rattle.delta_read.specs.Places.{underNode, maxFollows}
+use Rattle.delta_read.specs.Places.{maxFollows}
 use Rattle.delta_read.proofs.follow_max.Statement.{statement}
 use Rattle.delta_read.proofs.follow_max.Tie as tie
 

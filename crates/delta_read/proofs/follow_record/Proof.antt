@@ -1,11 +1,10 @@
 -- `delta_read::follow_record` meets its contract: one law for each way out. Assumes nothing.
-use Prim.Native.Nat.{ℕ, zero, suc, _+_, _-_, _≤_, _<_}
-use mathlib.Core.Path.{_≡_, refl, ap, sym, _∙_, subst}
+use Prim.Native.Nat.{ℕ, zero, suc, _≤_, _<_}
+use mathlib.Core.Path.{_≡_, refl}
 use borrow.Author.Tests.{lt-ltb, le-ltb}
-use native.Mathlib.Omega.{arith}
 use Rattle.rules.specs.declared.Refusal.the-variants.{OutOfOrder}
 use Rattle.delta_read.specs.declared.Followed.the-variants.{Under, Fault}
-use Rattle.delta_read.specs.Places.{underNode, recordFollows}
+use Rattle.delta_read.specs.Places.{recordFollows}
 use Rattle.delta_read.proofs.follow_record.Statement.{statement}
 use Rattle.delta_read.proofs.follow_record.Tie as tie
 

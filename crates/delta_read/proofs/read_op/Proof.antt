@@ -1,7 +1,7 @@
 -- `delta_read::read_op` meets its contract: by the tag. Assumes nothing.
-use Prim.Native.Nat.{ℕ, zero, suc, _+_, _-_, _≤_, _<_}
-use mathlib.Core.Path.{_≡_, refl, ap, sym, _∙_, subst}
-use mathlib.Core.List.{List, [], _∷_}
+use Prim.Native.Nat.{ℕ, suc, _+_, _-_, _≤_}
+use mathlib.Core.Path.{_≡_, refl, sym, _∙_}
+use mathlib.Core.List.{List}
 use native.Mathlib.Omega.{arith}
 use lib.ListN.{length}
 use borrow.Author.Tests.{le-leb, lt-leb}
@@ -9,7 +9,7 @@ use Rattle.fields.specs.Numbers.{natOf}
 use Rattle.fields.specs.Parts.{part}
 use Rattle.rules.specs.declared.Refusal.the-variants.{Cut, BadTag}
 use Rattle.delta_read.specs.declared.OpRead.{OpRead}
-use Rattle.delta_read.specs.declared.OpRead.the-variants.{Got, Bad}
+use Rattle.delta_read.specs.declared.OpRead.the-variants.{Bad}
 use Rattle.delta_read.specs.Places.{taggedAt, opAt}
 use borrow.Author.Needs.{needs}
 use Rattle.delta_read.proofs.read_op.Statement.{statement}

@@ -1,14 +1,13 @@
 -- `delta_read::read_value` meets its contract: what is read behind the value, or its refusal. Assumes nothing.
-use Prim.Native.Nat.{ℕ, zero, suc, _+_, _-_, _≤_, _<_}
-use mathlib.Core.Path.{_≡_, refl, ap, sym, _∙_, subst}
-use mathlib.Core.List.{List, [], _∷_}
-use native.Mathlib.Omega.{arith}
+use Prim.Native.Nat.{ℕ, _+_, _≤_}
+use mathlib.Core.Path.{_≡_, ap, sym, _∙_, subst}
+use mathlib.Core.List.{List}
 use lib.ListN.{length}
 use Rattle.rules.specs.Sizes.{maxValue}
 use Rattle.rules.specs.declared.Refusal.{Refusal}
 use Rattle.delta_read.specs.declared.TextRead.the-variants as text
 use Rattle.delta_read.specs.declared.OpRead.{OpRead}
-use Rattle.delta_read.specs.declared.OpRead.the-variants.{Got, Bad}
+use Rattle.delta_read.specs.declared.OpRead.the-variants.{Bad}
 use Rattle.delta_read.specs.Places.{textAt, onText, versionAt, valueAt}
 use Rattle.delta_read.proofs.Reading.{TextWithin, text-within}
 use borrow.Author.Needs.{needs}

@@ -1,7 +1,6 @@
 -- `delta_read::status` meets its contract. Assumes nothing.
-use Prim.Native.Nat.{ℕ, zero, suc, _+_, _-_, _≤_, _<_}
-use mathlib.Core.Path.{_≡_, refl, ap, sym, _∙_, subst}
-use native.Mathlib.Omega.{arith}
+use Prim.Native.Nat.{ℕ, zero, suc}
+use mathlib.Core.Path.{_≡_, refl}
 use Rattle.rules.specs.declared.Status.the-variants.{Ttl}
 use Rattle.delta_read.specs.Places.{statusOf}
 use borrow.Author.Needs.{needs}

@@ -3,11 +3,6 @@ use Rattle.heartbeat.proofs.Beating.{beat-rose, beat-stayed}
 use borrow.Author.Needs.{needs}
 use Rattle.heartbeat.proofs.beat_node.Statement.{statement}
 use Rattle.heartbeat.proofs.beat_node.Tie as tie
-use Rattle.heartbeat.proofs.beat_node.Reads as reads
-use Rattle.heartbeat.proofs.beat_node.Lts as lts
-use Rattle.heartbeat_header.proofs.raised.Reads as raised-reads
-use Rattle.table_write.proofs.set_heartbeat.Reads as set-heartbeat-reads
-use Rattle.table_read.proofs.read_header.Reads as read-header-reads
 
 read-header-requires : tie.Need-read-header-requires
 read-header-requires c κs = search needs

@@ -1,5 +1,5 @@
 -- `heartbeat::local_beat` meets its contract: 14, or the rule on a good table. Assumes nothing.
-use mathlib.Core.Path.{_≡_, sym, _∙_}
+use mathlib.Core.Path.{sym, _∙_}
 use Rattle.rules.specs.Local.{localBeat}
 use Rattle.rules.specs.declared.Answer.the-variants.{Refused}
 use Rattle.rules.specs.declared.Refusal.the-variants.{BadTable}
@@ -7,10 +7,6 @@ use Rattle.table_check.proofs.Entry.{bad-table, good-table}
 use borrow.Author.Needs.{needs}
 use Rattle.heartbeat.proofs.local_beat.Statement.{statement}
 use Rattle.heartbeat.proofs.local_beat.Tie as tie
-use Rattle.heartbeat.proofs.local_beat.Reads as reads
-use Rattle.heartbeat.proofs.local_beat.Lts as lts
-use Rattle.heartbeat.proofs.beat_good.Reads as beat-good-reads
-use Rattle.table_check.proofs.check_table.Reads as check-table-reads
 
 check-table-requires : tie.Need-check-table-requires
 check-table-requires c κs = search needs

@@ -1,5 +1,5 @@
 -- `heartbeat::offer_heartbeat` meets its contract: 14, or the rule on a good table. Assumes nothing.
-use mathlib.Core.Path.{_≡_, sym, _∙_}
+use mathlib.Core.Path.{sym, _∙_}
 use Rattle.rules.specs.Local.{offer}
 use Rattle.rules.specs.declared.Offered.the-variants.{Refused}
 use Rattle.rules.specs.declared.Refusal.the-variants.{BadTable}
@@ -7,10 +7,6 @@ use Rattle.table_check.proofs.Entry.{bad-table, good-table}
 use borrow.Author.Needs.{needs}
 use Rattle.heartbeat.proofs.offer_heartbeat.Statement.{statement}
 use Rattle.heartbeat.proofs.offer_heartbeat.Tie as tie
-use Rattle.heartbeat.proofs.offer_heartbeat.Reads as reads
-use Rattle.heartbeat.proofs.offer_heartbeat.Lts as lts
-use Rattle.heartbeat.proofs.offer_good.Reads as offer-good-reads
-use Rattle.table_check.proofs.check_table.Reads as check-table-reads
 
 check-table-requires : tie.Need-check-table-requires
 check-table-requires c κs = search needs

@@ -1,16 +1,10 @@
 -- `heartbeat::offer_node` meets its contract. Assumes nothing.
-use mathlib.Core.Path.{_≡_, ap, sym, _∙_}
-use mathlib.Core.Bool.{Bool}
+use mathlib.Core.Path.{ap, sym, _∙_}
 use Rattle.rules.specs.Local.{yesNo}
 use Rattle.heartbeat.proofs.Beating.{offer-stored, offer-told}
 use borrow.Author.Needs.{needs}
 use Rattle.heartbeat.proofs.offer_node.Statement.{statement}
 use Rattle.heartbeat.proofs.offer_node.Tie as tie
-use Rattle.heartbeat.proofs.offer_node.Reads as reads
-use Rattle.heartbeat.proofs.offer_node.Lts as lts
-use Rattle.heartbeat_header.proofs.offered.Reads as offered-reads
-use Rattle.table_write.proofs.set_heartbeat.Reads as set-heartbeat-reads
-use Rattle.table_read.proofs.read_header.Reads as read-header-reads
 
 read-header-requires : tie.Need-read-header-requires
 read-header-requires c κs = search needs

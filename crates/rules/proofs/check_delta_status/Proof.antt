@@ -1,18 +1,12 @@
 use Prim.Native.Nat.{ℕ, _≤_, _<_}
-use mathlib.Core.Path.{_≡_, refl, sym, _∙_}
+use mathlib.Core.Path.{_≡_, _∙_}
 use native.Mathlib.Omega.{arith}
-use lib.Dec.{ltb}
-use mathlib.Core.Bool.{Bool, true, false, _&&_}
 use borrow.Author.Needs.{needs}
 use borrow.Author.Tests.{lt-ltb, le-ltb, eq-eqb, ne-eqb}
 use Rattle.rules.specs.Apply.{statusOf, newerOf}
-use Rattle.rules.specs.declared.DeltaStatus.{DeltaStatus}
-use Rattle.rules.specs.declared.DeltaStatus.the-variants.{Reject, ApplyAfterReset, Apply}
+use Rattle.rules.specs.declared.DeltaStatus.the-variants.{Reject, ApplyAfterReset}
 use Rattle.rules.proofs.check_delta_status.Statement.{statement}
 use Rattle.rules.proofs.check_delta_status.Tie as tie
-use Rattle.rules.proofs.check_delta_status.Reads as reads
-use Rattle.rules.proofs.check_delta_status.Lts as lts
-use Rattle.rules.proofs.check_newer.Reads as check-newer-reads
 
 -- on plain numbers
 module _ (g m from gc max : ℕ) where

@@ -6,8 +6,6 @@ use Rattle.rules.specs.Apply.{newerOf}
 use Rattle.rules.specs.declared.DeltaStatus.the-variants.{Reject, Apply}
 use Rattle.rules.proofs.check_newer.Statement.{statement}
 use Rattle.rules.proofs.check_newer.Tie as tie
-use Rattle.rules.proofs.check_newer.Reads as reads
-use Rattle.rules.proofs.check_newer.Lts as lts
 
 module _ (m max : ℕ) where
   is : m < max → Apply ≡ newerOf m max

@@ -1,5 +1,5 @@
 -- `table_read::node_span` meets its contract: a node that is found stands within the table, so that no sum of places wraps. Assumes nothing.
-use Prim.Native.Nat.{ℕ, _<_}
+use Prim.Native.Nat.{_<_}
 use mathlib.Core.Path.{_≡_, ap, sym, _∙_}
 use native.Mathlib.Omega.{arith}
 use Rattle.rules.specs.Sizes.{maxNodes}
@@ -11,9 +11,6 @@ use Rattle.table_read.proofs.Searched.{node-in}
 use borrow.Author.Needs.{needs}
 use Rattle.table_read.proofs.node_span.Statement.{statement}
 use Rattle.table_read.proofs.node_span.Tie as tie
-use Rattle.table_read.proofs.node_span.Reads as reads
-use Rattle.table_read.proofs.node_span.Lts as lts
-use Rattle.table_read.proofs.find_node.Reads as find-node-reads
 
 abbrev start : tie.After-i → tie.Start
 start c = c .before .before .before .before

@@ -7,7 +7,6 @@ use lib.ListN.{length, take, drop}
 use lib.Seq.{take-all}
 use Rattle.fields.specs.Order.{orderOf}
 use Rattle.rules.specs.Sizes.{maxKey}
-use Rattle.rules.specs.Node.{Rec}
 use Rattle.rules.specs.Layout.{decodeRec}
 use Rattle.table.specs.Tests.{keyLength, countOf, recsIn}
 use Rattle.table.proofs.Places.{length-recs, recAt}

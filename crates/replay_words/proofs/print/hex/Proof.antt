@@ -1,12 +1,11 @@
 -- `replay_words::print::hex` meets its contract: what is left to print, printed now, gives what the contract says. Assumes nothing.
-use Prim.Native.Nat.{ℕ, suc, _+_, _-_, _*_, _/_, _%_, _≤_, _<_}
-use mathlib.Core.Path.{_≡_, refl, ap, ap₂, sym, _∙_}
-use mathlib.Core.Bool.{true, false}
-use mathlib.Core.List.{List, [], _∷_}
+use Prim.Native.Nat.{_-_, _≤_}
+use mathlib.Core.Path.{_≡_, refl, ap, _∙_}
+use mathlib.Core.List.{[]}
 use native.Mathlib.Omega.{arith}
-use lib.ListN.{length, getD, drop}
+use lib.ListN.{length, drop}
 use borrow.Author.Needs.{needs}
-use Rattle.replay_words.specs.Printing.{Page, page, say, says, hexTexts}
+use Rattle.replay_words.specs.Printing.{page, says, hexTexts}
 use Rattle.replay_words.proofs.Said.{hex-turn, hex-end}
 use Rattle.replay_words.proofs.print.hex.Statement.{statement}
 use Rattle.replay_words.proofs.print.hex.Tie as tie

@@ -1,13 +1,12 @@
 -- `replay_words::print::list` meets its contract: what is left to print, printed now, gives what the contract says. Assumes nothing.
-use Prim.Native.Nat.{ℕ, suc, _+_, _-_, _*_, _/_, _%_, _≤_, _<_}
-use mathlib.Core.Path.{_≡_, refl, ap, ap₂, sym, _∙_}
-use mathlib.Core.Bool.{true, false}
-use mathlib.Core.List.{List, [], _∷_}
+use Prim.Native.Nat.{ℕ, _-_, _≤_}
+use mathlib.Core.Path.{_≡_, refl, ap, _∙_}
+use mathlib.Core.List.{[]}
 use native.Mathlib.Omega.{arith}
-use lib.ListN.{length, getD, drop}
+use lib.ListN.{length, drop}
 use borrow.Author.Needs.{needs}
 use Rattle.rules.specs.Listing.{decimal}
-use Rattle.replay_words.specs.Printing.{Page, page, say, says, moreTexts, listTexts}
+use Rattle.replay_words.specs.Printing.{page, say, says, moreTexts}
 use Rattle.replay_words.proofs.Said.{more-turn, more-end, list-none, list-first}
 use Rattle.replay_words.proofs.print.list.Statement.{statement}
 use Rattle.replay_words.proofs.print.list.Tie as tie

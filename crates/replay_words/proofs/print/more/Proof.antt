@@ -1,13 +1,10 @@
 -- `replay_words::print::more` meets its contract. Assumes nothing.
-use Prim.Native.Nat.{ℕ, suc, _+_, _-_, _*_, _/_, _%_, _≤_, _<_}
-use mathlib.Core.Path.{_≡_, refl, ap, ap₂, sym, _∙_}
-use mathlib.Core.Bool.{true, false}
-use mathlib.Core.List.{List, [], _∷_}
-use native.Mathlib.Omega.{arith}
-use lib.ListN.{length, getD, drop}
+use Prim.Native.Nat.{ℕ}
+use mathlib.Core.Path.{_≡_, ap₂, _∙_}
+use mathlib.Core.List.{[], _∷_}
 use borrow.Author.Needs.{needs}
 use Rattle.rules.specs.Listing.{decimal}
-use Rattle.replay_words.specs.Printing.{Page, page, say}
+use Rattle.replay_words.specs.Printing.{Page, say}
 use Rattle.replay_words.proofs.print.more.Statement.{statement}
 use Rattle.replay_words.proofs.print.more.Tie as tie
 

@@ -1,7 +1,6 @@
 -- `replay_words::print::text` meets its contract. Assumes nothing.
 use Prim.Native.Nat.{_+_, _≤_}
 use mathlib.Core.Path.{refl, sym, _∙_}
-use native.Mathlib.Omega.{arith}
 use lib.ListN.{length}
 use borrow.Author.Tests.{leb-true, leb-false}
 use Rattle.replay_words.proofs.Said.{said, unsaid}

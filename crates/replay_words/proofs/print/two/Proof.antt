@@ -1,12 +1,9 @@
 -- `replay_words::print::two` meets its contract. Assumes nothing.
-use Prim.Native.Nat.{ℕ, suc, _+_, _-_, _*_, _/_, _%_, _≤_, _<_}
-use mathlib.Core.Path.{_≡_, refl, ap, ap₂, sym, _∙_}
-use mathlib.Core.Bool.{true, false}
-use mathlib.Core.List.{List, [], _∷_}
-use native.Mathlib.Omega.{arith}
-use lib.ListN.{length, getD, drop}
+use Prim.Native.Nat.{ℕ, _/_, _%_}
+use mathlib.Core.Path.{_≡_, ap, ap₂, _∙_}
+use mathlib.Core.List.{[], _∷_}
 use borrow.Author.Needs.{needs}
-use Rattle.replay_words.specs.Printing.{Page, page, say, hexDigit}
+use Rattle.replay_words.specs.Printing.{Page, say, hexDigit}
 use Rattle.replay_words.proofs.print.two.Statement.{statement}
 use Rattle.replay_words.proofs.print.two.Tie as tie
 

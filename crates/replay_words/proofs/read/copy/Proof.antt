@@ -1,5 +1,5 @@
 -- `replay_words::read::copy` meets its contract. Assumes nothing.
-use mathlib.Core.Path.{refl, sym, _∙_}
+use mathlib.Core.Path.{_∙_}
 use Rattle.replay_words.proofs.Stored.{not-counted, not-stored, is-counted, is-stored}
 use borrow.Author.Needs.{needs}
 use Rattle.replay_words.proofs.read.copy.Statement.{statement}

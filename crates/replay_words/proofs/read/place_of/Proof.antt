@@ -8,7 +8,7 @@ use native.Mathlib.Numerals.{add-one}
 use lib.ListN.{length, getD, drop, drop-of-length-le}
 use lib.Seq.{drop-cons}
 use Rattle.fields.specs.Order.{sameBytes}
-use Rattle.replay_words.specs.Reading.{pieces, wordsOf, placeIn}
+use Rattle.replay_words.specs.Reading.{wordsOf, placeIn}
 use borrow.Author.Needs.{needs}
 use Rattle.replay_words.proofs.read.place_of.Statement.{statement}
 use Rattle.replay_words.proofs.read.place_of.Tie as tie
