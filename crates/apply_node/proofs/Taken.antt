@@ -238,14 +238,14 @@ module _ (held gc clock : ℕ) where
 
   module _ (ops : List rule.Op) (l : List Rec) where
     pub goes-on : (o : rule.Op) → stepOf held gc clock o l ≡ Taken
-        → takeAll held gc clock (rule.recsIn (o ∷ ops)) l ≡ takeAll held gc clock (rule.recsIn ops) (afterOp held gc clock o l)
-    unfolding takeAll takeOne rule.recsIn
+        → takeAll held gc clock (rule.recsOf (o ∷ ops)) l ≡ takeAll held gc clock (rule.recsOf ops) (afterOp held gc clock o l)
+    unfolding takeAll takeOne rule.recsOf
     goes-on (rule.NodeOp n g f) e = let z : _≡_ {A = ℕ} 0 1 = cc in absurd (omega arith)
     goes-on (rule.KeyValueOp r) e = refl
     goes-on (rule.SetMaxVersionOp m) e = refl
 
-    pub ends : (o : rule.Op) → stepOf held gc clock o l ≡ Over → takeAll held gc clock (rule.recsIn (o ∷ ops)) l ≡ afterOp held gc clock o l
-    unfolding takeAll rule.recsIn
+    pub ends : (o : rule.Op) → stepOf held gc clock o l ≡ Over → takeAll held gc clock (rule.recsOf (o ∷ ops)) l ≡ afterOp held gc clock o l
+    unfolding takeAll rule.recsOf
     ends (rule.NodeOp n g f) e = refl
     ends (rule.KeyValueOp r) e = go (hasRoom (takeOne held gc clock r l)) e
       where
@@ -254,16 +254,16 @@ module _ (held gc clock : ℕ) where
         go false e = let z : _≡_ {A = ℕ} 0 1 = cc in absurd (omega arith)
     ends (rule.SetMaxVersionOp m) e = let z : _≡_ {A = ℕ} 0 1 = cc in absurd (omega arith)
 
-    pub given : (o : rule.Op) → stepOf held gc clock o l ≡ Full → hasRoom (takeAll held gc clock (rule.recsIn (o ∷ ops)) l) ≡ false
-    unfolding takeAll takeOne rule.recsIn
+    pub given : (o : rule.Op) → stepOf held gc clock o l ≡ Full → hasRoom (takeAll held gc clock (rule.recsOf (o ∷ ops)) l) ≡ false
+    unfolding takeAll takeOne rule.recsOf
     given (rule.NodeOp n g f) e = let z : _≡_ {A = ℕ} 0 1 = cc in absurd (omega arith)
     given (rule.KeyValueOp r) e = go (hasRoom (takeOne held gc clock r l)) refl e
       where
-        go : (t : Bool) → hasRoom (takeOne held gc clock r l) ≡ t → pick t Taken Full ≡ Full → hasRoom (takeAll held gc clock (rule.recsIn ops) (takeOne held gc clock r l)) ≡ false
+        go : (t : Bool) → hasRoom (takeOne held gc clock r l) ≡ t → pick t Taken Full ≡ Full → hasRoom (takeAll held gc clock (rule.recsOf ops) (takeOne held gc clock r l)) ≡ false
         go true q e = let z : _≡_ {A = ℕ} 0 1 = cc in absurd (omega arith)
         go false q e =
             let h : maxRecords < length (takeOne held gc clock r l) = leb-false _ _ q in
-            lt-leb (length (takeAll held gc clock (rule.recsIn ops) (takeOne held gc clock r l))) maxRecords (omega (arith, grows (rule.recsIn ops) (takeOne held gc clock r l)))
+            lt-leb (length (takeAll held gc clock (rule.recsOf ops) (takeOne held gc clock r l))) maxRecords (omega (arith, grows (rule.recsOf ops) (takeOne held gc clock r l)))
     given (rule.SetMaxVersionOp m) e = let z : _≡_ {A = ℕ} 0 1 = cc in absurd (omega arith)
 
 -- ---- the loop over the operations
@@ -287,16 +287,16 @@ module _ (held gc clock : ℕ) (s : List ℕ) (at : ℕ) (b₀ : List ℕ) where
 
   module _ (b : List ℕ) (i : ℕ) (inv : So-far held gc clock s at b₀ b i) where
     pub nothing-left : opsFrom s i ≡ [] → Tried (takeAll held gc clock (recsFrom s at) (recsIn b₀)) b₀ true b
-    unfolding whole recsFrom rule.recsIn takeAll
-    nothing-left e = finish b (recsIn b) (inv .0) (inv .2) (sym (ap (λ (os : List rule.Op). takeAll held gc clock (rule.recsIn os) (recsIn b)) e) ∙ inv .3)
+    unfolding whole recsFrom rule.recsOf takeAll
+    nothing-left e = finish b (recsIn b) (inv .0) (inv .2) (sym (ap (λ (os : List rule.Op). takeAll held gc clock (rule.recsOf os) (recsIn b)) e) ∙ inv .3)
 
     module _ (h : i < length s) (o : Op) (next : ℕ) (e : opAt s i ≡ Got o next) (r : Step) (b′ : List ℕ) (t : Stepped held gc clock (opOf s o) b r b′) where
       ops : opsFrom s i ≡ opOf s o ∷ opsFrom s next
       ops = plain-next s i o next h e
 
-      left : takeAll held gc clock (rule.recsIn (opOf s o ∷ opsFrom s next)) (recsIn b) ≡ whole
+      left : takeAll held gc clock (rule.recsOf (opOf s o ∷ opsFrom s next)) (recsIn b) ≡ whole
       unfolding whole recsFrom
-      left = sym (ap (λ (os : List rule.Op). takeAll held gc clock (rule.recsIn os) (recsIn b)) ops) ∙ inv .3
+      left = sym (ap (λ (os : List rule.Op). takeAll held gc clock (rule.recsOf os) (recsIn b)) ops) ∙ inv .3
 
       with-new : (r ≡ Full → ⊥) → decodeNode b′ ≡ withRecs (afterOp held gc clock (opOf s o) (recsIn b)) (decodeNode b₀)
       with-new f = t .node f ∙ ap (withRecs (afterOp held gc clock (opOf s o) (recsIn b))) (inv .2)
@@ -325,6 +325,6 @@ module _ (held gc clock : ℕ) (s : List ℕ) (at : ℕ) (b₀ : List ℕ) where
             t .rising,
             w .1,
             d ∙ ap (λ (x : List Rec). withRecs x (decodeNode b₀)) (sym l),
-            ap (takeAll held gc clock (rule.recsIn (opsFrom s next))) l
+            ap (takeAll held gc clock (rule.recsOf (opsFrom s next))) l
                 ∙ sym (goes-on held gc clock (opsFrom s next) (recsIn b) (opOf s o) (sym (t .step) ∙ q)) ∙ left,
           )

@@ -22,7 +22,7 @@ use Rattle.delta_read.specs.declared.Op.{Op}
 use Rattle.delta_read.specs.declared.Op.the-variants.{Node, KeyValue, SetMaxVersion}
 use Rattle.delta_read.specs.declared.Followed.{Followed}
 use Rattle.delta_read.specs.declared.Followed.the-variants.{Entered, Under, Fault}
-use Rattle.delta_read.specs.Places.{opOf, seenOf, underNode, nodeFollows, recordFollows, maxFollows, followAt}
+use Rattle.delta_read.specs.Places.{opOf, seenOf, underNodes, nodeFollows, recordFollows, maxFollows, followAt}
 
 pub length-seen : (n : ℕ) (a : List ℕ) → length (seenOf n a) ≡ n
 unfolding seenOf
@@ -55,7 +55,7 @@ picked : (nodes : ℕ) (a : List ℕ) (t : Bool) (x y : Followed) → pick t (no
 picked nodes a true x y = refl
 picked nodes a false x y = refl
 
-under : (nodes : ℕ) (a : List ℕ) (x : Followed) → rule.underNode (seenOf nodes a) (nowReading nodes a x) ≡ nowReading nodes a (underNode nodes x)
+under : (nodes : ℕ) (a : List ℕ) (x : Followed) → rule.underNode (seenOf nodes a) (nowReading nodes a x) ≡ nowReading nodes a (underNodes nodes x)
 unfolding seenOf
 under zero a x = refl
 under (suc n) a x = refl
@@ -107,7 +107,7 @@ Kind nodes k (Under v) = k ≡ 0
 Kind nodes k (Fault r) = Unit {0}
 
 -- under a node, by a test
-kind-under : (nodes : ℕ) (t : Bool) (v : ℕ) (r : Refusal) → Kind nodes 0 (underNode nodes (pick t (Under v) (Fault r)))
+kind-under : (nodes : ℕ) (t : Bool) (v : ℕ) (r : Refusal) → Kind nodes 0 (underNodes nodes (pick t (Under v) (Fault r)))
 kind-under zero t v r = tt
 kind-under (suc n) true v r = refl
 kind-under (suc n) false v r = tt

@@ -11,12 +11,14 @@ use lib.Seq.{getD-set-same, getD-set-other}
 use lib.Dec.{leb, ltb}
 use borrow.Author.Tests.{ltb-true}
 use Rattle.fields.specs.Choice.{pick}
-use Rattle.fields.specs.Numbers.{natOf}
+use Rattle.fields.specs.Numbers.{Bytes, natOf}
 use Rattle.fields.specs.Parts.{part}
+use Rattle.fields.specs.Widths.{offset, total}
 use Rattle.rules.specs.Sizes.{maxNodes, maxKey, maxValue}
 use Rattle.rules.specs.Table.{among}
 use Rattle.rules.specs.Node as node
 use Rattle.rules.specs.Delta as rule
+use Rattle.rules.specs.declared.Status.the-variants.{Ttl}
 use Rattle.rules.specs.declared.Refusal.{Refusal}
 use Rattle.rules.specs.declared.Refusal.the-variants.{OutOfOrder, NodeTwice, TooMany}
 use Rattle.rules.specs.declared.DeltaRead.the-variants as read
@@ -28,7 +30,8 @@ use Rattle.delta_read.specs.declared.TextRead.{TextRead}
 use Rattle.delta_read.specs.declared.TextRead.the-variants as text
 use Rattle.delta_read.specs.declared.Followed.{Followed}
 use Rattle.delta_read.specs.declared.Followed.the-variants.{Entered, Under, Fault}
-use Rattle.delta_read.specs.Places.{opAt, onText, textAt, taggedAt, nodeAt, versionAt, valueAt, keyValueAt, setMaxVersionAt, seenOf, underNode, nodeFollows, recordFollows, maxFollows, followAt}
+use Rattle.delta_read.specs.Places.{keyValueAt, nodeAt, onText, opAt, setMaxVersionAt, taggedAt, textAt, valueAt, versionAt}
+use Rattle.delta_read.specs.Places.{followAt, maxFollows, nodeFollows, recordFollows, seenOf, underNodes}
 use Rattle.delta_read.specs.Plain.{opsFrom}
 use Rattle.delta_read.proofs.Plain.{plain-end, plain-next}
 use Rattle.delta_read.proofs.Reading.{le-or-lt}
@@ -37,9 +40,12 @@ use Rattle.delta_read.specs.NodeDeltas.{recsFrom, partsFrom, behindNode,
 
 -- ---- a Node by its bytes
 
--- the numbers of a Node, where `at` is behind the tag
-abbrev Told : List ℕ → ℕ → OpRead → Type 0
-Told s at (Got (Node n g f) next) = (next ≡ at + 24) × (n ≡ natOf (part at 8 s)) × (g ≡ natOf (part (at + 8) 8 s)) × (f ≡ natOf (part (at + 16) 8 s))
+-- the numbers of a Node, where the tag stands at `at`
+abbrev fieldAt : (delta : Bytes) (at k : ℕ) → ℕ
+fieldAt s at k = natOf (part (at + offset rule.nodeOpWidths k) rule.numberWidth s)
+
+abbrev Told : (delta : Bytes) (at : ℕ) (read : OpRead) → Type 0
+Told s at (Got (Node n g f) next) = (next ≡ behindNode at) × (n ≡ fieldAt s at 1) × (g ≡ fieldAt s at 2) × (f ≡ fieldAt s at 3)
 Told s at (Got (KeyValue k n v m ver st) next) = Unit {0}
 Told s at (Got (SetMaxVersion m) next) = Unit {0}
 Told s at (Bad r) = Unit {0}
@@ -55,22 +61,24 @@ module _ (s : List ℕ) (at : ℕ) where
 
   node-told : Told s at (nodeAt s at)
   unfolding nodeAt
-  node-told = either (leb (at + 24) (length s)) (Got (Node _ _ _) _) (Bad _) (refl, refl, refl, refl) tt
+  node-told = either (leb (behindNode at) (length s)) (Got (Node _ _ _) _) (Bad _) (refl, refl, refl, refl) tt
 
   version-told : (k n v m : ℕ) → Told s at (versionAt s k n v m)
   unfolding versionAt
   version-told k n v m =
-      either (leb (v + m + 9) (length s)) (pick (leb (natOf (part (v + m + 8) 1 s)) 2) _ _) (Bad _)
-      (either (leb (natOf (part (v + m + 8) 1 s)) 2) (Got (KeyValue k n v m _ _) _) (Bad _) tt tt) tt
+      let st : ℕ = natOf (part (v + m + offset rule.versionWidths 1) rule.byteWidth s) in
+      either (leb (v + m + total rule.versionWidths) (length s)) (pick (leb st (rule.statusByte Ttl)) _ _) (Bad _)
+      (either (leb st (rule.statusByte Ttl)) (Got (KeyValue k n v m _ _) _) (Bad _) tt tt) tt
 
   key-value-told : Told s at (keyValueAt s at)
   unfolding keyValueAt valueAt
   key-value-told =
-      on-text (λ k n. valueAt s k n) (textAt maxKey s at) (λ k n. on-text (λ v m. versionAt s k n v m) (textAt maxValue s (k + n)) (λ v m. version-told k n v m))
+      on-text (λ k n. valueAt s k n) (textAt maxKey s (at + rule.byteWidth))
+      (λ k n. on-text (λ v m. versionAt s k n v m) (textAt maxValue s (k + n)) (λ v m. version-told k n v m))
 
   max-told : Told s at (setMaxVersionAt s at)
   unfolding setMaxVersionAt
-  max-told = either (leb (at + 8) (length s)) (Got (SetMaxVersion _) _) (Bad _) tt tt
+  max-told = either (leb (at + rule.maxOpWidth) (length s)) (Got (SetMaxVersion _) _) (Bad _) tt tt
 
   tagged-told : (tag : ℕ) → Told s at (taggedAt tag s at)
   tagged-told zero = node-told
@@ -78,10 +86,11 @@ module _ (s : List ℕ) (at : ℕ) where
   tagged-told (suc (suc zero)) = max-told
   tagged-told (suc (suc (suc n))) = tt
 
-op-told : (s : List ℕ) (at : ℕ) → Told s (at + 1) (opAt s at)
-unfolding opAt
-op-told s at =
-    either s (at + 1) (leb (at + 1) (length s)) (taggedAt (natOf (part at 1 s)) s (at + 1)) (Bad _) (tagged-told s (at + 1) (natOf (part at 1 s))) tt
+  op-told : Told s at (opAt s at)
+  unfolding opAt
+  op-told =
+      let tag : ℕ = natOf (part at rule.byteWidth s) in
+      either (leb (at + rule.byteWidth) (length s)) (taggedAt tag s at) (Bad _) (tagged-told tag) tt
 
 -- ---- a node delta while its operations are read
 
@@ -102,13 +111,9 @@ module _ (s : List ℕ) (at : ℕ) (h : at < length s) (n g f next : ℕ) (e : o
   begins : Heading s x at 0 0 (opsFrom s next)
   unfolding x recsFrom
   begins =
-      let t : Told s (at + 1) (Got (Node n g f) next) = subst (Told s (at + 1)) e (op-told s at) in
-      let p : at + 1 + 24 ≡ at + 25 = omega arith in
-      let q : at + 1 + 8 ≡ at + 9 = omega arith in
-      let r : at + 1 + 16 ≡ at + 17 = omega arith in
-      let k : next ≡ at + 25 = t .0 ∙ p in
+      let t : Told s at (Got (Node n g f) next) = subst (Told s at) e (op-told s at) in
       let w = ends s at (Node n g f) next e .1 in
-      record { inside = omega (arith, k, w); is = rw (t .1, t .2, t .3, q, r, k) refl; few = omega arith }
+      record { inside = omega (arith, t .0, w); is = rw (t .1, t .2, t .3, t .0) refl; few = omega arith }
 
 module _ (s : List ℕ) (x : rule.Part) (at count max : ℕ) where
   pub closes : Heading s x at count max [] → Head s x at count max
@@ -140,7 +145,7 @@ Found nodes (SetMaxVersion m) (Under r) = (0 < nodes) × (r ≡ m)
 Found nodes o (Fault r) = Unit {0}
 
 found-under : (nodes : ℕ) (o : Op) (t : Bool) (v : ℕ) (r : Refusal) → (0 < nodes → Found nodes o (Under v)) → Found nodes o (Fault r) → Found nodes o (Fault OutOfOrder)
-    → Found nodes o (underNode nodes (pick t (Under v) (Fault r)))
+    → Found nodes o (underNodes nodes (pick t (Under v) (Fault r)))
 found-under zero o t v r h p q = q
 found-under (suc n) o true v r h p q = h (omega arith)
 found-under (suc n) o false v r h p q = p

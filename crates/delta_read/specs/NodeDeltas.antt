@@ -1,11 +1,11 @@
 -- The node deltas as they stand in the bytes of a delta: where each begins, how many records it has at most, and the running max at its end.
 use Prim.Native.Nat.{ℕ, _+_, _≤_, _<_}
 use mathlib.Core.Path.{_≡_}
-use mathlib.Core.List.{List, [], _∷_}
+use mathlib.Core.List.{List, []}
 use lib.ListN.{length, getD}
 use Rattle.fields.specs.Numbers.{Bytes, natOf}
 use Rattle.fields.specs.Parts.{part}
-use Rattle.fields.specs.Widths.{offset, total}
+use Rattle.fields.specs.Widths.{offset}
 use Rattle.rules.specs.Sizes.{maxNodes}
 use Rattle.rules.specs.Node.{KeyValue}
 use Rattle.rules.specs.Delta as rule
@@ -24,20 +24,18 @@ partsFrom s at = rule.partsOf (opsFrom s at)
 abbrev pub deltaOf : (delta : Bytes) (gc from max records : ℕ) → rule.NodeDelta
 deltaOf s gc from max records = record { from = from; last-gc = gc; recs = recsFrom s records; max = max }
 
--- a Node: its tag, number, last_gc and from
-abbrev pub nodeOpWidths : List ℕ
-nodeOpWidths = 1 ∷ 8 ∷ 8 ∷ 8 ∷ []
-
 -- the place behind the Node at a place: there its records begin
 abbrev pub behindNode : (at : ℕ) → ℕ
-behindNode at = at + total nodeOpWidths
+behindNode at = at + rule.nodeOpWidth
 
 -- the node delta whose Node stands at a place, with the running max at its end
 abbrev pub nodeDeltaAt : (delta : Bytes) (at max : ℕ) → rule.Part
 nodeDeltaAt s at max =
     record {
-      number = natOf (part (at + offset nodeOpWidths 1) 8 s);
-      delta = deltaOf s (natOf (part (at + offset nodeOpWidths 2) 8 s)) (natOf (part (at + offset nodeOpWidths 3) 8 s)) max (behindNode at);
+      number = natOf (part (at + offset rule.nodeOpWidths 1) rule.numberWidth s);
+      delta =
+          deltaOf s (natOf (part (at + offset rule.nodeOpWidths 2) rule.numberWidth s)) (natOf (part (at + offset rule.nodeOpWidths 3) rule.numberWidth s)) max
+          (behindNode at);
     }
 
 -- the node delta x stands there, with no more than so many records
@@ -55,4 +53,5 @@ pub record AllHeads (s : Bytes) (at count max : List ℕ) : Type 0 where
   pub long-count : length count ≡ maxNodes
   pub long-max : length max ≡ maxNodes
   pub few : (ops nodes : ℕ) → read.Good ops nodes ≡ rule.deltaRead s → nodes ≤ maxNodes
-  pub heads : (ops nodes : ℕ) → read.Good ops nodes ≡ rule.deltaRead s → (i : ℕ) → i < nodes → Head s (getD (partsFrom s 0) i noPart) (getD at i 0) (getD count i 0) (getD max i 0)
+  pub heads : (ops nodes : ℕ) → read.Good ops nodes ≡ rule.deltaRead s → (i : ℕ) → i < nodes
+      → Head s (getD (partsFrom s 0) i noPart) (getD at i 0) (getD count i 0) (getD max i 0)

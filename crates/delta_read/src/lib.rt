@@ -2,14 +2,15 @@
 // numbers, and where its key and value stand in the caller's bytes; nothing is copied. What is read is what the definitions of `rules` say
 // (specs/Places.antt, specs/NodeDeltas.antt).
 use rules::sizes;
+use rules::wire;
 ghost use mathlib.Core.Path.{_≡_};
 ghost use Prim.Native.Nat.{_+_, _≤_, _<_};
 ghost use lib.ListN.{length};
 ghost use Rattle.rules.specs.Sizes.{maxNodes};
 ghost use Rattle.rules.specs.Delta.{deltaRead};
 ghost use Rattle.rules.specs.Table.{among};
-ghost use Rattle.delta_read.specs.Places.{textAt, statusOf, nodeAt, versionAt, valueAt, keyValueAt};
-ghost use Rattle.delta_read.specs.Places.{setMaxVersionAt, opAt, seenOf, nodeFollows, recordFollows, maxFollows, followAt};
+ghost use Rattle.delta_read.specs.Places.{keyValueAt, nodeAt, opAt, setMaxVersionAt, textAt, valueAt, versionAt};
+ghost use Rattle.delta_read.specs.Places.{followAt, maxFollows, nodeFollows, recordFollows, seenOf};
 ghost use Rattle.delta_read.specs.NodeDeltas.{AllHeads};
 use rules::DeltaRead;
 use rules::Record;
@@ -41,7 +42,7 @@ pub enum OpRead {
     Bad(Refusal),
 }
 
-// A text behind its length of two bytes: where it stands and how long it is, or why there is none.
+// A text behind its length: where it stands and how long it is, or why there is none.
 pub enum TextRead {
     Held { start: usize, len: usize },
     Bad(Refusal),
@@ -70,49 +71,36 @@ fn read_text(delta: &[u8], at: usize, most: usize) -> TextRead
     requires { ⌜ at ≤ length (now delta) ⌝ }
     ensures { λ r. ⌜ r ≡ textAt most (now (delta .entry)) at ⌝ }
 {
-    if delta.len() - at < 2 {
+    if delta.len() - at < wire::LENGTH {
         return TextRead::Bad(Refusal::Cut);
     }
     let len = fields::read_u16(delta, at);
     if most < len {
         return TextRead::Bad(Refusal::TooLong);
     }
-    if delta.len() - (at + 2) < len {
+    let start = at + wire::LENGTH;
+    if delta.len() - start < len {
         return TextRead::Bad(Refusal::Cut);
     }
-    TextRead::Held { start: at + 2, len }
+    TextRead::Held { start, len }
 }
 
-// Node, last_gc and from, behind the tag.
+// The Node whose tag stands at `at`.
 fn read_node(delta: &[u8], at: usize) -> OpRead
-    requires { ⌜ at ≤ length (now delta) ⌝ }
+    requires { ⌜ at < length (now delta) ⌝ }
     ensures { λ r. ⌜ r ≡ nodeAt (now (delta .entry)) at ⌝ }
 {
-    if delta.len() - at < 24 {
+    if delta.len() - at < wire::NODE_WIDTH {
         return OpRead::Bad(Refusal::Cut);
     }
     OpRead::Got {
         op: Op::Node {
-            number: fields::read_u64(delta, at),
-            last_gc: fields::read_u64(delta, at + 8),
-            from: fields::read_u64(delta, at + 16),
+            number: fields::read_u64(delta, at + wire::NODE_NUMBER),
+            last_gc: fields::read_u64(delta, at + wire::NODE_LAST_GC),
+            from: fields::read_u64(delta, at + wire::NODE_FROM),
         },
-        next: at + 24,
+        next: at + wire::NODE_WIDTH,
     }
-}
-
-// The status that a byte up to 2 stands for.
-fn status(byte: usize) -> Status
-    requires { ⌜ byte ≤ 2 ⌝ }
-    ensures { λ r. ⌜ r ≡ statusOf byte ⌝ }
-{
-    if byte == 0 {
-        return Status::Set;
-    }
-    if byte == 1 {
-        return Status::Delete;
-    }
-    Status::Ttl
 }
 
 // Version and status, behind the value.
@@ -127,11 +115,11 @@ fn read_version(
     ensures { λ r. ⌜ r ≡ versionAt (now (delta .entry)) keyat keylen valueat valuelen ⌝ }
 {
     let at = valueat + valuelen;
-    if delta.len() - at < 9 {
+    if delta.len() - at < wire::VERSION_WIDTH {
         return OpRead::Bad(Refusal::Cut);
     }
-    let b = fields::byte_at(delta, at + 8);
-    if 2 < b {
+    let b = fields::byte_at(delta, at + wire::STATUS);
+    if Status::LAST < b {
         return OpRead::Bad(Refusal::BadTag);
     }
     OpRead::Got {
@@ -141,9 +129,9 @@ fn read_version(
             valueat,
             valuelen,
             version: fields::read_u64(delta, at),
-            status: status(b),
+            status: Status::of_byte(b),
         },
-        next: at + 9,
+        next: at + wire::VERSION_WIDTH,
     }
 }
 
@@ -159,31 +147,31 @@ fn read_value(delta: &[u8], keyat: usize, keylen: usize) -> OpRead
     }
 }
 
-// Key, value, version and status, behind the tag.
+// The KeyValue whose tag stands at `at`.
 fn read_key_value(delta: &[u8], at: usize) -> OpRead
-    requires { ⌜ at ≤ length (now delta) ⌝ }
+    requires { ⌜ at < length (now delta) ⌝ }
     ensures { λ r. ⌜ r ≡ keyValueAt (now (delta .entry)) at ⌝ }
 {
-    let key = read_text(delta, at, Record::KEY);
+    let key = read_text(delta, at + wire::KEY_LENGTH, Record::KEY);
     match key {
         TextRead::Held { start, len } => read_value(delta, start, len),
         TextRead::Bad(why) => OpRead::Bad(why),
     }
 }
 
-// The max, behind the tag.
+// The SetMaxVersion whose tag stands at `at`.
 fn read_set_max_version(delta: &[u8], at: usize) -> OpRead
-    requires { ⌜ at ≤ length (now delta) ⌝ }
+    requires { ⌜ at < length (now delta) ⌝ }
     ensures { λ r. ⌜ r ≡ setMaxVersionAt (now (delta .entry)) at ⌝ }
 {
-    if delta.len() - at < 8 {
+    if delta.len() - at < wire::MAX_WIDTH {
         return OpRead::Bad(Refusal::Cut);
     }
     OpRead::Got {
         op: Op::SetMaxVersion {
-            max: fields::read_u64(delta, at),
+            max: fields::read_u64(delta, at + wire::MAX),
         },
-        next: at + 8,
+        next: at + wire::MAX_WIDTH,
     }
 }
 
@@ -197,9 +185,9 @@ pub fn read_op(delta: &[u8], at: usize) -> OpRead
     }
     let tag = fields::byte_at(delta, at);
     match tag {
-        0 => read_node(delta, at + 1),
-        1 => read_key_value(delta, at + 1),
-        2 => read_set_max_version(delta, at + 1),
+        wire::NODE => read_node(delta, at),
+        wire::KEY_VALUE => read_key_value(delta, at),
+        wire::SET_MAX_VERSION => read_set_max_version(delta, at),
         _ => OpRead::Bad(Refusal::BadTag),
     }
 }

@@ -65,7 +65,7 @@ fn store_key_value(datagram: &mut [u8], key: &[u8], value: &[u8], version: u64, 
     write_text(datagram, wire::KEY_LENGTH, key);
     write_text(datagram, behind_key, value);
     fields::write_u64(datagram, behind_value, version);
-    fields::write_byte(datagram, behind_value + wire::NUMBER, status.byte());
+    fields::write_byte(datagram, behind_value + wire::STATUS, status.byte());
 }
 
 // A KeyValue operation.

@@ -23,10 +23,16 @@ pub const NODE_FROM: usize = NODE_LAST_GC + NUMBER;
 
 pub const NODE_WIDTH: usize = NODE_FROM + NUMBER;
 
-// A KeyValue begins with the length of its key. What it takes beside the bytes of key and value: the tag, two lengths, the version and the status.
+// A KeyValue begins with the length of its key.
 pub const KEY_LENGTH: usize = BYTE;
 
-pub const BESIDE_TEXTS: usize = BYTE + LENGTH + LENGTH + NUMBER + BYTE;
+// Behind its value stand version and status: where the status does from there on, and the width of both.
+pub const STATUS: usize = NUMBER;
+
+pub const VERSION_WIDTH: usize = STATUS + BYTE;
+
+// What it takes beside the bytes of key and value.
+pub const BESIDE_TEXTS: usize = BYTE + LENGTH + LENGTH + VERSION_WIDTH;
 
 // A SetMaxVersion: the max, and its whole width.
 pub const MAX: usize = BYTE;

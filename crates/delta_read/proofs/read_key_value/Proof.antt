@@ -1,9 +1,10 @@
 -- `delta_read::read_key_value` meets its contract: what is read behind the key, or its refusal. Assumes nothing.
 use Prim.Native.Nat.{ℕ, _+_, _≤_}
 use mathlib.Core.Path.{_≡_, ap, sym, _∙_, subst}
-use mathlib.Core.List.{List}
 use lib.ListN.{length}
+use Rattle.fields.specs.Numbers.{Bytes}
 use Rattle.rules.specs.Sizes.{maxKey}
+use Rattle.rules.specs.Delta.{byteWidth}
 use Rattle.rules.specs.declared.Refusal.{Refusal}
 use Rattle.delta_read.specs.declared.TextRead.the-variants as text
 use Rattle.delta_read.specs.declared.OpRead.{OpRead}
@@ -15,16 +16,19 @@ use Rattle.delta_read.proofs.read_key_value.Statement.{statement}
 use Rattle.delta_read.proofs.read_key_value.Tie as tie
 
 -- the key's bytes are there
-there : (l : List ℕ) (at k n : ℕ) → textAt maxKey l at ≡ text.Held k n → k + n ≤ length l
+there : (l : Bytes) (at k n : ℕ) → textAt maxKey l at ≡ text.Held k n → k + n ≤ length l
 there l at k n e = subst (TextWithin maxKey (length l) at) e (text-within l maxKey at) .1
 
-held : (l : List ℕ) (at k n : ℕ) (r : OpRead) → textAt maxKey l at ≡ text.Held k n → r ≡ valueAt l k n → r ≡ keyValueAt l at
+held : (l : Bytes) (at k n : ℕ) (r : OpRead) → textAt maxKey l (at + byteWidth) ≡ text.Held k n → r ≡ valueAt l k n → r ≡ keyValueAt l at
 unfolding keyValueAt
 held l at k n r e q = q ∙ ap (onText (λ k n. valueAt l k n)) (sym e)
 
-bad : (l : List ℕ) (at : ℕ) (why : Refusal) → textAt maxKey l at ≡ text.Bad why → Bad why ≡ keyValueAt l at
+bad : (l : Bytes) (at : ℕ) (why : Refusal) → textAt maxKey l (at + byteWidth) ≡ text.Bad why → Bad why ≡ keyValueAt l at
 unfolding keyValueAt
 bad l at why e = ap (onText (λ k n. valueAt l k n)) (sym e)
+
+add-read-text : tie.Need-add-read-text
+add-read-text c = search needs
 
 read-text-requires : tie.Need-read-text-requires
 read-text-requires c κs = search needs
@@ -48,6 +52,7 @@ pub read-key-value-spec : {M : Type 1} → statement M
 read-key-value-spec =
     tie.close
     (tie.spec
+    add-read-text
     read-text-requires
     enum-known-key
     read-value-requires

@@ -1,12 +1,13 @@
 -- `delta_read::read_node` meets its contract: one law for each way out. Assumes nothing.
 use Prim.Native.Nat.{ℕ, _+_, _-_, _≤_, _<_}
 use mathlib.Core.Path.{_≡_}
-use mathlib.Core.List.{List}
 use native.Mathlib.Omega.{arith}
 use lib.ListN.{length}
 use borrow.Author.Tests.{le-leb, lt-leb}
-use Rattle.fields.specs.Numbers.{natOf}
+use Rattle.fields.specs.Numbers.{Bytes, natOf}
 use Rattle.fields.specs.Parts.{part}
+use Rattle.fields.specs.Widths.{offset}
+use Rattle.rules.specs.Delta.{nodeOpWidth, nodeOpWidths, numberWidth}
 use Rattle.rules.specs.declared.Refusal.the-variants.{Cut}
 use Rattle.delta_read.specs.declared.Op.the-variants.{Node}
 use Rattle.delta_read.specs.declared.OpRead.the-variants.{Got, Bad}
@@ -15,15 +16,16 @@ use borrow.Author.Needs.{needs}
 use Rattle.delta_read.proofs.read_node.Statement.{statement}
 use Rattle.delta_read.proofs.read_node.Tie as tie
 
-module _ (l : List ℕ) (at : ℕ) (in-l : at ≤ length l) where
-  short : length l - at < 24 → Bad Cut ≡ nodeAt l at
+module _ (l : Bytes) (at : ℕ) (in-l : at < length l) where
+  short : length l - at < nodeOpWidth → Bad Cut ≡ nodeAt l at
   unfolding nodeAt
-  short h = rw (lt-leb (at + 24) (length l) (omega arith))
+  short h = rw (lt-leb (at + nodeOpWidth) (length l) (omega arith))
 
-  whole : (n g f : ℕ) → 24 ≤ length l - at → n ≡ natOf (part at 8 l) → g ≡ natOf (part (at + 8) 8 l) → f ≡ natOf (part (at + 16) 8 l)
-      → Got (Node n g f) (at + 24) ≡ nodeAt l at
+  whole : (n g f : ℕ) → nodeOpWidth ≤ length l - at → n ≡ natOf (part (at + offset nodeOpWidths 1) numberWidth l)
+      → g ≡ natOf (part (at + offset nodeOpWidths 2) numberWidth l) → f ≡ natOf (part (at + offset nodeOpWidths 3) numberWidth l)
+      → Got (Node n g f) (at + nodeOpWidth) ≡ nodeAt l at
   unfolding nodeAt
-  whole n g f h p q r = rw (le-leb (at + 24) (length l) (omega arith), p, q, r)
+  whole n g f h p q r = rw (le-leb (at + nodeOpWidth) (length l) (omega arith), p, q, r)
 
 sub-if1 : tie.Need-sub-if1
 sub-if1 c = search needs
@@ -31,26 +33,31 @@ sub-if1 c = search needs
 returns : tie.Need-returns
 returns c = short _ _ (omega arith) (c .if1 .taken)
 
-read-u64-requires : tie.Need-read-u64-requires
-read-u64-requires c κs = search needs
-
 add-read-u64 : tie.Need-add-read-u64
 add-read-u64 c = search needs
 
-read-u64-requires-2 : tie.Need-read-u64-requires-2
-read-u64-requires-2 c κs = search needs
+read-u64-requires : tie.Need-read-u64-requires
+read-u64-requires c κs = search needs
 
 add-read-u64-2 : tie.Need-add-read-u64-2
 add-read-u64-2 c = search needs
 
+read-u64-requires-2 : tie.Need-read-u64-requires-2
+read-u64-requires-2 c κs = search needs
+
+add-read-u64-3 : tie.Need-add-read-u64-3
+add-read-u64-3 c = search needs
+
 read-u64-requires-3 : tie.Need-read-u64-requires-3
 read-u64-requires-3 c κs = search needs
 
-add-t11 : tie.Need-add-t11
-add-t11 c = search needs
+add-t12 : tie.Need-add-t12
+add-t12 c = search needs
 
 returns-2 : tie.Need-returns-2
-returns-2 c = whole _ _ (omega arith) _ _ _ (c .before .before .before .if1 .left) (c .before .before .read-u64 .ensures) (c .before .read-u642 .ensures) (c .read-u643 .ensures)
+returns-2 c =
+    let first = c .before .before in
+    whole _ _ (omega arith) _ _ _ (first .before .if1 .left) (first .read-u64 .ensures) (c .before .read-u642 .ensures) (c .read-u643 .ensures)
 
 pub read-node-spec : {M : Type 1} → statement M
 read-node-spec =
@@ -58,10 +65,11 @@ read-node-spec =
     (tie.spec
     sub-if1
     returns
-    read-u64-requires
     add-read-u64
-    read-u64-requires-2
+    read-u64-requires
     add-read-u64-2
+    read-u64-requires-2
+    add-read-u64-3
     read-u64-requires-3
-    add-t11
+    add-t12
     returns-2)

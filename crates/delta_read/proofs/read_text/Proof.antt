@@ -1,12 +1,12 @@
 -- `delta_read::read_text` meets its contract: one law for each way out. Assumes nothing.
 use Prim.Native.Nat.{ℕ, _+_, _-_, _≤_, _<_}
 use mathlib.Core.Path.{_≡_}
-use mathlib.Core.List.{List}
 use native.Mathlib.Omega.{arith}
 use lib.ListN.{length}
 use borrow.Author.Tests.{le-leb, lt-leb}
-use Rattle.fields.specs.Numbers.{natOf}
+use Rattle.fields.specs.Numbers.{Bytes, natOf}
 use Rattle.fields.specs.Parts.{part}
+use Rattle.rules.specs.Delta.{lengthWidth}
 use Rattle.rules.specs.declared.Refusal.the-variants.{Cut, TooLong}
 use Rattle.delta_read.specs.declared.TextRead.the-variants as text
 use Rattle.delta_read.specs.Places.{textAt}
@@ -14,23 +14,25 @@ use borrow.Author.Needs.{needs}
 use Rattle.delta_read.proofs.read_text.Statement.{statement}
 use Rattle.delta_read.proofs.read_text.Tie as tie
 
-module _ (most : ℕ) (l : List ℕ) (at : ℕ) (in-l : at ≤ length l) where
-  no-length : length l - at < 2 → text.Bad Cut ≡ textAt most l at
+module _ (most : ℕ) (l : Bytes) (at : ℕ) (in-l : at ≤ length l) where
+  no-length : length l - at < lengthWidth → text.Bad Cut ≡ textAt most l at
   unfolding textAt
-  no-length h = rw (lt-leb (at + 2) (length l) (omega arith))
+  no-length h = rw (lt-leb (at + lengthWidth) (length l) (omega arith))
 
-  module _ (h : 2 ≤ length l - at) (n : ℕ) (e : n ≡ natOf (part at 2 l)) where
+  module _ (h : lengthWidth ≤ length l - at) (n : ℕ) (e : n ≡ natOf (part at lengthWidth l)) where
     long : most < n → text.Bad TooLong ≡ textAt most l at
     unfolding textAt
-    long g = rw (le-leb (at + 2) (length l) (omega arith), ← e, lt-leb n most g)
+    long g = rw (le-leb (at + lengthWidth) (length l) (omega arith), ← e, lt-leb n most g)
 
-    short : n ≤ most → length l - (at + 2) < n → text.Bad Cut ≡ textAt most l at
+    short : n ≤ most → length l - (at + lengthWidth) < n → text.Bad Cut ≡ textAt most l at
     unfolding textAt
-    short g k = rw (le-leb (at + 2) (length l) (omega arith), ← e, le-leb n most g, lt-leb (at + 2 + n) (length l) (omega arith))
+    short g k =
+        rw (le-leb (at + lengthWidth) (length l) (omega arith), ← e, le-leb n most g, lt-leb (at + lengthWidth + n) (length l) (omega arith))
 
-    held : n ≤ most → n ≤ length l - (at + 2) → text.Held (at + 2) n ≡ textAt most l at
+    held : n ≤ most → n ≤ length l - (at + lengthWidth) → text.Held (at + lengthWidth) n ≡ textAt most l at
     unfolding textAt
-    held g k = rw (le-leb (at + 2) (length l) (omega arith), ← e, le-leb n most g, le-leb (at + 2 + n) (length l) (omega arith))
+    held g k =
+        rw (le-leb (at + lengthWidth) (length l) (omega arith), ← e, le-leb n most g, le-leb (at + lengthWidth + n) (length l) (omega arith))
 
 sub-if1 : tie.Need-sub-if1
 sub-if1 c = search needs
@@ -44,31 +46,23 @@ read-u16-requires c κs = search needs
 returns-2 : tie.Need-returns-2
 returns-2 c = long _ _ _ (omega arith) (c .before .before .if1 .left) _ (c .before .read-u16 .ensures .0) (c .if2 .taken)
 
-add-if3 : tie.Need-add-if3
-add-if3 c = search needs
+add-start : tie.Need-add-start
+add-start c = search needs
 
 sub-if3 : tie.Need-sub-if3
 sub-if3 c = search needs
 
 returns-3 : tie.Need-returns-3
-returns-3 c = short _ _ _ (omega arith) (c .before .before .before .if1 .left) _ (c .before .before .read-u16 .ensures .0) (c .before .if2 .left) (c .if3 .taken)
-
-add-t5 : tie.Need-add-t5
-add-t5 c = search needs
+returns-3 c =
+    let read = c .before .before in
+    short _ _ _ (omega arith) (read .before .if1 .left) _ (read .read-u16 .ensures .0) (c .before .if2 .left) (c .if3 .taken)
 
 returns-4 : tie.Need-returns-4
-returns-4 c = held _ _ _ (omega arith) (c .before .before .before .if1 .left) _ (c .before .before .read-u16 .ensures .0) (c .before .if2 .left) (c .if3 .left)
+returns-4 c =
+    let read = c .before .before in
+    held _ _ _ (omega arith) (read .before .if1 .left) _ (read .read-u16 .ensures .0) (c .before .if2 .left) (c .if3 .left)
 
 pub read-text-spec : {M : Type 1} → statement M
 read-text-spec =
     tie.close
-    (tie.spec
-    sub-if1
-    returns
-    read-u16-requires
-    returns-2
-    add-if3
-    sub-if3
-    returns-3
-    add-t5
-    returns-4)
+    (tie.spec sub-if1 returns read-u16-requires returns-2 add-start sub-if3 returns-3 returns-4)

@@ -1,34 +1,41 @@
 -- `delta_read::read_version` meets its contract: one law for each way out. Assumes nothing.
 use Prim.Native.Nat.{ℕ, _+_, _-_, _≤_, _<_}
 use mathlib.Core.Path.{_≡_}
-use mathlib.Core.List.{List}
 use native.Mathlib.Omega.{arith}
 use lib.ListN.{length}
 use borrow.Author.Tests.{le-leb, lt-leb}
-use Rattle.fields.specs.Numbers.{natOf}
+use Rattle.fields.specs.Numbers.{Bytes, natOf}
 use Rattle.fields.specs.Parts.{part}
+use Rattle.fields.specs.Widths.{offset, total}
+use Rattle.rules.specs.Delta.{byteWidth, numberWidth, statusByte, versionWidths}
+use Rattle.rules.specs.Layout.{statusOfByte}
 use Rattle.rules.specs.declared.Status.{Status}
+use Rattle.rules.specs.declared.Status.the-variants.{Ttl}
 use Rattle.rules.specs.declared.Refusal.the-variants.{Cut, BadTag}
 use Rattle.delta_read.specs.declared.Op.the-variants.{KeyValue}
 use Rattle.delta_read.specs.declared.OpRead.the-variants.{Got, Bad}
-use Rattle.delta_read.specs.Places.{statusOf, versionAt}
+use Rattle.delta_read.specs.Places.{versionAt}
 use borrow.Author.Needs.{needs}
 use Rattle.delta_read.proofs.read_version.Statement.{statement}
 use Rattle.delta_read.proofs.read_version.Tie as tie
 
-module _ (l : List ℕ) (k n v m : ℕ) (in-l : v + m ≤ length l) where
-  short : length l - (v + m) < 9 → Bad Cut ≡ versionAt l k n v m
+abbrev width : ℕ
+width = total versionWidths
+
+module _ (l : Bytes) (k n v m : ℕ) (in-l : v + m ≤ length l) where
+  short : length l - (v + m) < width → Bad Cut ≡ versionAt l k n v m
   unfolding versionAt
-  short h = rw (lt-leb (v + m + 9) (length l) (omega arith))
+  short h = rw (lt-leb (v + m + width) (length l) (omega arith))
 
-  module _ (h : 9 ≤ length l - (v + m)) (b : ℕ) (e : b ≡ natOf (part (v + m + 8) 1 l)) where
-    wrong : 2 < b → Bad BadTag ≡ versionAt l k n v m
+  module _ (h : width ≤ length l - (v + m)) (b : ℕ) (e : b ≡ natOf (part (v + m + offset versionWidths 1) byteWidth l)) where
+    wrong : statusByte Ttl < b → Bad BadTag ≡ versionAt l k n v m
     unfolding versionAt
-    wrong g = rw (le-leb (v + m + 9) (length l) (omega arith), ← e, lt-leb b 2 g)
+    wrong g = rw (le-leb (v + m + width) (length l) (omega arith), ← e, lt-leb b (statusByte Ttl) g)
 
-    whole : (ver : ℕ) (st : Status) → b ≤ 2 → ver ≡ natOf (part (v + m) 8 l) → st ≡ statusOf b → Got (KeyValue k n v m ver st) (v + m + 9) ≡ versionAt l k n v m
+    whole : (ver : ℕ) (st : Status) → b ≤ statusByte Ttl → ver ≡ natOf (part (v + m) numberWidth l) → st ≡ statusOfByte b
+        → Got (KeyValue k n v m ver st) (v + m + width) ≡ versionAt l k n v m
     unfolding versionAt
-    whole ver st g p q = rw (le-leb (v + m + 9) (length l) (omega arith), ← e, le-leb b 2 g, p, q)
+    whole ver st g p q = rw (le-leb (v + m + width) (length l) (omega arith), ← e, le-leb b (statusByte Ttl) g, p, q)
 
 add-at : tie.Need-add-at
 add-at c = search needs
@@ -51,14 +58,18 @@ returns-2 c = wrong _ _ _ _ _ (omega arith) (c .before .before .if1 .left) _ (c 
 read-u64-requires : tie.Need-read-u64-requires
 read-u64-requires c κs = search needs
 
-status-requires : tie.Need-status-requires
-status-requires c κs = search needs
+of-byte-requires : tie.Need-of-byte-requires
+of-byte-requires c κs = search needs
 
 add-t9 : tie.Need-add-t9
 add-t9 c = search needs
 
 returns-3 : tie.Need-returns-3
-returns-3 c = whole _ _ _ _ _ (omega arith) (c .before .before .before .before .if1 .left) _ (c .before .before .before .byte-at .ensures .0) _ _ (c .before .before .if2 .left) (c .before .read-u64 .ensures) (c .status .ensures)
+returns-3 c =
+    let test = c .before .before in
+    let byte = test .before in
+    whole _ _ _ _ _ (omega arith) (byte .before .if1 .left) _ (byte .byte-at .ensures .0) _ _ (test .if2 .left) (c .before .read-u64 .ensures)
+    (c .of-byte .ensures)
 
 pub read-version-spec : {M : Type 1} → statement M
 read-version-spec =
@@ -71,6 +82,6 @@ read-version-spec =
     byte-at-requires
     returns-2
     read-u64-requires
-    status-requires
+    of-byte-requires
     add-t9
     returns-3)
