@@ -1,4 +1,5 @@
--- The four runs of FourRuns, computed through every byte. Assumes nothing.
+-- The four runs of FourRuns, computed through every byte. The long line under each statement names all that a run unfolds, from the world down to a byte: a
+-- proof opens a definition only by naming it under its own signature, so the line stands with each. Assumes nothing.
 use mathlib.Core.List.{[], _++_, _∷_}
 use mathlib.Core.Path.{_≡_, refl}
 use Rattle.fields.specs.Blocks.{flat, unblock}

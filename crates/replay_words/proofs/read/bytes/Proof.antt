@@ -1,4 +1,5 @@
--- `replay_words::read::bytes` is safe and ends. Assumes nothing.
+-- `replay_words::read::bytes` is safe and ends. Its loop is that of `numbers` over another element type. A need is stated of a function's own code, and what is
+-- left of each is arithmetic that the search finds, so that there is no law for both to cite. Assumes nothing.
 use mathlib.Core.Path.{_≡_}
 use Prim.Native.Nat.{_≤_, _-_}
 use lib.ListN.{length}

@@ -1,4 +1,4 @@
--- `replay_words::read::numbers` is safe and ends. Assumes nothing.
+-- `replay_words::read::numbers` is safe and ends. Its loop is that of `bytes` over another element type; the proof there says why both stand. Assumes nothing.
 use mathlib.Core.Path.{_≡_}
 use Prim.Native.Nat.{_≤_, _-_}
 use lib.ListN.{length}
