@@ -2,8 +2,9 @@
 // is held, it is stored and the answer is no; if the offer is greater, it is stored and the answer is yes; else the answer is no. A local
 // beat raises the heartbeat by one; where it is 2^64-1 it cannot rise, and the header stays as it is.
 //
-// The rules by value come first, for callers that hold a header: `offered` and `raised`. Over them stand the thin functions on a header
-// that is lent, `offer_heartbeat` and `raise_heartbeat`. A heartbeat is a `Heartbeat` throughout, so none is taken for a version.
+// The rules by value come first, for callers that hold a header: `offered` and `raised`. Beside them stand the thin functions on a header
+// that is lent, `offer_heartbeat` and `raise_heartbeat`: they read the heartbeat, ask the same rules by value, and store. The calls on a
+// lent table use `offered` and `raised`, and not yet the thin ones. A heartbeat is a `Heartbeat` throughout, so none is taken for a version.
 use rules::Header;
 use rules::Heartbeat;
 use rules::sizes;

@@ -1,6 +1,6 @@
 -- The calls on a table that a hub makes by itself: nodes come and go, records are written and deleted, heartbeats, reading, removal.
 -- Each gives its answer and the table afterwards, in document 01's order of refusals. That the lent table obeys the rules (14) is asked
--- before any of them, in Layout.
+-- before any of them, in Lent.
 use Prim.Native.Nat.{ℕ, _+_}
 use mathlib.Core.Bool.{Bool, true, false}
 use mathlib.Core.List.{List}

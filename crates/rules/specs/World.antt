@@ -62,7 +62,7 @@ pub data Event : Type 0 where
   Offering : Side → ℕ → Heartbeat → Event
   -- removal over all nodes: now, grace
   Removing : Side → ℕ → ℕ → Event
-  -- The follower writes a digest: excluded nodes, the place in the datagram, the datagram. An exchange begins, and what was on its way is lost.
+  -- The follower writes a digest: excluded nodes, place in the datagram, datagram. Once written it replaces what was on its way; refused, it ends nothing.
   Digesting : List ℕ → ℕ → List ℕ → Event
   -- the publisher computes a delta for the digest on its way: excluded nodes, ties, MTU, the place in the datagram, the datagram
   Computing : List ℕ → List ℕ → ℕ → ℕ → List ℕ → Event
@@ -102,7 +102,7 @@ abbrev pub givenIn : (key : Bytes) (call : Call) (held : Option Node) (given : L
 givenIn k c none h = h
 givenIn k c (some n) h = givenAfter k (decide c k n) n h
 
--- ---- what is on its way after a call; a refused one sends nothing
+-- ---- what is on its way after a call; a refused one sends nothing, and what was on its way stays
 
 -- a digest of so many bytes from its place on
 abbrev pub afterDigest : (place : ℕ) (datagram : Bytes) (answer : Written) (way : Exchange) → Exchange
