@@ -9,14 +9,14 @@ use Rattle.fields.specs.Choice.{pick}
 use Rattle.fields.specs.declared.Order.{Order}
 use Rattle.fields.specs.declared.Order.the-variants.{Less, Same, More}
 
-unfoldable pub sameBytes : List ℕ → List ℕ → Bool
+unfoldable pub sameBytes : (first second : Bytes) → Bool
 sameBytes [] [] = true
 sameBytes [] (b ∷ k) = false
 sameBytes (a ∷ j) [] = false
 sameBytes (a ∷ j) (b ∷ k) = pick (eqb a b) (sameBytes j k) false
 
 -- at the first difference the smaller byte comes first; a string comes before what it is the beginning of
-unfoldable pub lessBytes : List ℕ → List ℕ → Bool
+unfoldable pub lessBytes : (first second : Bytes) → Bool
 lessBytes [] [] = false
 lessBytes [] (b ∷ k) = true
 lessBytes (a ∷ j) [] = false

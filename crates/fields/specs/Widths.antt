@@ -23,7 +23,7 @@ total [] = 0
 total (w ∷ ws) = w + total ws
 
 -- the fields have these widths
-abbrev pub Widths : List ℕ → List (List ℕ) → Type 0
+abbrev pub Widths : (widths : List ℕ) (fields : List Bytes) → Type 0
 Widths [] [] = Unit {0}
 Widths [] (f ∷ fs) = ⊥
 Widths (w ∷ ws) [] = ⊥

@@ -113,6 +113,28 @@ fn grant(
     Answer::Done
 }
 
+// The record of a key that is there changes: 6, or max rises and the record takes that version. It is `grant` at a place that is taken, by itself because a
+// set of a key that is held is what a hub does most: there is no room to look for.
+fn rewrite(
+    node: &mut [u8],
+    j: usize,
+    key: &[u8],
+    value: &[u8],
+    status: Status,
+    start: u64,
+) -> Answer
+    requires { ⌜ LaidNode (now node) × (findKey (now key) (recsIn (now node)) ≡ At j) × (length (now key) ≤ maxKey) × (length (now value) ≤ maxValue) ⌝ }
+    ensures { λ r. ⌜ Gives (nodeGranted (At j) (now (key .entry)) (changeOf (now (value .entry)) status start) (now (node .entry))) r (now (node .exit)) ⌝ }
+{
+    let max = fields::read_u64(node, layout::MAX);
+    if max == sizes::TOP {
+        return Answer::Refused(Refusal::Exhausted);
+    }
+    table_write::set_max(node, max + 1);
+    table_write::put_record(node, j, key, value, max + 1, status, start);
+    Answer::Done
+}
+
 // A set of record `j`, which has the key: nothing to change, 6, or the change.
 fn set_at(node: &mut [u8], j: usize, key: &[u8], value: &[u8], status: Status, start: u64) -> Answer
     requires { ⌜ LaidNode (now node) × (findKey (now key) (recsIn (now node)) ≡ At j) × (length (now key) ≤ maxKey) × (length (now value) ≤ maxValue) ⌝ }
@@ -121,7 +143,7 @@ fn set_at(node: &mut [u8], j: usize, key: &[u8], value: &[u8], status: Status, s
     if is_same(node, j, value, status) {
         return Answer::Done;
     }
-    grant(node, Place::At(j), key, value, status, start)
+    rewrite(node, j, key, value, status, start)
 }
 
 // A set: 1, nothing to change, 5, 6, or the change.
@@ -159,9 +181,9 @@ fn delete_at(node: &mut [u8], j: usize, key: &[u8], keeps: bool, clock: u64) -> 
     if keeps {
         let mut held = [0u8; Record::VALUE];
         let n = copy_value(node, j, &mut held);
-        return grant(node, Place::At(j), key, &held[..n], Status::Ttl, clock);
+        return rewrite(node, j, key, &held[..n], Status::Ttl, clock);
     }
-    grant(node, Place::At(j), key, b"", Status::Delete, clock)
+    rewrite(node, j, key, b"", Status::Delete, clock)
 }
 
 // A delete, or one after TTL: 1, 3, 6, or the key's record is scheduled.

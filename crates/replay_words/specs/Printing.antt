@@ -3,6 +3,7 @@ use Prim.Native.Nat.{ℕ, _+_, _/_, _%_}
 use mathlib.Core.List.{List, [], _∷_}
 use lib.ListN.{length}
 use lib.Dec.{leb, ltb}
+use Rattle.fields.specs.Numbers.{Bytes}
 use Rattle.fields.specs.Choice.{pick}
 use Rattle.fields.specs.Parts.{put}
 use Rattle.rules.specs.Listing.{decimal}
@@ -12,11 +13,11 @@ pub data Page : Type 0 where
   page : ℕ → List ℕ → Page
 
 -- a text more
-unfoldable pub say : List ℕ → Page → Page
+unfoldable pub say : (text : Bytes) (page : Page) → Page
 say t (page at l) = pick (leb (at + length t) (length l)) (page (at + length t) (put at t l)) (page at l)
 
 -- one text after the other
-unfoldable pub says : List (List ℕ) → Page → Page
+unfoldable pub says : (texts : List Bytes) (page : Page) → Page
 says [] p = p
 says (t ∷ ts) p = says ts (say t p)
 

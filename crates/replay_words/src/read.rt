@@ -3,7 +3,7 @@ ghost use mathlib.Core.Path.{_≡_};
 ghost use mathlib.Core.List.{[]};
 ghost use Prim.Native.Nat.{_+_, _≤_, _<_};
 ghost use lib.ListN.{length, getD, take, drop};
-ghost use Rattle.replay_words.specs.Reading.{pieces, wordsOf, placeIn, withDigit, numeralOf, counted, stored};
+ghost use Rattle.replay_words.specs.Reading.{pieces, wordsOf, placeIn, withDigit, numeralOf, counted, storedIn};
 
 // The largest number.
 const MOST: u64 = 18446744073709551615;
@@ -277,7 +277,7 @@ pub fn numbers(word: &[u8], out: &mut [u64]) -> Count {
 
 // All of `src`, to the front of the lent bytes. Where there is no room for them, it counts as none.
 pub fn copy(src: &[u8], out: &mut [u8]) -> Count
-    ensures { λ r. ⌜ (r ≡ counted (now (src .entry)) (now (out .entry))) × (now (out .exit) ≡ stored (now (src .entry)) (now (out .entry))) ⌝ }
+    ensures { λ r. ⌜ (r ≡ counted (now (src .entry)) (now (out .entry))) × (now (out .exit) ≡ storedIn (now (src .entry)) (now (out .entry))) ⌝ }
 {
     if out.len() < src.len() {
         return Count::Not;

@@ -31,7 +31,7 @@ hidden Set = false
 hidden Delete = true
 hidden Ttl = false
 
-abbrev pub sameStatus : Status → Status → Bool
+abbrev pub sameStatus : (first second : Status) → Bool
 sameStatus Set Set = true
 sameStatus Set Delete = false
 sameStatus Set Ttl = false

@@ -21,35 +21,35 @@ use Rattle.table_read.specs.declared.Place.{Place}
 use Rattle.table_read.specs.declared.Place.the-variants.{At, Free}
 
 -- n places further
-abbrev pub further : ℕ → Place → Place
+abbrev pub further : (n : ℕ) (place : Place) → Place
 further n (At i) = At (n + i)
 further n (Free i) = Free (n + i)
 
 -- by how the sought stands to the first, with the place among the others
-abbrev pub seek : Order → Place → Place
+abbrev pub seek : (order : Order) (place : Place) → Place
 seek Less p = Free 0
 seek Same p = At 0
 seek More p = further 1 p
 
 -- by how the sought stands to each
-unfoldable pub findBy : {A : Type 0} → (A → Order) → List A → Place
+unfoldable pub findBy : {A : Type 0} (stands : A → Order) (list : List A) → Place
 findBy f [] = Free 0
 findBy f (a ∷ l) = seek (f a) (findBy f l)
 
 -- how the first number stands to the second
-unfoldable pub numberOrder : ℕ → ℕ → Order
+unfoldable pub numberOrder : (sought number : ℕ) → Order
 numberOrder i n = pick (eqb i n) Same (pick (ltb i n) Less More)
 
-abbrev pub toNode : ℕ → Entry → Order
+abbrev pub toNode : (number : ℕ) (entry : Entry) → Order
 toNode i e = numberOrder i (e .number)
 
-abbrev pub toKey : List ℕ → Rec → Order
+abbrev pub toKey : (key : Bytes) (rec : Rec) → Order
 toKey k r = orderOf k (r .kv .key)
 
-abbrev pub findNode : ℕ → Table → Place
+abbrev pub findNode : (number : ℕ) (table : Table) → Place
 findNode i t = findBy (toNode i) t
 
-abbrev pub findKey : List ℕ → List Rec → Place
+abbrev pub findKey : (key : Bytes) (recs : List Rec) → Place
 findKey k l = findBy (toKey k) l
 
 -- where the bytes of the node at a place stand in a table's

@@ -60,11 +60,11 @@ array-share-prefix-held c =
     let k = c .before .before in
     omega (arith, k .copy-value .ensures .0, short (entry (kept k)))
 
-slice-aggregate-grant : tie.Need-slice-aggregate-grant
-slice-aggregate-grant c = long (c .before .before .before)
+slice-aggregate-rewrite : tie.Need-slice-aggregate-rewrite
+slice-aggregate-rewrite c = long (c .before .before .before)
 
-grant-requires : tie.Need-grant-requires
-grant-requires c κs =
+rewrite-requires : tie.Need-rewrite-requires
+rewrite-requires c κs =
     let k = c .before .before .before in
     let st = entry (kept k) in
     (st .pre .0, st .pre .1, st .pre .2, omega (arith, long k, k .copy-value .ensures .0, short st))
@@ -74,24 +74,24 @@ same-length c = search needs
 
 returns : tie.Need-returns
 returns c =
-    let g = c .before .before .grant in
+    let g = c .before .before .rewrite in
     let k = c .before .before .before .before .before .before in
     let a = entry (kept k) .args in
     subst (λ (t : Bool). Gives (nodeDropped (a .j) t (a .clock) (a .key .now) (a .node .now)) (g .result) (g .last .0)) (sym (kept k .if1 .taken))
     (subst (λ (v : List ℕ). Gives (nodeGranted (At (a .j)) (a .key .now) (changeOf v Ttl (a .clock)) (a .node .now)) (g .result) (g .last .0)) (copied k) (g .ensures))
 
-slice-aggregate-grant-2 : tie.Need-slice-aggregate-grant-2
-slice-aggregate-grant-2 c = search needs
+slice-aggregate-rewrite-2 : tie.Need-slice-aggregate-rewrite-2
+slice-aggregate-rewrite-2 c = search needs
 
-grant-requires-2 : tie.Need-grant-requires-2
-grant-requires-2 c κs = let st = c .before .before .before .before .before in (st .pre .0, st .pre .1, st .pre .2, omega arith)
+rewrite-requires-2 : tie.Need-rewrite-requires-2
+rewrite-requires-2 c κs = let st = c .before .before .before .before .before in (st .pre .0, st .pre .1, st .pre .2, omega arith)
 
 same-length-2 : tie.Need-same-length-2
 same-length-2 c = search needs
 
 returns-2 : tie.Need-returns-2
 returns-2 c =
-    let g = c .before .before .grant2 in
+    let g = c .before .before .rewrite2 in
     let e = c .before .before .before .before .before in
     let a = e .before .before .before .args in
     subst (λ (t : Bool). Gives (nodeDropped (a .j) t (a .clock) (a .key .now) (a .node .now)) (g .result) (g .last .0)) (sym (e .if1 .left)) (g .ensures)
@@ -103,11 +103,11 @@ delete-at-spec =
     slice-aggregate-copy-value
     copy-value-requires
     array-share-prefix-held
-    slice-aggregate-grant
-    grant-requires
+    slice-aggregate-rewrite
+    rewrite-requires
     same-length
     returns
-    slice-aggregate-grant-2
-    grant-requires-2
+    slice-aggregate-rewrite-2
+    rewrite-requires-2
     same-length-2
     returns-2)

@@ -41,15 +41,15 @@ returns c =
     left (a .key .now) (a .node .now) (st .pre .0) _
     (leaves (a .j) (recAt (a .j) (a .node .now)) (changeOf (a .value .now) (a .status) (a .start)) (nodeIn (a .node .now)) (sym (c .before .is-same .ensures) ∙ c .if1 .taken))
 
-grant-requires : tie.Need-grant-requires
-grant-requires c κs = search needs
+rewrite-requires : tie.Need-rewrite-requires
+rewrite-requires c κs = search needs
 
 same-length-2 : tie.Need-same-length-2
 same-length-2 c = search needs
 
 returns-2 : tie.Need-returns-2
 returns-2 c =
-    let g = c .before .before .grant in
+    let g = c .before .before .rewrite in
     let t = c .before .before .before .before in
     let a = entry (t .before) .args in
     subst (λ (d : Decision). Gives (decided (a .key .now) d (a .node .now)) (g .result) (g .last .0))
@@ -59,4 +59,4 @@ returns-2 c =
 pub set-at-spec : {M : Type 1} → statement M
 set-at-spec =
     tie.close
-    (tie.spec is-same-requires same-length returns grant-requires same-length-2 returns-2)
+    (tie.spec is-same-requires same-length returns rewrite-requires same-length-2 returns-2)
