@@ -43,8 +43,8 @@ use Rattle.rules.proofs.Received.{OkDelta, parts-ok}
 use Rattle.rules.proofs.Deltas.{delta-is}
 use Rattle.rules.proofs.Calls.{ok-each}
 use Rattle.rules.proofs.Keeps.{plain-lawful}
-use Rattle.delta_read.specs.Plain.{opsFrom}
-use Rattle.delta_read.proofs.Plain.{good-plain}
+use Rattle.delta_op.specs.Plain.{opsFrom, recsFrom}
+use Rattle.delta_op.proofs.Plain.{good-plain}
 use Rattle.table.specs.Fits.{FitsEntry, LaidNode}
 use Rattle.table.specs.Changes.{withNode, withMax, withGc, withRecs, freshEntry}
 use Rattle.table.specs.Tests.{countOf, recsIn}
@@ -57,7 +57,7 @@ use Rattle.table_read.proofs.Held.{node-seen, held-laid, held-rises, held-node,
 use Rattle.rules.specs.declared.Header.{Header}
 use Rattle.table.proofs.Tables.{length-table, decode-encode, valid-encode, encode-decode, valid-obeys, valid-long}
 use Rattle.delta_read.specs.declared.Heads.{Heads}
-use Rattle.delta_read.specs.NodeDeltas.{recsFrom, partsFrom, deltaOf, noPart, AllHeads}
+use Rattle.delta_read.specs.NodeDeltas.{partsFrom, deltaOf, noPart, AllHeads}
 use Rattle.apply_node.specs.Taking.{hasRoom, Rising, Tried}
 use Rattle.apply_node.proofs.Taken.{takes-few}
 use Rattle.apply.specs.Applying.{emptied, begun, grown, Grown, Stored, rejects, resets, answerAs, nodeTaken, nodeApplied, onHeld, partApplied, partsApplied, Accepted, HeadsFound}

@@ -23,7 +23,8 @@ use Rattle.rules.specs.declared.NodeAnswer.the-variants as node
 use Rattle.rules.specs.declared.DeltaStatus.{DeltaStatus}
 use Rattle.rules.specs.declared.DeltaStatus.the-variants.{Reject, Apply, ApplyAfterReset}
 use Rattle.table.specs.Changes.{withNode, withMax, withGc, withRecs, freshEntry}
-use Rattle.delta_read.specs.NodeDeltas.{recsFrom, partsFrom, noPart, Head}
+use Rattle.delta_op.specs.Plain.{recsFrom}
+use Rattle.delta_read.specs.NodeDeltas.{partsFrom, noPart, Head}
 use Rattle.delta_read.specs.declared.Heads.{Heads}
 use Rattle.apply_node.specs.Taking.{hasRoom}
 

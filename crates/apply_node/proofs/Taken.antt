@@ -26,13 +26,13 @@ use Rattle.rules.proofs.Obeys.{keys-sorted, sorted-keys}
 use Rattle.rules.proofs.Keeps.{store-longer}
 use Rattle.rules.specs.declared.Status.{Status}
 use Rattle.rules.specs.declared.Status.the-variants.{Set, Delete, Ttl}
-use Rattle.delta_read.specs.declared.Op.{Op}
-use Rattle.delta_read.specs.declared.Op.the-variants.{Node, KeyValue as Record, SetMaxVersion}
-use Rattle.delta_read.specs.declared.OpRead.the-variants.{Got}
-use Rattle.delta_read.specs.Places.{opOf, opAt, Inside}
-use Rattle.delta_read.specs.Plain.{opsFrom}
-use Rattle.delta_read.proofs.Plain.{plain-next}
-use Rattle.delta_read.proofs.Reading.{Within, op-within}
+use Rattle.delta_op.specs.declared.Op.{Op}
+use Rattle.delta_op.specs.declared.Op.the-variants.{Node, KeyValue as Record, SetMaxVersion}
+use Rattle.delta_op.specs.declared.OpRead.the-variants.{Got}
+use Rattle.delta_op.specs.Places.{opOf, opAt, Inside}
+use Rattle.delta_op.specs.Plain.{opsFrom, recsFrom}
+use Rattle.delta_op.proofs.Plain.{plain-next}
+use Rattle.delta_op.proofs.Reading.{Within, op-within}
 use Rattle.table.specs.Changes.{withRecs, recOf}
 use Rattle.table.specs.Tests.{countOf, recsIn}
 use Rattle.table.specs.Fits.{FitsRec, FitsEntry, LaidNode}
@@ -46,7 +46,6 @@ use Rattle.table_read.proofs.Placed.{store-at, store-free, free-in}
 use Rattle.apply_node.specs.declared.Step.{Step}
 use Rattle.apply_node.specs.declared.Step.the-variants.{Taken, Full, Over}
 use Rattle.apply_node.specs.Taking.{takesAs, carried, hasRoom, Rising, Tried, takeOne, afterOp, stepOf, Stepped}
-use Rattle.delta_read.specs.NodeDeltas.{recsFrom}
 
 -- ---- which are taken
 

@@ -1,7 +1,7 @@
 // The records of a node delta, as they stand in the bytes of an accepted delta, taken into the bytes of one node. Each record is taken or skipped as
 // document 01 says; a record that would be a 33rd key ends the taking with no room.
-use delta_read::Op;
-use delta_read::OpRead;
+use delta_op::Op;
+use delta_op::OpRead;
 use rules::Header;
 use rules::Status;
 use table::layout;
@@ -13,8 +13,8 @@ ghost use lib.ListN.{length};
 ghost use Rattle.rules.specs.Sizes.{maxKey, maxValue};
 ghost use Rattle.rules.specs.Node.{scheduled, store};
 ghost use Rattle.rules.specs.Apply.{startAt, takeAll};
-ghost use Rattle.delta_read.specs.Places.{Inside, opOf};
-ghost use Rattle.delta_read.specs.NodeDeltas.{recsFrom};
+ghost use Rattle.delta_op.specs.Places.{Inside, opOf};
+ghost use Rattle.delta_op.specs.Plain.{recsFrom};
 ghost use Rattle.table_read.specs.Find.{findKey};
 ghost use Rattle.table_read.specs.declared.Place.the-variants.{Free};
 ghost use Rattle.table.specs.Tests.{countOf, recsIn};
@@ -207,7 +207,7 @@ pub fn take_records(
 {
     let mut i = at;
     while i < delta.len() {
-        let read = delta_read::read_op(delta, i);
+        let read = delta_op::read_op(delta, i);
         let OpRead::Got { op, next } = read else {
             return true;
         };

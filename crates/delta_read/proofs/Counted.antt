@@ -1,6 +1,6 @@
 -- Reading a whole delta with its counts, turn by turn: what is left to be read, with what is counted so far, has the whole's answer. Assumes nothing.
 use Prim.Native.Nat.{ℕ, _+_, _≤_, _<_}
-use mathlib.Core.Path.{_≡_, ap, ap₂, sym, _∙_, subst}
+use mathlib.Core.Path.{_≡_, ap, ap₂, sym, _∙_}
 use mathlib.Core.List.{List, [], _∷_}
 use native.Mathlib.Omega.{arith}
 use native.Mathlib.Numerals.{add-one}
@@ -12,11 +12,12 @@ use Rattle.rules.specs.Delta as rule
 use Rattle.rules.specs.declared.Refusal.{Refusal}
 use Rattle.rules.specs.declared.Refusal.the-variants.{TooMany}
 use Rattle.rules.specs.declared.DeltaRead.the-variants as read
-use Rattle.delta_read.specs.declared.Op.{Op}
-use Rattle.delta_read.specs.declared.OpRead.the-variants.{Got, Bad}
+use Rattle.delta_op.specs.declared.Op.{Op}
+use Rattle.delta_op.specs.declared.OpRead.the-variants.{Got, Bad}
 use Rattle.delta_read.specs.declared.Followed.the-variants.{Entered, Under, Fault}
-use Rattle.delta_read.specs.Places.{opOf, opAt, seenOf, followAt}
-use Rattle.delta_read.proofs.Reading.{Within, op-within}
+use Rattle.delta_op.specs.Places.{opOf, opAt}
+use Rattle.delta_read.specs.Following.{seenOf, followAt}
+use Rattle.delta_op.proofs.Reading.{ends}
 use Rattle.delta_read.proofs.Steps.{readFrom, from-start, at-end, at-bad, at-fault, at-next}
 use Rattle.delta_read.proofs.Following.{seen-more, reading, nowReading, follows, counted, none-counted, nodesIn, one-counted, entered, stayed}
 
@@ -26,7 +27,9 @@ too-long l h = rw (rule.deltaRead, rule.readDelta, lt-leb (length l) maxDelta h)
 
 pub start : (l a : List ℕ) → length l ≤ 16384 → counted 0 0 (readFrom l 0 (reading 0 a 0)) ≡ rule.deltaRead l
 unfolding rule.deltaRead rule.readDelta seenOf
-start l a h = none-counted (readFrom l 0 rule.nothingRead) ∙ ap rule.readAnswer (sym (from-start l)) ∙ sym (rw (rule.deltaRead, rule.readDelta, le-leb (length l) maxDelta h))
+start l a h =
+    none-counted (readFrom l 0 rule.nothingRead) ∙ ap rule.readAnswer (sym (from-start l))
+    ∙ sym (rw (rule.deltaRead, rule.readDelta, le-leb (length l) maxDelta h))
 
 -- what holds at the loop's head
 abbrev pub So-far : List ℕ → List ℕ → ℕ → ℕ → ℕ → ℕ → Type 0
@@ -69,24 +72,27 @@ module _ (l : List ℕ) (at ops nodes running : ℕ) (a : List ℕ) (inv : count
           let is : (nodesIn (opOf l o) ≡ 1) × (nodes < maxNodes) = entered l nodes a running o n f in
           let k : nodes + nodesIn (opOf l o) ≡ nodes + 1 = omega (arith, is .0) in
           let t : reading (nodes + 1) (set a nodes n) 0 ≡ record { seen = n ∷ seenOf nodes a; running = 0 } =
-          ap (λ (xs : List ℕ). record { seen = xs; running = 0 }) (ap (λ (j : ℕ). seenOf j (set a nodes n)) (add-one nodes) ∙ seen-more nodes n a (omega (arith, is .1))) in
+          ap (λ (xs : List ℕ). record { seen = xs; running = 0 })
+          (ap (λ (j : ℕ). seenOf j (set a nodes n)) (add-one nodes) ∙ seen-more nodes n a (omega (arith, is .1))) in
           ap (λ (s : rule.Reading). counted (ops + 1) (nodes + 1) (readFrom l next s)) t
           ∙ ap (λ (j : ℕ). counted (ops + 1) j (readFrom l next (record { seen = n ∷ seenOf nodes a; running = 0 }))) (sym k)
           ∙ further (record { seen = n ∷ seenOf nodes a; running = 0 }) (follows l nodes a running o ∙ ap (nowReading nodes a) f)
 
--- where the operation ends
-pub ends : (l : List ℕ) (at : ℕ) (o : Op) (next : ℕ) → opAt l at ≡ Got o next → (at < next) × (next ≤ length l)
-ends l at o next e = let w : Within (length l) at (Got o next) = subst (Within (length l) at) e (op-within l at) in (w .0, w .1)
-
 -- a turn that goes on, with what it leaves
-module _ (l a : List ℕ) (nodes running ops at : ℕ) (so-far : So-far l a nodes running ops at) (h : at < length l) (o : Op) (next : ℕ) (e : opAt l at ≡ Got o next)
-    (a′ : List ℕ) (nodes′ running′ : ℕ) where
-  pub on-new : (n : ℕ) → followAt nodes a running o ≡ Entered n → a′ ≡ set a nodes n → nodes′ ≡ nodes + 1 → running′ ≡ 0 → So-far l a′ nodes′ running′ (ops + 1) next
+module _ (l a : List ℕ) (nodes running ops at : ℕ) (so-far : So-far l a nodes running ops at) (h : at < length l)
+    (o : Op) (next : ℕ) (e : opAt l at ≡ Got o next) (a′ : List ℕ) (nodes′ running′ : ℕ) where
+  pub on-new : (n : ℕ) → followAt nodes a running o ≡ Entered n → a′ ≡ set a nodes n → nodes′ ≡ nodes + 1 → running′ ≡ 0
+      → So-far l a′ nodes′ running′ (ops + 1) next
   on-new n f p q r =
       let w : (at < next) × (next ≤ length l) = ends l at o next e in
       let is : (nodesIn (opOf l o) ≡ 1) × (nodes < maxNodes) = entered l nodes a running o n f in
-      rw (p, q, r)
-      (w .1, omega (arith, is .1), omega (arith, so-far .2, w .0), length-set a nodes n ∙ so-far .3, new l at ops nodes running a (so-far .4) h o next e n (so-far .3) f)
+      rw (p, q, r) (
+        w .1,
+        omega (arith, is .1),
+        omega (arith, so-far .2, w .0),
+        length-set a nodes n ∙ so-far .3,
+        new l at ops nodes running a (so-far .4) h o next e n (so-far .3) f,
+      )
 
   pub on-under : (v : ℕ) → followAt nodes a running o ≡ Under v → a′ ≡ a → nodes′ ≡ nodes → running′ ≡ v → So-far l a′ nodes′ running′ (ops + 1) next
   on-under v f p q r =

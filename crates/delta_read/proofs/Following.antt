@@ -18,11 +18,12 @@ use Rattle.rules.specs.declared.Refusal.{Refusal}
 use Rattle.rules.specs.declared.Refusal.the-variants.{OutOfOrder, NodeTwice, TooMany}
 use Rattle.rules.specs.declared.DeltaRead.{DeltaRead}
 use Rattle.rules.specs.declared.DeltaRead.the-variants as read
-use Rattle.delta_read.specs.declared.Op.{Op}
-use Rattle.delta_read.specs.declared.Op.the-variants.{Node, KeyValue, SetMaxVersion}
+use Rattle.delta_op.specs.declared.Op.{Op}
+use Rattle.delta_op.specs.declared.Op.the-variants.{Node, KeyValue, SetMaxVersion}
 use Rattle.delta_read.specs.declared.Followed.{Followed}
 use Rattle.delta_read.specs.declared.Followed.the-variants.{Entered, Under, Fault}
-use Rattle.delta_read.specs.Places.{opOf, seenOf, underNodes, nodeFollows, recordFollows, maxFollows, followAt}
+use Rattle.delta_op.specs.Places.{opOf}
+use Rattle.delta_read.specs.Following.{seenOf, underNodes, nodeFollows, recordFollows, maxFollows, followAt}
 
 pub length-seen : (n : ℕ) (a : List ℕ) → length (seenOf n a) ≡ n
 unfolding seenOf
@@ -123,7 +124,8 @@ kind l nodes a running (Node n g f) = go (among n (seenOf nodes a)) (ltb nodes m
 kind l nodes a running (KeyValue k n v m ver st) = kind-under nodes (ltb running ver) ver OutOfOrder
 kind l nodes a running (SetMaxVersion m) = kind-under nodes (leb running m) m OutOfOrder
 
-pub entered : (l : List ℕ) (nodes : ℕ) (a : List ℕ) (running : ℕ) (o : Op) (n : ℕ) → followAt nodes a running o ≡ Entered n → (nodesIn (opOf l o) ≡ 1) × (nodes < maxNodes)
+pub entered : (l : List ℕ) (nodes : ℕ) (a : List ℕ) (running : ℕ) (o : Op) (n : ℕ) → followAt nodes a running o ≡ Entered n
+    → (nodesIn (opOf l o) ≡ 1) × (nodes < maxNodes)
 entered l nodes a running o n e = subst (Kind nodes (nodesIn (opOf l o))) e (kind l nodes a running o)
 
 pub stayed : (l : List ℕ) (nodes : ℕ) (a : List ℕ) (running : ℕ) (o : Op) (v : ℕ) → followAt nodes a running o ≡ Under v → nodesIn (opOf l o) ≡ 0

@@ -1,6 +1,4 @@
-pub mod Reading
 pub mod Steps
 pub mod Following
-pub mod Plain
 pub mod Counted
 pub mod NodeDeltas

@@ -10,24 +10,11 @@ use lib.ListN.{length, drop, length-drop}
 use lib.Seq.{drop-cons}
 use Rattle.rules.specs.Delta as rule
 use Rattle.rules.specs.declared.Refusal.{Refusal}
-use Rattle.delta_read.specs.declared.Op.{Op}
-use Rattle.delta_read.specs.declared.OpRead.{OpRead}
-use Rattle.delta_read.specs.declared.OpRead.the-variants.{Got, Bad}
-use Rattle.delta_read.specs.Places.{opOf, meant, opAt}
-use Rattle.delta_read.proofs.Reading.{Within, read-at, op-within}
-
--- what is left behind an operation is shorter
-Shorter : ℕ → rule.OpRead → Type 0
-Shorter n (rule.Got o rest) = length rest < n
-Shorter n (rule.Bad r) = Unit {0}
-
-pub shorter : (l : List ℕ) {o : rule.Op} {rest : List ℕ} → rule.readOp l ≡ rule.Got o rest → length rest < length l
-unfolding Shorter
-shorter l {o} {rest} e = subst (Shorter (length l)) (sym (read-at l 0 (omega arith)) ∙ e) (go (opAt l 0) (op-within l 0))
-  where
-    go : (r : OpRead) → Within (length l) 0 r → Shorter (length l) (meant l r)
-    go (Got o next) w = rw (length-drop next l) (omega arith)
-    go (Bad r) w = tt
+use Rattle.delta_op.specs.declared.Op.{Op}
+use Rattle.delta_op.specs.declared.OpRead.the-variants.{Got, Bad}
+use Rattle.delta_op.specs.Places.{opOf, meant, opAt}
+use Rattle.delta_op.proofs.Reading.{Within, read-at, op-within}
+use Rattle.delta_op.proofs.Plain.{shorter}
 
 -- two ways to go on that agree where an operation was read
 module _ (at : ℕ) (s : rule.Reading) (f g : rule.Reading → List ℕ → rule.Ops) where
@@ -78,8 +65,9 @@ module _ (l : List ℕ) (at : ℕ) (s : rule.Reading) where
       → readFrom l at s ≡ rule.onRead at s (λ t rest. rule.readOps k (at + (length (drop at l) - length rest)) t rest) (meant l (opAt l at))
   unfolding readFrom rule.readOps
   one k e h =
-      let full : rule.readOps (suc k) at s (drop at l) ≡ rule.onRead at s (λ t rest. rule.readOps k (at + (length (drop at l) - length rest)) t rest) (rule.readOp (drop at l)) =
-      ap (λ (r : List ℕ). rule.unlessEnd r (rule.onRead at s (λ t rest. rule.readOps k (at + (length (drop at l) - length rest)) t rest) (rule.readOp (drop at l)))) (drop-cons l at 0 h) in
+      let go : rule.Reading → List ℕ → rule.Ops = λ t rest. rule.readOps k (at + (length (drop at l) - length rest)) t rest in
+      let full : rule.readOps (suc k) at s (drop at l) ≡ rule.onRead at s go (rule.readOp (drop at l)) =
+      ap (λ (r : List ℕ). rule.unlessEnd r (rule.onRead at s go (rule.readOp (drop at l)))) (drop-cons l at 0 h) in
       ap (λ (j : ℕ). rule.readOps j at s (drop at l)) (sym e) ∙ full
       ∙ ap (rule.onRead at s (λ t rest. rule.readOps k (at + (length (drop at l) - length rest)) t rest)) (read-at l at (omega arith))
 

@@ -1,3 +1,2 @@
-pub mod Places
-pub mod Plain
+pub mod Following
 pub mod NodeDeltas

@@ -7,14 +7,9 @@ use Rattle.fields.specs.Numbers.{Bytes, natOf}
 use Rattle.fields.specs.Parts.{part}
 use Rattle.fields.specs.Widths.{offset}
 use Rattle.rules.specs.Sizes.{maxNodes}
-use Rattle.rules.specs.Node.{KeyValue}
 use Rattle.rules.specs.Delta as rule
 use Rattle.rules.specs.declared.DeltaRead.the-variants as read
-use Rattle.delta_read.specs.Plain.{opsFrom}
-
--- the records from a place up to the next Node
-unfoldable pub recsFrom : (delta : Bytes) (at : ℕ) → List KeyValue
-recsFrom s at = rule.recsOf (opsFrom s at)
+use Rattle.delta_op.specs.Plain.{opsFrom, recsFrom}
 
 -- the node deltas from a place on
 unfoldable pub partsFrom : (delta : Bytes) (at : ℕ) → List rule.Part

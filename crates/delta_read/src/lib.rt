@@ -1,52 +1,18 @@
-// Reading a delta: one operation at a place of the lent bytes, and a whole delta with its verdict and where its node deltas stand. An operation holds its
-// numbers, and where its key and value stand in the caller's bytes; nothing is copied. What is read is what the definitions of `rules` say
-// (specs/Places.antt, specs/NodeDeltas.antt).
+// Reading a whole delta: its verdict, and where its node deltas stand. Its operations are read one by one by `delta_op`, and each must be one that may
+// follow those before it (specs/Following.antt). What is answered is what the definitions of `rules` say.
+use delta_op::Op;
+use delta_op::OpRead;
+use rules::DeltaRead;
+use rules::Refusal;
 use rules::sizes;
-use rules::wire;
 ghost use mathlib.Core.Path.{_≡_};
-ghost use Prim.Native.Nat.{_+_, _≤_, _<_};
+ghost use Prim.Native.Nat.{_≤_};
 ghost use lib.ListN.{length};
 ghost use Rattle.rules.specs.Sizes.{maxNodes};
 ghost use Rattle.rules.specs.Delta.{deltaRead};
 ghost use Rattle.rules.specs.Table.{among};
-ghost use Rattle.delta_read.specs.Places.{keyValueAt, nodeAt, opAt, setMaxVersionAt, textAt, valueAt, versionAt};
-ghost use Rattle.delta_read.specs.Places.{followAt, maxFollows, nodeFollows, recordFollows, seenOf};
+ghost use Rattle.delta_read.specs.Following.{followAt, maxFollows, nodeFollows, recordFollows, seenOf};
 ghost use Rattle.delta_read.specs.NodeDeltas.{AllHeads};
-use rules::DeltaRead;
-use rules::Record;
-use rules::Refusal;
-use rules::Status;
-
-pub enum Op {
-    Node {
-        number: u64,
-        last_gc: u64,
-        from: u64,
-    },
-    KeyValue {
-        keyat: usize,
-        keylen: usize,
-        valueat: usize,
-        valuelen: usize,
-        version: u64,
-        status: Status,
-    },
-    SetMaxVersion {
-        max: u64,
-    },
-}
-
-// An operation and the place behind it, or why there is none.
-pub enum OpRead {
-    Got { op: Op, next: usize },
-    Bad(Refusal),
-}
-
-// A text behind its length: where it stands and how long it is, or why there is none.
-pub enum TextRead {
-    Held { start: usize, len: usize },
-    Bad(Refusal),
-}
 
 // Whether an operation may follow those before it: a further node, or the running max under the last one, or a refusal.
 pub enum Followed {
@@ -64,135 +30,7 @@ pub struct Heads {
     pub max: [u64; sizes::NODES],
 }
 
-// ---- one operation
-
-// The text whose length stands at `at`. An overlong length is refused before its bytes are looked at.
-fn read_text(delta: &[u8], at: usize, most: usize) -> TextRead
-    requires { ⌜ at ≤ length (now delta) ⌝ }
-    ensures { λ r. ⌜ r ≡ textAt most (now (delta .entry)) at ⌝ }
-{
-    if delta.len() - at < wire::LENGTH {
-        return TextRead::Bad(Refusal::Cut);
-    }
-    let len = fields::read_u16(delta, at);
-    if most < len {
-        return TextRead::Bad(Refusal::TooLong);
-    }
-    let start = at + wire::LENGTH;
-    if delta.len() - start < len {
-        return TextRead::Bad(Refusal::Cut);
-    }
-    TextRead::Held { start, len }
-}
-
-// The Node whose tag stands at `at`.
-fn read_node(delta: &[u8], at: usize) -> OpRead
-    requires { ⌜ at < length (now delta) ⌝ }
-    ensures { λ r. ⌜ r ≡ nodeAt (now (delta .entry)) at ⌝ }
-{
-    if delta.len() - at < wire::NODE_WIDTH {
-        return OpRead::Bad(Refusal::Cut);
-    }
-    OpRead::Got {
-        op: Op::Node {
-            number: fields::read_u64(delta, at + wire::NODE_NUMBER),
-            last_gc: fields::read_u64(delta, at + wire::NODE_LAST_GC),
-            from: fields::read_u64(delta, at + wire::NODE_FROM),
-        },
-        next: at + wire::NODE_WIDTH,
-    }
-}
-
-// Version and status, behind the value.
-fn read_version(
-    delta: &[u8],
-    keyat: usize,
-    keylen: usize,
-    valueat: usize,
-    valuelen: usize,
-) -> OpRead
-    requires { ⌜ valueat + valuelen ≤ length (now delta) ⌝ }
-    ensures { λ r. ⌜ r ≡ versionAt (now (delta .entry)) keyat keylen valueat valuelen ⌝ }
-{
-    let at = valueat + valuelen;
-    if delta.len() - at < wire::VERSION_WIDTH {
-        return OpRead::Bad(Refusal::Cut);
-    }
-    let b = fields::byte_at(delta, at + wire::STATUS);
-    if Status::LAST < b {
-        return OpRead::Bad(Refusal::BadTag);
-    }
-    OpRead::Got {
-        op: Op::KeyValue {
-            keyat,
-            keylen,
-            valueat,
-            valuelen,
-            version: fields::read_u64(delta, at),
-            status: Status::of_byte(b),
-        },
-        next: at + wire::VERSION_WIDTH,
-    }
-}
-
-// Value, version and status, behind the key.
-fn read_value(delta: &[u8], keyat: usize, keylen: usize) -> OpRead
-    requires { ⌜ keyat + keylen ≤ length (now delta) ⌝ }
-    ensures { λ r. ⌜ r ≡ valueAt (now (delta .entry)) keyat keylen ⌝ }
-{
-    let value = read_text(delta, keyat + keylen, Record::VALUE);
-    match value {
-        TextRead::Held { start, len } => read_version(delta, keyat, keylen, start, len),
-        TextRead::Bad(why) => OpRead::Bad(why),
-    }
-}
-
-// The KeyValue whose tag stands at `at`.
-fn read_key_value(delta: &[u8], at: usize) -> OpRead
-    requires { ⌜ at < length (now delta) ⌝ }
-    ensures { λ r. ⌜ r ≡ keyValueAt (now (delta .entry)) at ⌝ }
-{
-    let key = read_text(delta, at + wire::KEY_LENGTH, Record::KEY);
-    match key {
-        TextRead::Held { start, len } => read_value(delta, start, len),
-        TextRead::Bad(why) => OpRead::Bad(why),
-    }
-}
-
-// The SetMaxVersion whose tag stands at `at`.
-fn read_set_max_version(delta: &[u8], at: usize) -> OpRead
-    requires { ⌜ at < length (now delta) ⌝ }
-    ensures { λ r. ⌜ r ≡ setMaxVersionAt (now (delta .entry)) at ⌝ }
-{
-    if delta.len() - at < wire::MAX_WIDTH {
-        return OpRead::Bad(Refusal::Cut);
-    }
-    OpRead::Got {
-        op: Op::SetMaxVersion {
-            max: fields::read_u64(delta, at + wire::MAX),
-        },
-        next: at + wire::MAX_WIDTH,
-    }
-}
-
-// The operation whose tag stands at `at`.
-pub fn read_op(delta: &[u8], at: usize) -> OpRead
-    requires { ⌜ at ≤ length (now delta) ⌝ }
-    ensures { λ r. ⌜ r ≡ opAt (now (delta .entry)) at ⌝ }
-{
-    if at == delta.len() {
-        return OpRead::Bad(Refusal::Cut);
-    }
-    let tag = fields::byte_at(delta, at);
-    match tag {
-        wire::NODE => read_node(delta, at),
-        wire::KEY_VALUE => read_key_value(delta, at),
-        wire::SET_MAX_VERSION => read_set_max_version(delta, at),
-        _ => OpRead::Bad(Refusal::BadTag),
-    }
-}
-
-// ---- a whole delta
+// ---- what may follow
 
 // Whether the number is one of the first `nodes`, looked through from the newest back.
 fn is_seen(seen: &[u64; sizes::NODES], nodes: usize, number: u64) -> bool
@@ -272,6 +110,8 @@ fn follow(seen: &[u64; sizes::NODES], nodes: usize, running: u64, op: Op) -> Fol
     }
 }
 
+// ---- a whole delta
+
 // A delta that is refused.
 fn refused(why: Refusal, at: usize) -> Heads
     ensures { λ r. ⌜ (r .read ≡ DeltaRead.Refused why at)
@@ -298,11 +138,14 @@ pub fn read_heads(delta: &[u8]) -> Heads
     let mut seen = [0u64; sizes::NODES];
     let mut nodes: usize = 0;
     let mut running: u64 = 0;
-    let mut under: usize = 0;
+    // The last node delta: its place among them, and how many operations stand before those behind its Node. Its count and max are written down where
+    // the next Node enters, and at the end; before the first Node what is written there is of no use.
+    let mut last: usize = 0;
+    let mut first: usize = 0;
     let mut ops: usize = 0;
     let mut at: usize = 0;
     while at < delta.len() {
-        let read = read_op(delta, at);
+        let read = delta_op::read_op(delta, at);
         match read {
             OpRead::Bad(why) => return refused(why, at),
             OpRead::Got { op, next } => {
@@ -310,18 +153,16 @@ pub fn read_heads(delta: &[u8]) -> Heads
                 match followed {
                     Followed::Fault(why) => return refused(why, at),
                     Followed::Entered(number) => {
+                        counts[last] = ops - first;
+                        maxes[last] = running;
                         seen[nodes] = number;
                         places[nodes] = at;
-                        counts[nodes] = 0;
-                        maxes[nodes] = 0;
+                        last = nodes;
+                        first = ops + 1;
                         nodes += 1;
                         running = 0;
-                        under = 0;
                     }
                     Followed::Under(version) => {
-                        under += 1;
-                        counts[nodes - 1] = under;
-                        maxes[nodes - 1] = version;
                         running = version;
                     }
                 }
@@ -330,6 +171,8 @@ pub fn read_heads(delta: &[u8]) -> Heads
             }
         }
     }
+    counts[last] = ops - first;
+    maxes[last] = running;
     Heads {
         read: DeltaRead::Good { ops, nodes },
         at: places,

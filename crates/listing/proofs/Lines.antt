@@ -23,13 +23,13 @@ use Rattle.rules.specs.declared.Refusal.the-variants.{NoPlace}
 use Rattle.rules.specs.declared.Written.the-variants.{Bytes, Refused}
 use Rattle.rules.specs.declared.DeltaRead.{DeltaRead}
 use Rattle.rules.specs.declared.DeltaRead.the-variants as read
-use Rattle.delta_read.specs.declared.Op.{Op}
-use Rattle.delta_read.specs.declared.Op.the-variants.{Node, KeyValue, SetMaxVersion}
-use Rattle.delta_read.specs.declared.OpRead.{OpRead}
-use Rattle.delta_read.specs.declared.OpRead.the-variants.{Got, Bad}
-use Rattle.delta_read.specs.Places.{opOf, opAt, Inside, widthOf}
-use Rattle.delta_read.proofs.Reading.{Within, op-within, le-or-lt}
-use Rattle.delta_read.proofs.Plain.{plain-end, plain-bad, plain-next, good-plain}
+use Rattle.delta_op.specs.declared.Op.{Op}
+use Rattle.delta_op.specs.declared.Op.the-variants.{Node, KeyValue, SetMaxVersion}
+use Rattle.delta_op.specs.declared.OpRead.{OpRead}
+use Rattle.delta_op.specs.declared.OpRead.the-variants.{Got, Bad}
+use Rattle.delta_op.specs.Places.{opOf, opAt, Inside, widthOf}
+use Rattle.delta_op.proofs.Reading.{Within, op-within, le-or-lt}
+use Rattle.delta_op.proofs.Plain.{plain-end, plain-bad, plain-next, good-plain}
 use Rattle.listing_text.proofs.Texts.{decimal-long, shown-long}
 use Rattle.listing.specs.Shapes.{goodText, lineLength, linesFrom, longestListing, refusedText}
 

@@ -8,9 +8,9 @@ use Rattle.fields.specs.Blocks.{flat}
 use Rattle.rules.specs.Sizes.{maxDelta}
 use Rattle.rules.specs.Listing.{ascii, decimal, lineFeed, opLine, statusText}
 use Rattle.rules.specs.declared.Status.{Status}
-use Rattle.delta_read.specs.declared.Op.{Op}
-use Rattle.delta_read.specs.declared.Op.the-variants.{Node, KeyValue, SetMaxVersion}
-use Rattle.delta_read.specs.Plain.{opsFrom}
+use Rattle.delta_op.specs.declared.Op.{Op}
+use Rattle.delta_op.specs.declared.Op.the-variants.{Node, KeyValue, SetMaxVersion}
+use Rattle.delta_op.specs.Plain.{opsFrom}
 use Rattle.listing_text.specs.Texts.{named, numbered}
 
 -- ---- pieces of a line

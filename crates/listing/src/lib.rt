@@ -9,11 +9,11 @@ ghost use Rattle.rules.specs.Sizes.{maxDelta, maxKey, maxValue};
 ghost use Rattle.rules.specs.Delta.{NodeOp, SetMaxVersionOp, besideTexts};
 ghost use Rattle.rules.specs.Digest.{writeBytes};
 ghost use Rattle.rules.specs.Listing.{listDelta, opLine, statusText};
-ghost use Rattle.delta_read.specs.Places.{Inside, opOf, widthOf};
+ghost use Rattle.delta_op.specs.Places.{Inside, opOf, widthOf};
 ghost use Rattle.listing_text.specs.Texts.{TextFits, putText};
 ghost use Rattle.listing.specs.Shapes.{goodText, lineLength, linesFrom, recordLine, refusedText, textsText, twoNumbers, versionText};
-use delta_read::Op;
-use delta_read::OpRead;
+use delta_op::Op;
+use delta_op::OpRead;
 use rules::DeltaRead;
 use rules::Refusal;
 use rules::Status;
@@ -82,7 +82,7 @@ fn lines_len(delta: &[u8]) -> usize
     let mut n: usize = 0;
     let mut at: usize = 0;
     while at < delta.len() {
-        let read = delta_read::read_op(delta, at);
+        let read = delta_op::read_op(delta, at);
         match read {
             OpRead::Bad(_) => {
                 return n;
@@ -197,7 +197,7 @@ fn put_lines(delta: &[u8], out: &mut [u8]) -> usize
     let mut n: usize = 0;
     let mut at: usize = 0;
     while at < delta.len() {
-        let read = delta_read::read_op(delta, at);
+        let read = delta_op::read_op(delta, at);
         match read {
             OpRead::Bad(_) => {
                 return n;

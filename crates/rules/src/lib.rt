@@ -35,13 +35,12 @@ impl Status {
     pub fn of_byte(n: usize) -> Self
         ensures { λ r. ⌜ r ≡ statusOfByte n ⌝ }
     {
-        if n == 0 {
-            return Status::Set;
+        match n {
+            0 => Status::Set,
+            1 => Status::Delete,
+            2 => Status::Ttl,
+            _ => Status::Ttl,
         }
-        if n == 1 {
-            return Status::Delete;
-        }
-        Status::Ttl
     }
 }
 

@@ -3,9 +3,8 @@ use Prim.Native.Nat.{_-_}
 use mathlib.Core.Path.{refl, sym, _∙_, subst}
 use native.Mathlib.Omega.{arith}
 use lib.ListN.{length}
-use Rattle.delta_read.proofs.Plain.{plain-end, plain-bad}
-use Rattle.delta_read.proofs.Reading.{Within, op-within}
-use Rattle.delta_read.proofs.Counted.{ends}
+use Rattle.delta_op.proofs.Plain.{plain-end, plain-bad}
+use Rattle.delta_op.proofs.Reading.{Within, ends, op-within}
 use Rattle.apply_node.proofs.Taken.{So-far, nothing-left, stops, has-none, goes}
 use borrow.Author.Needs.{needs}
 use Rattle.apply_node.proofs.take_records.Statement.{statement}

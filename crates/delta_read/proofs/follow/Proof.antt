@@ -2,11 +2,11 @@
 use Prim.Native.Nat.{ℕ}
 use mathlib.Core.Path.{_≡_}
 use mathlib.Core.List.{List}
-use Rattle.delta_read.specs.declared.Op.{Op}
-use Rattle.delta_read.specs.declared.Op.the-variants.{Node, KeyValue, SetMaxVersion}
+use Rattle.delta_op.specs.declared.Op.{Op}
+use Rattle.delta_op.specs.declared.Op.the-variants.{Node, KeyValue, SetMaxVersion}
 use Rattle.rules.specs.declared.Status.{Status}
 use Rattle.delta_read.specs.declared.Followed.{Followed}
-use Rattle.delta_read.specs.Places.{nodeFollows, recordFollows, maxFollows, followAt}
+use Rattle.delta_read.specs.Following.{nodeFollows, recordFollows, maxFollows, followAt}
 use borrow.Author.Needs.{needs}
 use Rattle.delta_read.proofs.follow.Statement.{statement}
 use Rattle.delta_read.proofs.follow.Tie as tie

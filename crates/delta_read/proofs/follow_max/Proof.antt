@@ -4,7 +4,7 @@ use mathlib.Core.Path.{_≡_, refl}
 use borrow.Author.Tests.{le-leb, lt-leb}
 use Rattle.rules.specs.declared.Refusal.the-variants.{OutOfOrder}
 use Rattle.delta_read.specs.declared.Followed.the-variants.{Under, Fault}
-use Rattle.delta_read.specs.Places.{maxFollows}
+use Rattle.delta_read.specs.Following.{maxFollows}
 use Rattle.delta_read.proofs.follow_max.Statement.{statement}
 use Rattle.delta_read.proofs.follow_max.Tie as tie
 

@@ -7,7 +7,7 @@ use borrow.Author.Tests.{lt-ltb, le-ltb}
 use Rattle.rules.specs.Table.{among}
 use Rattle.rules.specs.declared.Refusal.the-variants.{NodeTwice, TooMany}
 use Rattle.delta_read.specs.declared.Followed.the-variants.{Entered, Fault}
-use Rattle.delta_read.specs.Places.{seenOf, nodeFollows}
+use Rattle.delta_read.specs.Following.{seenOf, nodeFollows}
 use borrow.Author.Needs.{needs}
 use Rattle.delta_read.proofs.follow_node.Statement.{statement}
 use Rattle.delta_read.proofs.follow_node.Tie as tie

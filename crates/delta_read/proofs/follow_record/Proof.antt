@@ -4,7 +4,7 @@ use mathlib.Core.Path.{_≡_, refl}
 use borrow.Author.Tests.{lt-ltb, le-ltb}
 use Rattle.rules.specs.declared.Refusal.the-variants.{OutOfOrder}
 use Rattle.delta_read.specs.declared.Followed.the-variants.{Under, Fault}
-use Rattle.delta_read.specs.Places.{recordFollows}
+use Rattle.delta_read.specs.Following.{recordFollows}
 use Rattle.delta_read.proofs.follow_record.Statement.{statement}
 use Rattle.delta_read.proofs.follow_record.Tie as tie
 

@@ -7,7 +7,7 @@ use native.Mathlib.Omega.{arith}
 use lib.ListN.{getD}
 use borrow.Author.Tests.{eq-eqb, ne-eqb}
 use Rattle.rules.specs.Table.{among}
-use Rattle.delta_read.specs.Places.{seenOf}
+use Rattle.delta_read.specs.Following.{seenOf}
 use borrow.Author.Needs.{needs}
 use Rattle.delta_read.proofs.is_seen.Statement.{statement}
 use Rattle.delta_read.proofs.is_seen.Tie as tie

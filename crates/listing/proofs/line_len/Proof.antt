@@ -7,9 +7,9 @@ use Rattle.rules.specs.Sizes.{maxKey, maxValue}
 use Rattle.rules.specs.Delta.{besideTexts}
 use Rattle.rules.specs.declared.Status.{Status}
 use Rattle.rules.specs.Listing.{decimal, statusText}
-use Rattle.delta_read.specs.declared.Op.{Op}
-use Rattle.delta_read.specs.declared.Op.the-variants.{Node, KeyValue, SetMaxVersion}
-use Rattle.delta_read.specs.Places.{widthOf}
+use Rattle.delta_op.specs.declared.Op.{Op}
+use Rattle.delta_op.specs.declared.Op.the-variants.{Node, KeyValue, SetMaxVersion}
+use Rattle.delta_op.specs.Places.{widthOf}
 use Rattle.listing.specs.Shapes.{lineLength}
 use Rattle.listing.proofs.Lines.{status-long}
 use borrow.Author.Needs.{needs}

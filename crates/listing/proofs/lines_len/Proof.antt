@@ -4,10 +4,10 @@ use mathlib.Core.Path.{_≡_, ap, sym, _∙_}
 use mathlib.Core.List.{List, []}
 use native.Mathlib.Omega.{arith}
 use lib.ListN.{length, length-append}
-use Rattle.delta_read.specs.declared.Op.{Op}
-use Rattle.delta_read.specs.Places.{opOf, opAt, widthOf}
-use Rattle.delta_read.specs.declared.OpRead.the-variants.{Got}
-use Rattle.delta_read.proofs.Reading.{Within}
+use Rattle.delta_op.specs.declared.Op.{Op}
+use Rattle.delta_op.specs.Places.{opOf, opAt, widthOf}
+use Rattle.delta_op.specs.declared.OpRead.the-variants.{Got}
+use Rattle.delta_op.proofs.Reading.{Within}
 use Rattle.rules.specs.Sizes.{maxDelta}
 use Rattle.rules.specs.Listing.{opLine}
 use Rattle.listing.specs.Shapes.{lineLength, linesFrom}

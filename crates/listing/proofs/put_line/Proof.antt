@@ -6,9 +6,9 @@ use native.Mathlib.Omega.{arith}
 use Rattle.fields.specs.Parts.{part}
 use Rattle.fields.proofs.Lent.{seen}
 use Rattle.rules.specs.declared.Status.{Status}
-use Rattle.delta_read.specs.declared.Op.{Op}
-use Rattle.delta_read.specs.declared.Op.the-variants.{KeyValue}
-use Rattle.delta_read.specs.Places.{opOf, Inside}
+use Rattle.delta_op.specs.declared.Op.{Op}
+use Rattle.delta_op.specs.declared.Op.the-variants.{KeyValue}
+use Rattle.delta_op.specs.Places.{opOf, Inside}
 use Rattle.rules.specs.Listing.{ascii, decimal, statusText, opLine}
 use Rattle.listing_text.specs.Texts.{TextFits}
 use Rattle.listing_text.proofs.Texts.{Put}

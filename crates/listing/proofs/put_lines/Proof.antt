@@ -4,12 +4,12 @@ use mathlib.Core.Path.{_≡_, refl, ap, sym, _∙_, subst}
 use mathlib.Core.List.{List, [], _++_}
 use native.Mathlib.Omega.{arith}
 use lib.ListN.{length, length-append}
-use Rattle.delta_read.specs.declared.Op.{Op}
+use Rattle.delta_op.specs.declared.Op.{Op}
 use Rattle.fields.specs.Parts.{put}
 use Rattle.fields.proofs.Parts.{put-behind, put-nil}
-use Rattle.delta_read.specs.Places.{opOf, opAt}
-use Rattle.delta_read.specs.declared.OpRead.the-variants.{Got}
-use Rattle.delta_read.proofs.Reading.{Within}
+use Rattle.delta_op.specs.Places.{opOf, opAt}
+use Rattle.delta_op.specs.declared.OpRead.the-variants.{Got}
+use Rattle.delta_op.proofs.Reading.{Within}
 use Rattle.rules.specs.Listing.{opLine}
 use Rattle.listing_text.specs.Texts.{TextFits}
 use Rattle.listing_text.proofs.Texts.{Put, fits-first, put-long}

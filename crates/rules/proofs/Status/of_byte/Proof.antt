@@ -13,13 +13,16 @@ returns c = search needs
 returns-2 : tie.Need-returns-2
 returns-2 c = search needs
 
+returns-3 : tie.Need-returns-3
+returns-3 c = search needs
+
 other : (n : ℕ) → (n ≡ 0 → ⊥) → (n ≡ 1 → ⊥) → Ttl ≡ statusOfByte n
 other zero h g = absurd (h refl)
 other (suc zero) h g = absurd (g refl)
 other (suc (suc n)) h g = refl
 
-returns-3 : tie.Need-returns-3
-returns-3 c = other (c .before .before .args .n) (c .before .if1 .left) (c .if2 .left)
+returns-4 : tie.Need-returns-4
+returns-4 c = other _ (c .match .rest .0 .0 .1) (c .match .rest .0 .1)
 
 pub of-byte-spec : {M : Type 1} → statement M
-of-byte-spec = tie.close (tie.spec returns returns-2 returns-3)
+of-byte-spec = tie.close (tie.spec returns returns-2 returns-3 returns-4)

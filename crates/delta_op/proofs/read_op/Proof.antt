@@ -1,4 +1,4 @@
--- `delta_read::read_op` meets its contract: by the tag. Assumes nothing.
+-- `delta_op::read_op` meets its contract: by the tag. Assumes nothing.
 use Prim.Native.Nat.{ℕ, suc, _+_, _-_, _≤_}
 use mathlib.Core.Path.{_≡_, refl, sym, _∙_}
 use mathlib.Core.List.{List}
@@ -9,12 +9,12 @@ use Rattle.fields.specs.Numbers.{natOf}
 use Rattle.fields.specs.Parts.{part}
 use Rattle.rules.specs.Delta.{byteWidth}
 use Rattle.rules.specs.declared.Refusal.the-variants.{Cut, BadTag}
-use Rattle.delta_read.specs.declared.OpRead.{OpRead}
-use Rattle.delta_read.specs.declared.OpRead.the-variants.{Bad}
-use Rattle.delta_read.specs.Places.{taggedAt, opAt}
+use Rattle.delta_op.specs.declared.OpRead.{OpRead}
+use Rattle.delta_op.specs.declared.OpRead.the-variants.{Bad}
+use Rattle.delta_op.specs.Places.{taggedAt, opAt}
 use borrow.Author.Needs.{needs}
-use Rattle.delta_read.proofs.read_op.Statement.{statement}
-use Rattle.delta_read.proofs.read_op.Tie as tie
+use Rattle.delta_op.proofs.read_op.Statement.{statement}
+use Rattle.delta_op.proofs.read_op.Tie as tie
 
 module _ (l : List ℕ) (at : ℕ) where
   no-tag : at ≡ length l → Bad Cut ≡ opAt l at

@@ -1,4 +1,4 @@
--- `delta_read::read_key_value` meets its contract: what is read behind the key, or its refusal. Assumes nothing.
+-- `delta_op::read_key_value` meets its contract: what is read behind the key, or its refusal. Assumes nothing.
 use Prim.Native.Nat.{ℕ, _+_, _≤_}
 use mathlib.Core.Path.{_≡_, ap, sym, _∙_, subst}
 use lib.ListN.{length}
@@ -6,14 +6,14 @@ use Rattle.fields.specs.Numbers.{Bytes}
 use Rattle.rules.specs.Sizes.{maxKey}
 use Rattle.rules.specs.Delta.{byteWidth}
 use Rattle.rules.specs.declared.Refusal.{Refusal}
-use Rattle.delta_read.specs.declared.TextRead.the-variants as text
-use Rattle.delta_read.specs.declared.OpRead.{OpRead}
-use Rattle.delta_read.specs.declared.OpRead.the-variants.{Bad}
-use Rattle.delta_read.specs.Places.{textAt, onText, valueAt, keyValueAt}
-use Rattle.delta_read.proofs.Reading.{TextWithin, text-within}
+use Rattle.delta_op.specs.declared.TextRead.the-variants as text
+use Rattle.delta_op.specs.declared.OpRead.{OpRead}
+use Rattle.delta_op.specs.declared.OpRead.the-variants.{Bad}
+use Rattle.delta_op.specs.Places.{textAt, onText, valueAt, keyValueAt}
+use Rattle.delta_op.proofs.Reading.{TextWithin, text-within}
 use borrow.Author.Needs.{needs}
-use Rattle.delta_read.proofs.read_key_value.Statement.{statement}
-use Rattle.delta_read.proofs.read_key_value.Tie as tie
+use Rattle.delta_op.proofs.read_key_value.Statement.{statement}
+use Rattle.delta_op.proofs.read_key_value.Tie as tie
 
 -- the key's bytes are there
 there : (l : Bytes) (at k n : ℕ) → textAt maxKey l at ≡ text.Held k n → k + n ≤ length l

@@ -1,4 +1,4 @@
--- `delta_read::read_text` meets its contract: one law for each way out. Assumes nothing.
+-- `delta_op::read_text` meets its contract: one law for each way out. Assumes nothing.
 use Prim.Native.Nat.{ℕ, _+_, _-_, _≤_, _<_}
 use mathlib.Core.Path.{_≡_}
 use native.Mathlib.Omega.{arith}
@@ -8,11 +8,11 @@ use Rattle.fields.specs.Numbers.{Bytes, natOf}
 use Rattle.fields.specs.Parts.{part}
 use Rattle.rules.specs.Delta.{lengthWidth}
 use Rattle.rules.specs.declared.Refusal.the-variants.{Cut, TooLong}
-use Rattle.delta_read.specs.declared.TextRead.the-variants as text
-use Rattle.delta_read.specs.Places.{textAt}
+use Rattle.delta_op.specs.declared.TextRead.the-variants as text
+use Rattle.delta_op.specs.Places.{textAt}
 use borrow.Author.Needs.{needs}
-use Rattle.delta_read.proofs.read_text.Statement.{statement}
-use Rattle.delta_read.proofs.read_text.Tie as tie
+use Rattle.delta_op.proofs.read_text.Statement.{statement}
+use Rattle.delta_op.proofs.read_text.Tie as tie
 
 module _ (most : ℕ) (l : Bytes) (at : ℕ) (in-l : at ≤ length l) where
   no-length : length l - at < lengthWidth → text.Bad Cut ≡ textAt most l at

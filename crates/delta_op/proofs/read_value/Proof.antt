@@ -1,18 +1,18 @@
--- `delta_read::read_value` meets its contract: what is read behind the value, or its refusal. Assumes nothing.
+-- `delta_op::read_value` meets its contract: what is read behind the value, or its refusal. Assumes nothing.
 use Prim.Native.Nat.{ℕ, _+_, _≤_}
 use mathlib.Core.Path.{_≡_, ap, sym, _∙_, subst}
 use mathlib.Core.List.{List}
 use lib.ListN.{length}
 use Rattle.rules.specs.Sizes.{maxValue}
 use Rattle.rules.specs.declared.Refusal.{Refusal}
-use Rattle.delta_read.specs.declared.TextRead.the-variants as text
-use Rattle.delta_read.specs.declared.OpRead.{OpRead}
-use Rattle.delta_read.specs.declared.OpRead.the-variants.{Bad}
-use Rattle.delta_read.specs.Places.{textAt, onText, versionAt, valueAt}
-use Rattle.delta_read.proofs.Reading.{TextWithin, text-within}
+use Rattle.delta_op.specs.declared.TextRead.the-variants as text
+use Rattle.delta_op.specs.declared.OpRead.{OpRead}
+use Rattle.delta_op.specs.declared.OpRead.the-variants.{Bad}
+use Rattle.delta_op.specs.Places.{textAt, onText, versionAt, valueAt}
+use Rattle.delta_op.proofs.Reading.{TextWithin, text-within}
 use borrow.Author.Needs.{needs}
-use Rattle.delta_read.proofs.read_value.Statement.{statement}
-use Rattle.delta_read.proofs.read_value.Tie as tie
+use Rattle.delta_op.proofs.read_value.Statement.{statement}
+use Rattle.delta_op.proofs.read_value.Tie as tie
 
 -- the value's bytes are there
 there : (l : List ℕ) (at v m : ℕ) → textAt maxValue l at ≡ text.Held v m → v + m ≤ length l

@@ -2,28 +2,24 @@
 -- such an operation means in the words of the rules; proofs/Reading.antt shows that `opAt` is the rules' reading, field by field and refusal by
 -- refusal.
 use Prim.Native.Nat.{ℕ, zero, suc, _+_, _≤_}
-use mathlib.Core.List.{List, [], _∷_}
-use lib.ListN.{length, drop, getD}
-use lib.Dec.{leb, ltb}
+use lib.ListN.{length, drop}
+use lib.Dec.{leb}
 use Rattle.fields.specs.Choice.{pick}
 use Rattle.fields.specs.Numbers.{Bytes, natOf}
 use Rattle.fields.specs.Parts.{part}
 use Rattle.fields.specs.Widths.{offset, total}
-use Rattle.rules.specs.Sizes.{maxNodes, maxKey, maxValue}
-use Rattle.rules.specs.Table.{among}
+use Rattle.rules.specs.Sizes.{maxKey, maxValue}
 use Rattle.rules.specs.Delta as rule
 use Rattle.rules.specs.Delta.{besideTexts, byteWidth, lengthWidth, maxOpWidth, maxOpWidths, nodeOpWidth, nodeOpWidths, numberWidth, statusByte, versionWidths}
 use Rattle.rules.specs.Layout.{statusOfByte}
 use Rattle.rules.specs.declared.Status.the-variants.{Ttl}
-use Rattle.rules.specs.declared.Refusal.the-variants.{TooLong, Cut, BadTag, OutOfOrder, NodeTwice, TooMany}
-use Rattle.delta_read.specs.declared.Op.{Op}
-use Rattle.delta_read.specs.declared.Op.the-variants.{Node, KeyValue, SetMaxVersion}
-use Rattle.delta_read.specs.declared.OpRead.{OpRead}
-use Rattle.delta_read.specs.declared.OpRead.the-variants.{Got, Bad}
-use Rattle.delta_read.specs.declared.TextRead.{TextRead}
-use Rattle.delta_read.specs.declared.TextRead.the-variants as text
-use Rattle.delta_read.specs.declared.Followed.{Followed}
-use Rattle.delta_read.specs.declared.Followed.the-variants.{Entered, Under, Fault}
+use Rattle.rules.specs.declared.Refusal.the-variants.{TooLong, Cut, BadTag}
+use Rattle.delta_op.specs.declared.Op.{Op}
+use Rattle.delta_op.specs.declared.Op.the-variants.{Node, KeyValue, SetMaxVersion}
+use Rattle.delta_op.specs.declared.OpRead.{OpRead}
+use Rattle.delta_op.specs.declared.OpRead.the-variants.{Got, Bad}
+use Rattle.delta_op.specs.declared.TextRead.{TextRead}
+use Rattle.delta_op.specs.declared.TextRead.the-variants as text
 
 -- ---- what an operation with places means
 
@@ -101,29 +97,3 @@ abbrev pub widthOf : (op : Op) → ℕ
 widthOf (Node n g f) = nodeOpWidth
 widthOf (KeyValue k n v m ver st) = besideTexts + n + m
 widthOf (SetMaxVersion m) = maxOpWidth
-
--- ---- what may follow
-
--- the first n of the numbers, newest first
-unfoldable pub seenOf : (n : ℕ) (numbers : List ℕ) → List ℕ
-seenOf zero a = []
-seenOf (suc n) a = getD a n 0 ∷ seenOf n a
-
--- before any Node: 11
-abbrev pub underNodes : (nodes : ℕ) (followed : Followed) → Followed
-underNodes zero f = Fault OutOfOrder
-underNodes (suc n) f = f
-
-unfoldable pub nodeFollows : (nodes : ℕ) (seen : List ℕ) (number : ℕ) → Followed
-nodeFollows nodes a n = pick (among n (seenOf nodes a)) (Fault NodeTwice) (pick (ltb nodes maxNodes) (Entered n) (Fault TooMany))
-
-unfoldable pub recordFollows : (nodes running version : ℕ) → Followed
-recordFollows nodes running v = underNodes nodes (pick (ltb running v) (Under v) (Fault OutOfOrder))
-
-unfoldable pub maxFollows : (nodes running max : ℕ) → Followed
-maxFollows nodes running m = underNodes nodes (pick (leb running m) (Under m) (Fault OutOfOrder))
-
-unfoldable pub followAt : (nodes : ℕ) (seen : List ℕ) (running : ℕ) (op : Op) → Followed
-followAt nodes a running (Node n g f) = nodeFollows nodes a n
-followAt nodes a running (KeyValue k n v m ver st) = recordFollows nodes running ver
-followAt nodes a running (SetMaxVersion m) = maxFollows nodes running m

@@ -4,6 +4,7 @@ use Prim.Native.Nat.{ℕ, zero, suc, _-_}
 use mathlib.Core.List.{List, [], _∷_}
 use lib.ListN.{length, drop}
 use Rattle.fields.specs.Numbers.{Bytes}
+use Rattle.rules.specs.Node.{KeyValue}
 use Rattle.rules.specs.Delta as rule
 
 abbrev pub onPlain : (next : Bytes → List rule.Op) (read : rule.OpRead) → List rule.Op
@@ -17,3 +18,7 @@ plainOps (suc n) l = onPlain (λ rest. plainOps n rest) (rule.readOp l)
 
 unfoldable pub opsFrom : (delta : Bytes) (at : ℕ) → List rule.Op
 opsFrom l at = plainOps (length l - at) (drop at l)
+
+-- the records from a place up to the next Node
+unfoldable pub recsFrom : (delta : Bytes) (at : ℕ) → List KeyValue
+recsFrom s at = rule.recsOf (opsFrom s at)

@@ -1,4 +1,4 @@
--- `delta_read::read_set_max_version` meets its contract: one law for each way out. Assumes nothing.
+-- `delta_op::read_set_max_version` meets its contract: one law for each way out. Assumes nothing.
 use Prim.Native.Nat.{ℕ, _+_, _-_, _≤_, _<_}
 use mathlib.Core.Path.{_≡_}
 use native.Mathlib.Omega.{arith}
@@ -9,12 +9,12 @@ use Rattle.fields.specs.Parts.{part}
 use Rattle.fields.specs.Widths.{offset}
 use Rattle.rules.specs.Delta.{maxOpWidth, maxOpWidths, numberWidth}
 use Rattle.rules.specs.declared.Refusal.the-variants.{Cut}
-use Rattle.delta_read.specs.declared.Op.the-variants.{SetMaxVersion}
-use Rattle.delta_read.specs.declared.OpRead.the-variants.{Got, Bad}
-use Rattle.delta_read.specs.Places.{setMaxVersionAt}
+use Rattle.delta_op.specs.declared.Op.the-variants.{SetMaxVersion}
+use Rattle.delta_op.specs.declared.OpRead.the-variants.{Got, Bad}
+use Rattle.delta_op.specs.Places.{setMaxVersionAt}
 use borrow.Author.Needs.{needs}
-use Rattle.delta_read.proofs.read_set_max_version.Statement.{statement}
-use Rattle.delta_read.proofs.read_set_max_version.Tie as tie
+use Rattle.delta_op.proofs.read_set_max_version.Statement.{statement}
+use Rattle.delta_op.proofs.read_set_max_version.Tie as tie
 
 module _ (l : Bytes) (at : ℕ) (in-l : at < length l) where
   short : length l - at < maxOpWidth → Bad Cut ≡ setMaxVersionAt l at

@@ -1,4 +1,4 @@
--- `delta_read::read_version` meets its contract: one law for each way out. Assumes nothing.
+-- `delta_op::read_version` meets its contract: one law for each way out. Assumes nothing.
 use Prim.Native.Nat.{ℕ, _+_, _-_, _≤_, _<_}
 use mathlib.Core.Path.{_≡_}
 use native.Mathlib.Omega.{arith}
@@ -12,12 +12,12 @@ use Rattle.rules.specs.Layout.{statusOfByte}
 use Rattle.rules.specs.declared.Status.{Status}
 use Rattle.rules.specs.declared.Status.the-variants.{Ttl}
 use Rattle.rules.specs.declared.Refusal.the-variants.{Cut, BadTag}
-use Rattle.delta_read.specs.declared.Op.the-variants.{KeyValue}
-use Rattle.delta_read.specs.declared.OpRead.the-variants.{Got, Bad}
-use Rattle.delta_read.specs.Places.{versionAt}
+use Rattle.delta_op.specs.declared.Op.the-variants.{KeyValue}
+use Rattle.delta_op.specs.declared.OpRead.the-variants.{Got, Bad}
+use Rattle.delta_op.specs.Places.{versionAt}
 use borrow.Author.Needs.{needs}
-use Rattle.delta_read.proofs.read_version.Statement.{statement}
-use Rattle.delta_read.proofs.read_version.Tie as tie
+use Rattle.delta_op.proofs.read_version.Statement.{statement}
+use Rattle.delta_op.proofs.read_version.Tie as tie
 
 abbrev width : ℕ
 width = total versionWidths

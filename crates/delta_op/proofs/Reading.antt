@@ -2,7 +2,7 @@
 -- where the rules accept it and refused with exactly their number. An operation takes at least a byte and ends within the bytes (`op-next`).
 -- Assumes nothing.
 use Prim.Native.Nat.{ℕ, zero, suc, _+_, _≤_, _<_}
-use mathlib.Core.Path.{_≡_, refl, _∙_}
+use mathlib.Core.Path.{_≡_, refl, _∙_, subst}
 use mathlib.Core.Logic.{_⊎_, inl, inr}
 use mathlib.Core.Bool.{true, false}
 use mathlib.Core.List.{List}
@@ -22,11 +22,12 @@ use Rattle.rules.specs.Layout.{statusOfByte}
 use Rattle.rules.specs.declared.Status.{Status}
 use Rattle.rules.specs.declared.Status.the-variants.{Ttl}
 use Rattle.rules.specs.declared.Refusal.the-variants.{Cut, BadTag}
-use Rattle.delta_read.specs.declared.OpRead.{OpRead}
-use Rattle.delta_read.specs.declared.OpRead.the-variants.{Got, Bad}
-use Rattle.delta_read.specs.declared.TextRead.{TextRead}
-use Rattle.delta_read.specs.declared.TextRead.the-variants as text
-use Rattle.delta_read.specs.Places.{Inside, keyValueAt, meant, nodeAt, onText, opAt, setMaxVersionAt, taggedAt, textAt, valueAt, versionAt, widthOf}
+use Rattle.delta_op.specs.declared.Op.{Op}
+use Rattle.delta_op.specs.declared.OpRead.{OpRead}
+use Rattle.delta_op.specs.declared.OpRead.the-variants.{Got, Bad}
+use Rattle.delta_op.specs.declared.TextRead.{TextRead}
+use Rattle.delta_op.specs.declared.TextRead.the-variants as text
+use Rattle.delta_op.specs.Places.{Inside, keyValueAt, meant, nodeAt, onText, opAt, setMaxVersionAt, taggedAt, textAt, valueAt, versionAt, widthOf}
 
 -- ---- one field
 
@@ -116,7 +117,8 @@ text-read l at in-l most next next′ alike =
         | inr g ↦ rw (there lengthWidth l at h, le-leb start (length l) h, lt-leb n most g)
         | inl g ↦ elim (le-or-lt (start + n) (length l)) [
           | inr k ↦
-              rw (there lengthWidth l at h, le-leb start (length l) h, le-leb n most g, drop-drop lengthWidth at l, cut n l start h k, lt-leb (start + n) (length l) k)
+              rw (there lengthWidth l at h, le-leb start (length l) h, le-leb n most g, drop-drop lengthWidth at l)
+              (rw (cut n l start h k, lt-leb (start + n) (length l) k))
           | inl k ↦
               rw (there lengthWidth l at h, le-leb start (length l) h, le-leb n most g, drop-drop lengthWidth at l, there n l start k)
               (rw (le-leb (start + n) (length l) k, drop-drop n start l) (alike start n k))
@@ -195,7 +197,9 @@ pub read-at : (l : Bytes) (at : ℕ) → at ≤ length l → rule.readOp (drop a
 unfolding rule.readOp opAt
 read-at l at in-l = elim (le-or-lt (at + byteWidth) (length l)) [
   | inr h ↦ number-cut byteWidth l at (λ t. rule.readTagged t) in-l h ∙ rw (lt-leb (at + byteWidth) (length l) h)
-  | inl h ↦ number-there byteWidth l at (λ t. rule.readTagged t) h ∙ rw (le-leb (at + byteWidth) (length l) h) (tagged-read l at h (natOf (part at byteWidth l)))
+  | inl h ↦
+      number-there byteWidth l at (λ t. rule.readTagged t) h
+      ∙ rw (le-leb (at + byteWidth) (length l) h) (tagged-read l at h (natOf (part at byteWidth l)))
 ]
 
 -- ---- where an operation ends, and where its key and value stand
@@ -282,3 +286,7 @@ module _ (l : Bytes) where
     | inr h ↦ rw (lt-leb (at + byteWidth) (length l) h) tt
     | inl h ↦ rw (le-leb (at + byteWidth) (length l) h) (tagged-within (natOf (part at byteWidth l)) at)
   ]
+
+-- where the operation ends
+pub ends : (l : List ℕ) (at : ℕ) (o : Op) (next : ℕ) → opAt l at ≡ Got o next → (at < next) × (next ≤ length l)
+ends l at o next e = let w : Within (length l) at (Got o next) = subst (Within (length l) at) e (op-within l at) in (w .0, w .1)

@@ -12,15 +12,29 @@ use Rattle.rules.specs.Sizes.{maxDelta}
 use Rattle.rules.specs.Delta as rule
 use Rattle.rules.specs.declared.Refusal.{Refusal}
 use Rattle.rules.specs.declared.Refusal.the-variants.{TooMany}
-use Rattle.delta_read.specs.declared.Op.{Op}
-use Rattle.delta_read.specs.declared.OpRead.the-variants.{Got, Bad}
-use Rattle.delta_read.specs.Places.{opOf, meant, opAt}
-use Rattle.delta_read.specs.Plain.{onPlain, plainOps, opsFrom}
-use Rattle.delta_read.proofs.Reading.{Within, read-at, op-within, le-or-lt}
-use Rattle.delta_read.proofs.Steps.{shorter}
+use Rattle.delta_op.specs.declared.Op.{Op}
+use Rattle.delta_op.specs.declared.OpRead.{OpRead}
+use Rattle.delta_op.specs.declared.OpRead.the-variants.{Got, Bad}
+use Rattle.delta_op.specs.Places.{opOf, meant, opAt}
+use Rattle.delta_op.specs.Plain.{onPlain, plainOps, opsFrom}
+use Rattle.delta_op.proofs.Reading.{Within, read-at, op-within, le-or-lt}
+
+-- what is left behind an operation is shorter
+Shorter : ℕ → rule.OpRead → Type 0
+Shorter n (rule.Got o rest) = length rest < n
+Shorter n (rule.Bad r) = Unit {0}
+
+pub shorter : (l : List ℕ) {o : rule.Op} {rest : List ℕ} → rule.readOp l ≡ rule.Got o rest → length rest < length l
+unfolding Shorter
+shorter l {o} {rest} e = subst (Shorter (length l)) (sym (read-at l 0 (omega arith)) ∙ e) (go (opAt l 0) (op-within l 0))
+  where
+    go : (r : OpRead) → Within (length l) 0 r → Shorter (length l) (meant l r)
+    go (Got o next) w = rw (length-drop next l) (omega arith)
+    go (Bad r) w = tt
 
 -- two ways to go on that agree where an operation was read
-plain-alike : (f g : List ℕ → List rule.Op) (r : rule.OpRead) → ((o : rule.Op) (rest : List ℕ) → r ≡ rule.Got o rest → f rest ≡ g rest) → onPlain f r ≡ onPlain g r
+plain-alike : (f g : List ℕ → List rule.Op) (r : rule.OpRead) → ((o : rule.Op) (rest : List ℕ) → r ≡ rule.Got o rest → f rest ≡ g rest)
+    → onPlain f r ≡ onPlain g r
 plain-alike f g (rule.Got o rest) h = ap (λ (os : List rule.Op). o ∷ os) (h o rest refl)
 plain-alike f g (rule.Bad r) h = refl
 
@@ -86,9 +100,12 @@ good-plain-ops (suc n) at s (b ∷ l) os e = go (rule.readOp (b ∷ l)) e (λ p 
     go (rule.Bad r) e ih = let z : _≡_ {A = ℕ} 0 1 = cc in absurd (omega arith)
     go (rule.Got o rest) e ih = more (rule.follow s o) e
       where
-        more : (f : rule.Followed) → rule.onFollowed at o (λ t. rule.readOps n (at + (suc (length l) - length rest)) t rest) f ≡ rule.Good os → o ∷ plainOps n rest ≡ os
+        more : (f : rule.Followed) → rule.onFollowed at o (λ t. rule.readOps n (at + (suc (length l) - length rest)) t rest) f ≡ rule.Good os
+            → o ∷ plainOps n rest ≡ os
         more (rule.Fault r) e = let z : _≡_ {A = ℕ} 0 1 = cc in absurd (omega arith)
-        more (rule.Next t) e = last (rule.readOps n (at + (suc (length l) - length rest)) t rest) refl (behind o os (rule.readOps n (at + (suc (length l) - length rest)) t rest) e)
+        more (rule.Next t) e =
+            last (rule.readOps n (at + (suc (length l) - length rest)) t rest) refl
+            (behind o os (rule.readOps n (at + (suc (length l) - length rest)) t rest) e)
           where
             last : (x : rule.Ops) → rule.readOps n (at + (suc (length l) - length rest)) t rest ≡ x → Behind o os x → o ∷ plainOps n rest ≡ os
             last (rule.Good rest′) q b = ap (λ (xs : List rule.Op). o ∷ xs) (ih (at + (suc (length l) - length rest)) t rest rest′ q) ∙ sym b
