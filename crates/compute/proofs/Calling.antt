@@ -41,24 +41,26 @@ pub record Granted (mtu place room ties nodes : ℕ) : Type 0 where
   pub before : place ≤ room
   pub free : mtu ≤ room - place
   pub one-each : ties ≡ nodes
+  pub most : mtu ≤ maxDelta
 
 module _ (mtu place room ties nodes : ℕ) where
   pub granted : askedOf mtu place room ties nodes ≡ asked.Good → Granted mtu place room ties nodes
   unfolding askedOf
-  granted e = go (mtuFits mtu) (isFree place mtu room) refl (eqb ties nodes) refl e
+  granted e = go (mtuFits mtu) refl (isFree place mtu room) refl (eqb ties nodes) refl e
     where
-      go : (a b : Bool) → isFree place mtu room ≡ b → (c : Bool) → eqb ties nodes ≡ c
+      go : (a : Bool) → mtuFits mtu ≡ a → (b : Bool) → isFree place mtu room ≡ b → (c : Bool) → eqb ties nodes ≡ c
           → pick a (pick b (pick c asked.Good (asked.Refused BadTies)) (asked.Refused NoPlace)) (asked.Refused BadMtu) ≡ asked.Good
           → Granted mtu place room ties nodes
-      go true true f true g q =
+      go true m true f true g q =
           record {
             before = leb-true place room (and-left (leb place room) (leb mtu (room - place)) f);
             free = leb-true mtu (room - place) (and-right (leb place room) (leb mtu (room - place)) f);
             one-each = eqb-true ties nodes g;
+            most = leb-true mtu maxDelta (and-right (leb leastMtu mtu) (leb mtu maxDelta) m);
           }
-      go true true f false g q = let z : _≡_ {A = ℕ} 0 1 = cc in absurd (omega arith)
-      go true false f c g q = let z : _≡_ {A = ℕ} 0 1 = cc in absurd (omega arith)
-      go false b f c g q = let z : _≡_ {A = ℕ} 0 1 = cc in absurd (omega arith)
+      go true m true f false g q = let z : _≡_ {A = ℕ} 0 1 = cc in absurd (omega arith)
+      go true m false f c g q = let z : _≡_ {A = ℕ} 0 1 = cc in absurd (omega arith)
+      go false m b f c g q = let z : _≡_ {A = ℕ} 0 1 = cc in absurd (omega arith)
 
 -- ---- the outcome
 
@@ -97,7 +99,7 @@ module _ (excluded ties : List ℕ) (mtu place : ℕ) (digest : Bytes) (t : Tabl
       (ap (λ (d : DigestRead). onDigest excluded ties mtu place d t l) (sym f) ∙ ap on (sym e) ∙ by-numbers)
 
   -- the delta is written
-  by-delta : (ds : List NodeDigest) (rest : List ℕ) → numbers ≡ asked.Good → readDigest digest ≡ Entries ds rest
+  pub by-delta : (ds : List NodeDigest) (rest : List ℕ) → numbers ≡ asked.Good → readDigest digest ≡ Entries ds rest
       → written (deltaFor excluded ties mtu ds t) place l ≡ compute excluded ties mtu place digest t l
   by-delta ds rest e f = ap (λ (d : DigestRead). onDigest excluded ties mtu place d t l) (sym f) ∙ ap on (sym e) ∙ by-numbers
 

@@ -137,7 +137,7 @@ fn is_free(place: usize, mtu: usize, room: usize) -> bool
 }
 
 // 7, 8, 15: the MTU, the place in the datagram, a tie number for each node.
-fn ask(mtu: usize, place: usize, room: usize, ties: usize, nodes: usize) -> Asked
+pub fn ask(mtu: usize, place: usize, room: usize, ties: usize, nodes: usize) -> Asked
     ensures { λ r. ⌜ r ≡ askedOf mtu place room ties nodes ⌝ }
 {
     if mtu_fits(mtu) {

@@ -9,9 +9,11 @@ use borrow.Author.Tests.{le-leb, lt-leb}
 use Rattle.fields.specs.Blocks.{flat}
 use Rattle.fields.specs.Numbers.{bytesOf}
 use Rattle.fields.specs.Parts.{put}
+use Rattle.fields.proofs.Choice.{pick-true}
 use Rattle.fields.proofs.Numbers.{length-bytesOf}
 use Rattle.fields.proofs.Parts.{put-field}
 use Rattle.rules.specs.Given.{Gives}
+use Rattle.rules.specs.Table.{Table}
 use Rattle.rules.specs.Digest.{NodeDigest, countWidth, digestBytes, digestOf, entryBytes, entryWidth, writeDigest}
 use Rattle.rules.specs.Layout.{decode, valid}
 use Rattle.rules.specs.Lent.{fromTable, lentDigest}
@@ -27,6 +29,9 @@ digest-long ds =
     let g : length (bytesOf countWidth (length ds)) + length (flat entryBytes ds) ≡ countWidth + length ds * entryWidth = omega arith in
     length-append (bytesOf countWidth (length ds)) (flat entryBytes ds) ∙ g
 
+pub size-is : (ds : List NodeDigest) (n size : ℕ) → n ≡ length ds → size ≡ countWidth + n * entryWidth → size ≡ length (digestBytes ds)
+size-is ds n size e h = h ∙ ap (λ (k : ℕ). countWidth + k * entryWidth) e ∙ sym (digest-long ds)
+
 -- the count, and the entries behind it
 pub stored : (ds : List NodeDigest) (n : ℕ) (l a b : List ℕ) → n ≡ length ds → countWidth + length ds * entryWidth ≤ length l
     → a ≡ put 0 (bytesOf countWidth n) l → b ≡ put countWidth (flat entryBytes ds) a → b ≡ put 0 (digestBytes ds) l
@@ -36,31 +41,36 @@ stored ds n l a b e h p q =
     put-field _ (bytesOf countWidth (length ds)) (flat entryBytes ds) l a b (length-bytesOf countWidth (length ds)) (omega arith)
     (p ∙ ap (λ (m : ℕ). put 0 (bytesOf countWidth m) l) e) q
 
+-- ---- on a table
+
+module _ (excluded : List ℕ) (place : ℕ) (d : List ℕ) (t : Table) where
+  pub past-end : length d < place → Gives (writeDigest excluded place t d) (Refused NoPlace) d
+  unfolding writeDigest
+  past-end h = let g = lt-leb place (length d) h in (rw g, rw g)
+
+  module _ (n : ℕ) (is : n ≡ length (digestBytes (digestOf excluded t))) (h : place ≤ length d) where
+    pub no-room : length d - place < n → Gives (writeDigest excluded place t d) (Refused NoPlace) d
+    unfolding writeDigest
+    no-room g =
+        let b = le-leb place (length d) h in
+        let u = lt-leb n (length d - place) g in
+        (rw (b, sym is, u), rw (b, sym is, u))
+
+    pub written : (a : List ℕ) → n ≤ length d - place → a ≡ put place (digestBytes (digestOf excluded t)) d
+        → Gives (writeDigest excluded place t d) (Bytes n) a
+    unfolding writeDigest
+    written a g e =
+        let b = le-leb place (length d) h in
+        let u = le-leb n (length d - place) g in
+        (rw (b, sym is, u), rw (b, sym is, u) e)
+
+-- ---- 14
+
 module _ (excluded : List ℕ) (place : ℕ) (d l : List ℕ) where
-  pub not-a-table : valid l ≡ false → Gives (lentDigest excluded place d l) (Refused BadTable) d
+  pub bad-table : valid l ≡ false → Gives (lentDigest excluded place d l) (Refused BadTable) d
   unfolding fromTable
-  not-a-table v = (rw v, rw v)
+  bad-table v = (rw v, rw v)
 
-  module _ (v : valid l ≡ true) where
-    pub past-end : length d < place → Gives (lentDigest excluded place d l) (Refused NoPlace) d
-    unfolding fromTable writeDigest
-    past-end h = let t = lt-leb place (length d) h in (rw (v, t), rw (v, t))
-
-    module _ (n : ℕ) (is : n ≡ length (digestOf excluded (decode l))) (h : place ≤ length d) where
-      size : length (digestBytes (digestOf excluded (decode l))) ≡ countWidth + n * entryWidth
-      size = digest-long (digestOf excluded (decode l)) ∙ ap (λ (k : ℕ). countWidth + k * entryWidth) (sym is)
-
-      pub no-room : length d - place < countWidth + n * entryWidth → Gives (lentDigest excluded place d l) (Refused NoPlace) d
-      unfolding fromTable writeDigest
-      no-room g =
-          let t = le-leb place (length d) h in
-          let u = lt-leb (countWidth + n * entryWidth) (length d - place) g in
-          (rw (v, t, size, u), rw (v, t, size, u))
-
-      pub written : (a : List ℕ) → countWidth + n * entryWidth ≤ length d - place → a ≡ put place (digestBytes (digestOf excluded (decode l))) d
-          → Gives (lentDigest excluded place d l) (Bytes (countWidth + n * entryWidth)) a
-      unfolding fromTable writeDigest
-      written a g e =
-          let t = le-leb place (length d) h in
-          let u = le-leb (countWidth + n * entryWidth) (length d - place) g in
-          (rw (v, t, size, u), rw (v, t, size, u) e)
+  pub good-table : valid l ≡ true → writeDigest excluded place (decode l) d ≡ lentDigest excluded place d l
+  unfolding fromTable
+  good-table v = sym (pick-true (valid l) _ _ v)

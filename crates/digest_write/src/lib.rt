@@ -1,13 +1,14 @@
 // Writing the digest of a lent table into a lent datagram from a stated place on. Excluded nodes are left out. The bytes before the place and
 // those behind the digest stay as they are. What is written is what the definitions of `rules` say.
 ghost use mathlib.Core.Path.{_≡_};
-ghost use Prim.Native.Nat.{_≤_};
+ghost use mathlib.Core.Bool.{true};
+ghost use Prim.Native.Nat.{_+_, _*_, _≤_};
 ghost use lib.ListN.{length};
 ghost use Rattle.fields.specs.Blocks.{flat};
 ghost use Rattle.fields.specs.Parts.{put};
 ghost use Rattle.rules.specs.Given.{Gives};
-ghost use Rattle.rules.specs.Digest.{countWidth, digestBytes, digestOf, digestOfNode, entryBytes, entryWidth};
-ghost use Rattle.rules.specs.Layout.{decode, decodeNode, nodeWidth};
+ghost use Rattle.rules.specs.Digest.{countWidth, digestBytes, digestOf, digestOfNode, entryBytes, entryWidth, writeDigest};
+ghost use Rattle.rules.specs.Layout.{decode, decodeNode, nodeWidth, valid};
 ghost use Rattle.rules.specs.Lent.{lentDigest};
 ghost use Rattle.rules.specs.Sizes.{maxNodes};
 ghost use Rattle.table.specs.Fits.{LaidTable};
@@ -96,21 +97,45 @@ fn store_digest(table: &[u8], excluded: &[u64], datagram: &mut [u8], count: usiz
     write_entries(table, excluded, &mut datagram[wire::COUNT_WIDTH..]);
 }
 
-// The digest of the table, from `place` on in the datagram: 14, then 8 where the place is past the end or too few bytes are free from there.
+// The bytes of a digest of so many nodes.
+fn size_for(count: usize) -> usize
+    requires { ⌜ count ≤ maxNodes ⌝ }
+    ensures { λ r. ⌜ r ≡ countWidth + count * entryWidth ⌝ }
+{
+    wire::COUNT_WIDTH + count * wire::ENTRY_WIDTH
+}
+
+// The bytes of the digest of the table.
+pub fn digest_size(table: &[u8], excluded: &[u64]) -> usize
+    requires { ⌜ LaidTable (now table) ⌝ }
+    ensures { λ r. ⌜ r ≡ length (digestBytes (digestOf (now (excluded .entry)) (decode (now (table .entry))))) ⌝ }
+{
+    size_for(count_written(table, excluded))
+}
+
+// The digest of a table that is known to be good: 8 where the place is past the end or too few bytes are free from there, or the bytes.
+pub fn write_good(table: &[u8], excluded: &[u64], datagram: &mut [u8], place: usize) -> Written
+    requires { ⌜ valid (now table) ≡ true ⌝ }
+    ensures { λ r. ⌜ Gives (writeDigest (now (excluded .entry)) place (decode (now (table .entry))) (now (datagram .entry))) r (now (datagram .exit)) ⌝ }
+{
+    if datagram.len() < place {
+        return Written::Refused(Refusal::NoPlace);
+    }
+    let count = count_written(table, excluded);
+    let size = size_for(count);
+    if datagram.len() - place < size {
+        return Written::Refused(Refusal::NoPlace);
+    }
+    store_digest(table, excluded, &mut datagram[place..], count);
+    Written::Bytes(size)
+}
+
+// The digest of any lent table, from `place` on in the datagram: 14, then as above.
 pub fn write_digest(table: &[u8], excluded: &[u64], datagram: &mut [u8], place: usize) -> Written
     ensures { λ r. ⌜ Gives (lentDigest (now (excluded .entry)) place (now (datagram .entry)) (now (table .entry))) r (now (datagram .exit)) ⌝ }
 {
     if table_check::check_table(table) {
-        if datagram.len() < place {
-            return Written::Refused(Refusal::NoPlace);
-        }
-        let count = count_written(table, excluded);
-        let size = wire::COUNT_WIDTH + count * wire::ENTRY_WIDTH;
-        if datagram.len() - place < size {
-            return Written::Refused(Refusal::NoPlace);
-        }
-        store_digest(table, excluded, &mut datagram[place..], count);
-        return Written::Bytes(size);
+        return write_good(table, excluded, datagram, place);
     }
     Written::Refused(Refusal::BadTable)
 }

@@ -100,16 +100,12 @@ record Ran (a : Act) (w : LentWorld) : Type 0 where
 quiet-run : (g : Lending) (a : Exchanged) → allQuiet (runOf g a) ≡ true
 unfolding allQuiet
 quiet-run g (exchanged.Done ops bytes nodes) = refl
-quiet-run g (exchanged.NoDigest r) = refl
-quiet-run g (exchanged.NoDelta r) = refl
-quiet-run g (exchanged.NotApplied r at) = refl
+quiet-run g (exchanged.Refused s r) = refl
 
 -- a granted one is all its events
 granted-run : (g : Lending) (a : Exchanged) (l : List ℕ) → grantedAs a l ≡ true → runOf g a ≡ eventsOf g
 granted-run g (exchanged.Done ops bytes nodes) l e = refl
-granted-run g (exchanged.NoDigest r) l e = absurd (false≢true e)
-granted-run g (exchanged.NoDelta r) l e = absurd (false≢true e)
-granted-run g (exchanged.NotApplied r at) l e = absurd (false≢true e)
+granted-run g (exchanged.Refused s r) l e = absurd (false≢true e)
 
 module _ (w : LentWorld) where
   ran-exchange : (g : Lending) → g .clock < numbers → Ran (Exchanges g) w
@@ -133,7 +129,7 @@ module _ (w : LentWorld) where
           let granted = and-right (isNone (g .unasked) && (isNone (g .unsent) && leb leastWidth (g .mtu))) _ q in
           let all-of-it = granted-run g (came-to .answer) (came-to .lent .answers) granted in
           subst (λ (es : List Event). suc n ≤ lentWholes plainWays st (es ++ fs) w) (sym all-of-it)
-          (counted g fs n st w plain (exchange-granted g w clock ∙ granted)
+          (counted g fs n st w plain (exchange-granted g w clock granted)
           (subst (λ (es : List Event). n ≤ lentWholes plainWays NotBegun fs (lentAfter plainWays es w)) all-of-it (h NotBegun)))
       go false q fs n st h = before run fs n st w h
 

@@ -1,4 +1,4 @@
--- The datagrams of an exchange: what a call says it wrote stands at the front of its datagram, and a refused call leaves it. Assumes nothing.
+-- The datagrams of an exchange: what a call says it wrote stands at the front of its datagram. Assumes nothing.
 use Prim.Native.Nat.{ℕ, _-_, _≤_}
 use mathlib.Core.Path.{_≡_, refl}
 use mathlib.Core.Bool.{Bool, _&&_, false, true}
@@ -17,13 +17,11 @@ use Rattle.rules.specs.Delta.{deltaBytes}
 use Rattle.rules.specs.Compute.{allOps, compute, cut, deltaFor, ordered, staleNodes}
 use Rattle.rules.specs.Layout.{decode, valid}
 use Rattle.rules.specs.Lent.{fromTable, lentCompute, lentDigest}
-use Rattle.rules.specs.declared.Refusal.{Refusal}
 use Rattle.rules.specs.declared.Refusal.the-variants.{BadTable, NoPlace}
 use Rattle.rules.specs.declared.Written.{Written}
 use Rattle.rules.specs.declared.Written.the-variants as written
 use Rattle.rules.specs.declared.Computed.{Computed}
 use Rattle.rules.specs.declared.Computed.the-variants as computed
-use Rattle.rules.proofs.Refusing.{compute-refused, digest-refused}
 use Rattle.rules.proofs.Accepted.{cut-bytes}
 use Rattle.rules.proofs.OnTheWay.{Comes, comes, refuses, writes}
 
@@ -76,13 +74,3 @@ delta-within excluded ties mtu digest d l ops bytes =
         let m = cut-bytes mtu (allOps (ordered (staleNodes excluded ds ties (decode l)))) in
         let j = length-put 0 b d (omega arith) in
         omega arith
-
--- ---- a refused call leaves its datagram
-
-pub digest-leaves : (excluded d l : List ℕ) (r : Refusal) → lentDigest excluded 0 d l .answer ≡ written.Refused r → lentDigest excluded 0 d l .lent ≡ d
-digest-leaves excluded d l r =
-    from-table (λ (o : Given Written (List ℕ)). o .answer ≡ written.Refused r → o .lent ≡ d) (given (written.Refused BadTable) d) (λ t. writeDigest excluded 0 t d) l (λ e. refl) (digest-refused excluded 0 (decode l) d r)
-
-pub delta-leaves : (excluded ties : List ℕ) (mtu : ℕ) (digest d l : List ℕ) (r : Refusal) → lentCompute excluded ties mtu 0 digest d l .answer ≡ computed.Refused r → lentCompute excluded ties mtu 0 digest d l .lent ≡ d
-delta-leaves excluded ties mtu digest d l r =
-    from-table (λ (o : Given Computed (List ℕ)). o .answer ≡ computed.Refused r → o .lent ≡ d) (given (computed.Refused BadTable) d) (λ t. compute excluded ties mtu 0 digest t d) l (λ e. refl) (compute-refused excluded ties mtu 0 digest (decode l) d r)

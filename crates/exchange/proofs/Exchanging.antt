@@ -1,12 +1,15 @@
--- An exchange, case by case, and what a refusal leaves. Assumes nothing.
+-- An exchange, case by case: refused it leaves everything, accepted it is the three calls. Assumes nothing.
 use Prim.Native.Nat.{ℕ, _≤_}
-use mathlib.Core.Path.{_≡_, _∙_, ap, refl, subst}
+use mathlib.Core.Path.{_≡_, _∙_, ap, refl, subst, sym}
+use mathlib.Core.Bool.{true}
 use mathlib.Core.List.{List}
 use native.Mathlib.Omega.{arith}
 use lib.ListN.{length, take}
 use Rattle.fields.specs.Parts.{part}
 use Rattle.rules.specs.Given.{Given, Gives}
-use Rattle.rules.specs.Apply.{plainWays}
+use Rattle.rules.specs.Compute.{compute}
+use Rattle.rules.specs.Digest.{writeDigest}
+use Rattle.rules.specs.Layout.{decode, valid}
 use Rattle.rules.specs.Lent.{TableAndList, both, lentApply, lentCompute, lentDigest}
 use Rattle.rules.specs.declared.Refusal.{Refusal}
 use Rattle.rules.specs.declared.Written.{Written}
@@ -14,12 +17,17 @@ use Rattle.rules.specs.declared.Written.the-variants as written
 use Rattle.rules.specs.declared.Computed.{Computed}
 use Rattle.rules.specs.declared.Computed.the-variants as computed
 use Rattle.rules.specs.declared.Applied.{Applied}
-use Rattle.rules.specs.declared.Applied.the-variants as applied
-use Rattle.rules.proofs.Refusing.{lent-apply-refused}
-use Rattle.exchange.specs.Exchanging.{AnswerLent, Leaves, Lending, afterApplying, afterComputing, afterDigesting, allFour, allThree, exchangedAs, lentAnswer, lentExchange, withDigest}
+use Rattle.compute.proofs.Calling.{good-table}
+use Rattle.digest_write.proofs.Outcomes as Outcomes
+use Rattle.exchange.specs.Exchanging.{AnswerLent, Lending, afterApplying, afterAsking, allFour, allThree, exchangedAs, lentAnswer, lentExchange, readyFor, roomsOf, threeCalls, withDigest}
+use Rattle.exchange.specs.declared.Step.{Step}
+use Rattle.exchange.specs.declared.Step.the-variants.{Delta, Digest}
+use Rattle.exchange.specs.declared.Ready.{Ready}
+use Rattle.exchange.specs.declared.Ready.the-variants as ready
 use Rattle.exchange.specs.declared.Exchanged.{Exchanged}
 use Rattle.exchange.specs.declared.Exchanged.the-variants as exchanged
-use Rattle.exchange.proofs.Datagrams.{delta-leaves, delta-within, digest-leaves, digest-within}
+use Rattle.exchange.proofs.Datagrams.{delta-within, digest-within}
+use Rattle.exchange.proofs.Refusing.{is-ready, ready-done}
 
 -- ---- the second step and the third
 
@@ -30,10 +38,16 @@ module _ (unsent ties : List ℕ) (mtu clock : ℕ) (told delta answers publishe
   abbrev outcome : Given Exchanged AnswerLent
   outcome = lentAnswer unsent ties mtu clock told delta answers publisher follower
 
+  -- of a good table it is the rule on it
+  pub made-good : valid publisher ≡ true → (a : Computed) (d : List ℕ) → Gives (compute unsent ties mtu 0 told (decode publisher) delta) a d → Gives made a d
+  made-good v a d x =
+      let same = good-table unsent ties mtu 0 told publisher delta v in
+      (x .0 ∙ ap (λ (o : Given Computed (List ℕ)). o .answer) same, x .1 ∙ ap (λ (o : Given Computed (List ℕ)). o .lent) same)
+
   pub made-within : (ops bytes : ℕ) (d : List ℕ) → made .answer ≡ computed.Delta ops bytes → d ≡ made .lent → bytes ≤ length d
   made-within ops bytes d e q = let h = delta-within unsent ties mtu told delta publisher ops bytes e in let k = ap length q in omega arith
 
-  pub no-delta : (r : Refusal) (d : List ℕ) → made .answer ≡ computed.Refused r → d ≡ made .lent → Gives outcome (exchanged.NoDelta r) (allThree follower d answers)
+  pub no-delta : (r : Refusal) (d : List ℕ) → made .answer ≡ computed.Refused r → d ≡ made .lent → Gives outcome (exchanged.Refused Delta r) (allThree follower d answers)
   unfolding lentAnswer
   no-delta r d e q = rw e (refl, ap (λ (k : List ℕ). allThree follower k answers) q)
 
@@ -61,12 +75,18 @@ module _ (g : Lending) (publisher follower : List ℕ) where
   abbrev answer-to : List ℕ → Given Exchanged AnswerLent
   answer-to b = lentAnswer (g .unsent) (g .ties) (g .mtu) (g .clock) b (g .delta) (g .answers) publisher follower
 
+  -- of a good table it is the rule on it
+  pub told-good : valid follower ≡ true → (a : Written) (d : List ℕ) → Gives (writeDigest (g .unasked) 0 (decode follower) (g .digest)) a d → Gives told a d
+  told-good v a d x =
+      let same = Outcomes.good-table (g .unasked) 0 (g .digest) follower v in
+      (x .0 ∙ ap (λ (o : Given Written (List ℕ)). o .answer) same, x .1 ∙ ap (λ (o : Given Written (List ℕ)). o .lent) same)
+
   pub told-within : (n : ℕ) (d : List ℕ) → told .answer ≡ written.Bytes n → d ≡ told .lent → n ≤ length d
   told-within n d e q = let h = digest-within (g .unasked) (g .digest) follower n e in let k = ap length q in omega arith
 
   pub no-digest : (r : Refusal) (d : List ℕ) → told .answer ≡ written.Refused r → d ≡ told .lent
-      → Gives (lentExchange g publisher follower) (exchanged.NoDigest r) (allFour follower d (g .delta) (g .answers))
-  unfolding lentExchange
+      → Gives (threeCalls g publisher follower) (exchanged.Refused Digest r) (allFour follower d (g .delta) (g .answers))
+  unfolding threeCalls
   no-digest r d e q = rw e (refl, ap (λ (k : List ℕ). allFour follower k (g .delta) (g .answers)) q)
 
   pub answered : (n : ℕ) (d : List ℕ)
@@ -74,8 +94,8 @@ module _ (g : Lending) (publisher follower : List ℕ) where
       → d ≡ told .lent
       → (r : Exchanged) (f e m : List ℕ)
       → Gives (answer-to (take n d)) r (allThree f e m)
-      → Gives (lentExchange g publisher follower) r (allFour f d e m)
-  unfolding lentExchange part
+      → Gives (threeCalls g publisher follower) r (allFour f d e m)
+  unfolding threeCalls part
   answered n d e q r f x m a =
       let w : Gives (answer-to (take n (told .lent))) r (allThree f x m) = subst (λ (k : List ℕ). Gives (answer-to (take n k)) r (allThree f x m)) q a in
       rw e (
@@ -83,28 +103,37 @@ module _ (g : Lending) (publisher follower : List ℕ) where
         ap (λ (o : AnswerLent). allFour (o .follower) d (o .delta) (o .answers)) (w .1) ∙ ap (λ (k : List ℕ). withDigest k (answer-to (take n (told .lent))) .lent) q,
       )
 
-  -- ---- what a refusal leaves
+  -- ---- the exchange
 
-  pub refused-leaves : Leaves g follower (lentExchange g publisher follower .lent) (lentExchange g publisher follower .answer)
-  unfolding lentExchange lentAnswer
-  refused-leaves = asked (told .answer) refl
+  pub not-ready : (s : Step) (r : Refusal) → readyFor (g .unasked) (roomsOf g) publisher follower ≡ ready.No s r
+      → Gives (lentExchange g publisher follower) (exchanged.Refused s r) (allFour follower (g .digest) (g .delta) (g .answers))
+  unfolding lentExchange
+  not-ready s r e = rw e (refl, refl)
+
+  pub goes-ahead : readyFor (g .unasked) (roomsOf g) publisher follower ≡ ready.Yes → lentExchange g publisher follower ≡ threeCalls g publisher follower
+  unfolding lentExchange
+  goes-ahead e = rw e refl
+
+  -- Refused, it leaves the follower's table, both datagrams and the answers as they were.
+  pub refused-leaves : (s : Step) (r : Refusal) → lentExchange g publisher follower .answer ≡ exchanged.Refused s r
+      → lentExchange g publisher follower .lent ≡ allFour follower (g .digest) (g .delta) (g .answers)
+  unfolding lentExchange
+  refused-leaves s r = go (readyFor (g .unasked) (roomsOf g) publisher follower) refl
     where
-      made : ℕ → Given Computed (List ℕ)
-      made n = lentCompute (g .unsent) (g .ties) (g .mtu) 0 (part 0 n (told .lent)) (g .delta) publisher
+      go : (a : Ready) → readyFor (g .unasked) (roomsOf g) publisher follower ≡ a → afterAsking g publisher follower a .answer ≡ exchanged.Refused s r
+          → afterAsking g publisher follower a .lent ≡ allFour follower (g .digest) (g .delta) (g .answers)
+      go ready.Yes e f =
+          let d = sym (ready-done g publisher follower (is-ready g publisher follower e)) ∙ f in
+          let z : _≡_ {A = ℕ} 0 1 = cc in
+          absurd (omega arith)
+      go (ready.No t q) e f = refl
 
-      applying : List ℕ → Given Applied TableAndList
-      applying b = lentApply b (g .clock) (g .answers) follower
-
-      taken : (ops bytes : ℕ) (d : List ℕ) (a : Applied) → applying (part 0 bytes d) .answer ≡ a
-          → Leaves g follower (withDigest (told .lent) (afterApplying ops bytes d (applying (part 0 bytes d))) .lent) (exchangedAs ops bytes a)
-      taken ops bytes d (applied.Nodes n) e = tt
-      taken ops bytes d (applied.Refused r at) e = lent-apply-refused plainWays (part 0 bytes d) (g .clock) (g .answers) follower r at e
-
-      made-as : (n : ℕ) (a : Computed) → made n .answer ≡ a
-          → let x = withDigest (told .lent) (afterComputing (g .clock) (g .answers) follower (made n .lent) a) in Leaves g follower (x .lent) (x .answer)
-      made-as n (computed.Delta ops bytes) e = taken ops bytes (made n .lent) (applying (part 0 bytes (made n .lent)) .answer) refl
-      made-as n (computed.Refused r) e = (refl, refl, delta-leaves (g .unsent) (g .ties) (g .mtu) (part 0 n (told .lent)) (g .delta) publisher r e)
-
-      asked : (a : Written) → told .answer ≡ a → let x = afterDigesting g publisher follower (told .lent) a in Leaves g follower (x .lent) (x .answer)
-      asked (written.Bytes n) e = made-as n (made n .answer) refl
-      asked (written.Refused r) e = (refl, refl, refl, digest-leaves (g .unasked) (g .digest) follower r e)
+  -- Accepted, it is the three calls.
+  pub accepted-three : (ops bytes nodes : ℕ) → lentExchange g publisher follower .answer ≡ exchanged.Done ops bytes nodes
+      → lentExchange g publisher follower ≡ threeCalls g publisher follower
+  unfolding lentExchange
+  accepted-three ops bytes nodes = go (readyFor (g .unasked) (roomsOf g) publisher follower)
+    where
+      go : (a : Ready) → afterAsking g publisher follower a .answer ≡ exchanged.Done ops bytes nodes → afterAsking g publisher follower a ≡ threeCalls g publisher follower
+      go ready.Yes f = refl
+      go (ready.No t q) f = let z : _≡_ {A = ℕ} 0 1 = cc in absurd (omega arith)

@@ -1,6 +1,9 @@
 pub mod LentWorld
 pub mod LentDemand3
 pub mod Datagrams
+pub mod Asking
+pub mod FewNodes
+pub mod Refusing
 pub mod Exchanging
 pub mod Runs
 pub mod Closing

@@ -1,7 +1,7 @@
 -- A call of `exchange::exchange` is a run of the world of lent bytes, refused or not. Nothing is assumed but that its clock is a number of eight bytes.
 use Prim.Native.Nat.{ℕ, _<_}
-use mathlib.Core.Path.{_≡_, _∙_, ap, refl}
-use mathlib.Core.Bool.{Bool, _&&_, false, true}
+use mathlib.Core.Path.{_≡_, _∙_, ap, refl, subst, sym}
+use mathlib.Core.Bool.{Bool, _&&_, false, false≢true, true}
 use mathlib.Core.List.{List, [], _∷_}
 use lib.Dec.{ltb}
 use borrow.Author.Tests.{lt-ltb}
@@ -11,7 +11,7 @@ use Rattle.rules.specs.Given.{Given}
 use Rattle.rules.specs.Sizes.{numbers}
 use Rattle.rules.specs.Apply.{plainWays}
 use Rattle.rules.specs.Lent.{lentApply, lentCompute, lentDigest}
-use Rattle.rules.specs.World.{Applying, Computing, DeltaSent, DigestSent, Digesting, Event, afterDelta, afterDigest}
+use Rattle.rules.specs.World.{Applying, Computing, DeltaSent, DigestSent, Digesting, Event, Exchange, afterDelta, afterDigest}
 use Rattle.rules.specs.Demand3.{noRoom, wroteDelta, wroteDigest}
 use Rattle.rules.specs.declared.Written.{Written}
 use Rattle.rules.specs.declared.Written.the-variants as written
@@ -20,9 +20,13 @@ use Rattle.rules.specs.declared.Computed.the-variants as computed
 use Rattle.rules.specs.declared.Applied.{Applied}
 use Rattle.rules.specs.declared.Applied.the-variants as applied
 use Rattle.exchange.specs.LentWorld.{LentWorld, lentAfter, lentCalls, lentHappen, onWay}
-use Rattle.exchange.specs.Exchanging.{Lending, afterComputing, afterDigesting, lentAnswer, lentExchange, exchangedAs, withDigest}
+use Rattle.exchange.specs.Exchanging.{ExchangeLent, Lending, afterAsking, afterComputing, afterDigesting, exchangedAs, lentAnswer, lentExchange, readyFor, roomsOf, threeCalls, withDigest}
+use Rattle.exchange.specs.declared.Exchanged.{Exchanged}
+use Rattle.exchange.specs.declared.Ready.{Ready}
+use Rattle.exchange.specs.declared.Ready.the-variants as ready
 use Rattle.exchange.specs.LentDemand3.{lentGranted}
 use Rattle.exchange.specs.Runs.{IsRun, eventsOf, exchangedTo, grantedAs, isGranted, runOf}
+use Rattle.exchange.proofs.Refusing.{digest-told, is-ready, ready-done}
 
 -- the calls of a run are all granted
 unfoldable pub allLentGranted : List Event → LentWorld → Bool
@@ -75,33 +79,42 @@ module _ (g : Lending) (w : LentWorld) (clock : g .clock < numbers) where
 
   -- ---- the run
 
-  -- applying's answer does not change which run it is
-  run-taken : (ops bytes : ℕ) (a : Applied) → runOf g (exchangedAs ops bytes a) ≡ eventsOf g
-  run-taken ops bytes (applied.Nodes n) = refl
-  run-taken ops bytes (applied.Refused r at) = refl
+  -- The three calls are the three events, once there is a digest.
+  three-run : (n : ℕ) → told .answer ≡ written.Bytes n → (x : Exchange) × (lentAfter plainWays (eventsOf g) w ≡ exchangedTo (threeCalls g (w .publisher) (w .follower) .lent .follower) x w)
+  unfolding threeCalls lentAnswer
+  three-run n e = subst (λ (a : Written). Run (afterDigesting g (w .publisher) (w .follower) (told .lent) a)) (sym e) (answered (made b .answer) refl)
+    where
+      b : List ℕ
+      b = part 0 n (told .lent)
+
+      Run : Given Exchanged ExchangeLent → Type 0
+      Run o = (x : Exchange) × (lentAfter plainWays (eventsOf g) w ≡ exchangedTo (o .lent .follower) x w)
+
+      answered : (a : Computed) → made b .answer ≡ a → Run (withDigest (told .lent) (afterComputing (g .clock) (g .answers) (w .follower) (made b .lent) a))
+      answered (computed.Delta ops bytes) q = let d = part 0 bytes (made b .lent) in (DeltaSent d, three b _ _ (first n e) (second b _ q) (third d))
+      answered (computed.Refused r) q = (DigestSent b, three b _ _ (first n e) (second b _ q) (third-none b))
+
+  abbrev is-asked : Ready
+  is-asked = readyFor (g .unasked) (roomsOf g) (w .publisher) (w .follower)
 
   -- Whatever the call answers, it is this run.
   pub exchange-run : IsRun g w (lentExchange g (w .publisher) (w .follower))
-  unfolding lentExchange lentAnswer lentAfter
-  exchange-run = asked (told .answer) refl
+  unfolding lentExchange lentAfter
+  exchange-run = go is-asked refl
     where
-      answered : (n : ℕ) → told .answer ≡ written.Bytes n → let b = part 0 n (told .lent) in (a : Computed) → made b .answer ≡ a → IsRun g w (withDigest (told .lent) (afterComputing (g .clock) (g .answers) (w .follower) (made b .lent) a))
-      answered n e (computed.Delta ops bytes) q =
-          let b = part 0 n (told .lent) in
-          let d = part 0 bytes (made b .lent) in
-          (DeltaSent d, ap (λ (es : List Event). lentAfter plainWays es w) (run-taken ops bytes (lentApply d (g .clock) (g .answers) (w .follower) .answer)) ∙ three b _ _ (first n e) (second b _ q) (third d))
-      answered n e (computed.Refused r) q = let b = part 0 n (told .lent) in (DigestSent b, three b _ _ (first n e) (second b _ q) (third-none b))
-
-      asked : (a : Written) → told .answer ≡ a → IsRun g w (afterDigesting g (w .publisher) (w .follower) (told .lent) a)
-      asked (written.Bytes n) e = answered n e (made (part 0 n (told .lent)) .answer) refl
-      asked (written.Refused r) e = (w .exchange, refl)
+      go : (a : Ready) → is-asked ≡ a → IsRun g w (afterAsking g (w .publisher) (w .follower) a)
+      go ready.Yes e =
+          let r = is-ready g (w .publisher) (w .follower) e in
+          let run = three-run _ (ap (λ (o : Given Written (List ℕ)). o .answer) (digest-told g (w .publisher) (w .follower) r)) in
+          (run .0, ap (λ (a : Exchanged). lentAfter plainWays (runOf g a) w) (ready-done g (w .publisher) (w .follower) r) ∙ run .1)
+      go (ready.No s r) e = (w .exchange, refl)
 
   -- ---- nothing refused
 
-  -- The call grants what its three events grant.
-  pub exchange-granted : allLentGranted (eventsOf g) w ≡ isGranted (lentExchange g (w .publisher) (w .follower))
-  unfolding lentExchange lentAnswer allLentGranted
-  exchange-granted = asked (told .answer) refl
+  -- The three calls grant what the three events grant.
+  three-granted : allLentGranted (eventsOf g) w ≡ isGranted (threeCalls g (w .publisher) (w .follower))
+  unfolding threeCalls lentAnswer allLentGranted
+  three-granted = asked (told .answer) refl
     where
       -- of an exchange that goes on with a digest of these bytes
       rest : LentWorld → Bool
@@ -133,3 +146,12 @@ module _ (g : Lending) (w : LentWorld) (clock : g .clock < numbers) where
           ∙ ap rest (first n e)
           ∙ answered (part 0 n (told .lent)) (made (part 0 n (told .lent)) .answer) refl
       asked (written.Refused r) e = ap (λ (a : Written). wroteDigest a && rest (lentHappen plainWays asking w)) e
+
+  -- What the call grants, its three events grant.
+  pub exchange-granted : isGranted (lentExchange g (w .publisher) (w .follower)) ≡ true → allLentGranted (eventsOf g) w ≡ true
+  unfolding lentExchange
+  exchange-granted = go is-asked
+    where
+      go : (a : Ready) → isGranted (afterAsking g (w .publisher) (w .follower) a) ≡ true → allLentGranted (eventsOf g) w ≡ true
+      go ready.Yes e = three-granted ∙ e
+      go (ready.No s r) e = absurd (false≢true e)

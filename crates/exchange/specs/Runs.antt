@@ -29,12 +29,10 @@ eventsOf g =
     ∷ Applying (g .clock) (g .answers)
     ∷ []
 
--- where there is no digest, nothing has happened
+-- where it is refused, nothing has happened
 abbrev pub runOf : (lending : Lending) (answer : Exchanged) → List Event
 runOf g (exchanged.Done ops bytes nodes) = eventsOf g
-runOf g (exchanged.NoDigest r) = []
-runOf g (exchanged.NoDelta r) = eventsOf g
-runOf g (exchanged.NotApplied r at) = eventsOf g
+runOf g (exchanged.Refused s r) = []
 
 -- the world after a call: only the follower's bytes and what is on its way may be others
 abbrev pub exchangedTo : (follower : Bytes) (exchange : Exchange) (world : LentWorld) → LentWorld
@@ -47,9 +45,7 @@ IsRun g w o = (x : Exchange) × (lentAfter plainWays (runOf g (o .answer)) w ≡
 -- nothing refused, read off the answer: no number, and no node answers Room
 abbrev pub grantedAs : (answer : Exchanged) (answers : Bytes) → Bool
 grantedAs (exchanged.Done ops bytes nodes) l = noRoom (applied.Nodes nodes) l
-grantedAs (exchanged.NoDigest r) l = false
-grantedAs (exchanged.NoDelta r) l = false
-grantedAs (exchanged.NotApplied r at) l = false
+grantedAs (exchanged.Refused s r) l = false
 
 abbrev pub isGranted : (outcome : Given Exchanged ExchangeLent) → Bool
 isGranted o = grantedAs (o .answer) (o .lent .answers)

@@ -1,11 +1,24 @@
 // One whole exchange between two lent tables: the follower's digest, the publisher's delta for it, the delta applied. Any bytes may be lent.
 // What happens to the two tables in any run of calls is demand 3: specs/LentDemand3.antt.
+use compute::Asked;
 use rules::Applied;
 use rules::Computed;
 use rules::Refusal;
 use rules::Written;
+use table::layout;
+ghost use mathlib.Core.Bool.{true};
+ghost use mathlib.Core.Path.{_≡_};
 ghost use Rattle.rules.specs.Given.{Gives};
-ghost use Rattle.exchange.specs.Exchanging.{allThree, lentAnswer, allFour, lending, lentExchange};
+ghost use Rattle.rules.specs.Layout.{decode, valid};
+ghost use Rattle.table.specs.Fits.{LaidTable};
+ghost use Rattle.exchange.specs.Exchanging.{allFour, allThree, lending, lentAnswer, lentExchange, readyFor, readyOn, rooms, threeCalls};
+
+// The step of an exchange that a refusal belongs to: the follower's digest, the publisher's delta, applying it to the follower.
+pub enum Step {
+    Digest,
+    Delta,
+    Applying,
+}
 
 // What an exchange came to.
 pub enum Exchanged {
@@ -15,16 +28,98 @@ pub enum Exchanged {
         bytes: usize,
         nodes: usize,
     },
-    // The follower's digest was refused.
-    NoDigest(Refusal),
-    // The publisher's delta was refused.
-    NoDelta(Refusal),
-    // Applying was refused, at this place of the delta.
-    NotApplied {
+    // Nothing was written.
+    Refused {
+        step: Step,
         why: Refusal,
-        at: usize,
     },
 }
+
+// Whether an exchange can go ahead.
+pub enum Ready {
+    Yes,
+    No { step: Step, why: Refusal },
+}
+
+// ---- before anything is written
+
+// Of good tables, an MTU, so many ties, bytes of the two datagrams and places for answers: 8 for the digest, 7, 8, 15 for the delta, 8 for the answers.
+// A place for each node of the publisher's table is enough, as the delta has no more.
+fn ask_rooms(
+    publisher: &[u8],
+    follower: &[u8],
+    unasked: &[u64],
+    mtu: usize,
+    ties: usize,
+    digest: usize,
+    delta: usize,
+    answers: usize,
+) -> Ready
+    requires { ⌜ LaidTable (now publisher) × LaidTable (now follower) ⌝ }
+    ensures { λ r. ⌜ r ≡ readyOn (now (unasked .entry)) (rooms mtu ties digest delta answers)
+        (decode (now (publisher .entry))) (decode (now (follower .entry))) ⌝ }
+{
+    if digest < digest_write::digest_size(follower, unasked) {
+        return Ready::No {
+            step: Step::Digest,
+            why: Refusal::NoPlace,
+        };
+    }
+    let nodes = fields::byte_at(publisher, layout::NODE_COUNT);
+    let asked = compute::ask(mtu, 0, delta, ties, nodes);
+    if let Asked::Refused(why) = asked {
+        return Ready::No {
+            step: Step::Delta,
+            why,
+        };
+    }
+    if answers < nodes {
+        return Ready::No {
+            step: Step::Applying,
+            why: Refusal::NoPlace,
+        };
+    }
+    Ready::Yes
+}
+
+// Of any bytes: 14 first, of the follower's table and of the publisher's.
+fn ask(
+    publisher: &[u8],
+    follower: &[u8],
+    unasked: &[u64],
+    mtu: usize,
+    ties: usize,
+    digest: usize,
+    delta: usize,
+    answers: usize,
+) -> Ready
+    ensures { λ r. ⌜ r ≡ readyFor (now (unasked .entry)) (rooms mtu ties digest delta answers) (now (publisher .entry)) (now (follower .entry)) ⌝ }
+{
+    if table_check::check_table(follower) {
+        if table_check::check_table(publisher) {
+            return ask_rooms(
+                publisher,
+                follower,
+                unasked,
+                mtu,
+                ties,
+                digest,
+                delta,
+                answers,
+            );
+        }
+        return Ready::No {
+            step: Step::Delta,
+            why: Refusal::BadTable,
+        };
+    }
+    Ready::No {
+        step: Step::Digest,
+        why: Refusal::BadTable,
+    }
+}
+
+// ---- the three calls
 
 // The publisher's delta for a digest, applied to the follower's table.
 fn answer_digest(
@@ -38,27 +133,75 @@ fn answer_digest(
     delta: &mut [u8],
     answers: &mut [u8],
 ) -> Exchanged
+    requires { ⌜ valid (now publisher) ≡ true ⌝ }
     ensures { λ r. ⌜ Gives
         (lentAnswer (now (unsent .entry)) (now (ties .entry)) mtu clock
         (now (told .entry)) (now (delta .entry)) (now (answers .entry)) (now (publisher .entry)) (now (follower .entry)))
         r (allThree (now (follower .exit)) (now (delta .exit)) (now (answers .exit))) ⌝ }
 {
-    let computed = compute::compute(publisher, told, mtu, unsent, ties, delta, 0);
+    let computed = compute::compute_good(publisher, told, mtu, unsent, ties, delta, 0);
     match computed {
         Computed::Delta { ops, bytes } => {
             let applied = apply::apply(follower, &delta[..bytes], clock, answers);
             match applied {
                 Applied::Nodes(nodes) => Exchanged::Done { ops, bytes, nodes },
-                Applied::Refused { why, at } => Exchanged::NotApplied { why, at },
+                Applied::Refused { why, at: _ } => Exchanged::Refused {
+                    step: Step::Applying,
+                    why,
+                },
             }
         }
-        Computed::Refused(why) => Exchanged::NoDelta(why),
+        Computed::Refused(why) => Exchanged::Refused {
+            step: Step::Delta,
+            why,
+        },
     }
 }
 
-// One exchange. The digest leaves out the nodes `unasked`, the delta the nodes `unsent`; each stands at the front of its datagram. The first step that is
-// refused ends it, with the number that its call gives, and leaves both tables and the answers as they were. Datagrams that the steps before it wrote
-// stay written: the digest's where the delta is refused, both where applying is.
+// The three calls on two good tables. Where the exchange is ready none of them is refused (proofs/Refusing).
+fn exchange_good(
+    publisher: &[u8],
+    follower: &mut [u8],
+    mtu: usize,
+    unasked: &[u64],
+    unsent: &[u64],
+    ties: &[u64],
+    clock: u64,
+    digest: &mut [u8],
+    delta: &mut [u8],
+    answers: &mut [u8],
+) -> Exchanged
+    requires { ⌜ (valid (now publisher) ≡ true) × (valid (now follower) ≡ true) ⌝ }
+    ensures { λ r. ⌜ Gives
+        (threeCalls
+        (lending (now (unasked .entry)) (now (unsent .entry)) (now (ties .entry)) mtu clock
+        (now (digest .entry)) (now (delta .entry)) (now (answers .entry)))
+        (now (publisher .entry)) (now (follower .entry)))
+        r (allFour (now (follower .exit)) (now (digest .exit)) (now (delta .exit)) (now (answers .exit))) ⌝ }
+{
+    let written = digest_write::write_good(follower, unasked, digest, 0);
+    match written {
+        Written::Bytes(n) => answer_digest(
+            publisher,
+            follower,
+            &digest[..n],
+            mtu,
+            unsent,
+            ties,
+            clock,
+            delta,
+            answers,
+        ),
+        Written::Refused(why) => Exchanged::Refused {
+            step: Step::Digest,
+            why,
+        },
+    }
+}
+
+// One exchange. The digest leaves out the nodes `unasked`, the delta the nodes `unsent`; each stands at the front of its datagram. It is refused before
+// anything is written, in this order: 14 of the follower's table, 14 of the publisher's, 8 for the digest's bytes, 7, 8 for the delta's bytes, 15, 8 for
+// the answers. Both tables, both datagrams and the answers are then as they were.
 pub fn exchange(
     publisher: &[u8],
     follower: &mut [u8],
@@ -78,19 +221,29 @@ pub fn exchange(
         (now (publisher .entry)) (now (follower .entry)))
         r (allFour (now (follower .exit)) (now (digest .exit)) (now (delta .exit)) (now (answers .exit))) ⌝ }
 {
-    let written = digest_write::write_digest(follower, unasked, digest, 0);
-    match written {
-        Written::Bytes(n) => answer_digest(
+    let asked = ask(
+        publisher,
+        follower,
+        unasked,
+        mtu,
+        ties.len(),
+        digest.len(),
+        delta.len(),
+        answers.len(),
+    );
+    match asked {
+        Ready::Yes => exchange_good(
             publisher,
             follower,
-            &digest[..n],
             mtu,
+            unasked,
             unsent,
             ties,
             clock,
+            digest,
             delta,
             answers,
         ),
-        Written::Refused(why) => Exchanged::NoDigest(why),
+        Ready::No { step, why } => Exchanged::Refused { step, why },
     }
 }

@@ -2,6 +2,7 @@
 // max is equal. It takes no more exchanges than the first hub holds records and nodes, as demand 3 says. On the second day readings are deleted and
 // removed before the second hub hears of it: they do not come back.
 use exchange::Exchanged;
+use exchange::Step;
 use inspect::Count;
 use inspect::NodeHeader;
 use inspect::RecordRead;
@@ -172,9 +173,13 @@ fn say_answers(answers: &[u8], n: usize) {
     say(b"\n");
 }
 
-fn say_refused(step: &[u8], r: Refusal) {
-    say(step);
-    say_number(b" refused with ", r.number());
+fn say_refused(step: Step, why: Refusal) {
+    match step {
+        Step::Digest => say(b": the digest is"),
+        Step::Delta => say(b": the delta is"),
+        Step::Applying => say(b": applying is"),
+    }
+    say_number(b" refused with ", why.number());
     say(b"\n");
 }
 
@@ -187,9 +192,7 @@ fn say_exchange(i: u64, e: Exchanged, answers: &[u8]) {
             say(b" answers:");
             say_answers(answers, nodes);
         }
-        Exchanged::NoDigest(r) => say_refused(b": the digest is", r),
-        Exchanged::NoDelta(r) => say_refused(b": the delta is", r),
-        Exchanged::NotApplied { why, at: _ } => say_refused(b": applying is", why),
+        Exchanged::Refused { step, why } => say_refused(step, why),
     }
 }
 

@@ -5,27 +5,35 @@ use lib.ListN.{length}
 use lib.Seq.{length-take-le}
 use Rattle.rules.specs.declared.Applied.{Applied}
 use Rattle.rules.specs.Given.{Gives}
+use Rattle.rules.specs.Lent.{lentCompute}
 use Rattle.exchange.specs.Exchanging.{allThree, exchangedAs, lentAnswer}
-use Rattle.exchange.proofs.Exchanging.{delta-taken, made-within, no-delta}
+use Rattle.exchange.proofs.Exchanging.{delta-taken, made-good, made-within, no-delta}
 use borrow.Author.Needs.{needs}
 use Rattle.exchange.proofs.answer_digest.Statement.{statement}
 use Rattle.exchange.proofs.answer_digest.Tie as tie
 
-abbrev entry : tie.After-compute → tie.Start
+abbrev entry : tie.After-compute-good → tie.Start
 entry c = c .before .before .before .before .before .before .before .before .before
 
-compute-requires : tie.Need-compute-requires
-compute-requires c κs = search needs
+compute-good-requires : tie.Need-compute-good-requires
+compute-good-requires c κs = c .before .before .before .before .before .before .before .before .pre
+
+-- what computing gives
+made-so : (c : tie.After-compute-good) → let a = entry c .args in
+    Gives (lentCompute (a .unsent .now) (a .ties .now) (a .mtu) 0 (a .told .now) (a .delta .now) (a .publisher .now)) (c .compute-good .result) (c .compute-good .last .1 .1 .1 .1 .1 .0)
+made-so c =
+    let a = entry c .args in
+    made-good (a .unsent .now) (a .ties .now) (a .mtu) (a .clock) (a .told .now) (a .delta .now) (a .answers .now) (a .publisher .now) (a .follower .now) (entry c .pre) _ _ (c .compute-good .ensures)
 
 enum-known-computed : tie.Need-enum-known-computed
 enum-known-computed c = search needs
 
 -- the delta stands in its datagram
-within : (c : tie.After-computed) → c .computed .given .0 .1 .0 ≤ length (c .before .before .before .before .compute .last .1 .1 .1 .1 .1 .0)
+within : (c : tie.After-computed) → c .computed .given .0 .1 .0 ≤ length (c .before .before .before .before .compute-good .last .1 .1 .1 .1 .1 .0)
 within c =
     let call = c .before .before .before .before in
     let a = entry call .args in
-    made-within (a .unsent .now) (a .ties .now) (a .mtu) (a .clock) (a .told .now) (a .delta .now) (a .answers .now) (a .publisher .now) (a .follower .now) _ _ _ (sym (call .compute .ensures .0) ∙ c .computed .given .1) (call .compute .ensures .1)
+    made-within (a .unsent .now) (a .ties .now) (a .mtu) (a .clock) (a .told .now) (a .delta .now) (a .answers .now) (a .publisher .now) (a .follower .now) _ _ _ (sym (made-so call .0) ∙ c .computed .given .1) (made-so call .1)
 
 slice-reshare-prefix-apply : tie.Need-slice-reshare-prefix-apply
 slice-reshare-prefix-apply c = within (c .before .before)
@@ -37,16 +45,16 @@ slice-aggregate-apply c = sym (length-take-le _ _ (within (c .before .before .be
 abbrev made : tie.After-apply → tie.After-computed
 made c = c .before .before .before .before .before
 
-abbrev asked : tie.After-apply → tie.After-compute
+abbrev asked : tie.After-apply → tie.After-compute-good
 asked c = made c .before .before .before .before
 
 taken : (c : tie.After-apply) (r : Applied) → c .apply .result ≡ r → let a = entry (asked c) .args in
     Gives (lentAnswer (a .unsent .now) (a .ties .now) (a .mtu) (a .clock) (a .told .now) (a .delta .now) (a .answers .now) (a .publisher .now) (a .follower .now))
     (exchangedAs (made c .computed .given .0 .0) (made c .computed .given .0 .1 .0) r)
-    (allThree (c .apply .last .0) (asked c .compute .last .1 .1 .1 .1 .1 .0) (c .apply .last .1 .1 .1 .0))
+    (allThree (c .apply .last .0) (asked c .compute-good .last .1 .1 .1 .1 .1 .0) (c .apply .last .1 .1 .1 .0))
 taken c r e =
     let a = entry (asked c) .args in
-    let call = asked c .compute .ensures in
+    let call = made-so (asked c) in
     delta-taken (a .unsent .now) (a .ties .now) (a .mtu) (a .clock) (a .told .now) (a .delta .now) (a .answers .now) (a .publisher .now) (a .follower .now) _ _ _ (sym (call .0) ∙ made c .computed .given .1) (call .1) r _ _ (sym e ∙ c .apply .ensures .0, c .apply .ensures .1)
 
 apply-requires : tie.Need-apply-requires
@@ -92,13 +100,13 @@ returns-3 : tie.Need-returns-3
 returns-3 c =
     let call = c .before .before .before .before .before in
     let a = entry call .args in
-    no-delta (a .unsent .now) (a .ties .now) (a .mtu) (a .clock) (a .told .now) (a .delta .now) (a .answers .now) (a .publisher .now) (a .follower .now) _ _ (sym (call .compute .ensures .0) ∙ c .before .computed2 .given .1) (call .compute .ensures .1)
+    no-delta (a .unsent .now) (a .ties .now) (a .mtu) (a .clock) (a .told .now) (a .delta .now) (a .answers .now) (a .publisher .now) (a .follower .now) _ _ (sym (made-so call .0) ∙ c .before .computed2 .given .1) (made-so call .1)
 
 pub answer-digest-spec : {M : Type 1} → statement M
 answer-digest-spec =
     tie.close
     (tie.spec
-    compute-requires
+    compute-good-requires
     enum-known-computed
     slice-reshare-prefix-apply
     slice-aggregate-apply

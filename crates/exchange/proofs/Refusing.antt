@@ -1,0 +1,128 @@
+-- An exchange that is ready is not refused: the digest fits, the publisher reads it and writes a delta, the follower reads that and has a place for each answer.
+-- Assumes nothing.
+use Prim.Native.Nat.{ℕ, _-_, _≤_}
+use mathlib.Core.Path.{_≡_, _∙_, ap, refl, sym}
+use mathlib.Core.Bool.{Bool, false, true}
+use mathlib.Core.List.{List, [], append-nil}
+use native.Mathlib.Omega.{arith}
+use lib.Dec.{leb}
+use lib.ListN.{length}
+use borrow.Author.Tests.{le-leb, leb-true}
+use Rattle.fields.specs.Choice.{pick}
+use Rattle.fields.specs.Parts.{part, put}
+use Rattle.fields.proofs.Parts.{part-put}
+use Rattle.rules.specs.Given.{Given, given}
+use Rattle.rules.specs.Digest.{Entries, NodeDigest, digestBytes, digestOf, readDigest, writeDigest}
+use Rattle.rules.specs.Delta.{Good, Op, deltaBytes, partsOf, readDelta}
+use Rattle.rules.specs.Compute.{deltaFor, written}
+use Rattle.rules.specs.Apply.{apply}
+use Rattle.rules.specs.Layout.{decode, valid}
+use Rattle.rules.specs.Lent.{fromTable, lentApply, lentApplyAs, lentCompute, lentDigest}
+use Rattle.rules.specs.declared.Refusal.the-variants.{BadTable, NoPlace}
+use Rattle.rules.specs.declared.Written.{Written}
+use Rattle.rules.specs.declared.Written.the-variants as written-as
+use Rattle.rules.specs.declared.Computed.{Computed}
+use Rattle.rules.specs.declared.Applied.the-variants as applied
+use Rattle.rules.proofs.Accepted.{read-computed, within-mtu}
+use Rattle.rules.proofs.Digests.{read-digest}
+use Rattle.table.proofs.Tables.{valid-obeys}
+use Rattle.compute.specs.Asking.{askedOf}
+use Rattle.compute.specs.declared.Asked.{Asked}
+use Rattle.compute.specs.declared.Asked.the-variants as asked
+use Rattle.compute.proofs.Calling.{by-delta, good-table, granted}
+use Rattle.exchange.specs.Exchanging.{Lending, afterComputing, afterDigesting, exchangedAs, lentAnswer, readyFor, readyOn, roomsOf, threeCalls, unlessRefused}
+use Rattle.exchange.specs.declared.Step.the-variants.{Applying, Delta, Digest}
+use Rattle.exchange.specs.declared.Ready.the-variants as ready
+use Rattle.exchange.specs.declared.Exchanged.the-variants as exchanged
+use Rattle.exchange.proofs.FewNodes.{few-parts}
+
+-- ---- what was asked
+
+pub record IsReady (g : Lending) (publisher follower : List ℕ) : Type 0 where
+  pub follower-valid : valid follower ≡ true
+  pub publisher-valid : valid publisher ≡ true
+  pub digest-fits : length (digestBytes (digestOf (g .unasked) (decode follower))) ≤ length (g .digest)
+  pub numbers-good : askedOf (g .mtu) 0 (length (g .delta)) (length (g .ties)) (length (decode publisher)) ≡ asked.Good
+  pub places : length (decode publisher) ≤ length (g .answers)
+
+pub is-ready : (g : Lending) (publisher follower : List ℕ) → readyFor (g .unasked) (roomsOf g) publisher follower ≡ ready.Yes → IsReady g publisher follower
+unfolding readyFor readyOn
+is-ready g publisher follower =
+    go (valid follower) refl (valid publisher) refl (leb (length b) (length (g .digest))) refl
+    (askedOf (g .mtu) 0 (length (g .delta)) (length (g .ties)) (length (decode publisher))) refl
+    (leb (length (decode publisher)) (length (g .answers))) refl
+  where
+    b : List ℕ
+    b = digestBytes (digestOf (g .unasked) (decode follower))
+
+    go : (u : Bool) → valid follower ≡ u
+        → (v : Bool) → valid publisher ≡ v
+        → (d : Bool) → leb (length b) (length (g .digest)) ≡ d
+        → (n : Asked) → askedOf (g .mtu) 0 (length (g .delta)) (length (g .ties)) (length (decode publisher)) ≡ n
+        → (p : Bool) → leb (length (decode publisher)) (length (g .answers)) ≡ p
+        → pick u (pick v (pick d (unlessRefused n (pick p ready.Yes (ready.No Applying NoPlace))) (ready.No Digest NoPlace)) (ready.No Delta BadTable)) (ready.No Digest BadTable) ≡ ready.Yes
+        → IsReady g publisher follower
+    go true u true v true d asked.Good n true p e =
+        record { follower-valid = u; publisher-valid = v; digest-fits = leb-true _ _ d; numbers-good = n; places = leb-true _ _ p }
+    go true u true v true d asked.Good n false p e = let z : _≡_ {A = ℕ} 0 1 = cc in absurd (omega arith)
+    go true u true v true d (asked.Refused r) n p q e = let z : _≡_ {A = ℕ} 0 1 = cc in absurd (omega arith)
+    go true u true v false d n m p q e = let z : _≡_ {A = ℕ} 0 1 = cc in absurd (omega arith)
+    go true u false v d f n m p q e = let z : _≡_ {A = ℕ} 0 1 = cc in absurd (omega arith)
+    go false u v w d f n m p q e = let z : _≡_ {A = ℕ} 0 1 = cc in absurd (omega arith)
+
+-- ---- the three calls
+
+module _ (g : Lending) (publisher follower : List ℕ) (r : IsReady g publisher follower) where
+  abbrev pub ds : List NodeDigest
+  ds = digestOf (g .unasked) (decode follower)
+
+  -- the digest's bytes, as they stand in their datagram
+  abbrev pub told : List ℕ
+  told = put 0 (digestBytes ds) (g .digest)
+
+  abbrev pub sent : List Op
+  sent = deltaFor (g .unsent) (g .ties) (g .mtu) ds (decode publisher)
+
+  pub digest-told : lentDigest (g .unasked) 0 (g .digest) follower ≡ given (written-as.Bytes (length (digestBytes ds))) told
+  unfolding fromTable writeDigest
+  digest-told =
+      let h = r .digest-fits in
+      let a = le-leb 0 (length (g .digest)) (omega arith) in
+      let b = le-leb (length (digestBytes ds)) (length (g .digest) - 0) (omega arith) in
+      rw (r .follower-valid, a, b) refl
+
+  digest-read : readDigest (part 0 (length (digestBytes ds)) told) ≡ Entries ds []
+  digest-read =
+      let h = r .digest-fits in
+      ap readDigest (part-put 0 (digestBytes ds) (g .digest) (omega arith) ∙ sym (append-nil (digestBytes ds)))
+      ∙ read-digest (g .unasked) (decode follower) [] (valid-obeys follower (r .follower-valid))
+
+  pub delta-made : lentCompute (g .unsent) (g .ties) (g .mtu) 0 (part 0 (length (digestBytes ds)) told) (g .delta) publisher ≡ written sent 0 (g .delta)
+  delta-made =
+      sym
+      (by-delta (g .unsent) (g .ties) (g .mtu) 0 (part 0 (length (digestBytes ds)) told) (decode publisher) (g .delta) ds [] (r .numbers-good) digest-read
+      ∙ good-table (g .unsent) (g .ties) (g .mtu) 0 (part 0 (length (digestBytes ds)) told) publisher (g .delta) (r .publisher-valid))
+
+  delta-read : readDelta (part 0 (length (deltaBytes sent)) (put 0 (deltaBytes sent) (g .delta))) ≡ Good sent
+  delta-read =
+      let ok = valid-obeys publisher (r .publisher-valid) in
+      let n = granted (g .mtu) 0 (length (g .delta)) (length (g .ties)) (length (decode publisher)) (r .numbers-good) in
+      let f = n .free in
+      let w = within-mtu (g .unsent) (g .ties) ds (decode publisher) ok (g .mtu) in
+      ap readDelta (part-put 0 (deltaBytes sent) (g .delta) (omega arith)) ∙ read-computed (g .unsent) (g .ties) ds (decode publisher) ok (g .mtu) (n .most)
+
+  delta-taken : lentApply (part 0 (length (deltaBytes sent)) (put 0 (deltaBytes sent) (g .delta))) (g .clock) (g .answers) follower .answer ≡ applied.Nodes (length (partsOf sent))
+  unfolding lentApplyAs apply
+  delta-taken =
+      let f = few-parts (g .unsent) (g .ties) (g .mtu) ds (decode publisher) in
+      let p = r .places in
+      let b = le-leb (length (partsOf sent)) (length (g .answers)) (omega arith) in
+      rw (r .follower-valid, delta-read, b) refl
+
+  -- Nothing is refused.
+  pub ready-done : threeCalls g publisher follower .answer ≡ exchanged.Done (length sent) (length (deltaBytes sent)) (length (partsOf sent))
+  unfolding threeCalls lentAnswer
+  ready-done =
+      ap (λ (o : Given Written (List ℕ)). afterDigesting g publisher follower (o .lent) (o .answer) .answer) digest-told
+      ∙ ap (λ (o : Given Computed (List ℕ)). afterComputing (g .clock) (g .answers) follower (o .lent) (o .answer) .answer) delta-made
+      ∙ ap (exchangedAs (length sent) (length (deltaBytes sent))) delta-taken

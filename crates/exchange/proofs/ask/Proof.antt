@@ -1,0 +1,61 @@
+-- `exchange::ask` meets its contract: 14 exactly where a table is not valid, the follower's first. Assumes nothing.
+use mathlib.Core.Path.{_≡_, _∙_, sym}
+use mathlib.Core.Bool.{true}
+use Rattle.rules.specs.Layout.{valid}
+use Rattle.table.proofs.Tables.{valid-laid}
+use Rattle.exchange.specs.Exchanging.{Rooms, rooms}
+use Rattle.exchange.proofs.Asking.{both-good, follower-bad, publisher-bad}
+use borrow.Author.Needs.{needs}
+use Rattle.exchange.proofs.ask.Statement.{statement}
+use Rattle.exchange.proofs.ask.Tie as tie
+
+abbrev entry : tie.After-check-table → tie.Start
+entry c = c .before .before .before .before
+
+abbrev room : tie.Start → Rooms
+room s = let a = s .args in rooms (a .mtu) (a .ties) (a .digest) (a .delta) (a .answers)
+
+check-table-requires : tie.Need-check-table-requires
+check-table-requires c κs = search needs
+
+check-table-requires-2 : tie.Need-check-table-requires-2
+check-table-requires-2 c κs = search needs
+
+follower-good : (c : tie.Then1) → valid (entry (c .before) .args .follower .now) ≡ true
+follower-good c = sym (c .before .check-table .ensures) ∙ c .if1 .taken
+
+publisher-good : (c : tie.Then2) → valid (entry (c .before .before .before) .args .publisher .now) ≡ true
+publisher-good c = sym (c .before .check-table2 .ensures) ∙ c .if2 .taken
+
+ask-rooms-requires : tie.Need-ask-rooms-requires
+ask-rooms-requires c κs = (valid-laid _ (publisher-good c), valid-laid _ (follower-good (c .before .before)))
+
+returns : tie.Need-returns
+returns c =
+    let s = entry (c .before .before .before .before) in
+    let a = s .args in
+    c .ask-rooms .ensures ∙ both-good (a .unasked .now) (room s) (a .publisher .now) (a .follower .now) (follower-good (c .before .before .before)) (publisher-good (c .before))
+
+returns-2 : tie.Need-returns-2
+returns-2 c =
+    let s = entry (c .before .before .before) in
+    let a = s .args in
+    publisher-bad (a .unasked .now) (room s) (a .publisher .now) (a .follower .now) (follower-good (c .before .before))
+    (sym (c .before .check-table2 .ensures) ∙ c .if2 .left)
+
+returns-3 : tie.Need-returns-3
+returns-3 c =
+    let s = entry (c .before) in
+    let a = s .args in
+    follower-bad (a .unasked .now) (room s) (a .publisher .now) (a .follower .now) (sym (c .before .check-table .ensures) ∙ c .if1 .left)
+
+pub ask-spec : {M : Type 1} → statement M
+ask-spec =
+    tie.close
+    (tie.spec
+    check-table-requires
+    check-table-requires-2
+    ask-rooms-requires
+    returns
+    returns-2
+    returns-3)
