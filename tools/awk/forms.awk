@@ -4,6 +4,8 @@ FNR == 1 { file = FILENAME; if (file !~ /\.md$/) module = module_of_file(file) }
 
 file ~ /\.md$/ { read_page($0); next }
 
+file ~ /\/proofs\// { read_law($0); next }
+
 file ~ /\.antt$/ { read_antt(module, $0); next }
 
 {
@@ -32,6 +34,16 @@ function is_named(table, f,    i, pattern, yes) {
         if (f ~ ("^" pattern "$")) { entry_used[table, i] = 1; yes = 1 }
     }
     return yes
+}
+
+# ---- laws: a definition that tells its argument, by a law of the form `(a b : X) -> f a = f b -> a = b`
+
+function read_law(line,    word, n, i) {
+    if (line !~ /^pub .* : \(a b : /) return
+    n = split(line, word, " ")
+    for (i = 1; i + 9 <= n; i++)
+        if (word[i] == "\342\206\222" && word[i + 2] == "a" && word[i + 3] == "\342\211\241" && word[i + 4] == word[i + 1] && word[i + 5] == "b" \
+            && word[i + 6] == "\342\206\222" && word[i + 7] == "a" && word[i + 8] == "\342\211\241" && word[i + 9] == "b") tells_all[word[i + 1]] = 1
 }
 
 # ---- forms
@@ -87,7 +99,7 @@ function gives(text, module, depth, parts,    factor, side, word, n, m, i, k, id
         if (cut_at(factor[i], "\342\206\222", side) > 1 || cut_at(factor[i], "\342\212\216", side) > 1) return 0
         m = cut_at(factor[i], "\342\211\241", side)
         if (m == 2) {
-            if (!give_all(depth, bare(side[1]), module, parts)) return 0
+            if (!give_all(depth, bare(side[1]), module, parts) && !give_told(depth, bare(side[1]), parts)) return 0
             rights = rights " " side[2]
             continue
         }
@@ -96,6 +108,7 @@ function gives(text, module, depth, parts,    factor, side, word, n, m, i, k, id
         id = resolve(module, word[1], 0)
         if (!is_form(id, depth + 1)) return 0
         for (; k > 1; k--) {
+            if ((id SUBSEP k - 1) in form_tells && !(word[k] in tells_all)) return 0
             if (!((id SUBSEP k - 1) in form_gives)) rights = rights " " word[k]
             else if (!give_all(depth, word[k], module, parts)) return 0
         }
@@ -103,6 +116,12 @@ function gives(text, module, depth, parts,    factor, side, word, n, m, i, k, id
     n = split(parts, word, "\n")
     for (i = 1; i <= n; i++) if ((depth SUBSEP word[i]) in given && stands_in(word[i], rights)) return 0
     return 1
+}
+
+# What is told of a part, `told a`: `told` is a parameter of the form, and who cites the form must put a definition there that tells its argument.
+function give_told(depth, text, parts,    word) {
+    if (arguments(text, word) != 2 || index(parts, "\n" word[1] "\n") == 0 || (depth SUBSEP word[1]) in given) return 0
+    return told_by[depth, word[1]] = give(depth, word[2], parts)
 }
 
 # A part, or several gathered by a definition that makes a record of its arguments, as in `both (now (x .exit)) (now (y .exit))`.
@@ -191,8 +210,10 @@ function is_form(id, depth,    text, head, parameter, n, i, parts, name, field, 
     parts = "\n"
     for (i = 1; i <= n; i++) parts = parts parameter[i] "\n"
     for (all in given) if (index(all, depth SUBSEP) == 1) delete given[all]
+    for (all in told_by) if (index(all, depth SUBSEP) == 1) delete told_by[all]
     if (!gives(body, module_at[id], depth, parts)) return 0
     for (i = 1; i <= n; i++) if ((depth SUBSEP parameter[i]) in given) form_gives[id, i] = 1
+    for (i = 1; i <= n; i++) if ((depth SUBSEP parameter[i]) in told_by) form_tells[id, i] = 1
     return form_known[id] = 1
 }
 

@@ -14,7 +14,8 @@ ghost use mathlib.Core.Bool.{true};
 ghost use mathlib.Core.Path.{_≡_};
 ghost use Prim.Native.Nat.{_≤_};
 ghost use lib.ListN.{length};
-ghost use Rattle.rules.specs.Given.{Gives};
+ghost use Rattle.rules.specs.Answers.{appliedTold};
+ghost use Rattle.rules.specs.Given.{Gives, Tells};
 ghost use Rattle.rules.specs.Layout.{encodeNode, decode, decodeNode, valid};
 ghost use Rattle.rules.specs.Lent.{stored, both, lentApply};
 ghost use Rattle.table.specs.Fits.{LaidNode};
@@ -267,7 +268,7 @@ pub fn apply_good(table: &mut [u8], delta: &[u8], clock: u64, answers: &mut [u8]
 // Applies the bytes of a delta to a lent table at the receiver's clock, and gives one answer for each node delta. It takes any bytes, and refuses in
 // document 01's order: 14, 13 for the delta's length, the first operation at fault, 8 for the places of the answers.
 pub fn apply(table: &mut [u8], delta: &[u8], clock: u64, answers: &mut [u8]) -> Applied
-    ensures { λ r. ⌜ Gives (lentApply (now (delta .entry)) clock (now (answers .entry)) (now (table .entry)))
+    ensures { λ r. ⌜ Tells appliedTold (lentApply (now (delta .entry)) clock (now (answers .entry)) (now (table .entry)))
         r (both (now (table .exit)) (now (answers .exit))) ⌝ }
 {
     if table_check::check_table(table) {

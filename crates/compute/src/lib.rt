@@ -11,7 +11,8 @@ ghost use mathlib.Core.Path.{_≡_};
 ghost use mathlib.Core.Bool.{true};
 ghost use Prim.Native.Nat.{_+_, _≤_, _<_};
 ghost use lib.ListN.{length};
-ghost use Rattle.rules.specs.Given.{Gives};
+ghost use Rattle.rules.specs.Answers.{computedTold};
+ghost use Rattle.rules.specs.Given.{Gives, Tells};
 ghost use Rattle.rules.specs.Compute.{fromOf, compute};
 ghost use Rattle.rules.specs.Layout.{decode, valid};
 ghost use Rattle.table.specs.Fits.{LaidTable};
@@ -202,7 +203,7 @@ pub fn compute(
     datagram: &mut [u8],
     place: usize,
 ) -> Computed
-    ensures { λ r. ⌜ Gives (lentCompute (now (excluded .entry)) (now (ties .entry)) mtu place (now (digest .entry))
+    ensures { λ r. ⌜ Tells computedTold (lentCompute (now (excluded .entry)) (now (ties .entry)) mtu place (now (digest .entry))
         (now (datagram .entry)) (now (table .entry))) r (now (datagram .exit)) ⌝ }
 {
     if table_check::check_table(table) {

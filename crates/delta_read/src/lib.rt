@@ -8,6 +8,8 @@ use rules::sizes;
 ghost use mathlib.Core.Path.{_≡_};
 ghost use Prim.Native.Nat.{_≤_};
 ghost use lib.ListN.{length};
+ghost use Rattle.rules.specs.Answers.{readTold};
+ghost use Rattle.rules.specs.Given.{Says};
 ghost use Rattle.rules.specs.Sizes.{maxNodes};
 ghost use Rattle.rules.specs.Delta.{deltaRead};
 ghost use Rattle.rules.specs.Table.{among};
@@ -183,7 +185,7 @@ pub fn read_heads(delta: &[u8]) -> Heads
 
 // How many operations and nodes the delta holds, or why it is refused and where the tag of the faulty operation stands. One pass.
 pub fn read_delta(delta: &[u8]) -> DeltaRead
-    ensures { λ r. ⌜ r ≡ deltaRead (now (delta .entry)) ⌝ }
+    ensures { λ r. ⌜ Says readTold (deltaRead (now (delta .entry))) r ⌝ }
 {
     let heads = read_heads(delta);
     heads.read

@@ -5,3 +5,4 @@ pub mod Pairs
 pub mod Gathering
 pub mod Reading
 pub mod Ascending
+pub mod Values

@@ -6,7 +6,8 @@ ghost use Prim.Native.Nat.{_+_, _*_, _≤_};
 ghost use lib.ListN.{length};
 ghost use Rattle.fields.specs.Blocks.{flat};
 ghost use Rattle.fields.specs.Parts.{put};
-ghost use Rattle.rules.specs.Given.{Gives};
+ghost use Rattle.rules.specs.Answers.{writtenTold};
+ghost use Rattle.rules.specs.Given.{Gives, Tells};
 ghost use Rattle.rules.specs.Digest.{countWidth, digestBytes, digestOf, digestOfNode, entryBytes, entryWidth, writeDigest};
 ghost use Rattle.rules.specs.Layout.{decode, decodeNode, nodeWidth, valid};
 ghost use Rattle.rules.specs.Lent.{lentDigest};
@@ -132,7 +133,7 @@ pub fn write_good(table: &[u8], excluded: &[u64], datagram: &mut [u8], place: us
 
 // The digest of any lent table, from `place` on in the datagram: 14, then as above.
 pub fn write_digest(table: &[u8], excluded: &[u64], datagram: &mut [u8], place: usize) -> Written
-    ensures { λ r. ⌜ Gives (lentDigest (now (excluded .entry)) place (now (datagram .entry)) (now (table .entry))) r (now (datagram .exit)) ⌝ }
+    ensures { λ r. ⌜ Tells writtenTold (lentDigest (now (excluded .entry)) place (now (datagram .entry)) (now (table .entry))) r (now (datagram .exit)) ⌝ }
 {
     if table_check::check_table(table) {
         return write_good(table, excluded, datagram, place);

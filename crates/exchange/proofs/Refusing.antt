@@ -103,7 +103,7 @@ module _ (g : Lending) (publisher follower : List ℕ) (r : IsReady g publisher 
       (by-delta (g .unsent) (g .ties) (g .mtu) 0 (part 0 (length (digestBytes ds)) told) (decode publisher) (g .delta) ds [] (r .numbers-good) digest-read
       ∙ good-table (g .unsent) (g .ties) (g .mtu) 0 (part 0 (length (digestBytes ds)) told) publisher (g .delta) (r .publisher-valid))
 
-  delta-read : readDelta (part 0 (length (deltaBytes sent)) (put 0 (deltaBytes sent) (g .delta))) ≡ Good sent
+  pub delta-read : readDelta (part 0 (length (deltaBytes sent)) (put 0 (deltaBytes sent) (g .delta))) ≡ Good sent
   delta-read =
       let ok = valid-obeys publisher (r .publisher-valid) in
       let n = granted (g .mtu) 0 (length (g .delta)) (length (g .ties)) (length (decode publisher)) (r .numbers-good) in

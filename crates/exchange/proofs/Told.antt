@@ -21,6 +21,7 @@ same-step Applying Digest e = absurd (omega (arith, e))
 same-step Applying Delta e = absurd (omega (arith, e))
 
 pub same-exchanged : (a b : Exchanged) → exchangedTold a ≡ exchangedTold b → a ≡ b
+unfolding exchangedTold
 same-exchanged (Done o b n) (Done p c m) e = ap₂ (λ (x y : ℕ). Done x y n) (value-is e 0) (value-is e 1) ∙ ap (Done p c) (value-is e 2)
 same-exchanged (Done o b n) (Refused s r) e = not-refused r (number-is e)
 same-exchanged (Refused s r) (Done o b n) e = not-refused r (sym (number-is e))

@@ -161,6 +161,6 @@ stepCode Delta = 2
 stepCode Applying = 3
 
 -- The number and the values of an answer. A refusal tells the step that it belongs to.
-abbrev pub exchangedTold : (answer : Exchanged) → Told
+unfoldable pub exchangedTold : (answer : Exchanged) → Told
 exchangedTold (exchanged.Done ops bytes nodes) = record { number = 0; values = ops ∷ bytes ∷ nodes ∷ [] }
 exchangedTold (exchanged.Refused s r) = record { number = numberOf r; values = stepCode s ∷ [] }

@@ -8,10 +8,10 @@ use rules::Written;
 use table::layout;
 ghost use mathlib.Core.Bool.{true};
 ghost use mathlib.Core.Path.{_≡_};
-ghost use Rattle.rules.specs.Given.{Gives};
+ghost use Rattle.rules.specs.Given.{Gives, Tells};
 ghost use Rattle.rules.specs.Layout.{decode, valid};
 ghost use Rattle.table.specs.Fits.{LaidTable};
-ghost use Rattle.exchange.specs.Exchanging.{allFour, allThree, lending, lentAnswer, lentExchange, readyFor, readyOn, rooms, threeCalls};
+ghost use Rattle.exchange.specs.Exchanging.{allFour, allThree, exchangedTold, lending, lentAnswer, lentExchange, readyFor, readyOn, rooms, threeCalls};
 
 // The step of an exchange that a refusal belongs to: the follower's digest, the publisher's delta, applying it to the follower.
 pub enum Step {
@@ -214,7 +214,7 @@ pub fn exchange(
     delta: &mut [u8],
     answers: &mut [u8],
 ) -> Exchanged
-    ensures { λ r. ⌜ Gives
+    ensures { λ r. ⌜ Tells exchangedTold
         (lentExchange
         (lending (now (unasked .entry)) (now (unsent .entry)) (now (ties .entry)) mtu clock
         (now (digest .entry)) (now (delta .entry)) (now (answers .entry)))

@@ -1,8 +1,9 @@
 -- What a foreign caller is told of an answer: one number.
 use Prim.Native.Nat.{ℕ}
 use Rattle.rules.specs.Given.{Given, given}
-use Rattle.rules.specs.Answers.{answerTold}
+use Rattle.rules.specs.Answers.{numberOf}
 use Rattle.rules.specs.declared.Answer.{Answer}
+use Rattle.rules.specs.declared.Answer.the-variants as plain
 use Rattle.rules.specs.declared.Written.{Written}
 use Rattle.rules.specs.declared.Written.the-variants as written
 use Rattle.rules.specs.declared.Computed.{Computed}
@@ -20,7 +21,8 @@ toldAs tell o = given (tell (o .answer)) (o .lent)
 
 -- 0 where the call was accepted, else the number of the refusal
 abbrev pub answerNumber : (answer : Answer) → ℕ
-answerNumber a = answerTold a .number
+answerNumber plain.Done = 0
+answerNumber (plain.Refused r) = numberOf r
 
 -- how many bytes a digest took, 0 where it was refused
 abbrev pub bytesWritten : (written : Written) → ℕ

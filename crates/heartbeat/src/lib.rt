@@ -8,7 +8,8 @@ use rules::Refusal;
 use table_read::Span;
 ghost use mathlib.Core.Path.{_≡_};
 ghost use mathlib.Core.Bool.{true};
-ghost use Rattle.rules.specs.Given.{Gives};
+ghost use Rattle.rules.specs.Answers.{answerTold, offeredTold};
+ghost use Rattle.rules.specs.Given.{Gives, Tells};
 ghost use Rattle.rules.specs.Local.{offer, localBeat};
 ghost use Rattle.rules.specs.Lent.{stored, lentOffer, lentBeat};
 ghost use Rattle.rules.specs.Layout.{decode, valid};
@@ -69,7 +70,7 @@ pub fn beat_good(table: &mut [u8], number: u64) -> Answer
 
 // A heartbeat offer: 14, 2.
 pub fn offer_heartbeat(table: &mut [u8], number: u64, got: Heartbeat) -> Offered
-    ensures { λ r. ⌜ Gives (lentOffer number got (now (table .entry))) r (now (table .exit)) ⌝ }
+    ensures { λ r. ⌜ Tells offeredTold (lentOffer number got (now (table .entry))) r (now (table .exit)) ⌝ }
 {
     if table_check::check_table(table) {
         return offer_good(table, number, got);
@@ -79,7 +80,7 @@ pub fn offer_heartbeat(table: &mut [u8], number: u64, got: Heartbeat) -> Offered
 
 // A local beat: 14, 2, 6.
 pub fn local_beat(table: &mut [u8], number: u64) -> Answer
-    ensures { λ r. ⌜ Gives (lentBeat number (now (table .entry))) r (now (table .exit)) ⌝ }
+    ensures { λ r. ⌜ Tells answerTold (lentBeat number (now (table .entry))) r (now (table .exit)) ⌝ }
 {
     if table_check::check_table(table) {
         return beat_good(table, number);

@@ -21,12 +21,14 @@ use Rattle.inspect.specs.declared.RecordRead.{RecordRead}
 use Rattle.inspect.specs.declared.RecordRead.the-variants as rec
 
 pub same-count : (a b : Count) → countTold a ≡ countTold b → a ≡ b
+unfolding countTold
 same-count (count.Are n) (count.Are m) e = ap count.Are (value-is e 0)
 same-count (count.Are n) (count.Refused r) e = not-refused r (number-is e)
 same-count (count.Refused r) (count.Are n) e = not-refused r (sym (number-is e))
 same-count (count.Refused r) (count.Refused s) e = ap count.Refused (same-number r s (number-is e))
 
 pub same-node-number : (a b : NodeNumber) → nodeNumberTold a ≡ nodeNumberTold b → a ≡ b
+unfolding nodeNumberTold
 same-node-number (number.Is n) (number.Is m) e = ap number.Is (value-is e 0)
 same-node-number (number.Is n) (number.Refused r) e = not-refused r (number-is e)
 same-node-number (number.Refused r) (number.Is n) e = not-refused r (sym (number-is e))
@@ -37,6 +39,7 @@ abbrev headed : ℕ → ℕ → ℕ → Header
 headed h m g = record { heartbeat = beats h; max = m; «last_gc» = g }
 
 pub same-node-header : (a b : NodeHeader) → nodeHeaderTold a ≡ nodeHeaderTold b → a ≡ b
+unfolding nodeHeaderTold
 same-node-header (header.Is h) (header.Is k) e =
     ap₂ (λ (x y : ℕ). header.Is (headed x y (h .«last_gc»))) (value-is e 0) (value-is e 1)
     ∙ ap (λ (x : ℕ). header.Is (headed (k .heartbeat .0) (k .max) x)) (value-is e 2)
@@ -55,6 +58,7 @@ abbrev numbered : ℕ → ℕ → ℕ → Status → ℕ → Record
 numbered k v n s t = record { keylen = k; valuelen = v; version = n; status = s; start = t }
 
 pub same-record : (a b : RecordRead) → recordReadTold a ≡ recordReadTold b → a ≡ b
+unfolding recordReadTold
 same-record (rec.Is r) (rec.Is q) e =
     let s : r .status ≡ q .status = sym (status-back (r .status)) ∙ ap statusOfByte (value-is e 3) ∙ status-back (q .status) in
     ap₂ (λ (x y : ℕ). rec.Is (numbered x y (r .version) (r .status) (r .start))) (value-is e 0) (value-is e 1)

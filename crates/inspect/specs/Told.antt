@@ -13,22 +13,22 @@ use Rattle.inspect.specs.declared.NodeHeader.the-variants as header
 use Rattle.inspect.specs.declared.RecordRead.{RecordRead}
 use Rattle.inspect.specs.declared.RecordRead.the-variants as rec
 
-abbrev pub countTold : (answer : Count) → Told
+unfoldable pub countTold : (answer : Count) → Told
 countTold (count.Are n) = record { number = 0; values = n ∷ [] }
 countTold (count.Refused r) = record { number = numberOf r; values = [] }
 
-abbrev pub nodeNumberTold : (answer : NodeNumber) → Told
+unfoldable pub nodeNumberTold : (answer : NodeNumber) → Told
 nodeNumberTold (number.Is n) = record { number = 0; values = n ∷ [] }
 nodeNumberTold (number.Refused r) = record { number = numberOf r; values = [] }
 
-abbrev pub nodeHeaderTold : (answer : NodeHeader) → Told
+unfoldable pub nodeHeaderTold : (answer : NodeHeader) → Told
 nodeHeaderTold (header.Is h) = record { number = 0; values = h .heartbeat .0 ∷ h .max ∷ h .«last_gc» ∷ [] }
 nodeHeaderTold (header.Refused r) = record { number = numberOf r; values = [] }
 
 abbrev pub recordValues : (numbers : Record) → List ℕ
 recordValues r = r .keylen ∷ r .valuelen ∷ r .version ∷ statusByte (r .status) ∷ r .start ∷ []
 
-abbrev pub recordReadTold : (answer : RecordRead) → Told
+unfoldable pub recordReadTold : (answer : RecordRead) → Told
 recordReadTold (rec.Is r) = record { number = 0; values = recordValues r }
 recordReadTold rec.Nothing = record { number = 0; values = [] }
 recordReadTold (rec.Refused r) = record { number = numberOf r; values = [] }

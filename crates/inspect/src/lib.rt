@@ -10,12 +10,14 @@ use table_read::Span;
 ghost use mathlib.Core.Path.{_≡_};
 ghost use mathlib.Core.Bool.{true};
 ghost use mathlib.Core.Option.{some};
+ghost use Rattle.rules.specs.Given.{Says};
 ghost use Rattle.rules.specs.Table.{keysRise};
 ghost use Rattle.rules.specs.Layout.{decodeNode, decode, valid};
 ghost use Rattle.table.specs.Tests.{recsIn};
 ghost use Rattle.table.specs.Fits.{LaidNode};
 ghost use Rattle.inspect.specs.Look.{nodeCount, nodeNumber, nodeHeader, recordCount, recordOn, readRecord, recordByKeyOn, recordByKey};
 ghost use Rattle.inspect.specs.Look.{lentNodeCount, lentNodeNumber, lentNodeHeader, lentRecordCount, lentReadRecord, lentRecordByKey};
+ghost use Rattle.inspect.specs.Told.{countTold, nodeNumberTold, nodeHeaderTold, recordReadTold};
 
 // How many there are.
 pub enum Count {
@@ -53,7 +55,7 @@ pub fn node_count_good(table: &[u8]) -> Count
 
 // How many nodes are held: 14.
 pub fn node_count(table: &[u8]) -> Count
-    ensures { λ r. ⌜ r ≡ lentNodeCount (now (table .entry)) ⌝ }
+    ensures { λ r. ⌜ Says countTold (lentNodeCount (now (table .entry))) r ⌝ }
 {
     if table_check::check_table(table) {
         node_count_good(table)
@@ -76,7 +78,7 @@ pub fn node_number_good(table: &[u8], i: usize) -> NodeNumber
 
 // The number of the node in place `i`: 14, 8.
 pub fn node_number(table: &[u8], i: usize) -> NodeNumber
-    ensures { λ r. ⌜ r ≡ lentNodeNumber i (now (table .entry)) ⌝ }
+    ensures { λ r. ⌜ Says nodeNumberTold (lentNodeNumber i (now (table .entry))) r ⌝ }
 {
     if table_check::check_table(table) {
         node_number_good(table, i)
@@ -98,7 +100,7 @@ pub fn node_header_good(table: &[u8], number: u64) -> NodeHeader
 
 // The header of a node: 14, 2.
 pub fn node_header(table: &[u8], number: u64) -> NodeHeader
-    ensures { λ r. ⌜ r ≡ lentNodeHeader number (now (table .entry)) ⌝ }
+    ensures { λ r. ⌜ Says nodeHeaderTold (lentNodeHeader number (now (table .entry))) r ⌝ }
 {
     if table_check::check_table(table) {
         node_header_good(table, number)
@@ -123,7 +125,7 @@ pub fn record_count_good(table: &[u8], number: u64) -> Count
 
 // How many records a node has: 14, 2.
 pub fn record_count(table: &[u8], number: u64) -> Count
-    ensures { λ r. ⌜ r ≡ lentRecordCount number (now (table .entry)) ⌝ }
+    ensures { λ r. ⌜ Says countTold (lentRecordCount number (now (table .entry))) r ⌝ }
 {
     if table_check::check_table(table) {
         record_count_good(table, number)
@@ -157,7 +159,7 @@ pub fn record_at_good(table: &[u8], number: u64, j: usize) -> RecordRead
 
 // The record in place `j` of a node: 14, 2, 8.
 pub fn record_at(table: &[u8], number: u64, j: usize) -> RecordRead
-    ensures { λ r. ⌜ r ≡ lentReadRecord number j (now (table .entry)) ⌝ }
+    ensures { λ r. ⌜ Says recordReadTold (lentReadRecord number j (now (table .entry))) r ⌝ }
 {
     if table_check::check_table(table) {
         record_at_good(table, number, j)
@@ -193,7 +195,7 @@ pub fn record_by_key_good(table: &[u8], number: u64, key: &[u8]) -> RecordRead
 
 // The record of a key of a node, hidden or not: 14, 2, 1.
 pub fn record_by_key(table: &[u8], number: u64, key: &[u8]) -> RecordRead
-    ensures { λ r. ⌜ r ≡ lentRecordByKey number (now (key .entry)) (now (table .entry)) ⌝ }
+    ensures { λ r. ⌜ Says recordReadTold (lentRecordByKey number (now (key .entry)) (now (table .entry))) r ⌝ }
 {
     if table_check::check_table(table) {
         record_by_key_good(table, number, key)

@@ -9,9 +9,11 @@ ghost use mathlib.Core.Path.{_≡_};
 ghost use mathlib.Core.Bool.{true};
 ghost use mathlib.Core.Option.{some};
 ghost use Prim.Native.Nat.{_≤_};
+ghost use Rattle.rules.specs.Given.{Says};
 ghost use Rattle.rules.specs.Layout.{tableWidth, decodeNode, decode, valid};
 ghost use Rattle.table.specs.Fits.{LaidNode};
 ghost use Rattle.lookup.specs.Lookup.{Hands};
+ghost use Rattle.lookup.specs.Told.{foundTold};
 ghost use Rattle.inspect_text.specs.Texts.{textOn, textFound, lentTextFound, textPart, lentTextPart};
 
 // One of a record's two texts.
@@ -56,7 +58,7 @@ pub fn find_text_good(table: &[u8], number: u64, j: usize, text: Text) -> Found
 
 // Where the text of record `j` of a node stands in lent bytes: 14, 2, 8.
 pub fn find_text(table: &[u8], number: u64, j: usize, text: Text) -> Found
-    ensures { λ r. ⌜ r ≡ lentTextFound text number j (now (table .entry)) ⌝ }
+    ensures { λ r. ⌜ Says foundTold (lentTextFound text number j (now (table .entry))) r ⌝ }
 {
     if table_check::check_table(table) {
         find_text_good(table, number, j, text)

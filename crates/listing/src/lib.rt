@@ -4,7 +4,8 @@ use rules::sizes;
 ghost use mathlib.Core.Path.{_≡_};
 ghost use Prim.Native.Nat.{_+_, _*_, _≤_};
 ghost use lib.ListN.{length};
-ghost use Rattle.rules.specs.Given.{Gives};
+ghost use Rattle.rules.specs.Answers.{writtenTold};
+ghost use Rattle.rules.specs.Given.{Gives, Tells};
 ghost use Rattle.rules.specs.Sizes.{maxDelta, maxKey, maxValue};
 ghost use Rattle.rules.specs.Delta.{NodeOp, SetMaxVersionOp, besideTexts};
 ghost use Rattle.rules.specs.Digest.{writeBytes};
@@ -246,7 +247,7 @@ fn list_refused(out: &mut [u8], code: u64, at: u64) -> Written
 
 // The listing of any bytes, at the front of the buffer, and its length. 8, and nothing changed, where the buffer is too short.
 pub fn list_delta(delta: &[u8], out: &mut [u8]) -> Written
-    ensures { λ r. ⌜ Gives (listDelta (now (delta .entry)) (now (out .entry))) r (now (out .exit)) ⌝ }
+    ensures { λ r. ⌜ Tells writtenTold (listDelta (now (delta .entry)) (now (out .entry))) r (now (out .exit)) ⌝ }
 {
     let read = delta_read::read_delta(delta);
     match read {

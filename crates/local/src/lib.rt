@@ -7,7 +7,8 @@ use rules::Refusal;
 use table_read::Span;
 ghost use mathlib.Core.Path.{_≡_};
 ghost use mathlib.Core.Bool.{true};
-ghost use Rattle.rules.specs.Given.{Gives};
+ghost use Rattle.rules.specs.Answers.{answerTold};
+ghost use Rattle.rules.specs.Given.{Gives, Tells};
 ghost use Rattle.rules.specs.Node.{Setting, SettingTtl, Deleting, DeletingAfterTtl};
 ghost use Rattle.rules.specs.Local.{call};
 ghost use Rattle.rules.specs.Lent.{stored, lentCall};
@@ -37,7 +38,8 @@ pub fn write_good(
 
 // One of the four calls on any bytes.
 fn write(table: &mut [u8], number: u64, kind: Kind, key: &[u8], value: &[u8], clock: u64) -> Answer
-    ensures { λ r. ⌜ Gives (lentCall (callOf kind (now (value .entry)) clock) number (now (key .entry)) (now (table .entry))) r (now (table .exit)) ⌝ }
+    ensures { λ r. ⌜ Tells answerTold (lentCall (callOf kind (now (value .entry)) clock) number (now (key .entry)) (now (table .entry)))
+        r (now (table .exit)) ⌝ }
 {
     if table_check::check_table(table) {
         return write_good(table, number, kind, key, value, clock);
@@ -47,28 +49,29 @@ fn write(table: &mut [u8], number: u64, kind: Kind, key: &[u8], value: &[u8], cl
 
 // Set: the key's record of the node takes this value, and stays as it is where it has it already.
 pub fn set(table: &mut [u8], number: u64, key: &[u8], value: &[u8]) -> Answer
-    ensures { λ r. ⌜ Gives (lentCall (Setting (now (value .entry))) number (now (key .entry)) (now (table .entry))) r (now (table .exit)) ⌝ }
+    ensures { λ r. ⌜ Tells answerTold (lentCall (Setting (now (value .entry))) number (now (key .entry)) (now (table .entry))) r (now (table .exit)) ⌝ }
 {
     write(table, number, Kind::Setting, key, value, 0)
 }
 
 // Set with TTL: likewise, and a changed record is scheduled from this time on.
 pub fn set_with_ttl(table: &mut [u8], number: u64, key: &[u8], value: &[u8], clock: u64) -> Answer
-    ensures { λ r. ⌜ Gives (lentCall (SettingTtl (now (value .entry)) clock) number (now (key .entry)) (now (table .entry))) r (now (table .exit)) ⌝ }
+    ensures { λ r. ⌜ Tells answerTold (lentCall (SettingTtl (now (value .entry)) clock) number (now (key .entry)) (now (table .entry)))
+        r (now (table .exit)) ⌝ }
 {
     write(table, number, Kind::SettingTtl, key, value, clock)
 }
 
 // Delete: the key's record is emptied and hidden, and scheduled from this time on.
 pub fn delete(table: &mut [u8], number: u64, key: &[u8], clock: u64) -> Answer
-    ensures { λ r. ⌜ Gives (lentCall (Deleting clock) number (now (key .entry)) (now (table .entry))) r (now (table .exit)) ⌝ }
+    ensures { λ r. ⌜ Tells answerTold (lentCall (Deleting clock) number (now (key .entry)) (now (table .entry))) r (now (table .exit)) ⌝ }
 {
     write(table, number, Kind::Deleting, key, b"", clock)
 }
 
 // Delete after TTL: the key's record keeps its value, and is scheduled from this time on.
 pub fn delete_after_ttl(table: &mut [u8], number: u64, key: &[u8], clock: u64) -> Answer
-    ensures { λ r. ⌜ Gives (lentCall (DeletingAfterTtl clock) number (now (key .entry)) (now (table .entry))) r (now (table .exit)) ⌝ }
+    ensures { λ r. ⌜ Tells answerTold (lentCall (DeletingAfterTtl clock) number (now (key .entry)) (now (table .entry))) r (now (table .exit)) ⌝ }
 {
     write(table, number, Kind::DeletingAfterTtl, key, b"", clock)
 }

@@ -7,6 +7,7 @@ use Rattle.lookup.specs.declared.Found.{Found}
 use Rattle.lookup.specs.declared.Found.the-variants.{At, Nothing, Refused}
 
 pub same-found : (a b : Found) → foundTold a ≡ foundTold b → a ≡ b
+unfolding foundTold
 same-found (At s n) (At t m) e = ap₂ At (value-is e 0) (value-is e 1)
 same-found (At s n) Nothing e = absurd (omega (arith, values-long e))
 same-found Nothing (At t m) e = absurd (omega (arith, values-long e))

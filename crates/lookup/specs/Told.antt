@@ -4,7 +4,7 @@ use Rattle.rules.specs.Answers.{Told, numberOf}
 use Rattle.lookup.specs.declared.Found.{Found}
 use Rattle.lookup.specs.declared.Found.the-variants.{At, Nothing, Refused}
 
-abbrev pub foundTold : (answer : Found) → Told
+unfoldable pub foundTold : (answer : Found) → Told
 foundTold (At start len) = record { number = 0; values = start ∷ len ∷ [] }
 foundTold Nothing = record { number = 0; values = [] }
 foundTold (Refused r) = record { number = numberOf r; values = [] }

@@ -12,11 +12,13 @@ ghost use mathlib.Core.Option.{some};
 ghost use Prim.Native.Nat.{_≤_, _<_};
 ghost use lib.ListN.{length};
 ghost use Rattle.fields.specs.Parts.{part};
+ghost use Rattle.rules.specs.Given.{Says};
 ghost use Rattle.rules.specs.Table.{keysRise};
 ghost use Rattle.rules.specs.Layout.{recPlace, recWidth, tableWidth, decodeRec, decodeNode, decode, valid};
 ghost use Rattle.table.specs.Tests.{countOf, recsIn};
 ghost use Rattle.table.specs.Fits.{LaidNode};
 ghost use Rattle.lookup.specs.Lookup.{foundRec, findOn, foundIn, lentFind, Within, Hands, partOf, valuePart, lentValuePart};
+ghost use Rattle.lookup.specs.Told.{foundTold};
 
 // What a lookup finds.
 pub enum Found {
@@ -75,7 +77,7 @@ pub fn find_good(table: &[u8], number: u64, key: &[u8]) -> Found
 
 // Where the value of the key stands in lent bytes: 14, 2, 1.
 pub fn find(table: &[u8], number: u64, key: &[u8]) -> Found
-    ensures { λ r. ⌜ r ≡ lentFind number (now (key .entry)) (now (table .entry)) ⌝ }
+    ensures { λ r. ⌜ Says foundTold (lentFind number (now (key .entry)) (now (table .entry))) r ⌝ }
 {
     if table_check::check_table(table) {
         find_good(table, number, key)

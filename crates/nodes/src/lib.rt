@@ -8,7 +8,8 @@ use table::layout;
 use table_read::Place;
 ghost use mathlib.Core.Path.{_≡_};
 ghost use mathlib.Core.Bool.{true};
-ghost use Rattle.rules.specs.Given.{Gives};
+ghost use Rattle.rules.specs.Answers.{answerTold};
+ghost use Rattle.rules.specs.Given.{Gives, Tells};
 ghost use Rattle.rules.specs.Local.{add, removeNode};
 ghost use Rattle.rules.specs.Lent.{stored, lentAdd, lentRemoveNode};
 ghost use Rattle.rules.specs.Layout.{decode, valid};
@@ -16,7 +17,7 @@ ghost use Rattle.nodes.specs.New.{lentMade};
 
 // The slice becomes an empty table, whatever stood there; one of another length is refused with 14.
 pub fn new_table(table: &mut [u8]) -> Answer
-    ensures { λ r. ⌜ Gives (lentMade (now (table .entry))) r (now (table .exit)) ⌝ }
+    ensures { λ r. ⌜ Tells answerTold (lentMade (now (table .entry))) r (now (table .exit)) ⌝ }
 {
     if table.len() != layout::TABLE {
         return Answer::Refused(Refusal::BadTable);
@@ -58,7 +59,7 @@ pub fn remove_good(table: &mut [u8], number: u64) -> Answer
 
 // Adds a fresh node: 14, 4.
 pub fn add_node(table: &mut [u8], number: u64) -> Answer
-    ensures { λ r. ⌜ Gives (lentAdd number (now (table .entry))) r (now (table .exit)) ⌝ }
+    ensures { λ r. ⌜ Tells answerTold (lentAdd number (now (table .entry))) r (now (table .exit)) ⌝ }
 {
     if table_check::check_table(table) {
         return add_good(table, number);
@@ -68,7 +69,7 @@ pub fn add_node(table: &mut [u8], number: u64) -> Answer
 
 // Removes a node: 14, 2.
 pub fn remove_node(table: &mut [u8], number: u64) -> Answer
-    ensures { λ r. ⌜ Gives (lentRemoveNode number (now (table .entry))) r (now (table .exit)) ⌝ }
+    ensures { λ r. ⌜ Tells answerTold (lentRemoveNode number (now (table .entry))) r (now (table .exit)) ⌝ }
 {
     if table_check::check_table(table) {
         return remove_good(table, number);

@@ -13,7 +13,8 @@ ghost use mathlib.Core.Option.{some};
 ghost use Prim.Native.Nat.{_≤_, _<_};
 ghost use lib.ListN.{length};
 ghost use Rattle.fields.specs.Parts.{part, put};
-ghost use Rattle.rules.specs.Given.{Gives};
+ghost use Rattle.rules.specs.Answers.{listedTold};
+ghost use Rattle.rules.specs.Given.{Gives, Tells};
 ghost use Rattle.rules.specs.Node.{hits, hitsFrom};
 ghost use Rattle.rules.specs.Local.{prefixOn, prefixed};
 ghost use Rattle.rules.specs.Layout.{recPlace, recWidth, decodeRec, decodeNode, decode, valid};
@@ -103,7 +104,7 @@ pub fn list_good(table: &[u8], number: u64, prefix: &[u8], out: &mut [u8]) -> Li
 
 // The listing in lent bytes: 14, 2, 1, 8.
 pub fn list_prefix(table: &[u8], number: u64, prefix: &[u8], out: &mut [u8]) -> Listed
-    ensures { λ r. ⌜ Gives (lentPrefixed number (now (prefix .entry)) (now (out .entry)) (now (table .entry))) r (now (out .exit)) ⌝ }
+    ensures { λ r. ⌜ Tells listedTold (lentPrefixed number (now (prefix .entry)) (now (out .entry)) (now (table .entry))) r (now (out .exit)) ⌝ }
 {
     if table_check::check_table(table) {
         list_good(table, number, prefix, out)

@@ -12,7 +12,8 @@ ghost use mathlib.Core.Path.{_≡_};
 ghost use mathlib.Core.Bool.{true, not};
 ghost use Prim.Native.Nat.{_+_, _<_, max};
 ghost use lib.Dec.{ltb};
-ghost use Rattle.rules.specs.Given.{Gives};
+ghost use Rattle.rules.specs.Answers.{answerTold};
+ghost use Rattle.rules.specs.Given.{Tells};
 ghost use Rattle.rules.specs.Node.{goes, due};
 ghost use Rattle.rules.specs.Table.{removeAll};
 ghost use Rattle.rules.specs.Layout.{encodeNode, decodeNode, encode, decode, valid};
@@ -99,7 +100,7 @@ pub fn remove_good(table: &mut [u8], clock: u64, grace: u64)
 
 // The removal in lent bytes: 14.
 pub fn remove_scheduled(table: &mut [u8], clock: u64, grace: u64) -> Answer
-    ensures { λ r. ⌜ Gives (lentGc clock grace (now (table .entry))) r (now (table .exit)) ⌝ }
+    ensures { λ r. ⌜ Tells answerTold (lentGc clock grace (now (table .entry))) r (now (table .exit)) ⌝ }
 {
     if table_check::check_table(table) {
         remove_good(table, clock, grace);

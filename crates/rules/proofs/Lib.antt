@@ -24,6 +24,7 @@ pub mod Accepted
 pub mod Calls
 pub mod Unique
 pub mod Told
+pub mod Numbers
 pub mod Refusing
 pub mod EachNode
 pub mod Nearer

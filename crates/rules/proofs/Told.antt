@@ -115,12 +115,14 @@ pub not-refused : {X : Type 0} (r : Refusal) → 0 ≡ numberOf r → X
 not-refused r e = absurd (omega (arith, positive r))
 
 pub same-answer : (a b : Answer) → answerTold a ≡ answerTold b → a ≡ b
+unfolding answerTold
 same-answer plain.Done plain.Done e = refl
 same-answer plain.Done (plain.Refused r) e = not-refused r (number-is e)
 same-answer (plain.Refused r) plain.Done e = not-refused r (sym (number-is e))
 same-answer (plain.Refused r) (plain.Refused s) e = ap plain.Refused (same-number r s (number-is e))
 
 pub same-offered : (a b : Offered) → offeredTold a ≡ offeredTold b → a ≡ b
+unfolding offeredTold
 same-offered offered.Yes offered.Yes e = refl
 same-offered offered.Yes offered.No e = absurd (omega (arith, value-is e 0))
 same-offered offered.No offered.Yes e = absurd (omega (arith, value-is e 0))
@@ -132,30 +134,35 @@ same-offered (offered.Refused r) offered.No e = not-refused r (sym (number-is e)
 same-offered (offered.Refused r) (offered.Refused s) e = ap offered.Refused (same-number r s (number-is e))
 
 pub same-listed : (a b : Listed) → listedTold a ≡ listedTold b → a ≡ b
+unfolding listedTold
 same-listed (listed.Hits n) (listed.Hits m) e = ap listed.Hits (value-is e 0)
 same-listed (listed.Hits n) (listed.Refused r) e = not-refused r (number-is e)
 same-listed (listed.Refused r) (listed.Hits n) e = not-refused r (sym (number-is e))
 same-listed (listed.Refused r) (listed.Refused s) e = ap listed.Refused (same-number r s (number-is e))
 
 pub same-written : (a b : Written) → writtenTold a ≡ writtenTold b → a ≡ b
+unfolding writtenTold
 same-written (written.Bytes n) (written.Bytes m) e = ap written.Bytes (value-is e 0)
 same-written (written.Bytes n) (written.Refused r) e = not-refused r (number-is e)
 same-written (written.Refused r) (written.Bytes n) e = not-refused r (sym (number-is e))
 same-written (written.Refused r) (written.Refused s) e = ap written.Refused (same-number r s (number-is e))
 
 pub same-computed : (a b : Computed) → computedTold a ≡ computedTold b → a ≡ b
+unfolding computedTold
 same-computed (computed.Delta n k) (computed.Delta m l) e = ap₂ computed.Delta (value-is e 0) (value-is e 1)
 same-computed (computed.Delta n k) (computed.Refused r) e = not-refused r (number-is e)
 same-computed (computed.Refused r) (computed.Delta n k) e = not-refused r (sym (number-is e))
 same-computed (computed.Refused r) (computed.Refused s) e = ap computed.Refused (same-number r s (number-is e))
 
 pub same-read : (a b : DeltaRead) → readTold a ≡ readTold b → a ≡ b
+unfolding readTold
 same-read (read.Good n k) (read.Good m l) e = ap₂ read.Good (value-is e 0) (value-is e 1)
 same-read (read.Good n k) (read.Refused r at) e = not-refused r (number-is e)
 same-read (read.Refused r at) (read.Good n k) e = not-refused r (sym (number-is e))
 same-read (read.Refused r at) (read.Refused s to) e = ap₂ read.Refused (same-number r s (number-is e)) (value-is e 0)
 
 pub same-applied : (a b : Applied) → appliedTold a ≡ appliedTold b → a ≡ b
+unfolding appliedTold
 same-applied (applied.Nodes n) (applied.Nodes m) e = ap applied.Nodes (value-is e 0)
 same-applied (applied.Nodes n) (applied.Refused r at) e = not-refused r (number-is e)
 same-applied (applied.Refused r at) (applied.Nodes n) e = not-refused r (sym (number-is e))

@@ -58,32 +58,32 @@ accepted vs = record { number = 0; values = vs }
 abbrev refused : (why : Refusal) (vs : List ℕ) → Told
 refused r vs = record { number = numberOf r; values = vs }
 
-abbrev pub answerTold : Answer → Told
+unfoldable pub answerTold : Answer → Told
 answerTold plain.Done = accepted []
 answerTold (plain.Refused r) = refused r []
 
 -- yes is 1, no is 0
-abbrev pub offeredTold : Offered → Told
+unfoldable pub offeredTold : Offered → Told
 offeredTold offered.Yes = accepted (1 ∷ [])
 offeredTold offered.No = accepted (0 ∷ [])
 offeredTold (offered.Refused r) = refused r []
 
-abbrev pub listedTold : Listed → Told
+unfoldable pub listedTold : Listed → Told
 listedTold (listed.Hits n) = accepted (n ∷ [])
 listedTold (listed.Refused r) = refused r []
 
-abbrev pub writtenTold : Written → Told
+unfoldable pub writtenTold : Written → Told
 writtenTold (written.Bytes n) = accepted (n ∷ [])
 writtenTold (written.Refused r) = refused r []
 
-abbrev pub computedTold : Computed → Told
+unfoldable pub computedTold : Computed → Told
 computedTold (computed.Delta ops bytes) = accepted (ops ∷ bytes ∷ [])
 computedTold (computed.Refused r) = refused r []
 
-abbrev pub readTold : DeltaRead → Told
+unfoldable pub readTold : DeltaRead → Told
 readTold (read.Good ops nodes) = accepted (ops ∷ nodes ∷ [])
 readTold (read.Refused r at) = refused r (at ∷ [])
 
-abbrev pub appliedTold : Applied → Told
+unfoldable pub appliedTold : Applied → Told
 appliedTold (applied.Nodes n) = accepted (n ∷ [])
 appliedTold (applied.Refused r at) = refused r (at ∷ [])

@@ -1,7 +1,9 @@
 -- `apply::apply` meets its contract: by the table, the delta's verdict and the places for the answers. Assumes nothing.
 use mathlib.Core.Path.{_≡_, sym, _∙_}
 use mathlib.Core.Bool.{true}
+use Rattle.rules.specs.Answers.{appliedTold}
 use Rattle.rules.specs.Layout.{valid}
+use Rattle.rules.proofs.Unique.{tells}
 use Rattle.apply.proofs.Applied.{bad-table, at-fault, no-places, accepted, heads-found, applied-all}
 use borrow.Author.Needs.{needs}
 use Rattle.apply.proofs.apply.Statement.{statement}
@@ -34,7 +36,8 @@ returns c =
     let read = c .before .before in
     let rd = read .before .before in
     let a = entry (rd .before .before) .args in
-    no-places (a .delta .now) (a .clock) (a .answers .now) (a .table .now) (good rd) _ _ (sym (rd .read-heads .ensures .0) ∙ read .read2 .given .1) (c .if2 .taken)
+    tells appliedTold
+    (no-places (a .delta .now) (a .clock) (a .answers .now) (a .table .now) (good rd) _ _ (sym (rd .read-heads .ensures .0) ∙ read .read2 .given .1) (c .if2 .taken))
 
 apply-each-requires : tie.Need-apply-each-requires
 apply-each-requires c κs =
@@ -56,7 +59,8 @@ returns-2 : tie.Need-returns-2
 returns-2 c =
     let rd = c .before .before .before in
     let a = entry (rd .before .before) .args in
-    at-fault (a .delta .now) (a .clock) (a .answers .now) (a .table .now) (good rd) _ _ (sym (rd .read-heads .ensures .0) ∙ c .before .read .given .1)
+    tells appliedTold
+    (at-fault (a .delta .now) (a .clock) (a .answers .now) (a .table .now) (good rd) _ _ (sym (rd .read-heads .ensures .0) ∙ c .before .read .given .1))
 
 same-length-3 : tie.Need-same-length-3
 same-length-3 c = search needs
@@ -71,7 +75,8 @@ returns-3 c =
     let read = places .before .before in
     let rd = read .before .before in
     let a = entry (rd .before .before) .args in
-    applied-all (a .delta .now) (a .clock) (a .answers .now) (a .table .now) (good rd) _ _ (sym (rd .read-heads .ensures .0) ∙ read .read2 .given .1) (places .if2 .left) _ _ (call .apply-each .ensures)
+    tells appliedTold
+    (applied-all (a .delta .now) (a .clock) (a .answers .now) (a .table .now) (good rd) _ _ (sym (rd .read-heads .ensures .0) ∙ read .read2 .given .1) (places .if2 .left) _ _ (call .apply-each .ensures))
 
 same-length-5 : tie.Need-same-length-5
 same-length-5 c = search needs
@@ -79,7 +84,8 @@ same-length-5 c = search needs
 returns-4 : tie.Need-returns-4
 returns-4 c =
     let a = entry (c .before) .args in
-    bad-table (a .delta .now) (a .clock) (a .answers .now) (a .table .now) (sym (c .before .check-table .ensures) ∙ c .if1 .left)
+    tells appliedTold
+    (bad-table (a .delta .now) (a .clock) (a .answers .now) (a .table .now) (sym (c .before .check-table .ensures) ∙ c .if1 .left))
 
 pub apply-spec : {M : Type 1} → statement M
 apply-spec =

@@ -1,5 +1,7 @@
 -- `compute::compute` meets its contract: 14 exactly where the table is not valid, else the rule on it. Assumes nothing.
 use mathlib.Core.Path.{sym, _∙_}
+use Rattle.rules.specs.Answers.{computedTold}
+use Rattle.rules.proofs.Unique.{tells}
 use Rattle.compute_write.proofs.Steps.{gives-as}
 use Rattle.compute.proofs.Calling.{bad-table, good-table}
 use borrow.Author.Needs.{needs}
@@ -23,14 +25,16 @@ returns c =
     let checked = c .before .before .before .before .before in
     let a = entry checked .args in
     let good = sym (checked .check-table .ensures) ∙ c .before .before .before .before .if1 .taken in
-    gives-as (good-table (a .excluded .now) (a .ties .now) (a .mtu) (a .place) (a .digest .now) (a .table .now) (a .datagram .now) good)
-    (c .before .before .compute-good .ensures)
+    tells computedTold
+    (gives-as (good-table (a .excluded .now) (a .ties .now) (a .mtu) (a .place) (a .digest .now) (a .table .now) (a .datagram .now) good)
+    (c .before .before .compute-good .ensures))
 
 returns-2 : tie.Need-returns-2
 returns-2 c =
     let a = entry (c .before) .args in
-    bad-table (a .excluded .now) (a .ties .now) (a .mtu) (a .place) (a .digest .now) (a .table .now) (a .datagram .now)
-    (sym (c .before .check-table .ensures) ∙ c .if1 .left)
+    tells computedTold
+    (bad-table (a .excluded .now) (a .ties .now) (a .mtu) (a .place) (a .digest .now) (a .table .now) (a .datagram .now)
+    (sym (c .before .check-table .ensures) ∙ c .if1 .left))
 
 pub compute-spec : {M : Type 1} → statement M
 compute-spec =

@@ -8,6 +8,7 @@ use Rattle.table.specs.Fits.{LaidTable}
 use Rattle.table.proofs.Tables.{length-decode, valid-laid}
 use Rattle.digest_read.specs.Held.{entriesIn, restOf}
 use Rattle.digest_read.specs.declared.Digest.{Digest}
+use Rattle.digest_read.proofs.Values.{same-digest}
 use Rattle.digest_read.proofs.Reading.{read-nodes, read-refused}
 use Rattle.compute.specs.Asking.{askedOf}
 use Rattle.compute.specs.declared.Asked.{Asked}
@@ -114,7 +115,7 @@ returns-2 c =
     let a = granting good .args in
     let f = grants good .free in
     let b = grants good .before in
-    let d = digest .read-digest .ensures in
+    let d = same-digest _ _ (digest .read-digest .ensures) in
     let read = read-nodes (a .digest .now) _ _ (sym (ap (λ (x : Digest). x .read) d) ∙ c .before .before .before .before .enum-told2 .given .1)
     ∙ ap (λ (x : Digest). Entries (entriesIn x) (restOf (readDigest (a .digest .now)))) (sym d) in
     by-part (a .excluded .now) (a .ties .now) (a .mtu) (a .place) (a .digest .now) (decode (a .table .now)) (a .datagram .now)
@@ -127,7 +128,7 @@ returns-3 c =
     let digest = c .before .before .before in
     let good = digest .before in
     let a = granting good .args in
-    let read = read-refused (a .digest .now) _ (sym (ap (λ (x : Digest). x .read) (digest .read-digest .ensures)) ∙ c .before .read .given .1) in
+    let read = read-refused (a .digest .now) _ (sym (ap (λ (x : Digest). x .read) (same-digest _ _ (digest .read-digest .ensures))) ∙ c .before .read .given .1) in
     by-digest (a .excluded .now) (a .ties .now) (a .mtu) (a .place) (a .digest .now) (decode (a .table .now)) (a .datagram .now) _ (is-good good) read
 
 pub compute-good-spec : {M : Type 1} → statement M

@@ -1,6 +1,8 @@
 -- `digest_write::write_digest` meets its contract: 14 exactly where the table is not valid, else the rule on it. Assumes nothing.
 use mathlib.Core.Path.{sym, ap, _∙_}
+use Rattle.rules.specs.Answers.{writtenTold}
 use Rattle.rules.specs.Given.{Given}
+use Rattle.rules.proofs.Unique.{tells}
 use Rattle.digest_write.proofs.Outcomes.{bad-table, good-table}
 use borrow.Author.Needs.{needs}
 use Rattle.digest_write.proofs.write_digest.Statement.{statement}
@@ -25,12 +27,12 @@ returns c =
     let good = sym (checked .check-table .ensures) ∙ c .before .before .before .before .if1 .taken in
     let same = good-table (a .excluded .now) (a .place) (a .datagram .now) (a .table .now) good in
     let done = c .before .before .write-good .ensures in
-    (done .0 ∙ ap (λ (o : Given _ _). o .answer) same, done .1 ∙ ap (λ (o : Given _ _). o .lent) same)
+    tells writtenTold (done .0 ∙ ap (λ (o : Given _ _). o .answer) same, done .1 ∙ ap (λ (o : Given _ _). o .lent) same)
 
 returns-2 : tie.Need-returns-2
 returns-2 c =
     let a = entry (c .before) .args in
-    bad-table (a .excluded .now) (a .place) (a .datagram .now) (a .table .now) (sym (c .before .check-table .ensures) ∙ c .if1 .left)
+    tells writtenTold (bad-table (a .excluded .now) (a .place) (a .datagram .now) (a .table .now) (sym (c .before .check-table .ensures) ∙ c .if1 .left))
 
 pub write-digest-spec : {M : Type 1} → statement M
 write-digest-spec =

@@ -6,6 +6,7 @@ use lib.Seq.{length-take-le}
 use Rattle.rules.specs.declared.Applied.{Applied}
 use Rattle.rules.specs.Given.{Gives}
 use Rattle.rules.specs.Lent.{lentCompute}
+use Rattle.rules.proofs.Told.{same-applied}
 use Rattle.exchange.specs.Exchanging.{allThree, exchangedAs, lentAnswer}
 use Rattle.exchange.proofs.Exchanging.{delta-taken, made-good, made-within, no-delta}
 use borrow.Author.Needs.{needs}
@@ -55,7 +56,7 @@ taken : (c : tie.After-apply) (r : Applied) → c .apply .result ≡ r → let a
 taken c r e =
     let a = entry (asked c) .args in
     let call = made-so (asked c) in
-    delta-taken (a .unsent .now) (a .ties .now) (a .mtu) (a .clock) (a .told .now) (a .delta .now) (a .answers .now) (a .publisher .now) (a .follower .now) _ _ _ (sym (call .0) ∙ made c .computed .given .1) (call .1) r _ _ (sym e ∙ c .apply .ensures .0, c .apply .ensures .1)
+    delta-taken (a .unsent .now) (a .ties .now) (a .mtu) (a .clock) (a .told .now) (a .delta .now) (a .answers .now) (a .publisher .now) (a .follower .now) _ _ _ (sym (call .0) ∙ made c .computed .given .1) (call .1) r _ _ (sym e ∙ same-applied _ _ (c .apply .ensures .0), c .apply .ensures .1)
 
 apply-requires : tie.Need-apply-requires
 apply-requires c κs = search needs

@@ -1,7 +1,8 @@
 -- `exchange::exchange` meets its contract: refused by what was asked, or the three calls. Assumes nothing.
 use mathlib.Core.Path.{_∙_, ap, sym}
 use Rattle.rules.specs.Given.{Given}
-use Rattle.exchange.specs.Exchanging.{ExchangeLent, Lending, lending}
+use Rattle.rules.proofs.Unique.{tells}
+use Rattle.exchange.specs.Exchanging.{ExchangeLent, Lending, exchangedTold, lending}
 use Rattle.exchange.specs.declared.Exchanged.{Exchanged}
 use Rattle.exchange.proofs.Exchanging.{goes-ahead, not-ready}
 use Rattle.exchange.proofs.Refusing.{IsReady, is-ready}
@@ -52,6 +53,7 @@ returns c =
     let call = told .before .before in
     let same = goes-ahead (lent call) (entry call .args .publisher .now) (entry call .args .follower .now) (sym (call .ask .ensures) ∙ told .enum-told .given .1) in
     let done = good .exchange-good .ensures in
+    tells exchangedTold
     (done .0 ∙ ap (λ (o : Given Exchanged ExchangeLent). o .answer) (sym same), done .1 ∙ ap (λ (o : Given Exchanged ExchangeLent). o .lent) (sym same))
 
 same-length-5 : tie.Need-same-length-5
@@ -60,7 +62,8 @@ same-length-5 c = search needs
 returns-2 : tie.Need-returns-2
 returns-2 c =
     let call = c .before .before .before in
-    not-ready (lent call) (entry call .args .publisher .now) (entry call .args .follower .now) _ _ (sym (call .ask .ensures) ∙ c .before .asked .given .1)
+    tells exchangedTold
+    (not-ready (lent call) (entry call .args .publisher .now) (entry call .args .follower .now) _ _ (sym (call .ask .ensures) ∙ c .before .asked .given .1))
 
 pub exchange-spec : {M : Type 1} → statement M
 exchange-spec =

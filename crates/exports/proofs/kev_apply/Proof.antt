@@ -1,5 +1,6 @@
 -- `exports::kev_apply` meets its contract: the call, and its answer as a number. Assumes nothing.
 use mathlib.Core.Path.{ap, _∙_}
+use Rattle.rules.proofs.Told.{same-applied}
 use Rattle.exports.specs.Numbers.{nodesApplied}
 use borrow.Author.Needs.{needs}
 use Rattle.exports.proofs.kev_apply.Statement.{statement}
@@ -20,7 +21,7 @@ same-length-2 c = search needs
 returns : tie.Need-returns
 returns c =
     let e = c .before .before .before .before .before .apply .ensures in
-    (c .nodes-applied .ensures ∙ ap nodesApplied (e .0), e .1)
+    (c .nodes-applied .ensures ∙ ap nodesApplied (same-applied _ _ (e .0)), e .1)
 
 pub kev-apply-spec : {M : Type 1} → statement M
 kev-apply-spec =

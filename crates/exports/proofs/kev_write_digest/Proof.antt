@@ -1,5 +1,6 @@
 -- `exports::kev_write_digest` meets its contract: the call, and its answer as a number. Assumes nothing.
 use mathlib.Core.Path.{ap, _∙_}
+use Rattle.rules.proofs.Told.{same-written}
 use Rattle.exports.specs.Numbers.{bytesWritten}
 use borrow.Author.Needs.{needs}
 use Rattle.exports.proofs.kev_write_digest.Statement.{statement}
@@ -17,7 +18,7 @@ same-length c = search needs
 returns : tie.Need-returns
 returns c =
     let e = c .before .before .before .write-digest .ensures in
-    (c .bytes-written .ensures ∙ ap bytesWritten (e .0), e .1)
+    (c .bytes-written .ensures ∙ ap bytesWritten (same-written _ _ (e .0)), e .1)
 
 pub kev-write-digest-spec : {M : Type 1} → statement M
 kev-write-digest-spec =

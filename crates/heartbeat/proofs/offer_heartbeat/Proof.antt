@@ -1,8 +1,10 @@
 -- `heartbeat::offer_heartbeat` meets its contract: 14, or the rule on a good table. Assumes nothing.
 use mathlib.Core.Path.{sym, _∙_}
+use Rattle.rules.specs.Answers.{offeredTold}
 use Rattle.rules.specs.Local.{offer}
 use Rattle.rules.specs.declared.Offered.the-variants.{Refused}
 use Rattle.rules.specs.declared.Refusal.the-variants.{BadTable}
+use Rattle.rules.proofs.Unique.{tells}
 use Rattle.table_check.proofs.Entry.{bad-table, good-table}
 use borrow.Author.Needs.{needs}
 use Rattle.heartbeat.proofs.offer_heartbeat.Statement.{statement}
@@ -21,7 +23,7 @@ returns : tie.Need-returns
 returns c =
     let a = (c .before .before .before .before .before .before .before .before) .args in
     let w = (c .before .before) .offer-good in
-    good-table (Refused BadTable) (offer (a .number) (a .got)) (a .table .now) (sym ((c .before .before .before .before .before) .check-table .ensures) ∙ (c .before .before .before .before) .if1 .taken) (w .result) (w .last .0) (w .ensures)
+    tells offeredTold (good-table (Refused BadTable) (offer (a .number) (a .got)) (a .table .now) (sym ((c .before .before .before .before .before) .check-table .ensures) ∙ (c .before .before .before .before) .if1 .taken) (w .result) (w .last .0) (w .ensures))
 
 same-length-2 : tie.Need-same-length-2
 same-length-2 c = search needs
@@ -29,7 +31,7 @@ same-length-2 c = search needs
 returns-2 : tie.Need-returns-2
 returns-2 c =
     let a = (c .before .before .before .before) .args in
-    bad-table (Refused BadTable) (offer (a .number) (a .got)) (a .table .now) (sym (c .before .check-table .ensures) ∙ c .if1 .left)
+    tells offeredTold (bad-table (Refused BadTable) (offer (a .number) (a .got)) (a .table .now) (sym (c .before .check-table .ensures) ∙ c .if1 .left))
 
 pub offer-heartbeat-spec : {M : Type 1} → statement M
 offer-heartbeat-spec =

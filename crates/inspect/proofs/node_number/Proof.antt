@@ -1,4 +1,6 @@
 -- `inspect::node_number` meets its contract: 14, or the reading on a good table. Assumes nothing.
+use mathlib.Core.Path.{ap}
+use Rattle.inspect.specs.Told.{nodeNumberTold}
 use Rattle.table_read.proofs.Entry.{read-good, read-bad}
 use borrow.Author.Needs.{needs}
 use Rattle.inspect.proofs.node_number.Statement.{statement}
@@ -11,10 +13,10 @@ node-number-good-requires : tie.Need-node-number-good-requires
 node-number-good-requires c κs = cc
 
 returns : tie.Need-returns
-returns c = search read-good
+returns c = ap nodeNumberTold (search read-good)
 
 returns-2 : tie.Need-returns-2
-returns-2 c = search read-bad
+returns-2 c = ap nodeNumberTold (search read-bad)
 
 pub node-number-spec : {M : Type 1} → statement M
 node-number-spec = tie.close (tie.spec check-table-requires node-number-good-requires returns returns-2)

@@ -1,4 +1,6 @@
 -- `inspect::record_by_key` meets its contract: 14, or the reading on a good table. Assumes nothing.
+use mathlib.Core.Path.{ap}
+use Rattle.inspect.specs.Told.{recordReadTold}
 use Rattle.table_read.proofs.Entry.{read-good, read-bad}
 use borrow.Author.Needs.{needs}
 use Rattle.inspect.proofs.record_by_key.Statement.{statement}
@@ -11,10 +13,10 @@ record-by-key-good-requires : tie.Need-record-by-key-good-requires
 record-by-key-good-requires c κs = cc
 
 returns : tie.Need-returns
-returns c = search read-good
+returns c = ap recordReadTold (search read-good)
 
 returns-2 : tie.Need-returns-2
-returns-2 c = search read-bad
+returns-2 c = ap recordReadTold (search read-bad)
 
 pub record-by-key-spec : {M : Type 1} → statement M
 record-by-key-spec = tie.close (tie.spec check-table-requires record-by-key-good-requires returns returns-2)

@@ -1,4 +1,6 @@
 -- `inspect_text::find_text` meets its contract: 14, or the reading on a good table. Assumes nothing.
+use mathlib.Core.Path.{ap}
+use Rattle.lookup.specs.Told.{foundTold}
 use Rattle.table_read.proofs.Entry.{read-good, read-bad}
 use borrow.Author.Needs.{needs}
 use Rattle.inspect_text.proofs.find_text.Statement.{statement}
@@ -11,10 +13,10 @@ find-text-good-requires : tie.Need-find-text-good-requires
 find-text-good-requires c κs = cc
 
 returns : tie.Need-returns
-returns c = search read-good
+returns c = ap foundTold (search read-good)
 
 returns-2 : tie.Need-returns-2
-returns-2 c = search read-bad
+returns-2 c = ap foundTold (search read-bad)
 
 pub find-text-spec : {M : Type 1} → statement M
 find-text-spec =

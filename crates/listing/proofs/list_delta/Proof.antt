@@ -2,9 +2,12 @@
 use Prim.Native.Nat.{ℕ}
 use mathlib.Core.Path.{_≡_, ap, sym, _∙_}
 use mathlib.Core.List.{List}
+use Rattle.rules.specs.Answers.{writtenTold}
 use Rattle.rules.specs.Given.{Gives}
 use Rattle.rules.specs.Digest.{writeBytes}
 use Rattle.rules.specs.declared.Written.{Written}
+use Rattle.rules.proofs.Told.{same-read}
+use Rattle.rules.proofs.Unique.{tells}
 use Rattle.listing.specs.Shapes.{refusedText}
 use Rattle.listing.proofs.Lines.{listing-good, listing-refused}
 use borrow.Author.Needs.{needs}
@@ -21,7 +24,7 @@ enum-known-read : tie.Need-enum-known-read
 enum-known-read c = search needs
 
 list-good-requires : tie.Need-list-good-requires
-list-good-requires c κs = listing-good _ _ _ (sym (c .before .before .before .before .read-delta .ensures) ∙ c .before .before .read .given .1) .1
+list-good-requires c κs = listing-good _ _ _ (sym (same-read _ _ (c .before .before .before .before .read-delta .ensures)) ∙ c .before .before .read .given .1) .1
 
 enum-known-read-2 : tie.Need-enum-known-read-2
 enum-known-read-2 c = search needs
@@ -39,8 +42,9 @@ returns : tie.Need-returns
 returns c =
     let call = c .before .before .list-good in
     let read = c .before .before .before .before .before in
-    let e = sym (read .before .before .read-delta .ensures) ∙ read .read .given .1 in
-    as-listing _ _ (read .before .before .before .before .before .args .out .now) _ _ (listing-good _ _ _ e .0) (call .ensures)
+    let e = sym (same-read _ _ (read .before .before .read-delta .ensures)) ∙ read .read .given .1 in
+    tells writtenTold
+    (as-listing _ _ (read .before .before .before .before .before .args .out .now) _ _ (listing-good _ _ _ e .0) (call .ensures))
 
 same-length-2 : tie.Need-same-length-2
 same-length-2 c = search needs
@@ -50,9 +54,10 @@ returns-2 c =
     let call = c .before .before .list-refused in
     let code = c .before .before .before .number .ensures in
     let read = c .before .before .before .before .before .before in
-    let e = sym (read .before .before .read-delta .ensures) ∙ read .read2 .given .1 in
+    let e = sym (same-read _ _ (read .before .before .read-delta .ensures)) ∙ read .read2 .given .1 in
     let text = listing-refused _ _ _ e ∙ ap (λ (n : ℕ). refusedText n (read .read2 .given .0 .1 .0)) (sym code) in
-    as-listing _ _ (read .before .before .before .before .before .args .out .now) _ _ text (call .ensures)
+    tells writtenTold
+    (as-listing _ _ (read .before .before .before .before .before .args .out .now) _ _ text (call .ensures))
 
 pub list-delta-spec : {M : Type 1} → statement M
 list-delta-spec =

@@ -1,4 +1,6 @@
 -- `lookup::find` meets its contract: 14, or the rule on a good table. Assumes nothing.
+use mathlib.Core.Path.{ap}
+use Rattle.lookup.specs.Told.{foundTold}
 use Rattle.table_read.proofs.Entry.{read-good, read-bad}
 use borrow.Author.Needs.{needs}
 use Rattle.lookup.proofs.find.Statement.{statement}
@@ -11,10 +13,10 @@ find-good-requires : tie.Need-find-good-requires
 find-good-requires c κs = cc
 
 returns : tie.Need-returns
-returns c = search read-good
+returns c = ap foundTold (search read-good)
 
 returns-2 : tie.Need-returns-2
-returns-2 c = search read-bad
+returns-2 c = ap foundTold (search read-bad)
 
 pub find-spec : {M : Type 1} → statement M
 find-spec = tie.close (tie.spec check-table-requires find-good-requires returns returns-2)

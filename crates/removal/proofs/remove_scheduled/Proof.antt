@@ -3,6 +3,7 @@ use mathlib.Core.Path.{_≡_, refl, sym, _∙_}
 use mathlib.Core.Bool.{true}
 use mathlib.Core.List.{List}
 use Prim.Native.Nat.{ℕ}
+use Rattle.rules.specs.Answers.{answerTold}
 use Rattle.rules.specs.Given.{Gives}
 use Rattle.rules.specs.Node.{due}
 use Rattle.rules.specs.Table.{removeAll}
@@ -11,6 +12,7 @@ use Rattle.rules.specs.Layout.{encode, decode, valid}
 use Rattle.rules.specs.Lent.{lentGc}
 use Rattle.rules.specs.declared.Answer.the-variants.{Done, Refused}
 use Rattle.rules.specs.declared.Refusal.the-variants.{BadTable}
+use Rattle.rules.proofs.Unique.{tells}
 use Rattle.table_check.proofs.Entry.{bad-table, good-table}
 use borrow.Author.Needs.{needs}
 use Rattle.removal.proofs.remove_scheduled.Statement.{statement}
@@ -36,7 +38,7 @@ returns c =
     let y = r .before .before in
     let k = y .before in
     let a = k .before .before .before .args in
-    removed (a .clock) (a .grace) (a .table .now) (sym (k .check-table .ensures) ∙ y .if1 .taken) _ (r .remove-good .ensures)
+    tells answerTold (removed (a .clock) (a .grace) (a .table .now) (sym (k .check-table .ensures) ∙ y .if1 .taken) _ (r .remove-good .ensures))
 
 same-length-2 : tie.Need-same-length-2
 same-length-2 c = search needs
@@ -45,7 +47,7 @@ returns-2 : tie.Need-returns-2
 returns-2 c =
     let k = c .before in
     let a = k .before .before .before .args in
-    bad-table (Refused BadTable) (gc (a .clock) (a .grace)) (a .table .now) (sym (k .check-table .ensures) ∙ c .if1 .left)
+    tells answerTold (bad-table (Refused BadTable) (gc (a .clock) (a .grace)) (a .table .now) (sym (k .check-table .ensures) ∙ c .if1 .left))
 
 pub remove-scheduled-spec : {M : Type 1} → statement M
 remove-scheduled-spec =

@@ -1,0 +1,8 @@
+-- x
+use Rattle.demand1.specs.Demand1.{Demand1}
+use Rattle.demand1.proofs.Nothing.{nothing}
+use Rattle.demand1.proofs.Kept.{obeying}
+use Rattle.demand1.proofs.Others.{no-other}
+
+pub demand1 : Demand1
+demand1 = record { refused-changes-nothing = λ k c. nothing c; tables-obey = λ k c. obeying c; no-other-number = λ k c. no-other c; each-number = ? }

@@ -1,0 +1,5 @@
+pub mod Nothing
+pub mod Kept
+pub mod Deltas
+pub mod Others
+pub mod Demand1

@@ -1,0 +1,497 @@
+-- No call gives a number that is not among those of its kind. Assumes nothing.
+use Prim.Native.Nat.{ℕ, suc}
+use mathlib.Core.Bool.{Bool, true, false, _&&_}
+use mathlib.Core.List.{List, [], _∷_}
+use mathlib.Core.Option.{Option, none, some}
+use mathlib.Core.Path.{_≡_, _∙_, ap, refl, subst, sym}
+use lib.Dec.{eqb, leb, ltb}
+use lib.ListN.{length}
+use borrow.Author.Tests.{eq-eqb}
+use Rattle.fields.specs.Choice.{pick}
+use Rattle.fields.specs.Numbers.{Bytes}
+use Rattle.fields.specs.Order.{sameBytes}
+use Rattle.fields.specs.Parts.{put}
+use Rattle.rules.specs.Sizes.{leastMtu, maxDelta, maxKey, maxNodes, maxValue, top}
+use Rattle.rules.specs.Answers.{Told, numberOf, answerTold, appliedTold, computedTold, listedTold, offeredTold, readTold, writtenTold}
+use Rattle.rules.specs.Apply.{ApplyOutcome, apply, applyEach, applyNode, applyOps, codes, plainWays}
+use Rattle.rules.specs.Compute as computing
+use Rattle.rules.specs.Delta.{Faulty, Good, Op, Ops, deltaRead, partsOf, readAnswer, readDelta}
+use Rattle.rules.specs.Digest as digest
+use Rattle.rules.specs.Given.{Given, given}
+use Rattle.rules.specs.Layout.{decode, tableWidth, valid}
+use Rattle.rules.specs.Lent.{TableAndList, both, fromTable, lentApplyAs, lentNew, onTable, stored, storedApply}
+use Rattle.rules.specs.Listing.{listing}
+use Rattle.rules.specs.Local.{Outcome, add, answerOf, beatOn, call, callOn, gc, gives, listInto, localBeat, offer, offerOn, prefixOn, prefixed, removeNode, yesNo}
+use Rattle.rules.specs.Node.{Call, Change, Deleting, DeletingAfterTtl, Give, Leave, Node, Rec, Refuse, Setting, SettingTtl, act, allowed, beats, brought, decide, find, fullFor, hidden, hitsFrom, offerOf, sameStatus, unlessSame, wish, withHeartbeat}
+use Rattle.rules.specs.Table.{Entry, Table, addNode, among, dropNode, nodeOf, numbersOf, setNode}
+use Rattle.rules.specs.declared.Answer.{Answer}
+use Rattle.rules.specs.declared.Answer.the-variants as plain
+use Rattle.rules.specs.declared.Applied.{Applied}
+use Rattle.rules.specs.declared.Applied.the-variants as applied
+use Rattle.rules.specs.declared.Computed.{Computed}
+use Rattle.rules.specs.declared.Computed.the-variants as computed
+use Rattle.rules.specs.declared.Listed.{Listed}
+use Rattle.rules.specs.declared.Listed.the-variants as listed
+use Rattle.rules.specs.declared.Offered.the-variants as offered
+use Rattle.rules.specs.declared.Refusal.{Refusal}
+use Rattle.rules.specs.declared.Refusal.the-variants.{BadMtu, BadTable, BadTies, Exhausted, NinthNode, NoNode, NodeFull, NoPlace, TooLong}
+use Rattle.rules.specs.declared.Written.{Written}
+use Rattle.rules.specs.declared.Written.the-variants as written
+use Rattle.table_read.specs.Find.{nodeStart}
+use Rattle.nodes.specs.New.{lentMade}
+use Rattle.lookup.specs.Lookup.{findOn, findRec, foundIn, foundRec, valuePlace}
+use Rattle.lookup.specs.Told.{foundTold}
+use Rattle.lookup.specs.declared.Found.{Found}
+use Rattle.lookup.specs.declared.Found.the-variants as found
+use Rattle.inspect.specs.Look.{elementAt, headerOn, nodeCount, nodeHeader, nodeNumber, numberOn, readAt, readKey, readRecord, recordByKey, recordByKeyOn, recordCount, recordOn, recordsOn}
+use Rattle.inspect.specs.Told.{countTold, nodeHeaderTold, nodeNumberTold, recordReadTold}
+use Rattle.inspect.specs.declared.Count.the-variants as count
+use Rattle.inspect.specs.declared.NodeHeader.the-variants as header
+use Rattle.inspect.specs.declared.NodeNumber.the-variants as number
+use Rattle.inspect.specs.declared.RecordRead.{RecordRead}
+use Rattle.inspect.specs.declared.RecordRead.the-variants as rec
+use Rattle.inspect_text.specs.Texts.{placeOn, textFound, textOn}
+use Rattle.inspect_text.specs.declared.Text.{Text}
+use Rattle.digest_read.specs.Held.{digestIn, heldOf}
+use Rattle.digest_read.specs.Told.{digestTold}
+use Rattle.compute.specs.Asking.{askedOf, isFree, mtuFits}
+use Rattle.compute.specs.declared.Asked.{Asked}
+use Rattle.compute.specs.declared.Asked.the-variants as asked
+use Rattle.exchange.specs.Exchanging.{Lending, Rooms, afterAsking, exchangedTold, lending, lentExchange, readyFor, readyOn, roomsOf, unlessRefused}
+use Rattle.exchange.specs.declared.Exchanged.{Exchanged}
+use Rattle.exchange.specs.declared.Exchanged.the-variants as exchanged
+use Rattle.exchange.specs.declared.Ready.{Ready}
+use Rattle.exchange.specs.declared.Ready.the-variants as ready
+use Rattle.exchange.specs.declared.Step.{Step}
+use Rattle.exchange.specs.declared.Step.the-variants.{Applying, Delta, Digest}
+use Rattle.exchange.proofs.Refusing.{is-ready, ready-done}
+use Rattle.demand1.specs.Calls as calls
+use Rattle.demand1.proofs.Deltas.{OpsSo, delta-comes, digest-comes}
+
+-- the number is one that the kind of call can give
+abbrev Of : calls.Kind → Told → Type 0
+Of k t = among (t .number) (calls.possible k) ≡ true
+
+among-first : (n : ℕ) (ns : List ℕ) → among n (n ∷ ns) ≡ true
+unfolding among
+among-first n ns = ap (λ (b : Bool). pick b true (among n ns)) (eq-eqb n n refl)
+
+-- ---- 14 first, else by the rule
+
+on-table : {A : Type 0} (P : A → Type 0) (bad : A) (rule : Table → Outcome A) → P bad → ((t : Table) → P (rule t .answer)) → (l : Bytes)
+    → P (onTable bad rule l .answer)
+unfolding onTable
+on-table P bad rule b f l = go (valid l)
+  where
+    go : (v : Bool) → P (pick v (stored (rule (decode l))) (given bad l) .answer)
+    go true = f (decode l)
+    go false = b
+
+from-table : {A : Type 0} (P : A → Type 0) (bad : A) (rule : Table → A) → P bad → ((t : Table) → P (rule t)) → (l : Bytes) → P (fromTable bad rule l)
+unfolding fromTable
+from-table P bad rule b f l = go (valid l)
+  where
+    go : (v : Bool) → P (pick v (rule (decode l)) bad)
+    go true = f (decode l)
+    go false = b
+
+-- ---- nodes, heartbeats
+
+made : (l : Bytes) → Of calls.NewTable (answerTold (lentMade l .answer))
+unfolding lentMade answerTold among calls.refusals
+made l = go (eqb (length l) tableWidth)
+  where
+    go : (b : Bool) → Of calls.NewTable (answerTold (pick b (given plain.Done lentNew) (given (plain.Refused BadTable) l) .answer))
+    go true = refl
+    go false = refl
+
+added : (i : ℕ) (l : Bytes) → Of calls.AddNode (answerTold (onTable (plain.Refused BadTable) (add i) l .answer))
+unfolding add answerTold among calls.refusals
+added i l = on-table (λ a. Of calls.AddNode (answerTold a)) (plain.Refused BadTable) (add i) refl (λ t. go t (among i (numbersOf t)) (ltb (length t) maxNodes)) l
+  where
+    go : (t : Table) (a b : Bool) → Of calls.AddNode (answerTold (pick a (gives plain.Done t) (pick b (gives plain.Done (addNode i t)) (gives (plain.Refused NinthNode) t)) .answer))
+    go t true b = refl
+    go t false true = refl
+    go t false false = refl
+
+removed : (i : ℕ) (l : Bytes) → Of calls.RemoveNode (answerTold (onTable (plain.Refused BadTable) (removeNode i) l .answer))
+unfolding removeNode answerTold among calls.refusals
+removed i l = on-table (λ a. Of calls.RemoveNode (answerTold a)) (plain.Refused BadTable) (removeNode i) refl (λ t. go t (among i (numbersOf t))) l
+  where
+    go : (t : Table) (a : Bool) → Of calls.RemoveNode (answerTold (pick a (gives plain.Done (dropNode i t)) (gives (plain.Refused NoNode) t) .answer))
+    go t true = refl
+    go t false = refl
+
+collected : (now grace : ℕ) (l : Bytes) → Of calls.RemoveScheduled (answerTold (onTable (plain.Refused BadTable) (gc now grace) l .answer))
+unfolding gc answerTold among calls.refusals
+collected now grace l = on-table (λ a. Of calls.RemoveScheduled (answerTold a)) (plain.Refused BadTable) (gc now grace) refl (λ t. refl) l
+
+offers : (i h : ℕ) (l : Bytes) → Of calls.OfferHeartbeat (offeredTold (onTable (offered.Refused BadTable) (offer i (beats h)) l .answer))
+unfolding offer offeredTold among calls.refusals
+offers i h l =
+    on-table (λ a. Of calls.OfferHeartbeat (offeredTold a)) (offered.Refused BadTable) (offer i (beats h)) refl (λ t. go t (nodeOf i t)) l
+  where
+    say : (b : Bool) → Of calls.OfferHeartbeat (offeredTold (yesNo b))
+    say true = refl
+    say false = refl
+
+    go : (t : Table) (o : Option Node) → Of calls.OfferHeartbeat (offeredTold (offerOn i (beats h) o t .answer))
+    go t none = refl
+    go t (some n) = say (offerOf (n .heartbeat) (beats h) .news)
+
+beaten : (i : ℕ) (l : Bytes) → Of calls.LocalBeat (answerTold (onTable (plain.Refused BadTable) (localBeat i) l .answer))
+unfolding localBeat answerTold among calls.refusals
+beaten i l = on-table (λ a. Of calls.LocalBeat (answerTold a)) (plain.Refused BadTable) (localBeat i) refl (λ t. go t (nodeOf i t)) l
+  where
+    rise : (t u : Table) (b : Bool) → Of calls.LocalBeat (answerTold (pick b (gives plain.Done u) (gives (plain.Refused Exhausted) t) .answer))
+    rise t u true = refl
+    rise t u false = refl
+
+    go : (t : Table) (o : Option Node) → Of calls.LocalBeat (answerTold (beatOn i o t .answer))
+    go t none = refl
+    go t (some n) = rise t _ (ltb (n .heartbeat .0) top)
+
+-- ---- records
+
+-- 14, 2, 1, then what the call wants of the node
+called : (kind : calls.Kind) (c : Call) → Of kind (answerTold (plain.Refused BadTable)) → Of kind (answerTold (plain.Refused NoNode))
+    → Of kind (answerTold (plain.Refused TooLong))
+    → ((k : Bytes) (n : Node) (o : Option Rec) → find k (n .recs) ≡ o → Of kind (answerTold (answerOf (allowed k n (wish c o)))))
+    → (i : ℕ) (k l : Bytes)
+    → Of kind (answerTold (onTable (plain.Refused BadTable) (call c i k) l .answer))
+unfolding call decide
+called kind c bad missing long f i k l = on-table (λ a. Of kind (answerTold a)) (plain.Refused BadTable) (call c i k) bad (λ t. go t (nodeOf i t)) l
+  where
+    limits : (n : Node) (b : Bool) → Of kind (answerTold (answerOf (pick b (allowed k n (wish c (find k (n .recs)))) (Refuse TooLong))))
+    limits n true = f k n (find k (n .recs)) refl
+    limits n false = long
+
+    go : (t : Table) (o : Option Node) → Of kind (answerTold (callOn c i k o t .answer))
+    go t none = missing
+    go t (some n) = limits n (leb (length k) maxKey && leb (length (brought c)) maxValue)
+
+-- a set: nothing to change, 5, 6. Both kinds of set have the same numbers.
+sets : (c : Change) (k : Bytes) (n : Node) (o : Option Rec) → Of calls.Set (answerTold (answerOf (allowed k n (unlessSame o c))))
+unfolding answerTold among calls.refusals
+sets c k n o = go o
+  where
+    grant : (f b : Bool) → Of calls.Set (answerTold (answerOf (pick f (Refuse NodeFull) (pick b (Give c) (Refuse Exhausted)))))
+    grant true b = refl
+    grant false true = refl
+    grant false false = refl
+
+    same : (b : Bool) → Of calls.Set (answerTold (answerOf (allowed k n (pick b Leave (Give c)))))
+    same true = refl
+    same false = grant (fullFor (find k (n .recs)) n) (ltb (n .max) top)
+
+    go : (o : Option Rec) → Of calls.Set (answerTold (answerOf (allowed k n (unlessSame o c))))
+    go none = grant (fullFor (find k (n .recs)) n) (ltb (n .max) top)
+    go (some r) = same (sameStatus (r .kv .status) (c .status) && sameBytes (r .kv .value) (c .value))
+
+-- a delete of a key that is there: 6 alone
+drops : (c : Change) (k : Bytes) (n : Node) (r : Rec) → find k (n .recs) ≡ some r → Of calls.Delete (answerTold (answerOf (allowed k n (Give c))))
+unfolding answerTold among calls.refusals
+drops c k n r e =
+    subst (λ (x : Option Rec). Of calls.Delete (answerTold (answerOf (pick (fullFor x n) (Refuse NodeFull) (pick (ltb (n .max) top) (Give c) (Refuse Exhausted))))))
+    (sym e) (rise (ltb (n .max) top))
+  where
+    rise : (b : Bool) → Of calls.Delete (answerTold (answerOf (pick b (Give c) (Refuse Exhausted))))
+    rise true = refl
+    rise false = refl
+
+set : (v : Bytes) (i : ℕ) (k l : Bytes) → Of calls.Set (answerTold (onTable (plain.Refused BadTable) (call (Setting v) i k) l .answer))
+unfolding wish answerTold among calls.refusals
+set v = called calls.Set (Setting v) refl refl refl (λ k n o e. sets _ k n o)
+
+set-ttl : (v : Bytes) (now i : ℕ) (k l : Bytes) → Of calls.SetWithTtl (answerTold (onTable (plain.Refused BadTable) (call (SettingTtl v now) i k) l .answer))
+unfolding wish answerTold among calls.refusals
+set-ttl v now = called calls.SetWithTtl (SettingTtl v now) refl refl refl (λ k n o e. sets _ k n o)
+
+deleted : (now i : ℕ) (k l : Bytes) → Of calls.Delete (answerTold (onTable (plain.Refused BadTable) (call (Deleting now) i k) l .answer))
+unfolding wish answerTold among calls.refusals
+deleted now = called calls.Delete (Deleting now) refl refl refl go
+  where
+    go : (k : Bytes) (n : Node) (o : Option Rec) → find k (n .recs) ≡ o → Of calls.Delete (answerTold (answerOf (allowed k n (wish (Deleting now) o))))
+    go k n none e = refl
+    go k n (some r) e = drops _ k n r e
+
+deleted-ttl : (now i : ℕ) (k l : Bytes) → Of calls.DeleteAfterTtl (answerTold (onTable (plain.Refused BadTable) (call (DeletingAfterTtl now) i k) l .answer))
+unfolding wish answerTold among calls.refusals
+deleted-ttl now = called calls.DeleteAfterTtl (DeletingAfterTtl now) refl refl refl go
+  where
+    go : (k : Bytes) (n : Node) (o : Option Rec) → find k (n .recs) ≡ o
+        → Of calls.DeleteAfterTtl (answerTold (answerOf (allowed k n (wish (DeletingAfterTtl now) o))))
+    go k n none e = refl
+    go k n (some r) e = drops _ k n r e
+
+-- ---- readings
+
+-- 0 where a key was looked for
+looked : (k : Bytes) (start j : ℕ) (l : List Rec) → Of calls.Find (foundTold (findRec k start j l))
+unfolding findRec foundTold among calls.refusals
+looked k start j [] = refl
+looked k start j (r ∷ l) = go (sameBytes k (r .kv .key)) (hidden (r .kv .status)) (looked k start (suc j) l)
+  where
+    go : (b h : Bool) → Of calls.Find (foundTold (findRec k start (suc j) l))
+        → Of calls.Find (foundTold (pick b (pick h found.Nothing (found.At (valuePlace start j) (length (r .kv .value)))) (findRec k start (suc j) l)))
+    go true true e = refl
+    go true false e = refl
+    go false h e = e
+
+finds : (i : ℕ) (k l : Bytes) → Of calls.Find (foundTold (fromTable (found.Refused BadTable) (foundIn i k) l))
+unfolding foundTold among calls.refusals
+finds i k l =
+    from-table (λ a. Of calls.Find (foundTold a)) (found.Refused BadTable) (foundIn i k) refl (λ t. go (nodeStart i t) (nodeOf i t)) l
+  where
+    limit : (start : ℕ) (n : Node) (b : Bool) → Of calls.Find (foundTold (pick b (findRec k start 0 (n .recs)) (found.Refused TooLong)))
+    limit start n true = looked k start 0 (n .recs)
+    limit start n false = refl
+
+    go : (start : ℕ) (o : Option Node) → Of calls.Find (foundTold (findOn k start o))
+    go start none = refl
+    go start (some n) = limit start n (leb (length k) maxKey)
+
+lists : (i : ℕ) (k out l : Bytes) → Of calls.ListPrefix (listedTold (fromTable (given (listed.Refused BadTable) out) (λ t. prefixed i k t out) l .answer))
+unfolding prefixed listedTold among calls.refusals
+lists i k out l =
+    from-table (λ (a : Given Listed Bytes). Of calls.ListPrefix (listedTold (a .answer))) (given (listed.Refused BadTable) out) (λ t. prefixed i k t out) refl
+    (λ t. go (nodeOf i t)) l
+  where
+    into : (hits : Bytes) (b : Bool) → Of calls.ListPrefix (listedTold (pick b (given (listed.Hits (length hits)) (put 0 hits out)) (given (listed.Refused NoPlace) out) .answer))
+    into hits true = refl
+    into hits false = refl
+
+    limit : (n : Node) (b : Bool) → Of calls.ListPrefix (listedTold (pick b (listInto (hitsFrom k 0 (n .recs)) out) (given (listed.Refused TooLong) out) .answer))
+    limit n true = into (hitsFrom k 0 (n .recs)) (leb (length (hitsFrom k 0 (n .recs))) (length out))
+    limit n false = refl
+
+    go : (o : Option Node) → Of calls.ListPrefix (listedTold (prefixOn k o out .answer))
+    go none = refl
+    go (some n) = limit n (leb (length k) maxKey)
+
+counts : (l : Bytes) → Of calls.NodeCount (countTold (fromTable (count.Refused BadTable) nodeCount l))
+unfolding countTold among calls.refusals
+counts l = from-table (λ a. Of calls.NodeCount (countTold a)) (count.Refused BadTable) nodeCount refl (λ t. refl) l
+
+numbered : (i : ℕ) (l : Bytes) → Of calls.NodeNumber (nodeNumberTold (fromTable (number.Refused BadTable) (nodeNumber i) l))
+unfolding nodeNumberTold among calls.refusals
+numbered i l = from-table (λ a. Of calls.NodeNumber (nodeNumberTold a)) (number.Refused BadTable) (nodeNumber i) refl (λ t. go (elementAt i t)) l
+  where
+    go : (o : Option Entry) → Of calls.NodeNumber (nodeNumberTold (numberOn o))
+    go none = refl
+    go (some e) = refl
+
+headed : (i : ℕ) (l : Bytes) → Of calls.NodeHeader (nodeHeaderTold (fromTable (header.Refused BadTable) (nodeHeader i) l))
+unfolding nodeHeaderTold among calls.refusals
+headed i l = from-table (λ a. Of calls.NodeHeader (nodeHeaderTold a)) (header.Refused BadTable) (nodeHeader i) refl (λ t. go (nodeOf i t)) l
+  where
+    go : (o : Option Node) → Of calls.NodeHeader (nodeHeaderTold (headerOn o))
+    go none = refl
+    go (some n) = refl
+
+record-counts : (i : ℕ) (l : Bytes) → Of calls.RecordCount (countTold (fromTable (count.Refused BadTable) (recordCount i) l))
+unfolding countTold among calls.refusals
+record-counts i l = from-table (λ a. Of calls.RecordCount (countTold a)) (count.Refused BadTable) (recordCount i) refl (λ t. go (nodeOf i t)) l
+  where
+    go : (o : Option Node) → Of calls.RecordCount (countTold (recordsOn o))
+    go none = refl
+    go (some n) = refl
+
+records : (i j : ℕ) (l : Bytes) → Of calls.RecordAt (recordReadTold (fromTable (rec.Refused BadTable) (readRecord i j) l))
+unfolding recordReadTold among calls.refusals
+records i j l = from-table (λ a. Of calls.RecordAt (recordReadTold a)) (rec.Refused BadTable) (readRecord i j) refl (λ t. go (nodeOf i t)) l
+  where
+    at : (o : Option Rec) → Of calls.RecordAt (recordReadTold (readAt o))
+    at none = refl
+    at (some r) = refl
+
+    go : (o : Option Node) → Of calls.RecordAt (recordReadTold (recordOn j o))
+    go none = refl
+    go (some n) = at (elementAt j (n .recs))
+
+keyed : (i : ℕ) (k l : Bytes) → Of calls.RecordByKey (recordReadTold (fromTable (rec.Refused BadTable) (recordByKey i k) l))
+unfolding recordReadTold among calls.refusals
+keyed i k l = from-table (λ a. Of calls.RecordByKey (recordReadTold a)) (rec.Refused BadTable) (recordByKey i k) refl (λ t. go (nodeOf i t)) l
+  where
+    at : (o : Option Rec) → Of calls.RecordByKey (recordReadTold (readKey o))
+    at none = refl
+    at (some r) = refl
+
+    limit : (n : Node) (b : Bool) → Of calls.RecordByKey (recordReadTold (pick b (readKey (find k (n .recs))) (rec.Refused TooLong)))
+    limit n true = at (find k (n .recs))
+    limit n false = refl
+
+    go : (o : Option Node) → Of calls.RecordByKey (recordReadTold (recordByKeyOn k o))
+    go none = refl
+    go (some n) = limit n (leb (length k) maxKey)
+
+texts : (x : Text) (i j : ℕ) (l : Bytes) → Of calls.FindText (foundTold (fromTable (found.Refused BadTable) (textFound x i j) l))
+unfolding foundTold among calls.refusals
+texts x i j l =
+    from-table (λ a. Of calls.FindText (foundTold a)) (found.Refused BadTable) (textFound x i j) refl (λ t. go (nodeStart i t) (nodeOf i t)) l
+  where
+    at : (start : ℕ) (o : Option Rec) → Of calls.FindText (foundTold (placeOn x start j o))
+    at start none = refl
+    at start (some r) = refl
+
+    go : (start : ℕ) (o : Option Node) → Of calls.FindText (foundTold (textOn x j start o))
+    go start none = refl
+    go start (some n) = at start (elementAt j (n .recs))
+
+-- ---- digests
+
+writes : (k : calls.Kind) (b : Bytes) (place : ℕ) (d : Bytes) → Of k (writtenTold (written.Refused NoPlace)) → ((n : ℕ) → Of k (writtenTold (written.Bytes n)))
+    → Of k (writtenTold (digest.writeBytes b place d .answer))
+writes k b place d short fits = go (digest.fitsAt place (length b) d)
+  where
+    go : (c : Bool) → Of k (writtenTold (pick c (given (written.Bytes (length b)) (put place b d)) (given (written.Refused NoPlace) d) .answer))
+    go true = fits (length b)
+    go false = short
+
+digests : (excluded : List ℕ) (place : ℕ) (d l : Bytes)
+    → Of calls.WriteDigest (writtenTold (fromTable (given (written.Refused BadTable) d) (λ t. digest.writeDigest excluded place t d) l .answer))
+unfolding digest.writeDigest writtenTold among calls.refusals
+digests excluded place d l =
+    from-table (λ (a : Given Written Bytes). Of calls.WriteDigest (writtenTold (a .answer))) (given (written.Refused BadTable) d)
+    (λ t. digest.writeDigest excluded place t d) refl
+    (λ t. writes calls.WriteDigest (digest.digestBytes (digest.digestOf excluded t)) place d refl (λ n. refl)) l
+
+digest-reads : (l : Bytes) → Of calls.ReadDigest (digestTold (digestIn l))
+unfolding digestIn digestTold among calls.refusals
+digest-reads l = digest-comes (λ x. Of calls.ReadDigest (digestTold (heldOf (length l) x))) refl refl (λ ds rest. refl) l
+
+-- ---- deltas
+
+computes : (excluded ties : List ℕ) (mtu place : ℕ) (told d l : Bytes)
+    → Of calls.Compute (computedTold (fromTable (given (computed.Refused BadTable) d) (λ t. computing.compute excluded ties mtu place told t d) l .answer))
+unfolding computing.compute computedTold among calls.refusals
+computes excluded ties mtu place told d l =
+    from-table (λ (a : Given Computed Bytes). Of calls.Compute (computedTold (a .answer))) (given (computed.Refused BadTable) d)
+    (λ t. computing.compute excluded ties mtu place told t d) refl
+    (λ t. go t (leb leastMtu mtu && leb mtu maxDelta) (digest.fitsAt place mtu d) (eqb (length ties) (length t))) l
+  where
+    read : (t : Table) → Of calls.Compute (computedTold (computing.onDigest excluded ties mtu place (digest.readDigest told) t d .answer))
+    read t = digest-comes (λ x. Of calls.Compute (computedTold (computing.onDigest excluded ties mtu place x t d .answer))) refl refl (λ ds rest. refl) told
+
+    go : (t : Table) (a b c : Bool)
+        → Of calls.Compute (computedTold (pick a (pick b (pick c (computing.onDigest excluded ties mtu place (digest.readDigest told) t d) (given (computed.Refused BadTies) d)) (given (computed.Refused NoPlace) d)) (given (computed.Refused BadMtu) d) .answer))
+    go t false b c = refl
+    go t true false c = refl
+    go t true true false = refl
+    go t true true true = read t
+
+delta-reads : (l : Bytes) → Of calls.ReadDelta (readTold (deltaRead l))
+unfolding deltaRead readTold among calls.refusals
+delta-reads l = go (readDelta l) (delta-comes F refl refl refl refl refl refl l)
+  where
+    F : Refusal → Type 0
+    F r = among (numberOf r) (calls.possible calls.ReadDelta) ≡ true
+
+    go : (x : Ops) → OpsSo F refl refl refl refl refl refl x → Of calls.ReadDelta (readTold (readAnswer x))
+    go (Good ops) h = refl
+    go (Faulty r at) h = h
+
+applies : (delta : Bytes) (now : ℕ) (answers l : Bytes) → Of calls.Apply (appliedTold (lentApplyAs plainWays delta now answers l .answer))
+unfolding lentApplyAs apply appliedTold among calls.refusals
+applies delta now answers l = start (valid l)
+  where
+    F : Refusal → Type 0
+    F r = among (numberOf r) (calls.possible calls.Apply) ≡ true
+
+    room : (ops : List Op) (u : Table) (m : Bytes) (b : Bool)
+        → Of calls.Apply (appliedTold (pick {X = ApplyOutcome} b (record { answer = applied.Nodes (length (partsOf ops)); table = u; list = m }) (record { answer = applied.Refused NoPlace 0; table = decode l; list = answers }) .answer))
+    room ops u m true = refl
+    room ops u m false = refl
+
+    go : (x : Ops) → OpsSo F refl refl refl refl refl refl x → Of calls.Apply (appliedTold (applyOps (applyNode plainWays now) x (decode l) answers .answer))
+    go (Good ops) h = room ops _ _ (leb (length (partsOf ops)) (length answers))
+    go (Faulty r at) h = h
+
+    start : (v : Bool) → Of calls.Apply (appliedTold (pick v (storedApply (applyOps (applyNode plainWays now) (readDelta delta) (decode l) answers)) (given (applied.Refused BadTable 0) (both l answers)) .answer))
+    start true = go (readDelta delta) (delta-comes F refl refl refl refl refl refl delta)
+    start false = refl
+
+shows : (delta out : Bytes) → Of calls.ListDelta (writtenTold (digest.writeBytes (listing delta) 0 out .answer))
+unfolding writtenTold among calls.refusals
+shows delta out = writes calls.ListDelta (listing delta) 0 out refl (λ n. refl)
+
+-- ---- an exchange
+
+abbrev Asks : Ready → Type 0
+Asks ready.Yes = Unit {0}
+Asks (ready.No s r) = among (numberOf r) (calls.possible calls.Exchange) ≡ true
+
+asks-numbers : (a b c : Bool) (next : Ready) → Asks next
+    → Asks (unlessRefused (pick a (pick b (pick c asked.Good (asked.Refused BadTies)) (asked.Refused NoPlace)) (asked.Refused BadMtu)) next)
+unfolding among calls.refusals
+asks-numbers false b c next h = refl
+asks-numbers true false c next h = refl
+asks-numbers true true false next h = refl
+asks-numbers true true true next h = h
+
+asks-places : (b : Bool) → Asks (pick b ready.Yes (ready.No Applying NoPlace))
+unfolding among calls.refusals
+asks-places true = tt
+asks-places false = refl
+
+asks-on : (unasked : List ℕ) (k : Rooms) (p f : Table) → Asks (readyOn unasked k p f)
+unfolding readyOn askedOf among calls.refusals
+asks-on unasked k p f = go (leb (length (digest.digestBytes (digest.digestOf unasked f))) (k .digest))
+  where
+    go : (b : Bool) → Asks (pick b (unlessRefused (askedOf (k .mtu) 0 (k .delta) (k .ties) (length p)) (pick (leb (length p) (k .answers)) ready.Yes (ready.No Applying NoPlace))) (ready.No Digest NoPlace))
+    go true = asks-numbers (mtuFits (k .mtu)) (isFree 0 (k .mtu) (k .delta)) (eqb (k .ties) (length p)) _ (asks-places (leb (length p) (k .answers)))
+    go false = refl
+
+asks : (unasked : List ℕ) (k : Rooms) (publisher follower : Bytes) → Asks (readyFor unasked k publisher follower)
+unfolding readyFor among calls.refusals
+asks unasked k publisher follower = go (valid follower) (valid publisher)
+  where
+    go : (u v : Bool) → Asks (pick u (pick v (readyOn unasked k (decode publisher) (decode follower)) (ready.No Delta BadTable)) (ready.No Digest BadTable))
+    go false v = refl
+    go true false = refl
+    go true true = asks-on unasked k (decode publisher) (decode follower)
+
+exchanges : (g : Lending) (publisher follower : Bytes) → Of calls.Exchange (exchangedTold (lentExchange g publisher follower .answer))
+unfolding lentExchange exchangedTold
+exchanges g publisher follower = go (readyFor (g .unasked) (roomsOf g) publisher follower) refl (asks (g .unasked) (roomsOf g) publisher follower)
+  where
+    accepted : among 0 (calls.possible calls.Exchange) ≡ true
+    accepted = among-first 0 (calls.refusals calls.Exchange)
+
+    go : (x : Ready) → readyFor (g .unasked) (roomsOf g) publisher follower ≡ x → Asks (readyFor (g .unasked) (roomsOf g) publisher follower)
+        → Of calls.Exchange (exchangedTold (afterAsking g publisher follower x .answer))
+    go ready.Yes e h =
+        ap (λ (a : Exchanged). among (exchangedTold a .number) (calls.possible calls.Exchange)) (ready-done g publisher follower (is-ready g publisher follower e)) ∙ accepted
+    go (ready.No s r) e h = subst Asks e h
+
+-- ---- all calls
+
+pub no-other : {k : calls.Kind} (c : calls.Call k) → Of k (calls.leaves c .answer)
+unfolding calls.leaves
+no-other (calls.new-table t) = made t
+no-other (calls.add-node t i) = added (i .value) t
+no-other (calls.remove-node t i) = removed (i .value) t
+no-other (calls.set t k v i) = set v (i .value) k t
+no-other (calls.set-with-ttl t k v i now) = set-ttl v (now .value) (i .value) k t
+no-other (calls.delete t k i now) = deleted (now .value) (i .value) k t
+no-other (calls.delete-after-ttl t k i now) = deleted-ttl (now .value) (i .value) k t
+no-other (calls.remove-scheduled t now grace) = collected (now .value) (grace .value) t
+no-other (calls.offer-heartbeat t i h) = offers (i .value) (h .value) t
+no-other (calls.local-beat t i) = beaten (i .value) t
+no-other (calls.find t k i) = finds (i .value) k t
+no-other (calls.list-prefix t k out i) = lists (i .value) k out t
+no-other (calls.node-count t) = counts t
+no-other (calls.node-number t i) = numbered i t
+no-other (calls.node-header t i) = headed (i .value) t
+no-other (calls.record-count t i) = record-counts (i .value) t
+no-other (calls.record-at t i j) = records (i .value) j t
+no-other (calls.record-by-key t k i) = keyed (i .value) k t
+no-other (calls.find-text t i j x) = texts x (i .value) j t
+no-other (calls.write-digest t excluded datagram place) = digests excluded place datagram t
+no-other (calls.read-digest digest) = digest-reads digest
+no-other (calls.compute t digest excluded ties datagram mtu place) = computes excluded ties mtu place digest datagram t
+no-other (calls.read-delta delta) = delta-reads delta
+no-other (calls.apply t delta answers now) = applies (delta .bytes) (now .value) answers t
+no-other (calls.list-delta delta out) = shows delta out
+no-other (calls.exchange publisher follower unasked unsent ties digest delta answers mtu now) =
+    exchanges (lending unasked unsent ties mtu (now .value) digest delta answers) publisher follower

@@ -1,0 +1,223 @@
+-- Every call that a hub makes on lent memory: its arguments and everything lent to it (`Call`), what it tells and what it leaves (`leaves`), and the
+-- numbers that it can refuse with (`refusals`). What a call leaves is what its entry point promises, and nothing else.
+use Prim.Native.Nat.{ℕ, _<_}
+use mathlib.Core.List.{List, [], _∷_}
+use Rattle.fields.specs.Numbers.{Bytes, AreBytes}
+use Rattle.rules.specs.Sizes.{numbers}
+use Rattle.rules.specs.Answers.{Told, answerTold, offeredTold, listedTold, writtenTold, computedTold, readTold, appliedTold}
+use Rattle.rules.specs.Given.{Given, given}
+use Rattle.rules.specs.Node.{Setting, SettingTtl, Deleting, DeletingAfterTtl, beats}
+use Rattle.rules.specs.Delta.{deltaRead}
+use Rattle.rules.specs.Listing.{listDelta}
+use Rattle.rules.specs.Lent.{lentAdd, lentRemoveNode, lentCall, lentGc, lentOffer, lentBeat, lentPrefixed, lentDigest, lentCompute, lentApply}
+use Rattle.nodes.specs.New.{lentMade}
+use Rattle.lookup.specs.Lookup.{lentFind}
+use Rattle.lookup.specs.Told.{foundTold}
+use Rattle.inspect.specs.Look.{lentNodeCount, lentNodeNumber, lentNodeHeader, lentRecordCount, lentReadRecord, lentRecordByKey}
+use Rattle.inspect.specs.Told.{countTold, nodeNumberTold, nodeHeaderTold, recordReadTold}
+use Rattle.inspect_text.specs.Texts.{lentTextFound}
+use Rattle.inspect_text.specs.declared.Text.{Text}
+use Rattle.digest_read.specs.Held.{digestIn}
+use Rattle.digest_read.specs.Told.{digestTold}
+use Rattle.exchange.specs.Exchanging.{exchangedTold, lending, lentExchange}
+
+-- ---- calls
+
+-- a number as code passes it: a node's, a time, a heartbeat
+pub record U64 : Type 0 where
+  pub value : ℕ
+  pub fits : value < numbers
+
+-- bytes as code passes them. Where nothing hangs on it, a call takes any list of numbers, which is more than code can lend.
+pub record Received : Type 0 where
+  pub bytes : Bytes
+  pub are : AreBytes bytes
+
+-- the entry points
+pub data Kind : Type 0 where
+  NewTable : Kind
+  AddNode : Kind
+  RemoveNode : Kind
+  Set : Kind
+  SetWithTtl : Kind
+  Delete : Kind
+  DeleteAfterTtl : Kind
+  RemoveScheduled : Kind
+  OfferHeartbeat : Kind
+  LocalBeat : Kind
+  Find : Kind
+  ListPrefix : Kind
+  NodeCount : Kind
+  NodeNumber : Kind
+  NodeHeader : Kind
+  RecordCount : Kind
+  RecordAt : Kind
+  RecordByKey : Kind
+  FindText : Kind
+  WriteDigest : Kind
+  ReadDigest : Kind
+  Compute : Kind
+  ReadDelta : Kind
+  Apply : Kind
+  ListDelta : Kind
+  Exchange : Kind
+
+-- one call of an entry point: what is lent comes first, tables before all else
+pub data Call : Kind → Type 0 where
+  new-table : (table : Bytes) → Call NewTable
+  add-node : (table : Bytes) (number : U64) → Call AddNode
+  remove-node : (table : Bytes) (number : U64) → Call RemoveNode
+  set : (table key value : Bytes) (number : U64) → Call Set
+  set-with-ttl : (table key value : Bytes) (number clock : U64) → Call SetWithTtl
+  delete : (table key : Bytes) (number clock : U64) → Call Delete
+  delete-after-ttl : (table key : Bytes) (number clock : U64) → Call DeleteAfterTtl
+  remove-scheduled : (table : Bytes) (clock grace : U64) → Call RemoveScheduled
+  offer-heartbeat : (table : Bytes) (number heartbeat : U64) → Call OfferHeartbeat
+  local-beat : (table : Bytes) (number : U64) → Call LocalBeat
+  find : (table key : Bytes) (number : U64) → Call Find
+  list-prefix : (table prefix out : Bytes) (number : U64) → Call ListPrefix
+  node-count : (table : Bytes) → Call NodeCount
+  node-number : (table : Bytes) (i : ℕ) → Call NodeNumber
+  node-header : (table : Bytes) (number : U64) → Call NodeHeader
+  record-count : (table : Bytes) (number : U64) → Call RecordCount
+  record-at : (table : Bytes) (number : U64) (j : ℕ) → Call RecordAt
+  record-by-key : (table key : Bytes) (number : U64) → Call RecordByKey
+  find-text : (table : Bytes) (number : U64) (j : ℕ) (text : Text) → Call FindText
+  write-digest : (table : Bytes) (excluded : List ℕ) (datagram : Bytes) (place : ℕ) → Call WriteDigest
+  read-digest : (digest : Bytes) → Call ReadDigest
+  compute : (table digest : Bytes) (excluded ties : List ℕ) (datagram : Bytes) (mtu place : ℕ) → Call Compute
+  read-delta : (delta : Bytes) → Call ReadDelta
+  apply : (table : Bytes) (delta : Received) (answers : Bytes) (clock : U64) → Call Apply
+  list-delta : (delta out : Bytes) → Call ListDelta
+  exchange : (publisher follower : Bytes) (unasked unsent ties : List ℕ) (digest delta answers : Bytes) (mtu : ℕ) (clock : U64) → Call Exchange
+
+-- everything lent to a call
+unfoldable pub lentTo : {k : Kind} (call : Call k) → List Bytes
+lentTo (new-table t) = t ∷ []
+lentTo (add-node t i) = t ∷ []
+lentTo (remove-node t i) = t ∷ []
+lentTo (set t k v i) = t ∷ k ∷ v ∷ []
+lentTo (set-with-ttl t k v i now) = t ∷ k ∷ v ∷ []
+lentTo (delete t k i now) = t ∷ k ∷ []
+lentTo (delete-after-ttl t k i now) = t ∷ k ∷ []
+lentTo (remove-scheduled t now grace) = t ∷ []
+lentTo (offer-heartbeat t i h) = t ∷ []
+lentTo (local-beat t i) = t ∷ []
+lentTo (find t k i) = t ∷ k ∷ []
+lentTo (list-prefix t k out i) = t ∷ k ∷ out ∷ []
+lentTo (node-count t) = t ∷ []
+lentTo (node-number t i) = t ∷ []
+lentTo (node-header t i) = t ∷ []
+lentTo (record-count t i) = t ∷ []
+lentTo (record-at t i j) = t ∷ []
+lentTo (record-by-key t k i) = t ∷ k ∷ []
+lentTo (find-text t i j x) = t ∷ []
+lentTo (write-digest t excluded datagram place) = t ∷ excluded ∷ datagram ∷ []
+lentTo (read-digest digest) = digest ∷ []
+lentTo (compute t digest excluded ties datagram mtu place) = t ∷ digest ∷ excluded ∷ ties ∷ datagram ∷ []
+lentTo (read-delta delta) = delta ∷ []
+lentTo (apply t delta answers now) = t ∷ delta .bytes ∷ answers ∷ []
+lentTo (list-delta delta out) = delta ∷ out ∷ []
+lentTo (exchange publisher follower unasked unsent ties digest delta answers mtu now) =
+    publisher ∷ follower ∷ unasked ∷ unsent ∷ ties ∷ digest ∷ delta ∷ answers ∷ []
+
+-- how many of them, the first ones, are tables
+abbrev pub tables : (kind : Kind) → ℕ
+tables ReadDigest = 0
+tables ReadDelta = 0
+tables ListDelta = 0
+tables NewTable = 1
+tables AddNode = 1
+tables RemoveNode = 1
+tables Set = 1
+tables SetWithTtl = 1
+tables Delete = 1
+tables DeleteAfterTtl = 1
+tables RemoveScheduled = 1
+tables OfferHeartbeat = 1
+tables LocalBeat = 1
+tables Find = 1
+tables ListPrefix = 1
+tables NodeCount = 1
+tables NodeNumber = 1
+tables NodeHeader = 1
+tables RecordCount = 1
+tables RecordAt = 1
+tables RecordByKey = 1
+tables FindText = 1
+tables WriteDigest = 1
+tables Compute = 1
+tables Apply = 1
+tables Exchange = 2
+
+-- ---- what a call gives
+
+-- an outcome of one of the calls, its answer told, and what is lent afterwards
+abbrev pub asTold : {A M : Type 0} (told : A → Told) (lent : M → List Bytes) (of : Given A M) → Given Told (List Bytes)
+asTold told lent of = given (told (of .answer)) (lent (of .lent))
+
+-- What the call tells, and everything that was lent to it as it is afterwards. What is lent for reading alone stays.
+unfoldable pub leaves : {k : Kind} (call : Call k) → Given Told (List Bytes)
+leaves (new-table t) = asTold answerTold (λ u. u ∷ []) (lentMade t)
+leaves (add-node t i) = asTold answerTold (λ u. u ∷ []) (lentAdd (i .value) t)
+leaves (remove-node t i) = asTold answerTold (λ u. u ∷ []) (lentRemoveNode (i .value) t)
+leaves (set t k v i) = asTold answerTold (λ u. u ∷ k ∷ v ∷ []) (lentCall (Setting v) (i .value) k t)
+leaves (set-with-ttl t k v i now) = asTold answerTold (λ u. u ∷ k ∷ v ∷ []) (lentCall (SettingTtl v (now .value)) (i .value) k t)
+leaves (delete t k i now) = asTold answerTold (λ u. u ∷ k ∷ []) (lentCall (Deleting (now .value)) (i .value) k t)
+leaves (delete-after-ttl t k i now) = asTold answerTold (λ u. u ∷ k ∷ []) (lentCall (DeletingAfterTtl (now .value)) (i .value) k t)
+leaves (remove-scheduled t now grace) = asTold answerTold (λ u. u ∷ []) (lentGc (now .value) (grace .value) t)
+leaves (offer-heartbeat t i h) = asTold offeredTold (λ u. u ∷ []) (lentOffer (i .value) (beats (h .value)) t)
+leaves (local-beat t i) = asTold answerTold (λ u. u ∷ []) (lentBeat (i .value) t)
+leaves (find t k i) = given (foundTold (lentFind (i .value) k t)) (t ∷ k ∷ [])
+leaves (list-prefix t k out i) = asTold listedTold (λ u. t ∷ k ∷ u ∷ []) (lentPrefixed (i .value) k out t)
+leaves (node-count t) = given (countTold (lentNodeCount t)) (t ∷ [])
+leaves (node-number t i) = given (nodeNumberTold (lentNodeNumber i t)) (t ∷ [])
+leaves (node-header t i) = given (nodeHeaderTold (lentNodeHeader (i .value) t)) (t ∷ [])
+leaves (record-count t i) = given (countTold (lentRecordCount (i .value) t)) (t ∷ [])
+leaves (record-at t i j) = given (recordReadTold (lentReadRecord (i .value) j t)) (t ∷ [])
+leaves (record-by-key t k i) = given (recordReadTold (lentRecordByKey (i .value) k t)) (t ∷ k ∷ [])
+leaves (find-text t i j x) = given (foundTold (lentTextFound x (i .value) j t)) (t ∷ [])
+leaves (write-digest t excluded datagram place) = asTold writtenTold (λ u. t ∷ excluded ∷ u ∷ []) (lentDigest excluded place datagram t)
+leaves (read-digest digest) = given (digestTold (digestIn digest)) (digest ∷ [])
+leaves (compute t digest excluded ties datagram mtu place) =
+    asTold computedTold (λ u. t ∷ digest ∷ excluded ∷ ties ∷ u ∷ []) (lentCompute excluded ties mtu place digest datagram t)
+leaves (read-delta delta) = given (readTold (deltaRead delta)) (delta ∷ [])
+leaves (apply t delta answers now) = asTold appliedTold (λ u. u .table ∷ delta .bytes ∷ u .list ∷ []) (lentApply (delta .bytes) (now .value) answers t)
+leaves (list-delta delta out) = asTold writtenTold (λ u. delta ∷ u ∷ []) (listDelta delta out)
+leaves (exchange publisher follower unasked unsent ties digest delta answers mtu now) =
+    asTold exchangedTold (λ u. publisher ∷ u .follower ∷ unasked ∷ unsent ∷ ties ∷ u .digest ∷ u .delta ∷ u .answers ∷ [])
+    (lentExchange (lending unasked unsent ties mtu (now .value) digest delta answers) publisher follower)
+
+-- ---- the numbers that a call can refuse with, in the order in which they are asked
+
+unfoldable pub refusals : (kind : Kind) → List ℕ
+refusals NewTable = 14 ∷ []
+refusals AddNode = 14 ∷ 4 ∷ []
+refusals RemoveNode = 14 ∷ 2 ∷ []
+refusals Set = 14 ∷ 2 ∷ 1 ∷ 5 ∷ 6 ∷ []
+refusals SetWithTtl = 14 ∷ 2 ∷ 1 ∷ 5 ∷ 6 ∷ []
+refusals Delete = 14 ∷ 2 ∷ 1 ∷ 3 ∷ 6 ∷ []
+refusals DeleteAfterTtl = 14 ∷ 2 ∷ 1 ∷ 3 ∷ 6 ∷ []
+refusals RemoveScheduled = 14 ∷ []
+refusals OfferHeartbeat = 14 ∷ 2 ∷ []
+refusals LocalBeat = 14 ∷ 2 ∷ 6 ∷ []
+refusals Find = 14 ∷ 2 ∷ 1 ∷ []
+refusals ListPrefix = 14 ∷ 2 ∷ 1 ∷ 8 ∷ []
+refusals NodeCount = 14 ∷ []
+refusals NodeNumber = 14 ∷ 8 ∷ []
+refusals NodeHeader = 14 ∷ 2 ∷ []
+refusals RecordCount = 14 ∷ 2 ∷ []
+refusals RecordAt = 14 ∷ 2 ∷ 8 ∷ []
+refusals RecordByKey = 14 ∷ 2 ∷ 1 ∷ []
+refusals FindText = 14 ∷ 2 ∷ 8 ∷ []
+refusals WriteDigest = 14 ∷ 8 ∷ []
+refusals ReadDigest = 9 ∷ 13 ∷ []
+refusals Compute = 14 ∷ 7 ∷ 8 ∷ 15 ∷ 9 ∷ 13 ∷ []
+refusals ReadDelta = 13 ∷ 9 ∷ 1 ∷ 10 ∷ 11 ∷ 12 ∷ []
+refusals Apply = 14 ∷ 13 ∷ 9 ∷ 1 ∷ 10 ∷ 11 ∷ 12 ∷ 8 ∷ []
+refusals ListDelta = 8 ∷ []
+refusals Exchange = 14 ∷ 8 ∷ 7 ∷ 15 ∷ []
+
+-- 0 where the call is accepted
+abbrev pub possible : (kind : Kind) → List ℕ
+possible k = 0 ∷ refusals k
