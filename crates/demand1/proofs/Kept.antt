@@ -6,20 +6,18 @@ use mathlib.Core.Path.{_≡_, _∙_, ap, refl, subst, sym}
 use lib.Dec.{eqb}
 use lib.ListN.{length, take}
 use Rattle.fields.specs.Choice.{all, pick, _∈_}
-use Rattle.fields.specs.Numbers.{AreBytes, Bytes}
+use Rattle.fields.specs.Numbers.{Bytes}
 use Rattle.fields.proofs.Choice.{and-intro, and-left, and-right}
 use Rattle.rules.specs.Apply.{apply, plainWays}
 use Rattle.rules.specs.Delta.{Good, Op, Part, nothingRead, partsOf, readDelta}
 use Rattle.rules.specs.Given.{Given, given}
 use Rattle.rules.specs.Layout.{decode, encode, tableWidth, valid}
-use Rattle.rules.specs.Lent.{TableAndList, both, lentApply, lentApplyAs, lentNew, onTable, stored, storedApply}
+use Rattle.rules.specs.Lent.{both, lentApply, lentApplyAs, lentNew, onTable, stored, storedApply}
 use Rattle.rules.specs.Local.{Outcome, add, call, gc, localBeat, offer, removeNode}
 use Rattle.rules.specs.Node.{Deleting, DeletingAfterTtl, Setting, SettingTtl, beats}
 use Rattle.rules.specs.Sizes.{numbers}
 use Rattle.rules.specs.Table.{Table, obeys}
-use Rattle.rules.specs.declared.Answer.{Answer}
 use Rattle.rules.specs.declared.Answer.the-variants as plain
-use Rattle.rules.specs.declared.Applied.{Applied}
 use Rattle.rules.specs.declared.Applied.the-variants as applied
 use Rattle.rules.specs.declared.Computed.{Computed}
 use Rattle.rules.specs.declared.Offered.the-variants as offered

@@ -1,7 +1,7 @@
 -- A refused call leaves everything that was lent to it as it was. A refusal is known by its number, which is not 0. Assumes nothing.
 use Prim.Native.Nat.{ℕ}
 use mathlib.Core.Bool.{Bool, false, true}
-use mathlib.Core.List.{List, [], _∷_}
+use mathlib.Core.List.{[], _∷_}
 use mathlib.Core.Path.{_≡_, ap, ap₂, refl}
 use lib.Dec.{eqb}
 use lib.ListN.{length}

@@ -13,20 +13,18 @@ use Rattle.fields.specs.Order.{sameBytes}
 use Rattle.fields.specs.Parts.{put}
 use Rattle.rules.specs.Sizes.{leastMtu, maxDelta, maxKey, maxNodes, maxValue, top}
 use Rattle.rules.specs.Answers.{Told, numberOf, answerTold, appliedTold, computedTold, listedTold, offeredTold, readTold, writtenTold}
-use Rattle.rules.specs.Apply.{ApplyOutcome, apply, applyEach, applyNode, applyOps, codes, plainWays}
+use Rattle.rules.specs.Apply.{ApplyOutcome, apply, applyNode, applyOps, plainWays}
 use Rattle.rules.specs.Compute as computing
 use Rattle.rules.specs.Delta.{Faulty, Good, Op, Ops, deltaRead, partsOf, readAnswer, readDelta}
 use Rattle.rules.specs.Digest as digest
 use Rattle.rules.specs.Given.{Given, given}
 use Rattle.rules.specs.Layout.{decode, tableWidth, valid}
-use Rattle.rules.specs.Lent.{TableAndList, both, fromTable, lentApplyAs, lentNew, onTable, stored, storedApply}
+use Rattle.rules.specs.Lent.{both, fromTable, lentApplyAs, lentNew, onTable, stored, storedApply}
 use Rattle.rules.specs.Listing.{listing}
 use Rattle.rules.specs.Local.{Outcome, add, answerOf, beatOn, call, callOn, gc, gives, listInto, localBeat, offer, offerOn, prefixOn, prefixed, removeNode, yesNo}
-use Rattle.rules.specs.Node.{Call, Change, Deleting, DeletingAfterTtl, Give, Leave, Node, Rec, Refuse, Setting, SettingTtl, act, allowed, beats, brought, decide, find, fullFor, hidden, hitsFrom, offerOf, sameStatus, unlessSame, wish, withHeartbeat}
-use Rattle.rules.specs.Table.{Entry, Table, addNode, among, dropNode, nodeOf, numbersOf, setNode}
-use Rattle.rules.specs.declared.Answer.{Answer}
+use Rattle.rules.specs.Node.{Call, Change, Deleting, DeletingAfterTtl, Give, Leave, Node, Rec, Refuse, Setting, SettingTtl, allowed, beats, brought, decide, find, fullFor, hidden, hitsFrom, offerOf, sameStatus, unlessSame, wish}
+use Rattle.rules.specs.Table.{Entry, Table, addNode, among, dropNode, nodeOf, numbersOf}
 use Rattle.rules.specs.declared.Answer.the-variants as plain
-use Rattle.rules.specs.declared.Applied.{Applied}
 use Rattle.rules.specs.declared.Applied.the-variants as applied
 use Rattle.rules.specs.declared.Computed.{Computed}
 use Rattle.rules.specs.declared.Computed.the-variants as computed
@@ -39,30 +37,25 @@ use Rattle.rules.specs.declared.Written.{Written}
 use Rattle.rules.specs.declared.Written.the-variants as written
 use Rattle.table_read.specs.Find.{nodeStart}
 use Rattle.nodes.specs.New.{lentMade}
-use Rattle.lookup.specs.Lookup.{findOn, findRec, foundIn, foundRec, valuePlace}
+use Rattle.lookup.specs.Lookup.{findOn, findRec, foundIn, valuePlace}
 use Rattle.lookup.specs.Told.{foundTold}
-use Rattle.lookup.specs.declared.Found.{Found}
 use Rattle.lookup.specs.declared.Found.the-variants as found
 use Rattle.inspect.specs.Look.{elementAt, headerOn, nodeCount, nodeHeader, nodeNumber, numberOn, readAt, readKey, readRecord, recordByKey, recordByKeyOn, recordCount, recordOn, recordsOn}
 use Rattle.inspect.specs.Told.{countTold, nodeHeaderTold, nodeNumberTold, recordReadTold}
 use Rattle.inspect.specs.declared.Count.the-variants as count
 use Rattle.inspect.specs.declared.NodeHeader.the-variants as header
 use Rattle.inspect.specs.declared.NodeNumber.the-variants as number
-use Rattle.inspect.specs.declared.RecordRead.{RecordRead}
 use Rattle.inspect.specs.declared.RecordRead.the-variants as rec
 use Rattle.inspect_text.specs.Texts.{placeOn, textFound, textOn}
 use Rattle.inspect_text.specs.declared.Text.{Text}
 use Rattle.digest_read.specs.Held.{digestIn, heldOf}
 use Rattle.digest_read.specs.Told.{digestTold}
 use Rattle.compute.specs.Asking.{askedOf, isFree, mtuFits}
-use Rattle.compute.specs.declared.Asked.{Asked}
 use Rattle.compute.specs.declared.Asked.the-variants as asked
 use Rattle.exchange.specs.Exchanging.{Lending, Rooms, afterAsking, exchangedTold, lending, lentExchange, readyFor, readyOn, roomsOf, unlessRefused}
 use Rattle.exchange.specs.declared.Exchanged.{Exchanged}
-use Rattle.exchange.specs.declared.Exchanged.the-variants as exchanged
 use Rattle.exchange.specs.declared.Ready.{Ready}
 use Rattle.exchange.specs.declared.Ready.the-variants as ready
-use Rattle.exchange.specs.declared.Step.{Step}
 use Rattle.exchange.specs.declared.Step.the-variants.{Applying, Delta, Digest}
 use Rattle.exchange.proofs.Refusing.{is-ready, ready-done}
 use Rattle.demand1.specs.Calls as calls

@@ -12,14 +12,14 @@ use Rattle.fields.specs.Widths.{joined}
 use Rattle.rules.specs.Answers.{Told, answerTold, appliedTold, computedTold, listedTold, offeredTold, readTold, writtenTold}
 use Rattle.rules.specs.Apply.{apply, applyEach, codes, plainWays}
 use Rattle.rules.specs.Compute.{allOps, byVersion, compute, cut, deltaFor, fromOf, keyValueOps, ordered, queue, sooner, stale, staleNodes, toldOf}
-use Rattle.rules.specs.Delta.{NodeOp, Op, deltaBytes, deltaRead, follow, opBytes, partsOf, readDelta, readNode, readOp, readOps, readSetMaxVersion, sizeOf}
+use Rattle.rules.specs.Delta.{NodeOp, deltaBytes, deltaRead, follow, opBytes, partsOf, readDelta, readNode, readOp, readOps, readSetMaxVersion, sizeOf}
 use Rattle.rules.specs.Digest.{digestBytes, digestOf, entryBytes, readDigest, readEntries, tell, tellAll, writeDigest}
 use Rattle.rules.specs.Layout.{decode, encode, valid}
 use Rattle.rules.specs.Lent.{lentAdd, onTable}
 use Rattle.rules.specs.Local.{add, call, localBeat, offer, prefixed, removeNode}
 use Rattle.rules.specs.Node.{Deleting, Node, Rec, Setting, act, beats, decide, find, fresh, hitsFrom, offerOf, wish}
 use Rattle.rules.specs.Sizes.{top}
-use Rattle.rules.specs.Table.{Entry, Table, addNode, among, dropNode, nodeOf, numbersOf, obeys, rising, setNode}
+use Rattle.rules.specs.Table.{Table, addNode, among, dropNode, nodeOf, numbersOf, obeys, rising, setNode}
 use Rattle.rules.specs.declared.NodeAnswer.the-variants as node
 use Rattle.rules.specs.declared.Status.the-variants.{Set}
 

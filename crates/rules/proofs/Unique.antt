@@ -19,9 +19,6 @@ tells told p = (ap told (p .0), p .1)
 
 -- Where the numbers and values tell the answer (proofs/Told, for every type of answers), they promise no less than the answer itself.
 module _ {A : Type 0} (told : A → Told) (same : (a b : A) → told a ≡ told b → a ≡ b) where
-  pub is-told : {X : Type 0} {a b : A} → (told a ≡ told b) × X → (a ≡ b) × X
-  is-told p = (same _ _ (p .0), p .1)
-
   pub one-said : (of : A) {a b : A} → Says told of a → Says told of b → a ≡ b
   one-said of {a} {b} p q = same a b (p ∙ sym q)
 
