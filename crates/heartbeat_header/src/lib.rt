@@ -2,16 +2,16 @@
 // is held, it is stored and the answer is no; if the offer is greater, it is stored and the answer is yes; else the answer is no. A local
 // beat raises the heartbeat by one; where it is 2^64-1 it cannot rise, and the header stays as it is.
 //
-// The rules by value come first, for callers that hold a header: `offered` and `raised`. Beside them stand the thin functions on a header
-// that is lent, `offer_heartbeat` and `raise_heartbeat`: they read the heartbeat, ask the same rules by value, and store. The calls on a
-// lent table use `offered` and `raised`, and not yet the thin ones. A heartbeat is a `Heartbeat` throughout, so none is taken for a version.
+// The rules stand in functions by value (`kept`, `told`, `risen`, `can_rise`). The thin functions on a header that is lent, `offer_heartbeat` and
+// `raise_heartbeat`, read the heartbeat, ask them, and store. `offered` and `raised` lend a header that the caller holds: the calls on a lent table go
+// through them, and so through the thin ones. A heartbeat is a `Heartbeat` throughout, so none is taken for a version.
 use rules::Header;
 use rules::Heartbeat;
 use rules::sizes;
 ghost use mathlib.Core.Path.{_≡_};
 ghost use Rattle.rules.specs.Given.{Gives};
 ghost use Rattle.rules.specs.Node.{offerOf};
-ghost use Rattle.heartbeat_header.specs.Headers.{beating, offeredTo, canRise, risenFrom, raisedOf, lentOffered, lentRaised};
+ghost use Rattle.heartbeat_header.specs.Headers.{offeredTo, canRise, risenFrom, raisedOf, lentOffered, lentRaised};
 
 // The header after an offer, and whether the offer was news.
 pub struct OfferedHeader {
@@ -23,17 +23,6 @@ pub struct OfferedHeader {
 pub struct RaisedHeader {
     pub header: Header,
     pub rose: bool,
-}
-
-// The header with this heartbeat; max and last_gc stay.
-fn with_heartbeat(header: Header, heartbeat: Heartbeat) -> Header
-    ensures { λ r. ⌜ r ≡ beating heartbeat header ⌝ }
-{
-    Header {
-        heartbeat: heartbeat,
-        max: header.max,
-        last_gc: header.last_gc,
-    }
 }
 
 // The heartbeat that stands after an offer.
@@ -48,20 +37,6 @@ fn told(held: Heartbeat, got: Heartbeat) -> bool
     ensures { λ r. ⌜ r ≡ offerOf held got .news ⌝ }
 {
     rules::after_offer(held, got).news
-}
-
-// A heartbeat offer to a header by value: the header afterwards, and whether the offer was news.
-pub fn offered(header: Header, got: Heartbeat) -> OfferedHeader
-    ensures { λ r. ⌜ r ≡ offeredTo header got ⌝ }
-{
-    let held = header.heartbeat;
-    let beat = rules::after_offer(held, got);
-    let stored = beat.heartbeat;
-    let header = with_heartbeat(header, stored);
-    OfferedHeader {
-        header: header,
-        news: beat.news,
-    }
 }
 
 // Whether a heartbeat can rise.
@@ -81,19 +56,6 @@ fn risen(held: Heartbeat) -> Heartbeat
     held
 }
 
-// A local beat on a header by value: the header afterwards, and whether the heartbeat rose. A caller answers 6 where it did not.
-pub fn raised(header: Header) -> RaisedHeader
-    ensures { λ r. ⌜ r ≡ raisedOf header ⌝ }
-{
-    let held = header.heartbeat;
-    let next = risen(held);
-    let header = with_heartbeat(header, next);
-    RaisedHeader {
-        header: header,
-        rose: can_rise(held),
-    }
-}
-
 // A heartbeat offer to a header that is lent: whether the offer was news. max and last_gc are untouched.
 pub fn offer_heartbeat(header: &mut Header, got: Heartbeat) -> bool
     ensures { λ r. ⌜ Gives (lentOffered got (now (header .entry))) r (now (header .exit)) ⌝ }
@@ -110,4 +72,30 @@ pub fn raise_heartbeat(header: &mut Header) -> bool
     let held = header.heartbeat;
     header.heartbeat = risen(held);
     can_rise(held)
+}
+
+// ---- the same for a caller that holds a header
+
+// The header after an offer, and whether the offer was news.
+pub fn offered(header: Header, got: Heartbeat) -> OfferedHeader
+    ensures { λ r. ⌜ r ≡ offeredTo header got ⌝ }
+{
+    let mut after = header;
+    let news = offer_heartbeat(&mut after, got);
+    OfferedHeader {
+        header: after,
+        news,
+    }
+}
+
+// The header after a local beat, and whether the heartbeat rose.
+pub fn raised(header: Header) -> RaisedHeader
+    ensures { λ r. ⌜ r ≡ raisedOf header ⌝ }
+{
+    let mut after = header;
+    let rose = raise_heartbeat(&mut after);
+    RaisedHeader {
+        header: after,
+        rose,
+    }
 }

@@ -1,12 +1,13 @@
--- Evidence, and no part of a promise: document 01's bench cases as one table. In each row stands what the rules give, and what the paper says. The
--- starred ones are marked; the others are here because they tell a wrong rule from the right one. That every row holds is one statement, `all-hold`.
+-- Evidence, and no part of a promise: document 01's bench cases as one table. In each row stands what the rules give, what the paper says, and the line of the
+-- paper's list, starred or not; rows of no line are here because they tell a wrong rule from the right one. That every row holds is one statement, `all-hold`;
+-- that the starred rows are those of the paper is another, `stars`.
 -- Assumes nothing.
 use Prim.Native.Nat.{ℕ}
 use mathlib.Core.Bool.{Bool, true, false}
 use mathlib.Core.List.{List, [], _∷_}
 use mathlib.Core.Path.{_≡_, refl}
 use lib.ListN.{length, replicate}
-use Rattle.fields.specs.Choice.{all, keep}
+use Rattle.fields.specs.Choice.{all, keep, pick}
 use Rattle.fields.specs.Order.{sameBytes, lessBytes}
 use Rattle.fields.specs.Numbers.{bytesOf}
 use Rattle.rules.specs.Sizes.{maxDelta}
@@ -22,14 +23,29 @@ use Rattle.rules.specs.declared.Status.{Status}
 use Rattle.rules.specs.declared.Status.the-variants.{Set, Delete, Ttl}
 
 pub record Case : Type 0 where
+  -- its line in the paper's list of bench cases, from 1 on; 0 where it is none of them
+  pub line : ℕ
+  pub starred : Bool
   pub rules : List ℕ
   pub paper : List ℕ
 
+-- of a starred line, of a line without a star, of no line
+abbrev star : ℕ → List ℕ → List ℕ → Case
+star n r p = record { line = n; starred = true; rules = r; paper = p }
+
+abbrev plain : ℕ → List ℕ → List ℕ → Case
+plain n r p = record { line = n; starred = false; rules = r; paper = p }
+
 abbrev case : List ℕ → List ℕ → Case
-case r p = record { rules = r; paper = p }
+case r p = plain 0 r p
 
 unfoldable pub holds : Case → Bool
 holds c = sameBytes (c .rules) (c .paper)
+
+-- the lines of the starred rows
+unfoldable pub starredLines : List Case → List ℕ
+starredLines [] = []
+starredLines (c ∷ cs) = pick (c .starred) (c .line ∷ starredLines cs) (starredLines cs)
 
 -- ---- what the rows are made of
 
@@ -82,6 +98,17 @@ sizesIn (o ∷ ops) = sizeOf o ∷ sizesIn ops
 abbrev order : List ℕ → List NodeDigest → Table → List ℕ
 order ties ds t = numbersIn (partsOf (deltaFor [] ties maxDelta ds t))
 
+-- what is sent from for a digest pair, of an own node at (4,9), for a large MTU
+unfoldable pub fromsIn : List Part → List ℕ
+fromsIn [] = []
+fromsIn (x ∷ xs) = x .delta .from ∷ fromsIn xs
+
+abbrev sentFrom : ℕ → ℕ → List ℕ
+sentFrom g m =
+    let d : NodeDigest = record { number = 1; heartbeat = beats 0; last-gc = g; max = m } in
+    let e : Entry = record { number = 1; node = node 4 9 (live 9 ∷ []) } in
+    fromsIn (partsOf (deltaFor [] (0 ∷ []) maxDelta (d ∷ []) (e ∷ [])))
+
 -- the sizes of the operations
 abbrev sizes : ℕ → Table → List ℕ
 sizes mtu t = sizesIn (deltaFor [] (replicate (length t) 0) mtu [] t)
@@ -107,30 +134,32 @@ offered =
 unfoldable pub cases : List Case
 cases =
     -- * own (0,5), delta last_gc 0: from 6 to 9 Reject; from 5 to 5 Reject; from 5 to 6 Apply
-    case (applied (node 0 5 []) (delta 0 6 [] 9)) (0 ∷ 7 ∷ 0 ∷ 5 ∷ [])
-    ∷ case (applied (node 0 5 []) (delta 0 5 [] 5)) (0 ∷ 7 ∷ 0 ∷ 5 ∷ [])
-    ∷ case (applied (node 0 5 []) (delta 0 5 [] 6)) (1 ∷ 7 ∷ 0 ∷ 6 ∷ [])
+    star 1 (applied (node 0 5 []) (delta 0 6 [] 9)) (0 ∷ 7 ∷ 0 ∷ 5 ∷ [])
+    ∷ star 1 (applied (node 0 5 []) (delta 0 5 [] 5)) (0 ∷ 7 ∷ 0 ∷ 5 ∷ [])
+    ∷ star 1 (applied (node 0 5 []) (delta 0 5 [] 6)) (1 ∷ 7 ∷ 0 ∷ 6 ∷ [])
     -- * own (0,5): last_gc 5, from 0, max 6 Apply; last_gc 6, from 0, max 6 ApplyAfterReset; last_gc 6, from 1, max 9 Reject
-    ∷ case (applied (node 0 5 []) (delta 5 0 [] 6)) (1 ∷ 7 ∷ 0 ∷ 6 ∷ [])
-    ∷ case (applied (node 0 5 []) (delta 6 0 [] 6)) (2 ∷ 0 ∷ 6 ∷ 6 ∷ [])
-    ∷ case (applied (node 0 5 []) (delta 6 1 [] 9)) (0 ∷ 7 ∷ 0 ∷ 5 ∷ [])
+    ∷ star 2 (applied (node 0 5 []) (delta 5 0 [] 6)) (1 ∷ 7 ∷ 0 ∷ 6 ∷ [])
+    ∷ star 2 (applied (node 0 5 []) (delta 6 0 [] 6)) (2 ∷ 0 ∷ 6 ∷ 6 ∷ [])
+    ∷ star 2 (applied (node 0 5 []) (delta 6 1 [] 9)) (0 ∷ 7 ∷ 0 ∷ 5 ∷ [])
     -- * own (0,5): last_gc 6, from 0, no records, max 0: reset to (6,0)
-    ∷ case (applied (node 0 5 []) (delta 6 0 [] 0)) (2 ∷ 0 ∷ 6 ∷ 0 ∷ [])
+    ∷ star 3 (applied (node 0 5 []) (delta 6 0 [] 0)) (2 ∷ 0 ∷ 6 ∷ 0 ∷ [])
     -- * start 100, grace 50: kept at 149, gone at 150
-    ∷ case (removed 149) (0 ∷ 3 ∷ [])
-    ∷ case (removed 150) (3 ∷ [])
+    ∷ star 4 (removed 149) (0 ∷ 3 ∷ [])
+    ∷ star 4 (removed 150) (3 ∷ [])
     -- * own (4,9): digest (0,3) gives from 0; (0,4) from 4; (4,3) from 3
-    ∷ case (fromOf 4 0 3 ∷ fromOf 4 0 4 ∷ fromOf 4 4 3 ∷ []) (0 ∷ 4 ∷ 3 ∷ [])
+    ∷ star 5 (sentFrom 0 3) (0 ∷ [])
+    ∷ star 5 (sentFrom 0 4) (4 ∷ [])
+    ∷ star 5 (sentFrom 4 3) (3 ∷ [])
     -- * from-0 nodes with max 9 and 4, others with 3 and 5 stale: order 4, 9, 5 stale, 3 stale
-    ∷ case
+    ∷ star 6
     (order (0 ∷ 0 ∷ 0 ∷ 0 ∷ []) (digest 3 5 ∷ digest 4 4 ∷ [])
     (entry 1 9 [] ∷ entry 2 4 [] ∷ entry 3 8 (live 6 ∷ live 7 ∷ live 8 ∷ []) ∷ entry 4 9 (live 5 ∷ live 6 ∷ live 7 ∷ live 8 ∷ live 9 ∷ []) ∷ []))
     (2 ∷ 1 ∷ 4 ∷ 3 ∷ [])
     -- * largest record (110 bytes) first: MTU 135 carries it; MTU 134 carries the Node alone
-    ∷ case (sizes 135 (entry 1 1 (largest ∷ []) ∷ [])) (25 ∷ 110 ∷ [])
-    ∷ case (sizes 134 (entry 1 1 (largest ∷ []) ∷ [])) (25 ∷ [])
+    ∷ star 7 (sizes 135 (entry 1 1 (largest ∷ []) ∷ [])) (25 ∷ 110 ∷ [])
+    ∷ star 7 (sizes 134 (entry 1 1 (largest ∷ []) ∷ [])) (25 ∷ [])
     -- heartbeat 0, offers 5, 5, 6: no, no, yes
-    ∷ case offered (0 ∷ 0 ∷ 1 ∷ 6 ∷ [])
+    ∷ plain 8 offered (0 ∷ 0 ∷ 1 ∷ 6 ∷ [])
     -- ties: the smaller tie number, then the smaller node number
     ∷ case (order (2 ∷ 1 ∷ []) [] (entry 1 4 [] ∷ entry 2 4 [] ∷ [])) (2 ∷ 1 ∷ [])
     ∷ case (order (3 ∷ 3 ∷ []) [] (entry 1 4 [] ∷ entry 2 4 [] ∷ [])) (1 ∷ 2 ∷ [])
@@ -149,5 +178,10 @@ cases =
     ∷ []
 
 pub all-hold : all holds cases ≡ true
-unfolding all holds cases sameBytes lessBytes numbersIn sizesIn applyNode deltaStatus statusOf newerOf outcome takeAll takes store versions remove lastGc keep fromOf deltaFor cut allOps ordered queue sooner staleNodes toldOf among stale byVersion keyValueOps sizeOf opBytes textBytes bytesOf partsOf recsOf maxOf offerOf
+unfolding all holds cases sameBytes lessBytes numbersIn fromsIn sizesIn applyNode deltaStatus statusOf newerOf outcome takeAll takes store versions remove lastGc keep fromOf deltaFor cut allOps ordered queue sooner staleNodes toldOf among stale byVersion keyValueOps sizeOf opBytes textBytes bytesOf partsOf recsOf maxOf offerOf
 all-hold = refl
+
+-- the paper stars seven lines, and they have fifteen cases
+pub stars : starredLines cases ≡ 1 ∷ 1 ∷ 1 ∷ 2 ∷ 2 ∷ 2 ∷ 3 ∷ 4 ∷ 4 ∷ 5 ∷ 5 ∷ 5 ∷ 6 ∷ 7 ∷ 7 ∷ []
+unfolding starredLines cases
+stars = refl
