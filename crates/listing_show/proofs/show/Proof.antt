@@ -8,6 +8,7 @@ use lib.ListN.{length, replicate, length-replicate}
 use lib.Seq.{length-take-le}
 use Rattle.rules.specs.Listing.{listDelta}
 use Rattle.rules.specs.declared.Written.the-variants.{Bytes}
+use Rattle.rules.proofs.Told.{same-written}
 use Rattle.listing.specs.Shapes.{longestListing}
 use Rattle.listing.proofs.Lines.{front-fits, front-within}
 use borrow.Author.Needs.{needs}
@@ -36,12 +37,12 @@ enum-known-listed c = search needs
 array-share-prefix-output : tie.Need-array-share-prefix-output
 array-share-prefix-output c =
     let call = c .before .before .before .before .list-delta in
-    within _ (call .last .1 .0) _ (call .kept .1 .0) (sym (call .ensures .0) ∙ c .before .listed .given .1)
+    within _ (call .last .1 .0) _ (call .kept .1 .0) (sym (same-written _ _ (call .ensures .0)) ∙ c .before .listed .given .1)
 
 slice-aggregate-write-all : tie.Need-slice-aggregate-write-all
 slice-aggregate-write-all c =
     let call = c .before .before .before .before .before .list-delta in
-    sym (length-take-le _ _ (within _ (call .last .1 .0) _ (call .kept .1 .0) (sym (call .ensures .0) ∙ c .before .before .listed .given .1)))
+    sym (length-take-le _ _ (within _ (call .last .1 .0) _ (call .kept .1 .0) (sym (same-written _ _ (call .ensures .0)) ∙ c .before .before .listed .given .1)))
 
 write-all-requires : tie.Need-write-all-requires
 write-all-requires c κs = search needs
@@ -50,7 +51,7 @@ enum-told : tie.Need-enum-told
 enum-told c = search needs
 
 expect-requires : tie.Need-expect-requires
-expect-requires c κs = absurd (front-fits _ buffer room _ (sym (c .before .before .before .list-delta .ensures .0) ∙ c .enum-told .given .1))
+expect-requires c κs = absurd (front-fits _ buffer room _ (sym (same-written _ _ (c .before .before .before .list-delta .ensures .0)) ∙ c .enum-told .given .1))
 
 returns : tie.Need-returns
 returns c = search needs
