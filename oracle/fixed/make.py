@@ -11,7 +11,7 @@ from pathlib import Path
 
 HERE = Path(__file__).resolve().parent
 TOP = 2**64 - 1
-NODE, TABLE = 3713, 29705
+NODE, AREA, TABLE = 3713, 29705, 29964
 CALLS = ("add 7", "remove 7", "set 7 x61 x31", "setttl 7 x61 x31 5", "delete 7 x61 5", "deletettl 7 x61 5", "offer 7 3", "beat 7",
          "get 7 x61", "list 7 x 32", "gc 9 1", "digest - 0 258", "compute x0000 100 - 0 0 100", "apply x 5 8")
 
@@ -54,8 +54,8 @@ def slot(number, records, max_version, heartbeat=0, last_gc=0):
     return (u64(number, heartbeat, max_version, last_gc) + bytes([len(records)]) + b"".join(records)).ljust(NODE, b"\0")
 
 
-def table(*slots):
-    return (bytes([len(slots)]) + b"".join(slots)).ljust(TABLE, b"\0")
+def table(*slots, mode=0):
+    return ((bytes([len(slots)]) + b"".join(slots)).ljust(AREA, b"\0") + bytes([mode])).ljust(TABLE, b"\0")
 
 
 def apply(*ops, now=5, places=8):
@@ -540,7 +540,8 @@ def bad_tables():
     one, two = record(b"a", b"1", 1), record(b"b", b"2", 2, 2, 9)
     good = table(slot(7, [one, two], 2))
     broken = (table(slot(7, [one, two], 1)), table(slot(7, [one, record(b"b", b"2", 1)], 5)), table(slot(7, [record(b"a", b"1", 0), two], 5)),
-              table(slot(7, [two, one], 5)), table(slot(7, [], 0), slot(6, [], 0)), good[:-1], good[:-1] + b"\1")
+              table(slot(7, [two, one], 5)), table(slot(7, [], 0), slot(6, [], 0)), good[:-1], good[:-1] + b"\1",
+              table(slot(7, [one, two], 2), mode=2), good[:AREA] + b"\0\1" + good[AREA + 2:], good[:AREA])
     for data in broken:
         yield f"table {x(data)}"
         yield from CALLS

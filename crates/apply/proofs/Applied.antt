@@ -21,16 +21,19 @@ use Rattle.fields.proofs.Parts.{put-nil, put-cons}
 use borrow.Rule.Slice.PartMut.{putMid}
 use Rattle.rules.specs.Sizes.{maxRecords, numbers}
 use Rattle.rules.specs.Answers.{codeOf}
-use Rattle.rules.specs.Node.{Node}
+use Rattle.rules.specs.Node.{Rec, Node}
 use Rattle.rules.specs.Table.{Entry, Table, nodeOf, setNode, keysRise, obeys}
 use Rattle.rules.specs.Delta as rule
-use Rattle.rules.specs.Apply.{Taken, Stream, takenAs, withRoom, answered, statusOf, deltaStatus, outcome, takeAll, applyNode, onNode, answering, applyEach, codes, apply, plainWays}
-use Rattle.rules.specs.Layout.{nodeWidth, encodeNode, decodeNode, encode, decode, valid}
+use Rattle.rules.specs.Apply.{Taken, Stream, takenAs, withRoom, answered, statusOf, deltaStatus, outcome, takeAll, applyNode, onNode, answering, applyEach, codes, apply, Ways, waysOf}
+use Rattle.rules.specs.Layout.{nodeWidth, tableWidth, encodeNode, decodeNode, encode, decode, valid}
+use Rattle.rules.specs.Whole.{withTable, areaOf, encodeWhole, decodeWhole, validWhole}
 use Rattle.rules.specs.Given.{Gives}
 use Rattle.rules.specs.Local.{gives}
-use Rattle.rules.specs.Lent.{stored, both, lentApply, lentApplyAs}
+use Rattle.rules.specs.Lent.{TableAndList, stored, both, lentApply, lentApplyAs}
 use Rattle.rules.specs.declared.DeltaStatus.{DeltaStatus}
-use Rattle.rules.specs.declared.DeltaStatus.the-variants.{Reject, Apply, ApplyAfterReset}
+use Rattle.rules.specs.declared.DeltaStatus.the-variants.{Reject, Fenced, Apply, ApplyAfterReset}
+use Rattle.rules.specs.declared.Mode.{Mode}
+use Rattle.rules.specs.declared.Mode.the-variants as modes
 use Rattle.rules.specs.declared.NodeAnswer.{NodeAnswer}
 use Rattle.rules.specs.declared.NodeAnswer.the-variants as node
 use Rattle.rules.specs.declared.Refusal.{Refusal}
@@ -42,7 +45,8 @@ use Rattle.rules.proofs.Obeys.{OkTable, table-facts, facts-table}
 use Rattle.rules.proofs.Received.{OkDelta, parts-ok}
 use Rattle.rules.proofs.Deltas.{delta-is}
 use Rattle.rules.proofs.Calls.{ok-each}
-use Rattle.rules.proofs.Keeps.{plain-lawful}
+use Rattle.rules.proofs.Keeps.{mode-lawful}
+use Rattle.rules.proofs.Refusing.{whole-bytes}
 use Rattle.delta_op.specs.Plain.{opsFrom, recsFrom}
 use Rattle.delta_op.proofs.Plain.{good-plain}
 use Rattle.table.specs.Fits.{FitsEntry, LaidNode}
@@ -56,11 +60,12 @@ use Rattle.table_read.specs.declared.Span.the-variants.{Held, Missing}
 use Rattle.table_read.proofs.Held.{node-seen, held-laid, held-rises, held-node, held-gives, missing-node, stays-gives}
 use Rattle.rules.specs.declared.Header.{Header}
 use Rattle.table.proofs.Tables.{length-table, decode-encode, valid-encode, encode-decode, valid-obeys, valid-long}
+use Rattle.table_check.proofs.Entry.{area-back}
 use Rattle.delta_read.specs.declared.Heads.{Heads}
 use Rattle.delta_read.specs.NodeDeltas.{partsFrom, deltaOf, noPart, AllHeads}
 use Rattle.apply_node.specs.Taking.{hasRoom, Rising, Tried}
 use Rattle.apply_node.proofs.Taken.{takes-few}
-use Rattle.apply.specs.Applying.{emptied, begun, grown, Grown, Stored, rejects, resets, answerAs, nodeTaken, nodeApplied, onHeld, partApplied, partsApplied, Accepted, HeadsFound}
+use Rattle.apply.specs.Applying.{emptied, begun, grown, Grown, Stored, leaves, resets, answerAs, nodeTaken, nodeApplied, onHeld, partApplied, partsApplied, Accepted, HeadsFound}
 
 -- ---- a node
 
@@ -158,9 +163,20 @@ module _ (e : Entry) (b : List ℕ) (r : Bool) (b₁ : List ℕ) (g : Grown e r 
       let z : r ≡ true = g .room ∙ q in
       record { room = g .room; bytes = g .bytes z ∙ ap (λ (x : Bool). pick x (encodeNode e) b) (sym z) }
 
+-- ---- the ways of a mode
+
+-- every mode has document 01's room and reading
+roomy-is : (m : Mode) (l : List Rec) → waysOf m .roomy l ≡ hasRoom l
+roomy-is modes.Plain l = refl
+roomy-is modes.Fenced l = refl
+
+pub reads-is : (m : Mode) (s : List ℕ) → waysOf m .reads s ≡ rule.readDelta s
+reads-is modes.Plain s = refl
+reads-is modes.Fenced s = refl
+
 -- ---- a node's answer, by the status
 
-module _ (clock : ℕ) (s : List ℕ) (gc from max at : ℕ) (b : List ℕ) (o : LaidNode b) where
+module _ (mode : Mode) (clock : ℕ) (s : List ℕ) (gc from max at : ℕ) (b : List ℕ) (o : LaidNode b) where
   d : rule.NodeDelta
   d = deltaOf s gc from max at
 
@@ -168,58 +184,61 @@ module _ (clock : ℕ) (s : List ℕ) (gc from max at : ℕ) (b : List ℕ) (o :
   n = decodeNode b .node
 
   -- the header that was read is the node's
-  pub status-is : (h : Header) (v : DeltaStatus) → h ≡ headerOf (decodeNode b .node) → v ≡ statusOf (h .«last_gc») (h .max) from gc max
-      → v ≡ deltaStatus (decodeNode b .node) (deltaOf s gc from max at)
+  pub status-is : (h : Header) (v : DeltaStatus) → h ≡ headerOf (decodeNode b .node) → v ≡ statusOf (waysOf mode .fence) (h .«last_gc») (h .max) from gc max
+      → v ≡ deltaStatus (waysOf mode .fence) (decodeNode b .node) (deltaOf s gc from max at)
   unfolding deltaStatus
-  status-is h v e q = q ∙ ap (λ (x : Header). statusOf (x .«last_gc») (x .max) from gc max) e
+  status-is h v e q = q ∙ ap (λ (x : Header). statusOf (waysOf mode .fence) (x .«last_gc») (x .max) from gc max) e
 
-  by-room : (a : NodeAnswer) (x : Node) (r : Bool) (b′ : List ℕ) → Stored (withNode x (decodeNode b)) b r b′ → (y : Taken) → y ≡ withRoom plainWays a x (decodeNode b .node)
+  by-room : (a : NodeAnswer) (x : Node) (r : Bool) (b′ : List ℕ) → Stored (withNode x (decodeNode b)) b r b′ → (y : Taken) → y ≡ withRoom (waysOf mode) a x (decodeNode b .node)
       → Gives (nodeTaken y b) (pick r a node.Room) b′
   by-room a x true b′ t y e =
-      let p : y ≡ takenAs a x = e ∙ ap (λ (q : Bool). pick q (takenAs a x) (takenAs node.Room (decodeNode b .node))) (sym (t .room)) in
+      let p : y ≡ takenAs a x = e ∙ ap (λ (q : Bool). pick q (takenAs a x) (takenAs node.Room (decodeNode b .node))) (roomy-is mode (x .recs) ∙ sym (t .room)) in
       (sym (ap (λ (z : Taken). z .answer) p), t .bytes ∙ ap (λ (z : Taken). encodeNode (withNode (z .node) (decodeNode b))) (sym p))
   by-room a x false b′ t y e =
-      let p : y ≡ takenAs node.Room (decodeNode b .node) = e ∙ ap (λ (q : Bool). pick q (takenAs a x) (takenAs node.Room (decodeNode b .node))) (sym (t .room)) in
+      let p : y ≡ takenAs node.Room (decodeNode b .node) = e ∙ ap (λ (q : Bool). pick q (takenAs a x) (takenAs node.Room (decodeNode b .node))) (roomy-is mode (x .recs) ∙ sym (t .room)) in
       (sym (ap (λ (z : Taken). z .answer) p), t .bytes ∙ sym (o .is) ∙ ap (λ (z : Taken). encodeNode (withNode (z .node) (decodeNode b))) (sym p))
 
-  module _ (v : DeltaStatus) (is : v ≡ deltaStatus (decodeNode b .node) (deltaOf s gc from max at)) where
-    by-status : (w : DeltaStatus) → v ≡ w → applyNode plainWays clock d n ≡ answered plainWays w (outcome w clock d n) n
+  module _ (v : DeltaStatus) (is : v ≡ deltaStatus (waysOf mode .fence) (decodeNode b .node) (deltaOf s gc from max at)) where
+    by-status : (w : DeltaStatus) → v ≡ w → applyNode (waysOf mode) clock d n ≡ answered (waysOf mode) w (outcome w clock d n) n
     unfolding d n applyNode
-    by-status w q = ap (λ (x : DeltaStatus). answered plainWays x (outcome x clock d n) n) (sym is ∙ q)
+    by-status w q = ap (λ (x : DeltaStatus). answered (waysOf mode) x (outcome x clock d n) n) (sym is ∙ q)
 
-    pub rejected : rejects v ≡ true → Gives (nodeApplied clock (deltaOf s gc from max at) b) node.Reject b
+    pub untouched : leaves v ≡ true → (r : Bool) (a : NodeAnswer) → a ≡ answerAs v r → Gives (nodeApplied mode clock (deltaOf s gc from max at) b) a b
     unfolding d n
-    rejected q = go v refl q
+    untouched q r a ae = go v refl q ae
       where
-        go : (w : DeltaStatus) → v ≡ w → rejects w ≡ true → Gives (nodeApplied clock (deltaOf s gc from max at) b) node.Reject b
-        go Reject p q =
-            let y = by-status Reject p in
-            (sym (ap (λ (z : Taken). z .answer) y), sym (o .is) ∙ ap (λ (z : Taken). encodeNode (withNode (z .node) (decodeNode b))) (sym y))
-        go Apply p q = let z : _≡_ {A = ℕ} 0 1 = cc in absurd (omega arith)
-        go ApplyAfterReset p q = let z : _≡_ {A = ℕ} 0 1 = cc in absurd (omega arith)
+        stays : (c : NodeAnswer) → applyNode (waysOf mode) clock d n ≡ takenAs c n → a ≡ c → Gives (nodeApplied mode clock (deltaOf s gc from max at) b) a b
+        stays c y e = (e ∙ sym (ap (λ (z : Taken). z .answer) y), sym (o .is) ∙ ap (λ (z : Taken). encodeNode (withNode (z .node) (decodeNode b))) (sym y))
 
-    pub concluded : rejects v ≡ false → (f : Bool) → f ≡ resets v → (r : Bool) (b′ : List ℕ) → Stored (grown clock s at max (begun f gc (decodeNode b))) b r b′ → (a : NodeAnswer) → a ≡ answerAs v r
-        → Gives (nodeApplied clock (deltaOf s gc from max at) b) a b′
+        go : (w : DeltaStatus) → v ≡ w → leaves w ≡ true → a ≡ answerAs w r → Gives (nodeApplied mode clock (deltaOf s gc from max at) b) a b
+        go Reject p q e = stays node.Reject (by-status Reject p) e
+        go Fenced p q e = stays node.Fenced (by-status Fenced p) e
+        go Apply p q e = let z : _≡_ {A = ℕ} 0 1 = cc in absurd (omega arith)
+        go ApplyAfterReset p q e = let z : _≡_ {A = ℕ} 0 1 = cc in absurd (omega arith)
+
+    pub concluded : leaves v ≡ false → (f : Bool) → f ≡ resets v → (r : Bool) (b′ : List ℕ) → Stored (grown clock s at max (begun f gc (decodeNode b))) b r b′ → (a : NodeAnswer) → a ≡ answerAs v r
+        → Gives (nodeApplied mode clock (deltaOf s gc from max at) b) a b′
     unfolding d n outcome
     concluded q f fe r b′ t a ae = go v refl q (fe) ae
       where
-        go : (w : DeltaStatus) → v ≡ w → rejects w ≡ false → f ≡ resets w → a ≡ answerAs w r → Gives (nodeApplied clock (deltaOf s gc from max at) b) a b′
+        go : (w : DeltaStatus) → v ≡ w → leaves w ≡ false → f ≡ resets w → a ≡ answerAs w r → Gives (nodeApplied mode clock (deltaOf s gc from max at) b) a b′
         go Reject p q fe ae = let z : _≡_ {A = ℕ} 0 1 = cc in absurd (omega arith)
-        go Apply p q fe ae = rw ae (by-room node.Apply (outcome Apply clock d n) r b′ (rw fe at t) (applyNode plainWays clock d n) (by-status Apply p))
+        go Fenced p q fe ae = let z : _≡_ {A = ℕ} 0 1 = cc in absurd (omega arith)
+        go Apply p q fe ae = rw ae (by-room node.Apply (outcome Apply clock d n) r b′ (rw fe at t) (applyNode (waysOf mode) clock d n) (by-status Apply p))
         go ApplyAfterReset p q fe ae =
-            rw ae (by-room node.ApplyAfterReset (outcome ApplyAfterReset clock d n) r b′ (rw fe at t) (applyNode plainWays clock d n) (by-status ApplyAfterReset p))
+            rw ae (by-room node.ApplyAfterReset (outcome ApplyAfterReset clock d n) r b′ (rw fe at t) (applyNode (waysOf mode) clock d n) (by-status ApplyAfterReset p))
 
 -- by the numbers that were read
-pub numbers-read : (clock : ℕ) (s : List ℕ) (gc gc′ from from′ max at : ℕ) → gc ≡ gc′ → from ≡ from′ → (b : List ℕ) (r : NodeAnswer) (b′ : List ℕ)
-    → Gives (nodeApplied clock (deltaOf s gc from max at) b) r b′ → Gives (nodeApplied clock (deltaOf s gc′ from′ max at) b) r b′
-numbers-read clock s gc gc′ from from′ max at p q b r b′ t = rw (p, q) at t
+pub numbers-read : (mode : Mode) (clock : ℕ) (s : List ℕ) (gc gc′ from from′ max at : ℕ) → gc ≡ gc′ → from ≡ from′ → (b : List ℕ) (r : NodeAnswer) (b′ : List ℕ)
+    → Gives (nodeApplied mode clock (deltaOf s gc from max at) b) r b′ → Gives (nodeApplied mode clock (deltaOf s gc′ from′ max at) b) r b′
+numbers-read mode clock s gc gc′ from from′ max at p q b r b′ t = rw (p, q) at t
 
 -- ---- one node delta on a table
 
-module _ (l : List ℕ) (v : valid l ≡ true) (clock : ℕ) (x : rule.Part) where
-  pub part-missing : spanIn (x .number) l ≡ Missing → Gives (stored (partApplied clock x (decode l))) node.Unknown l
+module _ (mode : Mode) (l : List ℕ) (v : valid l ≡ true) (clock : ℕ) (x : rule.Part) where
+  pub part-missing : spanIn (x .number) l ≡ Missing → Gives (stored (partApplied mode clock x (decode l))) node.Unknown l
   part-missing e =
-      stays-gives (x .number) l v (partApplied clock x (decode l)) node.Unknown (ap (λ (o : Option Node). onHeld clock x o (decode l)) (missing-node (x .number) l v e))
+      stays-gives (x .number) l v (partApplied mode clock x (decode l)) node.Unknown (ap (λ (o : Option Node). onHeld mode clock x o (decode l)) (missing-node (x .number) l v e))
 
   module _ {start end : ℕ} (e : spanIn (x .number) l ≡ Held start end) where
     -- what is lent to the node's rule
@@ -232,30 +251,30 @@ module _ (l : List ℕ) (v : valid l ≡ true) (clock : ℕ) (x : rule.Part) whe
     pub lent-rising : Rising lent
     lent-rising = subst Rising (sym is-node) (record { laid = held-laid (x .number) l v e; keys = held-rises (x .number) l v e })
 
-    pub part-held : (r : NodeAnswer) (ys : List ℕ) → Gives (nodeApplied clock (x .delta) lent) r ys → Gives (stored (partApplied clock x (decode l))) r (putMid start (end - start) l ys)
+    pub part-held : (r : NodeAnswer) (ys : List ℕ) → Gives (nodeApplied mode clock (x .delta) lent) r ys → Gives (stored (partApplied mode clock x (decode l))) r (putMid start (end - start) l ys)
     part-held r ys g =
         let b : List ℕ = part start nodeWidth l in
-        let n : Node = applyNode plainWays clock (x .delta) (decodeNode b .node) .node in
-        let w : Gives (nodeApplied clock (x .delta) b) r ys = subst (λ (y : List ℕ). Gives (nodeApplied clock (x .delta) y) r ys) is-node g in
-        held-gives (x .number) l v e (partApplied clock x (decode l)) r n ys
-        (ap (λ (o : Option Node). onHeld clock x o (decode l)) (held-node (x .number) l v e)
+        let n : Node = applyNode (waysOf mode) clock (x .delta) (decodeNode b .node) .node in
+        let w : Gives (nodeApplied mode clock (x .delta) b) r ys = subst (λ (y : List ℕ). Gives (nodeApplied mode clock (x .delta) y) r ys) is-node g in
+        held-gives (x .number) l v e (partApplied mode clock x (decode l)) r n ys
+        (ap (λ (o : Option Node). onHeld mode clock x o (decode l)) (held-node (x .number) l v e)
         ∙ ap (λ (a : NodeAnswer). gives a (setNode (x .number) n (decode l))) (sym (w .0)))
         (w .1)
 
-each-cons : (clock : ℕ) (x : rule.Part) (xs : List rule.Part) (t : Table)
-    → applyEach (applyNode plainWays clock) (x ∷ xs) t ≡ answering (partApplied clock x t .answer) (applyEach (applyNode plainWays clock) xs (partApplied clock x t .table))
+each-cons : (mode : Mode) (clock : ℕ) (x : rule.Part) (xs : List rule.Part) (t : Table)
+    → applyEach (applyNode (waysOf mode) clock) (x ∷ xs) t ≡ answering (partApplied mode clock x t .answer) (applyEach (applyNode (waysOf mode) clock) xs (partApplied mode clock x t .table))
 unfolding applyEach
-each-cons clock x xs t = go (nodeOf (x .number) t)
+each-cons mode clock x xs t = go (nodeOf (x .number) t)
   where
-    go : (o : Option Node) → onNode (applyNode plainWays clock) x o t (applyEach (applyNode plainWays clock) xs) ≡ answering (onHeld clock x o t .answer) (applyEach (applyNode plainWays clock) xs (onHeld clock x o t .table))
+    go : (o : Option Node) → onNode (applyNode (waysOf mode) clock) x o t (applyEach (applyNode (waysOf mode) clock) xs) ≡ answering (onHeld mode clock x o t .answer) (applyEach (applyNode (waysOf mode) clock) xs (onHeld mode clock x o t .table))
     go none = refl
     go (some n) = refl
 
 -- a table that obeys still does
-part-ok : (clock : ℕ) → clock < numbers → (x : rule.Part) (t : Table) → OkDelta (x .delta) → OkTable t → OkTable (partApplied clock x t .table)
+part-ok : (mode : Mode) (clock : ℕ) → clock < numbers → (x : rule.Part) (t : Table) → OkDelta (x .delta) → OkTable t → OkTable (partApplied mode clock x t .table)
 unfolding applyEach
-part-ok clock h x t d ok =
-    subst OkTable (ap (λ (y : Stream). y .table) (each-cons clock x [] t)) (ok-each plainWays plain-lawful clock h (x ∷ []) t (λ y m. one y m) ok)
+part-ok mode clock h x t d ok =
+    subst OkTable (ap (λ (y : Stream). y .table) (each-cons mode clock x [] t)) (ok-each (waysOf mode) (mode-lawful mode) clock h (x ∷ []) t (λ y m. one y m) ok)
   where
     one : (y : rule.Part) → y ∈ x ∷ [] → OkDelta (y .delta)
     one y (here e) = subst (λ (z : rule.Part). OkDelta (z .delta)) (sym e) d
@@ -287,24 +306,24 @@ module _ (s : List ℕ) (a : Accepted s) where
         subst AllOk (sym accepted-parts) (parts-ok (a .0) rule.nothingRead (d .chain) (d .small))
 
 -- what holds at the head of the loop: the node deltas that are left, on the table as it is, give the whole's table and answers
-pub record Stands (clock : ℕ) (s t₀ l₀ : List ℕ) (i : ℕ) (t l : List ℕ) : Type 0 where
+pub record Stands (mode : Mode) (clock : ℕ) (s t₀ l₀ : List ℕ) (i : ℕ) (t l : List ℕ) : Type 0 where
   pub good : valid t ≡ true
   pub same : length t ≡ length t₀
   pub long : length l ≡ length l₀
-  pub table : applyEach (applyNode plainWays clock) (drop i (partsFrom s 0)) (decode t) .table ≡ applyEach (applyNode plainWays clock) (partsFrom s 0) (decode t₀) .table
-  pub list : put i (codes (applyEach (applyNode plainWays clock) (drop i (partsFrom s 0)) (decode t) .answers)) l ≡ put 0 (codes (applyEach (applyNode plainWays clock) (partsFrom s 0) (decode t₀) .answers)) l₀
+  pub table : applyEach (applyNode (waysOf mode) clock) (drop i (partsFrom s 0)) (decode t) .table ≡ applyEach (applyNode (waysOf mode) clock) (partsFrom s 0) (decode t₀) .table
+  pub list : put i (codes (applyEach (applyNode (waysOf mode) clock) (drop i (partsFrom s 0)) (decode t) .answers)) l ≡ put 0 (codes (applyEach (applyNode (waysOf mode) clock) (partsFrom s 0) (decode t₀) .answers)) l₀
 
-module _ (clock : ℕ) (s t₀ l₀ : List ℕ) where
-  pub stands-first : valid t₀ ≡ true → Stands clock s t₀ l₀ 0 t₀ l₀
+module _ (mode : Mode) (clock : ℕ) (s t₀ l₀ : List ℕ) where
+  pub stands-first : valid t₀ ≡ true → Stands mode clock s t₀ l₀ 0 t₀ l₀
   stands-first v = record { good = v; same = refl; long = refl; table = refl; list = refl }
 
-  module _ (i : ℕ) (t l : List ℕ) (inv : Stands clock s t₀ l₀ i t l) where
+  module _ (i : ℕ) (t l : List ℕ) (inv : Stands mode clock s t₀ l₀ i t l) where
     pub stands-last : length (partsFrom s 0) ≤ i
-        → both t l ≡ partsApplied clock (partsFrom s 0) l₀ t₀
+        → both t l ≡ partsApplied mode clock (partsFrom s 0) l₀ t₀
     unfolding applyEach codes
     stands-last h =
         let e : drop i (partsFrom s 0) ≡ [] = drop-of-length-le (partsFrom s 0) {i = i} h in
-        let p : applyEach (applyNode plainWays clock) (drop i (partsFrom s 0)) (decode t) ≡ record { answers = []; table = decode t } = ap (λ (xs : List rule.Part). applyEach (applyNode plainWays clock) xs (decode t)) e in
+        let p : applyEach (applyNode (waysOf mode) clock) (drop i (partsFrom s 0)) (decode t) ≡ record { answers = []; table = decode t } = ap (λ (xs : List rule.Part). applyEach (applyNode (waysOf mode) clock) xs (decode t)) e in
         ap₂ both (sym (encode-decode t (inv .good)) ∙ ap encode (sym (ap (λ (y : Stream). y .table) p) ∙ inv .table))
         (sym (put-nil i l) ∙ ap (λ (y : Stream). put i (codes (y .answers)) l) (sym p) ∙ inv .list)
 
@@ -313,38 +332,60 @@ module _ (clock : ℕ) (s t₀ l₀ : List ℕ) where
       x = getD (partsFrom s 0) i noPart
 
       u : Table
-      u = partApplied clock x (decode t) .table
+      u = partApplied mode clock x (decode t) .table
 
       left : drop i (partsFrom s 0) ≡ x ∷ drop (i + 1) (partsFrom s 0)
       unfolding x
       left = drop-cons (partsFrom s 0) i noPart h ∙ ap (λ (j : ℕ). getD (partsFrom s 0) i noPart ∷ drop j (partsFrom s 0)) (sym (add-one i))
 
-      pub stands-next : clock < numbers → Accepted s → AreBytes s → (r : NodeAnswer) (t′ l′ : List ℕ) → Gives (stored (partApplied clock (getD (partsFrom s 0) i noPart) (decode t))) r t′ → l′ ≡ set l i (codeOf r)
-          → Stands clock s t₀ l₀ (i + 1) t′ l′
+      pub stands-next : clock < numbers → Accepted s → AreBytes s → (r : NodeAnswer) (t′ l′ : List ℕ) → Gives (stored (partApplied mode clock (getD (partsFrom s 0) i noPart) (decode t))) r t′ → l′ ≡ set l i (codeOf r)
+          → Stands mode clock s t₀ l₀ (i + 1) t′ l′
       unfolding x u codes
       stands-next k acc bytes r t′ l′ w q =
           let rest : List rule.Part = drop (i + 1) (partsFrom s 0) in
-          let ok-u : OkTable u = part-ok clock k x (decode t) (all-ok s acc bytes x (in-at (partsFrom s 0) i noPart h)) (table-facts (decode t) (valid-obeys t (inv .good))) in
+          let ok-u : OkTable u = part-ok mode clock k x (decode t) (all-ok s acc bytes x (in-at (partsFrom s 0) i noPart h)) (table-facts (decode t) (valid-obeys t (inv .good))) in
           let obeys-u : obeys u ≡ true = facts-table u ok-u in
           let d : decode t′ ≡ u = ap decode (w .1) ∙ decode-encode u obeys-u in
-          let a : NodeAnswer = partApplied clock x (decode t) .answer in
-          let p : applyEach (applyNode plainWays clock) (drop i (partsFrom s 0)) (decode t) ≡ answering a (applyEach (applyNode plainWays clock) rest (decode t′)) =
-          ap (λ (xs : List rule.Part). applyEach (applyNode plainWays clock) xs (decode t)) left
-          ∙ each-cons clock x rest (decode t)
-          ∙ ap (λ (v : Table). answering a (applyEach (applyNode plainWays clock) rest v)) (sym d) in
+          let a : NodeAnswer = partApplied mode clock x (decode t) .answer in
+          let p : applyEach (applyNode (waysOf mode) clock) (drop i (partsFrom s 0)) (decode t) ≡ answering a (applyEach (applyNode (waysOf mode) clock) rest (decode t′)) =
+          ap (λ (xs : List rule.Part). applyEach (applyNode (waysOf mode) clock) xs (decode t)) left
+          ∙ each-cons mode clock x rest (decode t)
+          ∙ ap (λ (v : Table). answering a (applyEach (applyNode (waysOf mode) clock) rest v)) (sym d) in
           record {
             good = ap valid (w .1) ∙ valid-encode u obeys-u;
             same = ap length (w .1) ∙ length-table u ∙ sym (valid-long t (inv .good)) ∙ inv .same;
             long = ap length q ∙ length-set l i (codeOf r) ∙ inv .long;
             table = sym (ap (λ (y : Stream). y .table) p) ∙ inv .table;
             list =
-                let others : List ℕ = codes (applyEach (applyNode plainWays clock) rest (decode t′) .answers) in
+                let others : List ℕ = codes (applyEach (applyNode (waysOf mode) clock) rest (decode t′) .answers) in
                 ap (put (i + 1) others) (q ∙ ap (λ (y : NodeAnswer). set l i (codeOf y)) (w .0))
                 ∙ ap (λ (j : ℕ). put j others (set l i (codeOf a))) (add-one i)
                 ∙ put-cons i (codeOf a) others l place
                 ∙ ap (λ (y : Stream). put i (codes (y .answers)) l) (sym p)
                 ∙ inv .list;
           }
+
+-- ---- an accepted delta
+
+module _ (delta : List ℕ) (ops nodes : ℕ) (e : rule.deltaRead delta ≡ read.Good ops nodes) where
+  pub accepted : (a : Accepted delta) × (nodes ≡ length (rule.partsOf (a .0)))
+  unfolding rule.deltaRead
+  accepted = go (rule.readDelta delta) refl e
+    where
+      go : (o : rule.Ops) → rule.readDelta delta ≡ o → rule.readAnswer o ≡ read.Good ops nodes → (a : Accepted delta) × (nodes ≡ length (rule.partsOf (a .0)))
+      go (rule.Good os) q a = let k : length (rule.partsOf os) ≡ nodes = cc in ((os, q), sym k)
+      go (rule.Faulty y b) q a = let z : _≡_ {A = ℕ} 0 1 = cc in absurd (omega arith)
+
+  pub heads-found : (r : Heads) → AllHeads delta (r .at) (r .count) (r .max) → HeadsFound delta nodes r
+  heads-found r g =
+      record {
+        all = accepted .1 ∙ ap length (sym (accepted-parts delta (accepted .0)));
+        few = g .few ops nodes (sym e);
+        long-at = g .long-at;
+        long-count = g .long-count;
+        long-max = g .long-max;
+        heads = g .heads ops nodes (sym e);
+      }
 
 -- ---- the call
 
@@ -353,11 +394,14 @@ module _ (delta : List ℕ) (clock : ℕ) (list l : List ℕ) where
   abbrev Outcome : Applied → List ℕ → List ℕ → Type 0
   Outcome r l′ list′ = Gives (lentApply delta clock list l) r (both l′ list′)
 
-  pub bad-table : valid l ≡ false → Outcome (Refused BadTable 0) l list
+  pub bad-table : validWhole l ≡ false → Outcome (Refused BadTable 0) l list
   unfolding lentApplyAs
   bad-table e = (rw (lentApplyAs, e), rw (lentApplyAs, e))
 
-  module _ (v : valid l ≡ true) where
+  abbrev ways : Ways
+  ways = waysOf (decodeWhole l .mode)
+
+  module _ (v : validWhole l ≡ true) where
     pub at-fault : (why : Refusal) (at : ℕ) → rule.deltaRead delta ≡ read.Refused why at → Outcome (Refused why at) l list
     unfolding lentApplyAs apply rule.deltaRead
     at-fault why at e = go (rule.readDelta delta) refl e
@@ -367,39 +411,37 @@ module _ (delta : List ℕ) (clock : ℕ) (list l : List ℕ) where
         go (rule.Faulty y b) q a =
             let p : y ≡ why = cc in
             let k : b ≡ at = cc in
-            (rw (lentApplyAs, v, apply, q, p, k), rw (lentApplyAs, v, apply, q) (ap (λ (t : List ℕ). both t list) (sym (encode-decode l v))))
+            let f : ways .reads delta ≡ rule.Faulty y b = reads-is (decodeWhole l .mode) delta ∙ q in
+            (rw (lentApplyAs, v, apply, f, p, k), rw (lentApplyAs, v, apply, f) (ap (λ (t : List ℕ). both t list) (sym (whole-bytes l v))))
 
     module _ (ops nodes : ℕ) (e : rule.deltaRead delta ≡ read.Good ops nodes) where
-      pub accepted : (a : Accepted delta) × (nodes ≡ length (rule.partsOf (a .0)))
-      unfolding rule.deltaRead
-      accepted = go (rule.readDelta delta) refl e
-        where
-          go : (o : rule.Ops) → rule.readDelta delta ≡ o → rule.readAnswer o ≡ read.Good ops nodes → (a : Accepted delta) × (nodes ≡ length (rule.partsOf (a .0)))
-          go (rule.Good os) q a = let k : length (rule.partsOf os) ≡ nodes = cc in ((os, q), sym k)
-          go (rule.Faulty y b) q a = let z : _≡_ {A = ℕ} 0 1 = cc in absurd (omega arith)
+      abbrev a : Accepted delta
+      a = accepted delta ops nodes e .0
 
-      pub heads-found : (r : Heads) → AllHeads delta (r .at) (r .count) (r .max) → HeadsFound delta nodes r
-      heads-found r g =
-          record {
-            all = accepted .1 ∙ ap length (sym (accepted-parts delta (accepted .0)));
-            few = g .few ops nodes (sym e);
-            long-at = g .long-at;
-            long-count = g .long-count;
-            long-max = g .long-max;
-            heads = g .heads ops nodes (sym e);
-          }
+      count : nodes ≡ length (rule.partsOf (a .0))
+      count = accepted delta ops nodes e .1
 
       pub no-places : length list < nodes → Outcome (Refused NoPlace 0) l list
       unfolding lentApplyAs apply
       no-places h =
-          let q = accepted .0 .1 in
-          let n : leb (length (rule.partsOf (accepted .0 .0))) (length list) ≡ false = lt-leb (length (rule.partsOf (accepted .0 .0))) (length list) (omega (arith, accepted .1)) in
-          (rw (lentApplyAs, v, apply, q, n), rw (lentApplyAs, v, apply, q, n) (ap (λ (t : List ℕ). both t list) (sym (encode-decode l v))))
+          let q : ways .reads delta ≡ rule.Good (a .0) = reads-is (decodeWhole l .mode) delta ∙ a .1 in
+          let n : leb (length (rule.partsOf (a .0))) (length list) ≡ false = lt-leb (length (rule.partsOf (a .0))) (length list) (omega (arith, count)) in
+          (rw (lentApplyAs, v, apply, q, n), rw (lentApplyAs, v, apply, q, n) (ap (λ (t : List ℕ). both t list) (sym (whole-bytes l v))))
 
-      pub applied-all : nodes ≤ length list → (l′ list′ : List ℕ) → both l′ list′ ≡ partsApplied clock (partsFrom delta 0) list l → Outcome (Nodes nodes) l′ list′
+      -- the area came back as s
+      pub applied-all : nodes ≤ length list → (mode : Mode) → mode ≡ decodeWhole l .mode → (s list′ : List ℕ)
+          → both s list′ ≡ partsApplied mode clock (partsFrom delta 0) list (areaOf l)
+          → Outcome (Nodes nodes) (s ++ drop tableWidth l) list′
       unfolding lentApplyAs apply
-      applied-all h l′ list′ p =
-          let q = accepted .0 .1 in
-          let n : leb (length (rule.partsOf (accepted .0 .0))) (length list) ≡ true = le-leb (length (rule.partsOf (accepted .0 .0))) (length list) (omega (arith, accepted .1)) in
-          let same : partsFrom delta 0 ≡ rule.partsOf (accepted .0 .0) = accepted-parts delta (accepted .0) in
-          (rw (lentApplyAs, v, apply, q, n) (ap Nodes (accepted .1)), rw (lentApplyAs, v, apply, q, n) (rw same at p))
+      applied-all h mode m s list′ p =
+          let q : ways .reads delta ≡ rule.Good (a .0) = reads-is (decodeWhole l .mode) delta ∙ a .1 in
+          let n : leb (length (rule.partsOf (a .0))) (length list) ≡ true = le-leb (length (rule.partsOf (a .0))) (length list) (omega (arith, count)) in
+          let same : partsFrom delta 0 ≡ rule.partsOf (a .0) = accepted-parts delta a in
+          let after : Stream = applyEach (applyNode ways clock) (rule.partsOf (a .0)) (decodeWhole l .table) in
+          let e : both s list′ ≡ both (encode (after .table)) (put 0 (codes (after .answers)) list) =
+          p
+          ∙ ap (λ (x : Mode). partsApplied x clock (partsFrom delta 0) list (areaOf l)) m
+          ∙ ap (λ (xs : List rule.Part). partsApplied (decodeWhole l .mode) clock xs list (areaOf l)) same in
+          let t : s ++ drop tableWidth l ≡ encodeWhole (withTable (after .table) (decodeWhole l)) =
+          area-back l v (after .table) s (ap (λ (x : TableAndList). x .table) e) in
+          (rw (lentApplyAs, v, apply, q, n) (ap Nodes count), rw (lentApplyAs, v, apply, q, n) (ap₂ both t (ap (λ (x : TableAndList). x .list) e)))

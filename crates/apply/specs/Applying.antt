@@ -15,13 +15,14 @@ use Rattle.rules.specs.Node.{Node}
 use Rattle.rules.specs.Table.{Entry, Table, nodeOf, setNode}
 use Rattle.rules.specs.Local.{Outcome, gives}
 use Rattle.rules.specs.Delta.{Op, Good, NodeDelta, Part, readDelta}
-use Rattle.rules.specs.Apply.{Taken, Stream, takeAll, plainWays, applyNode, applyEach, codes}
+use Rattle.rules.specs.Apply.{Taken, Stream, takeAll, waysOf, applyNode, applyEach, codes}
 use Rattle.rules.specs.Layout.{encodeNode, decodeNode, encode, decode}
 use Rattle.rules.specs.Lent.{TableAndList, both}
 use Rattle.rules.specs.declared.NodeAnswer.{NodeAnswer}
 use Rattle.rules.specs.declared.NodeAnswer.the-variants as node
 use Rattle.rules.specs.declared.DeltaStatus.{DeltaStatus}
-use Rattle.rules.specs.declared.DeltaStatus.the-variants.{Reject, Apply, ApplyAfterReset}
+use Rattle.rules.specs.declared.DeltaStatus.the-variants.{Reject, Fenced, Apply, ApplyAfterReset}
+use Rattle.rules.specs.declared.Mode.{Mode}
 use Rattle.table.specs.Changes.{withNode, withMax, withGc, withRecs, freshEntry}
 use Rattle.delta_op.specs.Plain.{recsFrom}
 use Rattle.delta_read.specs.NodeDeltas.{partsFrom, noPart, Head}
@@ -53,19 +54,23 @@ pub record Stored (e : Entry) (b : Bytes) (r : Bool) (b′ : Bytes) : Type 0 whe
   pub room : r ≡ hasRoom (e .node .recs)
   pub bytes : b′ ≡ pick r (encodeNode e) b
 
-abbrev pub rejects : (status : DeltaStatus) → Bool
-rejects Reject = true
-rejects Apply = false
-rejects ApplyAfterReset = false
+-- whether the node stays as it is
+abbrev pub leaves : (status : DeltaStatus) → Bool
+leaves Reject = true
+leaves Fenced = true
+leaves Apply = false
+leaves ApplyAfterReset = false
 
 abbrev pub resets : (status : DeltaStatus) → Bool
 resets Reject = false
+resets Fenced = false
 resets Apply = false
 resets ApplyAfterReset = true
 
 -- what is answered, where there was room or not
 abbrev pub answerAs : (status : DeltaStatus) (room : Bool) → NodeAnswer
 answerAs Reject r = node.Reject
+answerAs Fenced r = node.Fenced
 answerAs Apply r = pick r node.Apply node.Room
 answerAs ApplyAfterReset r = pick r node.ApplyAfterReset node.Room
 
@@ -74,26 +79,27 @@ abbrev pub nodeTaken : (taken : Taken) (node : Bytes) → Given NodeAnswer Bytes
 nodeTaken x b = given (x .answer) (encodeNode (withNode (x .node) (decodeNode b)))
 
 -- what it makes of a node delta
-abbrev pub nodeApplied : (clock : ℕ) (came : NodeDelta) (node : Bytes) → Given NodeAnswer Bytes
-nodeApplied clock d b = nodeTaken (applyNode plainWays clock d (decodeNode b .node)) b
+abbrev pub nodeApplied : (mode : Mode) (clock : ℕ) (came : NodeDelta) (node : Bytes) → Given NodeAnswer Bytes
+nodeApplied mode clock d b = nodeTaken (applyNode (waysOf mode) clock d (decodeNode b .node)) b
 
 -- ---- a table
 
 -- a node missing in the table answers Unknown and is never made
-abbrev pub onHeld : (clock : ℕ) (came : Part) (held : Option Node) (table : Table) → Outcome NodeAnswer
-onHeld clock x none t = gives node.Unknown t
-onHeld clock x (some n) t = gives (applyNode plainWays clock (x .delta) n .answer) (setNode (x .number) (applyNode plainWays clock (x .delta) n .node) t)
+abbrev pub onHeld : (mode : Mode) (clock : ℕ) (came : Part) (held : Option Node) (table : Table) → Outcome NodeAnswer
+onHeld mode clock x none t = gives node.Unknown t
+onHeld mode clock x (some n) t =
+    gives (applyNode (waysOf mode) clock (x .delta) n .answer) (setNode (x .number) (applyNode (waysOf mode) clock (x .delta) n .node) t)
 
 -- what a table answers to one node delta, and the table afterwards
-abbrev pub partApplied : (clock : ℕ) (came : Part) (table : Table) → Outcome NodeAnswer
-partApplied clock x t = onHeld clock x (nodeOf (x .number) t) t
+abbrev pub partApplied : (mode : Mode) (clock : ℕ) (came : Part) (table : Table) → Outcome NodeAnswer
+partApplied mode clock x t = onHeld mode clock x (nodeOf (x .number) t) t
 
 abbrev pub storedStream : (stream : Stream) (list : Bytes) → TableAndList
 storedStream s list = both (encode (s .table)) (put 0 (codes (s .answers)) list)
 
 -- the bytes of a good table and the list of answers, after all of these node deltas
-abbrev pub partsApplied : (clock : ℕ) (came : List Part) (list table : Bytes) → TableAndList
-partsApplied clock xs list table = storedStream (applyEach (applyNode plainWays clock) xs (decode table)) list
+abbrev pub partsApplied : (mode : Mode) (clock : ℕ) (came : List Part) (list table : Bytes) → TableAndList
+partsApplied mode clock xs list table = storedStream (applyEach (applyNode (waysOf mode) clock) xs (decode table)) list
 
 -- a delta without a fault
 abbrev pub Accepted : (delta : Bytes) → Type 0

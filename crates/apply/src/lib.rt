@@ -5,6 +5,7 @@ use rules::Applied;
 use rules::DeltaRead;
 use rules::DeltaStatus;
 use rules::Header;
+use rules::Mode;
 use rules::NodeAnswer;
 use rules::Refusal;
 use rules::wire;
@@ -18,11 +19,12 @@ ghost use Rattle.rules.specs.Answers.{appliedTold};
 ghost use Rattle.rules.specs.Given.{Gives, Tells};
 ghost use Rattle.rules.specs.Layout.{encodeNode, decode, decodeNode, valid};
 ghost use Rattle.rules.specs.Lent.{stored, both, lentApply};
+ghost use Rattle.rules.specs.Whole.{wholeWidth, decodeWhole};
 ghost use Rattle.table.specs.Fits.{LaidNode};
 ghost use Rattle.delta_op.specs.Plain.{recsFrom};
 ghost use Rattle.delta_read.specs.NodeDeltas.{partsFrom, deltaOf, behindNode, nodeDeltaAt};
 ghost use Rattle.apply_node.specs.Taking.{Rising};
-ghost use Rattle.apply.specs.Applying.{emptied, begun, grown, Grown, Stored, rejects, resets, answerAs};
+ghost use Rattle.apply.specs.Applying.{emptied, begun, grown, Grown, Stored, leaves, resets, answerAs};
 ghost use Rattle.apply.specs.Applying.{nodeApplied, partApplied, partsApplied, Accepted, HeadsFound};
 
 // ---- one node
@@ -118,12 +120,13 @@ fn grow_in_place(
     grow_or_keep(node, delta, at, afresh, last_gc, max, clock)
 }
 
-// Whether the status is Reject.
-fn is_reject(status: DeltaStatus) -> bool
-    ensures { λ r. ⌜ r ≡ rejects status ⌝ }
+// Whether the node stays as it is.
+fn is_left(status: DeltaStatus) -> bool
+    ensures { λ r. ⌜ r ≡ leaves status ⌝ }
 {
     match status {
         DeltaStatus::Reject => true,
+        DeltaStatus::Fenced => true,
         DeltaStatus::Apply => false,
         DeltaStatus::ApplyAfterReset => false,
     }
@@ -135,6 +138,7 @@ fn is_reset(status: DeltaStatus) -> bool
 {
     match status {
         DeltaStatus::Reject => false,
+        DeltaStatus::Fenced => false,
         DeltaStatus::Apply => false,
         DeltaStatus::ApplyAfterReset => true,
     }
@@ -146,6 +150,7 @@ fn answer_as(status: DeltaStatus, room: bool) -> NodeAnswer
 {
     match status {
         DeltaStatus::Reject => NodeAnswer::Reject,
+        DeltaStatus::Fenced => NodeAnswer::Fenced,
         DeltaStatus::Apply => {
             if room {
                 return NodeAnswer::Apply;
@@ -161,9 +166,10 @@ fn answer_as(status: DeltaStatus, room: bool) -> NodeAnswer
     }
 }
 
-// Applies the node delta with these numbers, whose records begin at `at` and are no more than `count`, to a node.
+// Applies the node delta with these numbers, whose records begin at `at` and are no more than `count`, to a node of a table in this mode.
 fn apply_node(
     node: &mut [u8],
+    mode: Mode,
     delta: &[u8],
     at: usize,
     count: usize,
@@ -173,12 +179,12 @@ fn apply_node(
     clock: u64,
 ) -> NodeAnswer
     requires { ⌜ Rising (now node) × (at ≤ length (now delta)) × (length (recsFrom (now delta) at) ≤ count) ⌝ }
-    ensures { λ r. ⌜ Gives (nodeApplied clock (deltaOf (now (delta .entry)) «last_gc» from max at) (now (node .entry))) r (now (node .exit)) ⌝ }
+    ensures { λ r. ⌜ Gives (nodeApplied mode clock (deltaOf (now (delta .entry)) «last_gc» from max at) (now (node .entry))) r (now (node .exit)) ⌝ }
 {
     let own = table_read::read_header(node);
-    let status = rules::check_delta_status(own.last_gc, own.max, from, last_gc, max);
-    if is_reject(status) {
-        return NodeAnswer::Reject;
+    let status = rules::check_delta_status(mode, own.last_gc, own.max, from, last_gc, max);
+    if is_left(status) {
+        return answer_as(status, true);
     }
     let room = grow_in_place(
         node,
@@ -198,6 +204,7 @@ fn apply_node(
 // Applies the node delta whose Node stands at `at` to the node with its number, or answers Unknown.
 fn apply_part(
     table: &mut [u8],
+    mode: Mode,
     delta: &[u8],
     at: usize,
     count: usize,
@@ -206,7 +213,7 @@ fn apply_part(
 ) -> NodeAnswer
     requires { ⌜ (valid (now table) ≡ true)
         × (behindNode at ≤ length (now delta)) × (length (recsFrom (now delta) (behindNode at)) ≤ count) ⌝ }
-    ensures { λ r. ⌜ Gives (stored (partApplied clock (nodeDeltaAt (now (delta .entry)) at max) (decode (now (table .entry)))))
+    ensures { λ r. ⌜ Gives (stored (partApplied mode clock (nodeDeltaAt (now (delta .entry)) at max) (decode (now (table .entry)))))
         r (now (table .exit)) ⌝ }
 {
     let number = fields::read_u64(delta, at + wire::NODE_NUMBER);
@@ -215,6 +222,7 @@ fn apply_part(
     match table_read::node_span(table, number) {
         Span::Held { start, end } => apply_node(
             &mut table[start..end],
+            mode,
             delta,
             at + wire::NODE_WIDTH,
             count,
@@ -230,6 +238,7 @@ fn apply_part(
 // Applies the node deltas that were found in an accepted delta to a good table, one answer for each.
 fn apply_each(
     table: &mut [u8],
+    mode: Mode,
     delta: &[u8],
     heads: Heads,
     nodes: usize,
@@ -238,31 +247,39 @@ fn apply_each(
 )
     requires { ⌜ (valid (now table) ≡ true) × Accepted (now delta) × HeadsFound (now delta) nodes heads × (nodes ≤ length (now answers)) ⌝ }
     ensures { λ _. ⌜ both (now (table .exit)) (now (answers .exit))
-        ≡ partsApplied clock (partsFrom (now (delta .entry)) 0) (now (answers .entry)) (now (table .entry)) ⌝ }
+        ≡ partsApplied mode clock (partsFrom (now (delta .entry)) 0) (now (answers .entry)) (now (table .entry)) ⌝ }
 {
     let places = heads.at;
     let counts = heads.count;
     let maxes = heads.max;
     let mut i = 0;
     while i < nodes {
-        let answer = apply_part(table, delta, places[i], counts[i], maxes[i], clock);
+        let answer = apply_part(table, mode, delta, places[i], counts[i], maxes[i], clock);
         answers[i] = answer.code();
         i += 1;
     }
 }
 
-// Applies an accepted delta to a good table, one answer for each node delta.
-pub fn apply_good(table: &mut [u8], delta: &[u8], clock: u64, answers: &mut [u8])
+// Applies an accepted delta to a good table in this mode, one answer for each node delta.
+pub fn apply_good(table: &mut [u8], mode: Mode, delta: &[u8], clock: u64, answers: &mut [u8])
     requires { ⌜ (valid (now table) ≡ true) × Accepted (now delta) × (length (partsFrom (now delta) 0) ≤ length (now answers)) ⌝ }
     ensures { λ _. ⌜ both (now (table .exit)) (now (answers .exit))
-        ≡ partsApplied clock (partsFrom (now (delta .entry)) 0) (now (answers .entry)) (now (table .entry)) ⌝ }
+        ≡ partsApplied mode clock (partsFrom (now (delta .entry)) 0) (now (answers .entry)) (now (table .entry)) ⌝ }
 {
     let heads = delta_read::read_heads(delta);
     let read = heads.read;
     let DeltaRead::Good { ops: _, nodes } = read else {
         return;
     };
-    apply_each(table, delta, heads, nodes, clock, answers);
+    apply_each(table, mode, delta, heads, nodes, clock, answers);
+}
+
+// The mode that stands in a table's bytes.
+fn mode_of(table: &[u8]) -> Mode
+    requires { ⌜ length (now table) ≡ wholeWidth ⌝ }
+    ensures { λ r. ⌜ r ≡ decodeWhole (now (table .entry)) .mode ⌝ }
+{
+    Mode::of_byte(fields::byte_at(table, layout::AREA + layout::MODE))
 }
 
 // Applies the bytes of a delta to a lent table at the receiver's clock, and gives one answer for each node delta. It takes any bytes, and refuses in
@@ -283,7 +300,16 @@ pub fn apply(table: &mut [u8], delta: &[u8], clock: u64, answers: &mut [u8]) -> 
                         at: 0,
                     };
                 }
-                apply_each(table, delta, heads, nodes, clock, answers);
+                let mode = mode_of(table);
+                apply_each(
+                    &mut table[..layout::AREA],
+                    mode,
+                    delta,
+                    heads,
+                    nodes,
+                    clock,
+                    answers,
+                );
                 Applied::Nodes(nodes)
             }
         }

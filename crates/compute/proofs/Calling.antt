@@ -22,7 +22,7 @@ use Rattle.rules.specs.Digest.{NodeDigest, DigestRead, Entries, Refused, readDi
 use Rattle.rules.specs.Delta.{Op, deltaBytes}
 use Rattle.rules.specs.Compute.{deltaFor, written, onDigest, compute}
 use Rattle.rules.specs.declared.Refusal.{Refusal}
-use Rattle.rules.specs.Layout.{decode, valid}
+use Rattle.rules.specs.Whole.{decodeWhole, validWhole}
 use Rattle.rules.specs.Lent.{fromTable, lentCompute}
 use Rattle.rules.proofs.Accepted.{cut-bytes}
 use Rattle.rules.specs.declared.Refusal.the-variants.{BadMtu, NoPlace, BadTies, BadTable}
@@ -120,15 +120,15 @@ module _ (excluded ties : List ℕ) (mtu place : ℕ) (digest : Bytes) (t : Tabl
 
 -- ---- 14
 
-pub bad-table : (excluded ties : List ℕ) (mtu place : ℕ) (digest l datagram : Bytes) → valid l ≡ false
+pub bad-table : (excluded ties : List ℕ) (mtu place : ℕ) (digest l datagram : Bytes) → validWhole l ≡ false
     → Gives (lentCompute excluded ties mtu place digest datagram l) (computed.Refused BadTable) datagram
 unfolding fromTable
-bad-table excluded ties mtu place digest l datagram e = gives _ _ _ (sym (pick-false (valid l) _ _ e))
+bad-table excluded ties mtu place digest l datagram e = gives _ _ _ (sym (pick-false (validWhole l) _ _ e))
 
-pub good-table : (excluded ties : List ℕ) (mtu place : ℕ) (digest l datagram : Bytes) → valid l ≡ true
-    → compute excluded ties mtu place digest (decode l) datagram ≡ lentCompute excluded ties mtu place digest datagram l
+pub good-table : (excluded ties : List ℕ) (mtu place : ℕ) (digest l datagram : Bytes) → validWhole l ≡ true
+    → compute excluded ties mtu place digest (decodeWhole l .table) datagram ≡ lentCompute excluded ties mtu place digest datagram l
 unfolding fromTable
-good-table excluded ties mtu place digest l datagram e = sym (pick-true (valid l) _ _ e)
+good-table excluded ties mtu place digest l datagram e = sym (pick-true (validWhole l) _ _ e)
 
 -- ---- the numbers
 

@@ -207,7 +207,15 @@ pub fn compute(
         (now (datagram .entry)) (now (table .entry))) r (now (datagram .exit)) ⌝ }
 {
     if table_check::check_table(table) {
-        return compute_good(table, digest, mtu, excluded, ties, datagram, place);
+        return compute_good(
+            &table[..layout::AREA],
+            digest,
+            mtu,
+            excluded,
+            ties,
+            datagram,
+            place,
+        );
     }
     Computed::Refused(Refusal::BadTable)
 }

@@ -16,13 +16,15 @@ use Rattle.fields.specs.Widths.{joined}
 use Rattle.fields.proofs.Choice.{all-from}
 use Rattle.rules.specs.Sizes.{numbers, top}
 use Rattle.rules.specs.Answers.{Told, answerTold, appliedTold, computedTold, listedTold, offeredTold, readTold, writtenTold}
-use Rattle.rules.specs.Apply.{apply, plainWays}
+use Rattle.rules.specs.Apply.{apply, plainWays, waysOf}
 use Rattle.rules.specs.Compute as computing
 use Rattle.rules.specs.Delta.{NodeOp, Op, deltaBytes, deltaRead, follow, opBytes, partsOf, readDelta, readKeyValue, readNode, readOp, readOps, readSetMaxVersion}
 use Rattle.rules.specs.Digest.{digestBytes, digestOf, readDigest, readEntries, tellAll, writeDigest}
 use Rattle.rules.specs.Given.{Given, given}
-use Rattle.rules.specs.Layout.{decode, encode, tableWidth, valid}
-use Rattle.rules.specs.Lent.{TableAndList, both, fromTable, lentApply, lentApplyAs, lentNew, onTable, stored, storedApply}
+use Rattle.rules.specs.Layout.{decode, encode}
+use Rattle.rules.specs.Whole.{Whole, decodeWhole, encodeWhole, validWhole, wholeWidth}
+use Rattle.rules.specs.declared.Mode.the-variants as mode
+use Rattle.rules.specs.Lent.{TableAndList, both, fromTable, lentApply, lentApplyAs, lentNew, onTable, storedIn, storedApply}
 use Rattle.rules.specs.Listing.{decimal, digits, listing, listingOf}
 use Rattle.rules.specs.Local.{Outcome, add, call, gc, localBeat, offer, prefixed, removeNode}
 use Rattle.rules.specs.Node.{Deleting, DeletingAfterTtl, Node, Rec, Setting, SettingTtl, act, beats, decide, find, fresh, hitsFrom, offerOf, wish}
@@ -40,7 +42,7 @@ use Rattle.rules.specs.declared.Status.the-variants as status
 use Rattle.rules.specs.declared.Written.{Written}
 use Rattle.rules.specs.declared.Written.the-variants as written
 use Rattle.rules.proofs.Calls.{none-obeys}
-use Rattle.table.proofs.Tables.{decode-encode, valid-encode, valid-long}
+use Rattle.table.proofs.Wholes.{decode-encode-whole, length-whole, valid-encode-whole}
 use Rattle.nodes.specs.New.{lentMade}
 use Rattle.lookup.specs.Lookup.{findRec, foundIn}
 use Rattle.lookup.specs.Told.{foundTold}
@@ -61,6 +63,7 @@ use Rattle.exchange.specs.declared.Exchanged.{Exchanged}
 use Rattle.exchange.specs.declared.Step.the-variants.{Delta, Digest}
 use Rattle.exchange.specs.declared.Ready.{Ready}
 use Rattle.exchange.specs.declared.Ready.the-variants as ready
+use Rattle.exchange.specs.LentWorld.{inMode}
 use Rattle.exchange.proofs.LentWorld.{apply-encoded, from-encoded, on-encoded}
 use Rattle.exchange.proofs.Refusing.{is-ready, ready-done}
 use Rattle.demand1.specs.Calls as calls
@@ -154,55 +157,59 @@ crowded-obeys : obeys crowded ≡ true
 unfolding obeys rising numbersOf all entryObeys nodeObeys recObeys differ keysRise versions among nodes
 crowded-obeys = refl
 
+-- a table's bytes in the plain mode
+abbrev lent : (table : Table) → Bytes
+lent t = inMode mode.Plain t
+
 -- no bytes are no table
-none-valid : valid [] ≡ false
-unfolding valid obeys decode part rising numbersOf all encode joined natOf bytesOf sameBytes unblock
+none-valid : validWhole [] ≡ false
+unfolding validWhole obeys decode part rising numbersOf all encodeWhole encode joined natOf bytesOf sameBytes unblock
 none-valid = refl
 
 -- ---- a call on a table that obeys, and on no table
 
 on-good : {A : Type 0} (told : A → Told) (bad : A) (rule : Table → Outcome A) (t : Table) → obeys t ≡ true → (n : ℕ) → told (rule t .answer) .number ≡ n
-    → told (onTable bad rule (encode t) .answer) .number ≡ n
-on-good {A} told bad rule t o n e = ap (λ (x : Given A Bytes). told (x .answer) .number) (on-encoded t o bad rule) ∙ e
+    → told (onTable bad rule (lent t) .answer) .number ≡ n
+on-good {A} told bad rule t o n e = ap (λ (x : Given A Bytes). told (x .answer) .number) (on-encoded mode.Plain t o bad rule) ∙ e
 
 on-bad : {A : Type 0} (told : A → Told) (bad : A) (rule : Table → Outcome A) (n : ℕ) → told bad .number ≡ n → told (onTable bad rule [] .answer) .number ≡ n
 unfolding onTable
-on-bad told bad rule n e = ap (λ (b : Bool). told (pick b (stored (rule (decode []))) (given bad []) .answer) .number) none-valid ∙ e
+on-bad told bad rule n e = ap (λ (b : Bool). told (pick b (storedIn (decodeWhole []) (rule (decodeWhole [] .table))) (given bad []) .answer) .number) none-valid ∙ e
 
 from-good : {A : Type 0} (number : A → ℕ) (bad : A) (rule : Table → A) (t : Table) → obeys t ≡ true → (n : ℕ) → number (rule t) ≡ n
-    → number (fromTable bad rule (encode t)) ≡ n
-from-good number bad rule t o n e = ap number (from-encoded t o bad rule) ∙ e
+    → number (fromTable bad rule (lent t)) ≡ n
+from-good number bad rule t o n e = ap number (from-encoded mode.Plain t o bad rule) ∙ e
 
 from-bad : {A : Type 0} (number : A → ℕ) (bad : A) (rule : Table → A) (n : ℕ) → number bad ≡ n → number (fromTable bad rule []) ≡ n
 unfolding fromTable
-from-bad number bad rule n e = ap (λ (b : Bool). number (pick b (rule (decode [])) bad)) none-valid ∙ e
+from-bad number bad rule n e = ap (λ (b : Bool). number (pick b (rule (decodeWhole [] .table)) bad)) none-valid ∙ e
 
 -- ---- nodes
 
 new-tables : AllShown calls.NewTable (calls.possible calls.NewTable)
 unfolding calls.leaves calls.refusals lentMade answerTold
 new-tables = (
-  calls.new-table (encode []),
-  ap (λ (b : Bool). answerTold (pick b (given plain.Done lentNew) (given (plain.Refused BadTable) (encode [])) .answer) .number)
-      (eq-eqb (length (encode [])) tableWidth (valid-long (encode []) (valid-encode [] none-obeys))),
+  calls.new-table (lent []) mode.Plain,
+  ap (λ (b : Bool). answerTold (pick b (given plain.Done (lentNew mode.Plain)) (given (plain.Refused BadTable) (lent [])) .answer) .number)
+      (eq-eqb (length (lent [])) wholeWidth (length-whole (record { mode = mode.Plain; table = [] }))),
 )
-    and (calls.new-table [], refl)
+    and (calls.new-table [] mode.Plain, refl)
     and no-more
 
 added : AllShown calls.AddNode (calls.possible calls.AddNode)
 unfolding calls.leaves calls.refusals answerTold add among numbersOf nodes
 added =
-    (calls.add-node (encode []) seven, on-good answerTold (plain.Refused BadTable) (add 7) [] none-obeys 0 refl)
+    (calls.add-node (lent []) seven, on-good answerTold (plain.Refused BadTable) (add 7) [] none-obeys 0 refl)
     and (calls.add-node [] seven, on-bad answerTold (plain.Refused BadTable) (add 7) 14 refl)
-    and (calls.add-node (encode crowded) nine, on-good answerTold (plain.Refused BadTable) (add 9) crowded crowded-obeys 4 refl)
+    and (calls.add-node (lent crowded) nine, on-good answerTold (plain.Refused BadTable) (add 9) crowded crowded-obeys 4 refl)
     and no-more
 
 removed : AllShown calls.RemoveNode (calls.possible calls.RemoveNode)
 unfolding calls.leaves calls.refusals answerTold removeNode among numbersOf
 removed =
-    (calls.remove-node (encode newly) seven, on-good answerTold (plain.Refused BadTable) (removeNode 7) newly newly-obeys 0 refl)
+    (calls.remove-node (lent newly) seven, on-good answerTold (plain.Refused BadTable) (removeNode 7) newly newly-obeys 0 refl)
     and (calls.remove-node [] seven, on-bad answerTold (plain.Refused BadTable) (removeNode 7) 14 refl)
-    and (calls.remove-node (encode []) seven, on-good answerTold (plain.Refused BadTable) (removeNode 7) [] none-obeys 2 refl)
+    and (calls.remove-node (lent []) seven, on-good answerTold (plain.Refused BadTable) (removeNode 7) [] none-obeys 2 refl)
     and no-more
 
 -- ---- records
@@ -210,51 +217,51 @@ removed =
 sets : AllShown calls.Set (calls.possible calls.Set)
 unfolding calls.leaves calls.refusals answerTold call nodeOf setNode decide wish act find sameBytes zeros records
 sets =
-    (calls.set (encode newly) [] [] seven, on-good answerTold (plain.Refused BadTable) (call (Setting []) 7 []) newly newly-obeys 0 refl)
+    (calls.set (lent newly) [] [] seven, on-good answerTold (plain.Refused BadTable) (call (Setting []) 7 []) newly newly-obeys 0 refl)
     and (calls.set [] [] [] seven, on-bad answerTold (plain.Refused BadTable) (call (Setting []) 7 []) 14 refl)
-    and (calls.set (encode []) [] [] seven, on-good answerTold (plain.Refused BadTable) (call (Setting []) 7 []) [] none-obeys 2 refl)
-    and (calls.set (encode newly) (zeros 33) [] seven, on-good answerTold (plain.Refused BadTable) (call (Setting []) 7 (zeros 33)) newly newly-obeys 1 refl)
-    and (calls.set (encode packed) [] [] seven, on-good answerTold (plain.Refused BadTable) (call (Setting []) 7 []) packed packed-obeys 5 refl)
-    and (calls.set (encode ended) [] [] seven, on-good answerTold (plain.Refused BadTable) (call (Setting []) 7 []) ended ended-obeys 6 refl)
+    and (calls.set (lent []) [] [] seven, on-good answerTold (plain.Refused BadTable) (call (Setting []) 7 []) [] none-obeys 2 refl)
+    and (calls.set (lent newly) (zeros 33) [] seven, on-good answerTold (plain.Refused BadTable) (call (Setting []) 7 (zeros 33)) newly newly-obeys 1 refl)
+    and (calls.set (lent packed) [] [] seven, on-good answerTold (plain.Refused BadTable) (call (Setting []) 7 []) packed packed-obeys 5 refl)
+    and (calls.set (lent ended) [] [] seven, on-good answerTold (plain.Refused BadTable) (call (Setting []) 7 []) ended ended-obeys 6 refl)
     and no-more
 
 sets-ttl : AllShown calls.SetWithTtl (calls.possible calls.SetWithTtl)
 unfolding calls.leaves calls.refusals answerTold call nodeOf setNode decide wish act find sameBytes zeros records
 sets-ttl =
-    (calls.set-with-ttl (encode newly) [] [] seven seven, on-good answerTold (plain.Refused BadTable) (call (SettingTtl [] 7) 7 []) newly newly-obeys 0 refl)
+    (calls.set-with-ttl (lent newly) [] [] seven seven, on-good answerTold (plain.Refused BadTable) (call (SettingTtl [] 7) 7 []) newly newly-obeys 0 refl)
     and (calls.set-with-ttl [] [] [] seven seven, on-bad answerTold (plain.Refused BadTable) (call (SettingTtl [] 7) 7 []) 14 refl)
-    and (calls.set-with-ttl (encode []) [] [] seven seven, on-good answerTold (plain.Refused BadTable) (call (SettingTtl [] 7) 7 []) [] none-obeys 2 refl)
-    and (calls.set-with-ttl (encode newly) (zeros 33) [] seven seven, on-good answerTold (plain.Refused BadTable) (call (SettingTtl [] 7) 7 (zeros 33)) newly newly-obeys 1 refl)
-    and (calls.set-with-ttl (encode packed) [] [] seven seven, on-good answerTold (plain.Refused BadTable) (call (SettingTtl [] 7) 7 []) packed packed-obeys 5 refl)
-    and (calls.set-with-ttl (encode ended) [] [] seven seven, on-good answerTold (plain.Refused BadTable) (call (SettingTtl [] 7) 7 []) ended ended-obeys 6 refl)
+    and (calls.set-with-ttl (lent []) [] [] seven seven, on-good answerTold (plain.Refused BadTable) (call (SettingTtl [] 7) 7 []) [] none-obeys 2 refl)
+    and (calls.set-with-ttl (lent newly) (zeros 33) [] seven seven, on-good answerTold (plain.Refused BadTable) (call (SettingTtl [] 7) 7 (zeros 33)) newly newly-obeys 1 refl)
+    and (calls.set-with-ttl (lent packed) [] [] seven seven, on-good answerTold (plain.Refused BadTable) (call (SettingTtl [] 7) 7 []) packed packed-obeys 5 refl)
+    and (calls.set-with-ttl (lent ended) [] [] seven seven, on-good answerTold (plain.Refused BadTable) (call (SettingTtl [] 7) 7 []) ended ended-obeys 6 refl)
     and no-more
 
 deletes : AllShown calls.Delete (calls.possible calls.Delete)
 unfolding calls.leaves calls.refusals answerTold call nodeOf setNode decide wish act find sameBytes zeros records
 deletes =
-    (calls.delete (encode usual) (1 ∷ []) seven seven, on-good answerTold (plain.Refused BadTable) (call (Deleting 7) 7 (1 ∷ [])) usual usual-obeys 0 refl)
+    (calls.delete (lent usual) (1 ∷ []) seven seven, on-good answerTold (plain.Refused BadTable) (call (Deleting 7) 7 (1 ∷ [])) usual usual-obeys 0 refl)
     and (calls.delete [] [] seven seven, on-bad answerTold (plain.Refused BadTable) (call (Deleting 7) 7 []) 14 refl)
-    and (calls.delete (encode []) [] seven seven, on-good answerTold (plain.Refused BadTable) (call (Deleting 7) 7 []) [] none-obeys 2 refl)
-    and (calls.delete (encode newly) (zeros 33) seven seven, on-good answerTold (plain.Refused BadTable) (call (Deleting 7) 7 (zeros 33)) newly newly-obeys 1 refl)
-    and (calls.delete (encode newly) [] seven seven, on-good answerTold (plain.Refused BadTable) (call (Deleting 7) 7 []) newly newly-obeys 3 refl)
-    and (calls.delete (encode ended) (1 ∷ []) seven seven, on-good answerTold (plain.Refused BadTable) (call (Deleting 7) 7 (1 ∷ [])) ended ended-obeys 6 refl)
+    and (calls.delete (lent []) [] seven seven, on-good answerTold (plain.Refused BadTable) (call (Deleting 7) 7 []) [] none-obeys 2 refl)
+    and (calls.delete (lent newly) (zeros 33) seven seven, on-good answerTold (plain.Refused BadTable) (call (Deleting 7) 7 (zeros 33)) newly newly-obeys 1 refl)
+    and (calls.delete (lent newly) [] seven seven, on-good answerTold (plain.Refused BadTable) (call (Deleting 7) 7 []) newly newly-obeys 3 refl)
+    and (calls.delete (lent ended) (1 ∷ []) seven seven, on-good answerTold (plain.Refused BadTable) (call (Deleting 7) 7 (1 ∷ [])) ended ended-obeys 6 refl)
     and no-more
 
 deletes-ttl : AllShown calls.DeleteAfterTtl (calls.possible calls.DeleteAfterTtl)
 unfolding calls.leaves calls.refusals answerTold call nodeOf setNode decide wish act find sameBytes zeros records
 deletes-ttl =
-    (calls.delete-after-ttl (encode usual) (1 ∷ []) seven seven, on-good answerTold (plain.Refused BadTable) (call (DeletingAfterTtl 7) 7 (1 ∷ [])) usual usual-obeys 0 refl)
+    (calls.delete-after-ttl (lent usual) (1 ∷ []) seven seven, on-good answerTold (plain.Refused BadTable) (call (DeletingAfterTtl 7) 7 (1 ∷ [])) usual usual-obeys 0 refl)
     and (calls.delete-after-ttl [] [] seven seven, on-bad answerTold (plain.Refused BadTable) (call (DeletingAfterTtl 7) 7 []) 14 refl)
-    and (calls.delete-after-ttl (encode []) [] seven seven, on-good answerTold (plain.Refused BadTable) (call (DeletingAfterTtl 7) 7 []) [] none-obeys 2 refl)
-    and (calls.delete-after-ttl (encode newly) (zeros 33) seven seven, on-good answerTold (plain.Refused BadTable) (call (DeletingAfterTtl 7) 7 (zeros 33)) newly newly-obeys 1 refl)
-    and (calls.delete-after-ttl (encode newly) [] seven seven, on-good answerTold (plain.Refused BadTable) (call (DeletingAfterTtl 7) 7 []) newly newly-obeys 3 refl)
-    and (calls.delete-after-ttl (encode ended) (1 ∷ []) seven seven, on-good answerTold (plain.Refused BadTable) (call (DeletingAfterTtl 7) 7 (1 ∷ [])) ended ended-obeys 6 refl)
+    and (calls.delete-after-ttl (lent []) [] seven seven, on-good answerTold (plain.Refused BadTable) (call (DeletingAfterTtl 7) 7 []) [] none-obeys 2 refl)
+    and (calls.delete-after-ttl (lent newly) (zeros 33) seven seven, on-good answerTold (plain.Refused BadTable) (call (DeletingAfterTtl 7) 7 (zeros 33)) newly newly-obeys 1 refl)
+    and (calls.delete-after-ttl (lent newly) [] seven seven, on-good answerTold (plain.Refused BadTable) (call (DeletingAfterTtl 7) 7 []) newly newly-obeys 3 refl)
+    and (calls.delete-after-ttl (lent ended) (1 ∷ []) seven seven, on-good answerTold (plain.Refused BadTable) (call (DeletingAfterTtl 7) 7 (1 ∷ [])) ended ended-obeys 6 refl)
     and no-more
 
 collected : AllShown calls.RemoveScheduled (calls.possible calls.RemoveScheduled)
 unfolding calls.leaves calls.refusals answerTold gc
 collected =
-    (calls.remove-scheduled (encode []) seven seven, on-good answerTold (plain.Refused BadTable) (gc 7 7) [] none-obeys 0 refl)
+    (calls.remove-scheduled (lent []) seven seven, on-good answerTold (plain.Refused BadTable) (gc 7 7) [] none-obeys 0 refl)
     and (calls.remove-scheduled [] seven seven, on-bad answerTold (plain.Refused BadTable) (gc 7 7) 14 refl)
     and no-more
 
@@ -263,18 +270,18 @@ collected =
 offers : AllShown calls.OfferHeartbeat (calls.possible calls.OfferHeartbeat)
 unfolding calls.leaves calls.refusals offeredTold offer nodeOf setNode offerOf
 offers =
-    (calls.offer-heartbeat (encode newly) seven seven, on-good offeredTold (offered.Refused BadTable) (offer 7 (beats 7)) newly newly-obeys 0 refl)
+    (calls.offer-heartbeat (lent newly) seven seven, on-good offeredTold (offered.Refused BadTable) (offer 7 (beats 7)) newly newly-obeys 0 refl)
     and (calls.offer-heartbeat [] seven seven, on-bad offeredTold (offered.Refused BadTable) (offer 7 (beats 7)) 14 refl)
-    and (calls.offer-heartbeat (encode []) seven seven, on-good offeredTold (offered.Refused BadTable) (offer 7 (beats 7)) [] none-obeys 2 refl)
+    and (calls.offer-heartbeat (lent []) seven seven, on-good offeredTold (offered.Refused BadTable) (offer 7 (beats 7)) [] none-obeys 2 refl)
     and no-more
 
 beaten : AllShown calls.LocalBeat (calls.possible calls.LocalBeat)
 unfolding calls.leaves calls.refusals answerTold localBeat nodeOf setNode
 beaten =
-    (calls.local-beat (encode newly) seven, on-good answerTold (plain.Refused BadTable) (localBeat 7) newly newly-obeys 0 refl)
+    (calls.local-beat (lent newly) seven, on-good answerTold (plain.Refused BadTable) (localBeat 7) newly newly-obeys 0 refl)
     and (calls.local-beat [] seven, on-bad answerTold (plain.Refused BadTable) (localBeat 7) 14 refl)
-    and (calls.local-beat (encode []) seven, on-good answerTold (plain.Refused BadTable) (localBeat 7) [] none-obeys 2 refl)
-    and (calls.local-beat (encode ended) seven, on-good answerTold (plain.Refused BadTable) (localBeat 7) ended ended-obeys 6 refl)
+    and (calls.local-beat (lent []) seven, on-good answerTold (plain.Refused BadTable) (localBeat 7) [] none-obeys 2 refl)
+    and (calls.local-beat (lent ended) seven, on-good answerTold (plain.Refused BadTable) (localBeat 7) ended ended-obeys 6 refl)
     and no-more
 
 -- ---- readings
@@ -282,78 +289,78 @@ beaten =
 finds : AllShown calls.Find (calls.possible calls.Find)
 unfolding calls.leaves calls.refusals foundTold nodeOf findRec zeros
 finds =
-    (calls.find (encode newly) [] seven, from-good (λ a. foundTold a .number) (found.Refused BadTable) (foundIn 7 []) newly newly-obeys 0 refl)
+    (calls.find (lent newly) [] seven, from-good (λ a. foundTold a .number) (found.Refused BadTable) (foundIn 7 []) newly newly-obeys 0 refl)
     and (calls.find [] [] seven, from-bad (λ a. foundTold a .number) (found.Refused BadTable) (foundIn 7 []) 14 refl)
-    and (calls.find (encode []) [] seven, from-good (λ a. foundTold a .number) (found.Refused BadTable) (foundIn 7 []) [] none-obeys 2 refl)
-    and (calls.find (encode newly) (zeros 33) seven, from-good (λ a. foundTold a .number) (found.Refused BadTable) (foundIn 7 (zeros 33)) newly newly-obeys 1 refl)
+    and (calls.find (lent []) [] seven, from-good (λ a. foundTold a .number) (found.Refused BadTable) (foundIn 7 []) [] none-obeys 2 refl)
+    and (calls.find (lent newly) (zeros 33) seven, from-good (λ a. foundTold a .number) (found.Refused BadTable) (foundIn 7 (zeros 33)) newly newly-obeys 1 refl)
     and no-more
 
 lists : AllShown calls.ListPrefix (calls.possible calls.ListPrefix)
 unfolding calls.leaves calls.refusals listedTold prefixed nodeOf hitsFrom startsWith zeros
 lists =
-    (calls.list-prefix (encode newly) [] [] seven, from-good (λ (a : Given Listed Bytes). listedTold (a .answer) .number) (given (listed.Refused BadTable) []) (λ t. prefixed 7 [] t []) newly newly-obeys 0 refl)
+    (calls.list-prefix (lent newly) [] [] seven, from-good (λ (a : Given Listed Bytes). listedTold (a .answer) .number) (given (listed.Refused BadTable) []) (λ t. prefixed 7 [] t []) newly newly-obeys 0 refl)
     and (calls.list-prefix [] [] [] seven, from-bad (λ (a : Given Listed Bytes). listedTold (a .answer) .number) (given (listed.Refused BadTable) []) (λ t. prefixed 7 [] t []) 14 refl)
-    and (calls.list-prefix (encode []) [] [] seven, from-good (λ (a : Given Listed Bytes). listedTold (a .answer) .number) (given (listed.Refused BadTable) []) (λ t. prefixed 7 [] t []) [] none-obeys 2 refl)
-    and (calls.list-prefix (encode newly) (zeros 33) [] seven, from-good (λ (a : Given Listed Bytes). listedTold (a .answer) .number) (given (listed.Refused BadTable) []) (λ t. prefixed 7 (zeros 33) t []) newly newly-obeys 1 refl)
-    and (calls.list-prefix (encode usual) [] [] seven, from-good (λ (a : Given Listed Bytes). listedTold (a .answer) .number) (given (listed.Refused BadTable) []) (λ t. prefixed 7 [] t []) usual usual-obeys 8 refl)
+    and (calls.list-prefix (lent []) [] [] seven, from-good (λ (a : Given Listed Bytes). listedTold (a .answer) .number) (given (listed.Refused BadTable) []) (λ t. prefixed 7 [] t []) [] none-obeys 2 refl)
+    and (calls.list-prefix (lent newly) (zeros 33) [] seven, from-good (λ (a : Given Listed Bytes). listedTold (a .answer) .number) (given (listed.Refused BadTable) []) (λ t. prefixed 7 (zeros 33) t []) newly newly-obeys 1 refl)
+    and (calls.list-prefix (lent usual) [] [] seven, from-good (λ (a : Given Listed Bytes). listedTold (a .answer) .number) (given (listed.Refused BadTable) []) (λ t. prefixed 7 [] t []) usual usual-obeys 8 refl)
     and no-more
 
 counts : AllShown calls.NodeCount (calls.possible calls.NodeCount)
 unfolding calls.leaves calls.refusals countTold
 counts =
-    (calls.node-count (encode []), from-good (λ a. countTold a .number) (count.Refused BadTable) nodeCount [] none-obeys 0 refl)
+    (calls.node-count (lent []), from-good (λ a. countTold a .number) (count.Refused BadTable) nodeCount [] none-obeys 0 refl)
     and (calls.node-count [], from-bad (λ a. countTold a .number) (count.Refused BadTable) nodeCount 14 refl)
     and no-more
 
 numbered : AllShown calls.NodeNumber (calls.possible calls.NodeNumber)
 unfolding calls.leaves calls.refusals nodeNumberTold elementAt
 numbered =
-    (calls.node-number (encode newly) 0, from-good (λ a. nodeNumberTold a .number) (number.Refused BadTable) (nodeNumber 0) newly newly-obeys 0 refl)
+    (calls.node-number (lent newly) 0, from-good (λ a. nodeNumberTold a .number) (number.Refused BadTable) (nodeNumber 0) newly newly-obeys 0 refl)
     and (calls.node-number [] 0, from-bad (λ a. nodeNumberTold a .number) (number.Refused BadTable) (nodeNumber 0) 14 refl)
-    and (calls.node-number (encode []) 0, from-good (λ a. nodeNumberTold a .number) (number.Refused BadTable) (nodeNumber 0) [] none-obeys 8 refl)
+    and (calls.node-number (lent []) 0, from-good (λ a. nodeNumberTold a .number) (number.Refused BadTable) (nodeNumber 0) [] none-obeys 8 refl)
     and no-more
 
 headed : AllShown calls.NodeHeader (calls.possible calls.NodeHeader)
 unfolding calls.leaves calls.refusals nodeHeaderTold nodeOf
 headed =
-    (calls.node-header (encode newly) seven, from-good (λ a. nodeHeaderTold a .number) (header.Refused BadTable) (nodeHeader 7) newly newly-obeys 0 refl)
+    (calls.node-header (lent newly) seven, from-good (λ a. nodeHeaderTold a .number) (header.Refused BadTable) (nodeHeader 7) newly newly-obeys 0 refl)
     and (calls.node-header [] seven, from-bad (λ a. nodeHeaderTold a .number) (header.Refused BadTable) (nodeHeader 7) 14 refl)
-    and (calls.node-header (encode []) seven, from-good (λ a. nodeHeaderTold a .number) (header.Refused BadTable) (nodeHeader 7) [] none-obeys 2 refl)
+    and (calls.node-header (lent []) seven, from-good (λ a. nodeHeaderTold a .number) (header.Refused BadTable) (nodeHeader 7) [] none-obeys 2 refl)
     and no-more
 
 record-counts : AllShown calls.RecordCount (calls.possible calls.RecordCount)
 unfolding calls.leaves calls.refusals countTold nodeOf
 record-counts =
-    (calls.record-count (encode newly) seven, from-good (λ a. countTold a .number) (count.Refused BadTable) (recordCount 7) newly newly-obeys 0 refl)
+    (calls.record-count (lent newly) seven, from-good (λ a. countTold a .number) (count.Refused BadTable) (recordCount 7) newly newly-obeys 0 refl)
     and (calls.record-count [] seven, from-bad (λ a. countTold a .number) (count.Refused BadTable) (recordCount 7) 14 refl)
-    and (calls.record-count (encode []) seven, from-good (λ a. countTold a .number) (count.Refused BadTable) (recordCount 7) [] none-obeys 2 refl)
+    and (calls.record-count (lent []) seven, from-good (λ a. countTold a .number) (count.Refused BadTable) (recordCount 7) [] none-obeys 2 refl)
     and no-more
 
 records-at : AllShown calls.RecordAt (calls.possible calls.RecordAt)
 unfolding calls.leaves calls.refusals recordReadTold nodeOf elementAt
 records-at =
-    (calls.record-at (encode usual) seven 0, from-good (λ a. recordReadTold a .number) (rec.Refused BadTable) (readRecord 7 0) usual usual-obeys 0 refl)
+    (calls.record-at (lent usual) seven 0, from-good (λ a. recordReadTold a .number) (rec.Refused BadTable) (readRecord 7 0) usual usual-obeys 0 refl)
     and (calls.record-at [] seven 0, from-bad (λ a. recordReadTold a .number) (rec.Refused BadTable) (readRecord 7 0) 14 refl)
-    and (calls.record-at (encode []) seven 0, from-good (λ a. recordReadTold a .number) (rec.Refused BadTable) (readRecord 7 0) [] none-obeys 2 refl)
-    and (calls.record-at (encode newly) seven 0, from-good (λ a. recordReadTold a .number) (rec.Refused BadTable) (readRecord 7 0) newly newly-obeys 8 refl)
+    and (calls.record-at (lent []) seven 0, from-good (λ a. recordReadTold a .number) (rec.Refused BadTable) (readRecord 7 0) [] none-obeys 2 refl)
+    and (calls.record-at (lent newly) seven 0, from-good (λ a. recordReadTold a .number) (rec.Refused BadTable) (readRecord 7 0) newly newly-obeys 8 refl)
     and no-more
 
 keyed : AllShown calls.RecordByKey (calls.possible calls.RecordByKey)
 unfolding calls.leaves calls.refusals recordReadTold nodeOf find zeros
 keyed =
-    (calls.record-by-key (encode newly) [] seven, from-good (λ a. recordReadTold a .number) (rec.Refused BadTable) (recordByKey 7 []) newly newly-obeys 0 refl)
+    (calls.record-by-key (lent newly) [] seven, from-good (λ a. recordReadTold a .number) (rec.Refused BadTable) (recordByKey 7 []) newly newly-obeys 0 refl)
     and (calls.record-by-key [] [] seven, from-bad (λ a. recordReadTold a .number) (rec.Refused BadTable) (recordByKey 7 []) 14 refl)
-    and (calls.record-by-key (encode []) [] seven, from-good (λ a. recordReadTold a .number) (rec.Refused BadTable) (recordByKey 7 []) [] none-obeys 2 refl)
-    and (calls.record-by-key (encode newly) (zeros 33) seven, from-good (λ a. recordReadTold a .number) (rec.Refused BadTable) (recordByKey 7 (zeros 33)) newly newly-obeys 1 refl)
+    and (calls.record-by-key (lent []) [] seven, from-good (λ a. recordReadTold a .number) (rec.Refused BadTable) (recordByKey 7 []) [] none-obeys 2 refl)
+    and (calls.record-by-key (lent newly) (zeros 33) seven, from-good (λ a. recordReadTold a .number) (rec.Refused BadTable) (recordByKey 7 (zeros 33)) newly newly-obeys 1 refl)
     and no-more
 
 texts : AllShown calls.FindText (calls.possible calls.FindText)
 unfolding calls.leaves calls.refusals foundTold nodeOf elementAt
 texts =
-    (calls.find-text (encode usual) seven 0 text.Key, from-good (λ a. foundTold a .number) (found.Refused BadTable) (textFound text.Key 7 0) usual usual-obeys 0 refl)
+    (calls.find-text (lent usual) seven 0 text.Key, from-good (λ a. foundTold a .number) (found.Refused BadTable) (textFound text.Key 7 0) usual usual-obeys 0 refl)
     and (calls.find-text [] seven 0 text.Key, from-bad (λ a. foundTold a .number) (found.Refused BadTable) (textFound text.Key 7 0) 14 refl)
-    and (calls.find-text (encode []) seven 0 text.Key, from-good (λ a. foundTold a .number) (found.Refused BadTable) (textFound text.Key 7 0) [] none-obeys 2 refl)
-    and (calls.find-text (encode newly) seven 0 text.Key, from-good (λ a. foundTold a .number) (found.Refused BadTable) (textFound text.Key 7 0) newly newly-obeys 8 refl)
+    and (calls.find-text (lent []) seven 0 text.Key, from-good (λ a. foundTold a .number) (found.Refused BadTable) (textFound text.Key 7 0) [] none-obeys 2 refl)
+    and (calls.find-text (lent newly) seven 0 text.Key, from-good (λ a. foundTold a .number) (found.Refused BadTable) (textFound text.Key 7 0) newly newly-obeys 8 refl)
     and no-more
 
 -- ---- digests
@@ -361,9 +368,9 @@ texts =
 digests : AllShown calls.WriteDigest (calls.possible calls.WriteDigest)
 unfolding calls.leaves calls.refusals writtenTold writeDigest digestOf digestBytes zeros bytesOf flat
 digests =
-    (calls.write-digest (encode []) [] (zeros 2) 0, from-good (λ (a : Given Written Bytes). writtenTold (a .answer) .number) (given (written.Refused BadTable) (zeros 2)) (λ t. writeDigest [] 0 t (zeros 2)) [] none-obeys 0 refl)
+    (calls.write-digest (lent []) [] (zeros 2) 0, from-good (λ (a : Given Written Bytes). writtenTold (a .answer) .number) (given (written.Refused BadTable) (zeros 2)) (λ t. writeDigest [] 0 t (zeros 2)) [] none-obeys 0 refl)
     and (calls.write-digest [] [] [] 0, from-bad (λ (a : Given Written Bytes). writtenTold (a .answer) .number) (given (written.Refused BadTable) []) (λ t. writeDigest [] 0 t []) 14 refl)
-    and (calls.write-digest (encode []) [] [] 0, from-good (λ (a : Given Written Bytes). writtenTold (a .answer) .number) (given (written.Refused BadTable) []) (λ t. writeDigest [] 0 t []) [] none-obeys 8 refl)
+    and (calls.write-digest (lent []) [] [] 0, from-good (λ (a : Given Written Bytes). writtenTold (a .answer) .number) (given (written.Refused BadTable) []) (λ t. writeDigest [] 0 t []) [] none-obeys 8 refl)
     and no-more
 
 digest-reads : AllShown calls.ReadDigest (calls.possible calls.ReadDigest)
@@ -379,13 +386,13 @@ digest-reads =
 computes : AllShown calls.Compute (calls.possible calls.Compute)
 unfolding calls.leaves calls.refusals computedTold computing.compute readDigest readEntries natOf unblock tellAll zeros
 computes =
-    (calls.compute (encode []) (0 ∷ 0 ∷ []) [] [] (zeros 100) 100 0, from-good (λ (a : Given Computed Bytes). computedTold (a .answer) .number) (given (computed.Refused BadTable) (zeros 100)) (λ t. computing.compute [] [] 100 0 (0 ∷ 0 ∷ []) t (zeros 100)) [] none-obeys 0 refl)
+    (calls.compute (lent []) (0 ∷ 0 ∷ []) [] [] (zeros 100) 100 0, from-good (λ (a : Given Computed Bytes). computedTold (a .answer) .number) (given (computed.Refused BadTable) (zeros 100)) (λ t. computing.compute [] [] 100 0 (0 ∷ 0 ∷ []) t (zeros 100)) [] none-obeys 0 refl)
     and (calls.compute [] [] [] [] [] 100 0, from-bad (λ (a : Given Computed Bytes). computedTold (a .answer) .number) (given (computed.Refused BadTable) []) (λ t. computing.compute [] [] 100 0 [] t []) 14 refl)
-    and (calls.compute (encode []) [] [] [] [] 99 0, from-good (λ (a : Given Computed Bytes). computedTold (a .answer) .number) (given (computed.Refused BadTable) []) (λ t. computing.compute [] [] 99 0 [] t []) [] none-obeys 7 refl)
-    and (calls.compute (encode []) [] [] [] [] 100 0, from-good (λ (a : Given Computed Bytes). computedTold (a .answer) .number) (given (computed.Refused BadTable) []) (λ t. computing.compute [] [] 100 0 [] t []) [] none-obeys 8 refl)
-    and (calls.compute (encode []) [] [] (0 ∷ []) (zeros 100) 100 0, from-good (λ (a : Given Computed Bytes). computedTold (a .answer) .number) (given (computed.Refused BadTable) (zeros 100)) (λ t. computing.compute [] (0 ∷ []) 100 0 [] t (zeros 100)) [] none-obeys 15 refl)
-    and (calls.compute (encode []) [] [] [] (zeros 100) 100 0, from-good (λ (a : Given Computed Bytes). computedTold (a .answer) .number) (given (computed.Refused BadTable) (zeros 100)) (λ t. computing.compute [] [] 100 0 [] t (zeros 100)) [] none-obeys 9 refl)
-    and (calls.compute (encode []) (9 ∷ 0 ∷ []) [] [] (zeros 100) 100 0, from-good (λ (a : Given Computed Bytes). computedTold (a .answer) .number) (given (computed.Refused BadTable) (zeros 100)) (λ t. computing.compute [] [] 100 0 (9 ∷ 0 ∷ []) t (zeros 100)) [] none-obeys 13 refl)
+    and (calls.compute (lent []) [] [] [] [] 99 0, from-good (λ (a : Given Computed Bytes). computedTold (a .answer) .number) (given (computed.Refused BadTable) []) (λ t. computing.compute [] [] 99 0 [] t []) [] none-obeys 7 refl)
+    and (calls.compute (lent []) [] [] [] [] 100 0, from-good (λ (a : Given Computed Bytes). computedTold (a .answer) .number) (given (computed.Refused BadTable) []) (λ t. computing.compute [] [] 100 0 [] t []) [] none-obeys 8 refl)
+    and (calls.compute (lent []) [] [] (0 ∷ []) (zeros 100) 100 0, from-good (λ (a : Given Computed Bytes). computedTold (a .answer) .number) (given (computed.Refused BadTable) (zeros 100)) (λ t. computing.compute [] (0 ∷ []) 100 0 [] t (zeros 100)) [] none-obeys 15 refl)
+    and (calls.compute (lent []) [] [] [] (zeros 100) 100 0, from-good (λ (a : Given Computed Bytes). computedTold (a .answer) .number) (given (computed.Refused BadTable) (zeros 100)) (λ t. computing.compute [] [] 100 0 [] t (zeros 100)) [] none-obeys 9 refl)
+    and (calls.compute (lent []) (9 ∷ 0 ∷ []) [] [] (zeros 100) 100 0, from-good (λ (a : Given Computed Bytes). computedTold (a .answer) .number) (given (computed.Refused BadTable) (zeros 100)) (λ t. computing.compute [] [] 100 0 (9 ∷ 0 ∷ []) t (zeros 100)) [] none-obeys 13 refl)
     and no-more
 
 -- nine Nodes, 0 to 8
@@ -406,25 +413,25 @@ delta-reads =
     and no-more
 
 applying : (delta : calls.Received) (answers : Bytes) (n : ℕ) → appliedTold (apply plainWays (delta .bytes) 7 [] answers .answer) .number ≡ n
-    → appliedTold (lentApply (delta .bytes) 7 answers (encode []) .answer) .number ≡ n
-applying delta answers n e = ap (λ (x : Given Applied TableAndList). appliedTold (x .answer) .number) (apply-encoded [] none-obeys plainWays (delta .bytes) 7 answers) ∙ e
+    → appliedTold (lentApply (delta .bytes) 7 answers (lent []) .answer) .number ≡ n
+applying delta answers n e = ap (λ (x : Given Applied TableAndList). appliedTold (x .answer) .number) (apply-encoded mode.Plain [] none-obeys (delta .bytes) 7 answers) ∙ e
 
 not-applied : appliedTold (lentApply [] 7 [] [] .answer) .number ≡ 14
 unfolding lentApplyAs appliedTold
-not-applied = ap (λ (b : Bool). appliedTold (pick b (storedApply (apply plainWays [] 7 (decode []) [])) (given (applied.Refused BadTable 0) (both [] [])) .answer) .number) none-valid
+not-applied = ap (λ (b : Bool). appliedTold (pick b (storedApply (decodeWhole []) (apply (waysOf (decodeWhole [] .mode)) [] 7 (decodeWhole [] .table) [])) (given (applied.Refused BadTable 0) (both [] [])) .answer) .number) none-valid
 
 applies : AllShown calls.Apply (calls.possible calls.Apply)
 unfolding calls.leaves calls.refusals received appliedTold apply all deltaRead readDelta readOps readOp readNode readKeyValue readSetMaxVersion follow natOf among zeros deltaBytes opBytes flat bytesOf ninth partsOf
 applies =
-    (calls.apply (encode []) (received [] refl) [] seven, applying (received [] refl) [] 0 refl)
+    (calls.apply (lent []) (received [] refl) [] seven, applying (received [] refl) [] 0 refl)
     and (calls.apply [] (received [] refl) [] seven, not-applied)
-    and (calls.apply (encode []) (received (deltaBytes (ninth 9)) refl) [] seven, applying (received (deltaBytes (ninth 9)) refl) [] 13 refl)
-    and (calls.apply (encode []) (received (0 ∷ []) refl) [] seven, applying (received (0 ∷ []) refl) [] 9 refl)
-    and (calls.apply (encode []) (received (1 ∷ 33 ∷ 0 ∷ []) refl) [] seven, applying (received (1 ∷ 33 ∷ 0 ∷ []) refl) [] 1 refl)
-    and (calls.apply (encode []) (received (3 ∷ []) refl) [] seven, applying (received (3 ∷ []) refl) [] 10 refl)
-    and (calls.apply (encode []) (received (2 ∷ zeros 8) refl) [] seven, applying (received (2 ∷ zeros 8) refl) [] 11 refl)
-    and (calls.apply (encode []) (received (deltaBytes (NodeOp 7 0 0 ∷ NodeOp 7 0 0 ∷ [])) refl) [] seven, applying (received (deltaBytes (NodeOp 7 0 0 ∷ NodeOp 7 0 0 ∷ [])) refl) [] 12 refl)
-    and (calls.apply (encode []) (received (deltaBytes (NodeOp 7 0 0 ∷ [])) refl) [] seven, applying (received (deltaBytes (NodeOp 7 0 0 ∷ [])) refl) [] 8 refl)
+    and (calls.apply (lent []) (received (deltaBytes (ninth 9)) refl) [] seven, applying (received (deltaBytes (ninth 9)) refl) [] 13 refl)
+    and (calls.apply (lent []) (received (0 ∷ []) refl) [] seven, applying (received (0 ∷ []) refl) [] 9 refl)
+    and (calls.apply (lent []) (received (1 ∷ 33 ∷ 0 ∷ []) refl) [] seven, applying (received (1 ∷ 33 ∷ 0 ∷ []) refl) [] 1 refl)
+    and (calls.apply (lent []) (received (3 ∷ []) refl) [] seven, applying (received (3 ∷ []) refl) [] 10 refl)
+    and (calls.apply (lent []) (received (2 ∷ zeros 8) refl) [] seven, applying (received (2 ∷ zeros 8) refl) [] 11 refl)
+    and (calls.apply (lent []) (received (deltaBytes (NodeOp 7 0 0 ∷ NodeOp 7 0 0 ∷ [])) refl) [] seven, applying (received (deltaBytes (NodeOp 7 0 0 ∷ NodeOp 7 0 0 ∷ [])) refl) [] 12 refl)
+    and (calls.apply (lent []) (received (deltaBytes (NodeOp 7 0 0 ∷ [])) refl) [] seven, applying (received (deltaBytes (NodeOp 7 0 0 ∷ [])) refl) [] 8 refl)
     and no-more
 
 shows : AllShown calls.ListDelta (calls.possible calls.ListDelta)
@@ -440,35 +447,39 @@ shows =
 abbrev asking : (mtu : ℕ) (ties digest delta : List ℕ) → Lending
 asking mtu ties digest delta = lending [] [] ties mtu 7 digest delta []
 
-asked-for : (g : Lending) → readyFor (g .unasked) (roomsOf g) (encode []) (encode []) ≡ readyOn (g .unasked) (roomsOf g) [] []
+asked-for : (g : Lending) → readyFor (g .unasked) (roomsOf g) (lent []) (lent []) ≡ readyOn (g .unasked) (roomsOf g) [] []
 unfolding readyFor
-asked-for g = rw (valid-encode [] none-obeys, decode-encode [] none-obeys) refl
+asked-for g =
+    let w : Whole = record { mode = mode.Plain; table = [] } in
+    let t : Table = decodeWhole (lent []) .table in
+    ap (λ (b : Bool). pick b (pick b (readyOn (g .unasked) (roomsOf g) t t) (ready.No Delta BadTable)) (ready.No Digest BadTable)) (valid-encode-whole w none-obeys)
+    ∙ ap (λ (u : Whole). readyOn (g .unasked) (roomsOf g) (u .table) (u .table)) (decode-encode-whole w none-obeys)
 
-refused-as : (g : Lending) (n : ℕ) → exchangedTold (afterAsking g (encode []) (encode []) (readyOn (g .unasked) (roomsOf g) [] []) .answer) .number ≡ n
-    → exchangedTold (lentExchange g (encode []) (encode []) .answer) .number ≡ n
+refused-as : (g : Lending) (n : ℕ) → exchangedTold (afterAsking g (lent []) (lent []) (readyOn (g .unasked) (roomsOf g) [] []) .answer) .number ≡ n
+    → exchangedTold (lentExchange g (lent []) (lent []) .answer) .number ≡ n
 unfolding lentExchange
-refused-as g n e = ap (λ (x : Ready). exchangedTold (afterAsking g (encode []) (encode []) x .answer) .number) (asked-for g) ∙ e
+refused-as g n e = ap (λ (x : Ready). exchangedTold (afterAsking g (lent []) (lent []) x .answer) .number) (asked-for g) ∙ e
 
-done-as : (g : Lending) → readyOn (g .unasked) (roomsOf g) [] [] ≡ ready.Yes → exchangedTold (lentExchange g (encode []) (encode []) .answer) .number ≡ 0
+done-as : (g : Lending) → readyOn (g .unasked) (roomsOf g) [] [] ≡ ready.Yes → exchangedTold (lentExchange g (lent []) (lent []) .answer) .number ≡ 0
 unfolding lentExchange exchangedTold
 done-as g e =
     let yes = asked-for g ∙ e in
-    ap (λ (x : Ready). exchangedTold (afterAsking g (encode []) (encode []) x .answer) .number) yes
-    ∙ ap (λ (a : Exchanged). exchangedTold a .number) (ready-done g (encode []) (encode []) (is-ready g (encode []) (encode []) yes))
+    ap (λ (x : Ready). exchangedTold (afterAsking g (lent []) (lent []) x .answer) .number) yes
+    ∙ ap (λ (a : Exchanged). exchangedTold a .number) (ready-done g (lent []) (lent []) (is-ready g (lent []) (lent []) yes))
 
 not-asked : (g : Lending) → exchangedTold (lentExchange g [] [] .answer) .number ≡ 14
 unfolding lentExchange readyFor exchangedTold
 not-asked g =
-    ap (λ (b : Bool). exchangedTold (afterAsking g [] [] (pick b (pick (valid []) (readyOn (g .unasked) (roomsOf g) (decode []) (decode [])) (ready.No Delta BadTable)) (ready.No Digest BadTable)) .answer) .number) none-valid
+    ap (λ (b : Bool). exchangedTold (afterAsking g [] [] (pick b (pick (validWhole []) (readyOn (g .unasked) (roomsOf g) (decodeWhole [] .table) (decodeWhole [] .table)) (ready.No Delta BadTable)) (ready.No Digest BadTable)) .answer) .number) none-valid
 
 exchanges : AllShown calls.Exchange (calls.possible calls.Exchange)
 unfolding calls.leaves calls.refusals exchangedTold readyOn askedOf digestOf digestBytes bytesOf flat zeros
 exchanges =
-    (calls.exchange (encode []) (encode []) [] [] [] (zeros 2) (zeros 100) [] 100 seven, done-as (asking 100 [] (zeros 2) (zeros 100)) refl)
+    (calls.exchange (lent []) (lent []) [] [] [] (zeros 2) (zeros 100) [] 100 seven, done-as (asking 100 [] (zeros 2) (zeros 100)) refl)
     and (calls.exchange [] [] [] [] [] [] [] [] 100 seven, not-asked (asking 100 [] [] []))
-    and (calls.exchange (encode []) (encode []) [] [] [] [] [] [] 100 seven, refused-as (asking 100 [] [] []) 8 refl)
-    and (calls.exchange (encode []) (encode []) [] [] [] (zeros 2) [] [] 99 seven, refused-as (asking 99 [] (zeros 2) []) 7 refl)
-    and (calls.exchange (encode []) (encode []) [] [] (0 ∷ []) (zeros 2) (zeros 100) [] 100 seven, refused-as (asking 100 (0 ∷ []) (zeros 2) (zeros 100)) 15 refl)
+    and (calls.exchange (lent []) (lent []) [] [] [] [] [] [] 100 seven, refused-as (asking 100 [] [] []) 8 refl)
+    and (calls.exchange (lent []) (lent []) [] [] [] (zeros 2) [] [] 99 seven, refused-as (asking 99 [] (zeros 2) []) 7 refl)
+    and (calls.exchange (lent []) (lent []) [] [] (0 ∷ []) (zeros 2) (zeros 100) [] 100 seven, refused-as (asking 100 (0 ∷ []) (zeros 2) (zeros 100)) 15 refl)
     and no-more
 
 -- ---- all kinds

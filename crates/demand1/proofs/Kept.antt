@@ -8,16 +8,17 @@ use lib.ListN.{length, take}
 use Rattle.fields.specs.Choice.{all, pick, _∈_}
 use Rattle.fields.specs.Numbers.{Bytes}
 use Rattle.fields.proofs.Choice.{and-intro, and-left, and-right}
-use Rattle.rules.specs.Apply.{apply, plainWays}
+use Rattle.rules.specs.Apply.{apply, waysOf}
 use Rattle.rules.specs.Delta.{Good, Op, Part, nothingRead, partsOf, readDelta}
 use Rattle.rules.specs.Given.{Given, given}
-use Rattle.rules.specs.Layout.{decode, encode, tableWidth, valid}
-use Rattle.rules.specs.Lent.{both, lentApply, lentApplyAs, lentNew, onTable, stored, storedApply}
+use Rattle.rules.specs.Whole.{areaOf, decodeWhole, validWhole, wholeWidth, withTable}
+use Rattle.rules.specs.Lent.{both, lentApply, lentApplyAs, lentNew, onTable, storedIn, storedApply}
 use Rattle.rules.specs.Local.{Outcome, add, call, gc, localBeat, offer, removeNode}
 use Rattle.rules.specs.Node.{Deleting, DeletingAfterTtl, Setting, SettingTtl, beats}
 use Rattle.rules.specs.Sizes.{numbers}
 use Rattle.rules.specs.Table.{Table, obeys}
 use Rattle.rules.specs.declared.Answer.the-variants as plain
+use Rattle.rules.specs.declared.Mode.{Mode}
 use Rattle.rules.specs.declared.Applied.the-variants as applied
 use Rattle.rules.specs.declared.Computed.{Computed}
 use Rattle.rules.specs.declared.Offered.the-variants as offered
@@ -25,11 +26,13 @@ use Rattle.rules.specs.declared.Refusal.the-variants.{BadTable}
 use Rattle.rules.specs.declared.Written.{Written}
 use Rattle.rules.proofs.Accepted.{computed-chain, computed-small}
 use Rattle.rules.proofs.Calls.{add-keeps, apply-keeps, beat-keeps, call-keeps, gc-keeps, none-obeys, offer-keeps, ok-each, remove-node-keeps}
-use Rattle.rules.proofs.Keeps.{plain-lawful}
+use Rattle.rules.proofs.Keeps.{mode-lawful}
 use Rattle.rules.proofs.Obeys.{facts-table, table-facts}
 use Rattle.rules.proofs.Received.{OkDelta, parts-ok}
 use Rattle.rules.proofs.Tables.{applied-table}
-use Rattle.table.proofs.Tables.{valid-encode, valid-obeys}
+use Rattle.table.proofs.Tables.{valid-obeys}
+use Rattle.table.proofs.Wholes.{area-valid, valid-encode-whole}
+use Rattle.apply.proofs.Applied.{reads-is}
 use Rattle.nodes.specs.New.{lentMade}
 use Rattle.exchange.specs.Exchanging.{Lending, afterAsking, afterComputing, afterDigesting, lentAnswer, lentExchange, readyFor, roomsOf, threeCalls, lending}
 use Rattle.exchange.specs.declared.Ready.{Ready}
@@ -37,84 +40,89 @@ use Rattle.exchange.specs.declared.Ready.the-variants as ready
 use Rattle.exchange.proofs.Refusing.{IsReady, delta-made, delta-read, digest-told, ds, is-ready, sent}
 use Rattle.demand1.specs.Calls as calls
 
+-- a valid table obeys
+whole-obeys : (l : Bytes) → validWhole l ≡ true → obeys (decodeWhole l .table) ≡ true
+whole-obeys l v = valid-obeys (areaOf l) (area-valid l v)
+
 -- ---- calls that change the table
 
 kept : {A : Type 0} (bad : A) (rule : Table → Outcome A) → ((t : Table) → obeys t ≡ true → obeys (rule t .table) ≡ true)
-    → (l : Bytes) → valid l ≡ true → valid (onTable bad rule l .lent) ≡ true
+    → (l : Bytes) → validWhole l ≡ true → validWhole (onTable bad rule l .lent) ≡ true
 unfolding onTable
 kept {A} bad rule f l v =
-    ap (λ (b : Bool). valid (pick b (stored (rule (decode l))) (given bad l) .lent)) v
-    ∙ valid-encode (rule (decode l) .table) (f (decode l) (valid-obeys l v))
+    ap (λ (b : Bool). validWhole (pick b (storedIn (decodeWhole l) (rule (decodeWhole l .table))) (given bad l) .lent)) v
+    ∙ valid-encode-whole (withTable (rule (decodeWhole l .table) .table) (decodeWhole l)) (f (decodeWhole l .table) (whole-obeys l v))
 
-made : (l : Bytes) → valid l ≡ true → valid (lentMade l .lent) ≡ true
+made : (m : Mode) (l : Bytes) → validWhole l ≡ true → validWhole (lentMade m l .lent) ≡ true
 unfolding lentMade lentNew
-made l v = go (eqb (length l) tableWidth)
+made m l v = go (eqb (length l) wholeWidth)
   where
-    go : (b : Bool) → valid (pick b (given plain.Done (encode [])) (given (plain.Refused BadTable) l) .lent) ≡ true
-    go true = valid-encode [] none-obeys
+    go : (b : Bool) → validWhole (pick b (given plain.Done (lentNew m)) (given (plain.Refused BadTable) l) .lent) ≡ true
+    go true = valid-encode-whole (record { mode = m; table = [] }) none-obeys
     go false = v
 
 -- applying a delta of which it is known that the table is kept
-applying : (delta : Bytes) (now : ℕ) (answers l : Bytes) → valid l ≡ true
-    → (obeys (decode l) ≡ true → obeys (apply plainWays delta now (decode l) answers .table) ≡ true)
-    → valid (lentApply delta now answers l .lent .table) ≡ true
+applying : (delta : Bytes) (now : ℕ) (answers l : Bytes) → validWhole l ≡ true
+    → (obeys (decodeWhole l .table) ≡ true → obeys (apply (waysOf (decodeWhole l .mode)) delta now (decodeWhole l .table) answers .table) ≡ true)
+    → validWhole (lentApply delta now answers l .lent .table) ≡ true
 unfolding lentApplyAs
 applying delta now answers l v f =
-    ap (λ (b : Bool). valid (pick b (storedApply (apply plainWays delta now (decode l) answers)) (given (applied.Refused BadTable 0) (both l answers)) .lent .table)) v
-    ∙ valid-encode (apply plainWays delta now (decode l) answers .table) (f (valid-obeys l v))
+    let o = apply (waysOf (decodeWhole l .mode)) delta now (decodeWhole l .table) answers in
+    ap (λ (b : Bool). validWhole (pick b (storedApply (decodeWhole l) o) (given (applied.Refused BadTable 0) (both l answers)) .lent .table)) v
+    ∙ valid-encode-whole (withTable (o .table) (decodeWhole l)) (f (whole-obeys l v))
 
 -- ---- an exchange
 
 -- the publisher's delta keeps the follower's rules
-read-keeps : (delta : Bytes) (ops : List Op) (now : ℕ) (answers : Bytes) (t : Table) → now < numbers → readDelta delta ≡ Good ops
+read-keeps : (m : Mode) (delta : Bytes) (ops : List Op) (now : ℕ) (answers : Bytes) (t : Table) → now < numbers → readDelta delta ≡ Good ops
     → ((x : Part) → x ∈ partsOf ops → OkDelta (x .delta))
-    → obeys t ≡ true → obeys (apply plainWays delta now t answers .table) ≡ true
-read-keeps delta ops now answers t clock e fine o =
-    applied-table plainWays delta now t answers (λ u. obeys u ≡ true) o
-    (λ os q. let same : Good ops ≡ Good os = sym e ∙ q in facts-table _ (ok-each plainWays plain-lawful now clock (partsOf os) t (known os same) (table-facts t o)))
+    → obeys t ≡ true → obeys (apply (waysOf m) delta now t answers .table) ≡ true
+read-keeps m delta ops now answers t clock e fine o =
+    applied-table (waysOf m) delta now t answers (λ u. obeys u ≡ true) o
+    (λ os q. let same : Good ops ≡ Good os = sym e ∙ sym (reads-is m delta) ∙ q in facts-table _ (ok-each (waysOf m) (mode-lawful m) now clock (partsOf os) t (known os same) (table-facts t o)))
   where
     known : (os : List Op) → Good ops ≡ Good os → (x : Part) → x ∈ partsOf os → OkDelta (x .delta)
     known os q = let s : ops ≡ os = cc in subst (λ (l : List Op). (x : Part) → x ∈ partsOf l → OkDelta (x .delta)) s fine
 
 module _ (g : Lending) (publisher follower : Bytes) (clock : g .clock < numbers) where
-  ready-kept : IsReady g publisher follower → valid (threeCalls g publisher follower .lent .follower) ≡ true
+  ready-kept : IsReady g publisher follower → validWhole (threeCalls g publisher follower .lent .follower) ≡ true
   unfolding threeCalls lentAnswer
   ready-kept r =
-      let ok = valid-obeys publisher (r .publisher-valid) in
+      let ok = whole-obeys publisher (r .publisher-valid) in
       let d = ds g publisher follower r in
-      ap (λ (o : Given Written Bytes). valid (afterDigesting g publisher follower (o .lent) (o .answer) .lent .follower)) (digest-told g publisher follower r)
-      ∙ ap (λ (o : Given Computed Bytes). valid (afterComputing (g .clock) (g .answers) follower (o .lent) (o .answer) .lent .follower)) (delta-made g publisher follower r)
+      ap (λ (o : Given Written Bytes). validWhole (afterDigesting g publisher follower (o .lent) (o .answer) .lent .follower)) (digest-told g publisher follower r)
+      ∙ ap (λ (o : Given Computed Bytes). validWhole (afterComputing (g .clock) (g .answers) follower (o .lent) (o .answer) .lent .follower)) (delta-made g publisher follower r)
       ∙ applying _ (g .clock) (g .answers) follower (r .follower-valid)
-      (read-keeps _ (sent g publisher follower r) (g .clock) (g .answers) (decode follower) clock (delta-read g publisher follower r)
-      (parts-ok (sent g publisher follower r) nothingRead (computed-chain (g .unsent) (g .ties) d (decode publisher) ok (g .mtu))
-      (computed-small (g .unsent) (g .ties) d (decode publisher) ok (g .mtu))))
+      (read-keeps (decodeWhole follower .mode) _ (sent g publisher follower r) (g .clock) (g .answers) (decodeWhole follower .table) clock (delta-read g publisher follower r)
+      (parts-ok (sent g publisher follower r) nothingRead (computed-chain (g .unsent) (g .ties) d (decodeWhole publisher .table) ok (g .mtu))
+      (computed-small (g .unsent) (g .ties) d (decodeWhole publisher .table) ok (g .mtu))))
 
-  exchanged : valid follower ≡ true → valid (lentExchange g publisher follower .lent .follower) ≡ true
+  exchanged : validWhole follower ≡ true → validWhole (lentExchange g publisher follower .lent .follower) ≡ true
   unfolding lentExchange
   exchanged v = go (readyFor (g .unasked) (roomsOf g) publisher follower) refl
     where
-      go : (x : Ready) → readyFor (g .unasked) (roomsOf g) publisher follower ≡ x → valid (afterAsking g publisher follower x .lent .follower) ≡ true
+      go : (x : Ready) → readyFor (g .unasked) (roomsOf g) publisher follower ≡ x → validWhole (afterAsking g publisher follower x .lent .follower) ≡ true
       go ready.Yes e = ready-kept (is-ready g publisher follower e)
       go (ready.No s r) e = v
 
 -- ---- all calls
 
 -- one table
-one : (a b : Bytes) → (valid a ≡ true → valid b ≡ true) → all valid (a ∷ []) ≡ true → all valid (b ∷ []) ≡ true
+one : (a b : Bytes) → (validWhole a ≡ true → validWhole b ≡ true) → all validWhole (a ∷ []) ≡ true → all validWhole (b ∷ []) ≡ true
 unfolding all
-one a b f e = and-intro (valid b) true (f (and-left (valid a) true e)) refl
+one a b f e = and-intro (validWhole b) true (f (and-left (validWhole a) true e)) refl
 
 -- two tables, of which the first stays
-two : (p a b : Bytes) → (valid a ≡ true → valid b ≡ true) → all valid (p ∷ a ∷ []) ≡ true → all valid (p ∷ b ∷ []) ≡ true
+two : (p a b : Bytes) → (validWhole a ≡ true → validWhole b ≡ true) → all validWhole (p ∷ a ∷ []) ≡ true → all validWhole (p ∷ b ∷ []) ≡ true
 unfolding all
 two p a b f e =
-    and-intro (valid p) (valid b && true) (and-left (valid p) (valid a && true) e) (one a b f (and-right (valid p) (valid a && true) e))
+    and-intro (validWhole p) (validWhole b && true) (and-left (validWhole p) (validWhole a && true) e) (one a b f (and-right (validWhole p) (validWhole a && true) e))
 
 pub obeying : {k : calls.Kind} (c : calls.Call k)
-    → all valid (take (calls.tables k) (calls.lentTo c)) ≡ true
-    → all valid (take (calls.tables k) (calls.leaves c .lent)) ≡ true
+    → all validWhole (take (calls.tables k) (calls.lentTo c)) ≡ true
+    → all validWhole (take (calls.tables k) (calls.leaves c .lent)) ≡ true
 unfolding calls.leaves calls.lentTo
-obeying (calls.new-table t) = one t _ (made t)
+obeying (calls.new-table t m) = one t _ (made m t)
 obeying (calls.add-node t i) = one t _ (kept (plain.Refused BadTable) (add (i .value)) (λ t. add-keeps (i .value) t (i .fits)) t)
 obeying (calls.remove-node t i) = one t _ (kept (plain.Refused BadTable) (removeNode (i .value)) (remove-node-keeps (i .value)) t)
 obeying (calls.set t k v i) = one t _ (kept (plain.Refused BadTable) (call (Setting v) (i .value) k) (λ t. call-keeps (Setting v) (i .value) k t tt) t)
@@ -147,7 +155,7 @@ obeying (calls.compute t digest excluded ties datagram mtu place) = λ e. e
 obeying (calls.read-delta delta) = λ e. e
 obeying (calls.apply t delta answers now) =
     one t _
-    (λ v. applying (delta .bytes) (now .value) answers t v (apply-keeps plainWays plain-lawful (delta .bytes) (now .value) (decode t) answers (delta .are) (now .fits)))
+    (λ v. applying (delta .bytes) (now .value) answers t v (apply-keeps (waysOf (decodeWhole t .mode)) (mode-lawful (decodeWhole t .mode)) (delta .bytes) (now .value) (decodeWhole t .table) answers (delta .are) (now .fits)))
 obeying (calls.list-delta delta out) = λ e. e
 obeying (calls.exchange publisher follower unasked unsent ties digest delta answers mtu now) =
     two publisher follower _ (exchanged (lending unasked unsent ties mtu (now .value) digest delta answers) publisher follower (now .fits))

@@ -9,11 +9,12 @@ use Rattle.fields.specs.Choice.{pick}
 use Rattle.fields.specs.Numbers.{Bytes}
 use Rattle.fields.specs.Parts.{put}
 use Rattle.rules.specs.Answers.{Told, answerTold, appliedTold, computedTold, listedTold, offeredTold, writtenTold}
-use Rattle.rules.specs.Apply.{plainWays}
+use Rattle.rules.specs.Apply.{waysOf}
 use Rattle.rules.specs.Compute as computing
 use Rattle.rules.specs.Digest.{fitsAt, writeBytes, writeDigest}
 use Rattle.rules.specs.Given.{Given, given}
-use Rattle.rules.specs.Layout.{tableWidth, valid, decode}
+use Rattle.rules.specs.Whole.{decodeWhole, validWhole, wholeWidth}
+use Rattle.rules.specs.declared.Mode.{Mode}
 use Rattle.rules.specs.Lent.{fromTable, lentNew, onTable}
 use Rattle.rules.specs.Listing.{listing}
 use Rattle.rules.specs.Local.{Outcome, add, call, gc, localBeat, offer, prefixed, removeNode}
@@ -95,21 +96,21 @@ into-list : {A : Type 0} (told : A → Told) (bad : A) (rule : Table → Given A
     → Refuses (told (fromTable (given bad m) rule l .answer))
     → fromTable (given bad m) rule l .lent ≡ m
 unfolding fromTable
-into-list {A} told bad rule m f l = go (valid l)
+into-list {A} told bad rule m f l = go (validWhole l)
   where
     out : Bool → Given A Bytes
-    out b = pick b (rule (decode l)) (given bad m)
+    out b = pick b (rule (decodeWhole l .table)) (given bad m)
 
     go : (b : Bool) → Refuses (told (out b .answer)) → out b .lent ≡ m
-    go true h = f (decode l) h
+    go true h = f (decodeWhole l .table) h
     go false h = refl
 
-made : (l : Bytes) → Refuses (answerTold (lentMade l .answer)) → lentMade l .lent ≡ l
+made : (m : Mode) (l : Bytes) → Refuses (answerTold (lentMade m l .answer)) → lentMade m l .lent ≡ l
 unfolding lentMade answerTold
-made l = go (eqb (length l) tableWidth)
+made m l = go (eqb (length l) wholeWidth)
   where
     out : Bool → Given Answer Bytes
-    out b = pick b (given plain.Done lentNew) (given (plain.Refused BadTable) l)
+    out b = pick b (given plain.Done (lentNew m)) (given (plain.Refused BadTable) l)
 
     go : (b : Bool) → Refuses (answerTold (out b .answer)) → out b .lent ≡ l
     go true h = absurd (h refl)
@@ -146,7 +147,7 @@ exchanged g publisher follower = go (readyFor (g .unasked) (roomsOf g) publisher
 
 pub nothing : {k : calls.Kind} (c : calls.Call k) → Refuses (calls.leaves c .answer) → calls.leaves c .lent ≡ calls.lentTo c
 unfolding calls.leaves calls.lentTo
-nothing (calls.new-table t) h = ap (λ (u : Bytes). u ∷ []) (made t h)
+nothing (calls.new-table t m) h = ap (λ (u : Bytes). u ∷ []) (made m t h)
 nothing (calls.add-node t i) h =
     ap (λ (u : Bytes). u ∷ [])
     (on-table answerTold (plain.Refused BadTable) (add (i .value)) (λ t g. let x = by-answer _ g in add-refused (i .value) t (x .0) (x .1)) t h)
@@ -201,7 +202,7 @@ nothing (calls.compute t digest excluded ties datagram mtu place) h =
 nothing (calls.read-delta delta) h = refl
 nothing (calls.apply t delta answers now) h =
     let x = by-applied _ h in
-    let s = lent-apply-refused plainWays (delta .bytes) (now .value) answers t (x .0) (x .1) (x .2) in
+    let s = lent-apply-refused (waysOf (decodeWhole t .mode)) (delta .bytes) (now .value) answers t (x .0) (x .1) (x .2) in
     ap₂ (λ (u m : Bytes). u ∷ delta .bytes ∷ m ∷ []) (s .0) (s .1)
 nothing (calls.list-delta delta out) h = ap (λ (u : Bytes). delta ∷ u ∷ []) (shown (listing delta) out h)
 nothing (calls.exchange publisher follower unasked unsent ties digest delta answers mtu now) h =

@@ -3,7 +3,7 @@ use Prim.Native.Nat.{ℕ, suc}
 use mathlib.Core.Bool.{Bool, true, false, _&&_}
 use mathlib.Core.List.{List, [], _∷_}
 use mathlib.Core.Option.{Option, none, some}
-use mathlib.Core.Path.{_≡_, _∙_, ap, refl, subst, sym}
+use mathlib.Core.Path.{_∙_, _≡_, ap, refl, subst, sym}
 use lib.Dec.{eqb, leb, ltb}
 use lib.ListN.{length}
 use borrow.Author.Tests.{eq-eqb}
@@ -13,13 +13,14 @@ use Rattle.fields.specs.Order.{sameBytes}
 use Rattle.fields.specs.Parts.{put}
 use Rattle.rules.specs.Sizes.{leastMtu, maxDelta, maxKey, maxNodes, maxValue, top}
 use Rattle.rules.specs.Answers.{Told, numberOf, answerTold, appliedTold, computedTold, listedTold, offeredTold, readTold, writtenTold}
-use Rattle.rules.specs.Apply.{ApplyOutcome, apply, applyNode, applyOps, plainWays}
+use Rattle.rules.specs.Apply.{ApplyOutcome, apply, applyNode, applyOps, waysOf}
 use Rattle.rules.specs.Compute as computing
 use Rattle.rules.specs.Delta.{Faulty, Good, Op, Ops, deltaRead, partsOf, readAnswer, readDelta}
 use Rattle.rules.specs.Digest as digest
 use Rattle.rules.specs.Given.{Given, given}
-use Rattle.rules.specs.Layout.{decode, tableWidth, valid}
-use Rattle.rules.specs.Lent.{both, fromTable, lentApplyAs, lentNew, onTable, stored, storedApply}
+use Rattle.rules.specs.Whole.{decodeWhole, validWhole, wholeWidth}
+use Rattle.rules.specs.declared.Mode.{Mode}
+use Rattle.rules.specs.Lent.{both, fromTable, lentApply, lentApplyAs, lentNew, onTable, storedIn, storedApply}
 use Rattle.rules.specs.Listing.{listing}
 use Rattle.rules.specs.Local.{Outcome, add, answerOf, beatOn, call, callOn, gc, gives, listInto, localBeat, offer, offerOn, prefixOn, prefixed, removeNode, yesNo}
 use Rattle.rules.specs.Node.{Call, Change, Deleting, DeletingAfterTtl, Give, Leave, Node, Rec, Refuse, Setting, SettingTtl, allowed, beats, brought, decide, find, fullFor, hidden, hitsFrom, offerOf, sameStatus, unlessSame, wish}
@@ -36,6 +37,7 @@ use Rattle.rules.specs.declared.Refusal.the-variants.{BadMtu, BadTable, BadTies
 use Rattle.rules.specs.declared.Written.{Written}
 use Rattle.rules.specs.declared.Written.the-variants as written
 use Rattle.table_read.specs.Find.{nodeStart}
+use Rattle.apply.proofs.Applied.{reads-is}
 use Rattle.nodes.specs.New.{lentMade}
 use Rattle.lookup.specs.Lookup.{findOn, findRec, foundIn, valuePlace}
 use Rattle.lookup.specs.Told.{foundTold}
@@ -74,27 +76,27 @@ among-first n ns = ap (λ (b : Bool). pick b true (among n ns)) (eq-eqb n n refl
 on-table : {A : Type 0} (P : A → Type 0) (bad : A) (rule : Table → Outcome A) → P bad → ((t : Table) → P (rule t .answer)) → (l : Bytes)
     → P (onTable bad rule l .answer)
 unfolding onTable
-on-table P bad rule b f l = go (valid l)
+on-table P bad rule b f l = go (validWhole l)
   where
-    go : (v : Bool) → P (pick v (stored (rule (decode l))) (given bad l) .answer)
-    go true = f (decode l)
+    go : (v : Bool) → P (pick v (storedIn (decodeWhole l) (rule (decodeWhole l .table))) (given bad l) .answer)
+    go true = f (decodeWhole l .table)
     go false = b
 
 from-table : {A : Type 0} (P : A → Type 0) (bad : A) (rule : Table → A) → P bad → ((t : Table) → P (rule t)) → (l : Bytes) → P (fromTable bad rule l)
 unfolding fromTable
-from-table P bad rule b f l = go (valid l)
+from-table P bad rule b f l = go (validWhole l)
   where
-    go : (v : Bool) → P (pick v (rule (decode l)) bad)
-    go true = f (decode l)
+    go : (v : Bool) → P (pick v (rule (decodeWhole l .table)) bad)
+    go true = f (decodeWhole l .table)
     go false = b
 
 -- ---- nodes, heartbeats
 
-made : (l : Bytes) → Of calls.NewTable (answerTold (lentMade l .answer))
+made : (m : Mode) (l : Bytes) → Of calls.NewTable (answerTold (lentMade m l .answer))
 unfolding lentMade answerTold among calls.refusals
-made l = go (eqb (length l) tableWidth)
+made m l = go (eqb (length l) wholeWidth)
   where
-    go : (b : Bool) → Of calls.NewTable (answerTold (pick b (given plain.Done lentNew) (given (plain.Refused BadTable) l) .answer))
+    go : (b : Bool) → Of calls.NewTable (answerTold (pick b (given plain.Done (lentNew m)) (given (plain.Refused BadTable) l) .answer))
     go true = refl
     go false = refl
 
@@ -384,24 +386,26 @@ delta-reads l = go (readDelta l) (delta-comes F refl refl refl refl refl refl l)
     go (Good ops) h = refl
     go (Faulty r at) h = h
 
-applies : (delta : Bytes) (now : ℕ) (answers l : Bytes) → Of calls.Apply (appliedTold (lentApplyAs plainWays delta now answers l .answer))
+applies : (delta : Bytes) (now : ℕ) (answers l : Bytes) → Of calls.Apply (appliedTold (lentApply delta now answers l .answer))
 unfolding lentApplyAs apply appliedTold among calls.refusals
-applies delta now answers l = start (valid l)
+applies delta now answers l = start (validWhole l)
   where
     F : Refusal → Type 0
     F r = among (numberOf r) (calls.possible calls.Apply) ≡ true
 
     room : (ops : List Op) (u : Table) (m : Bytes) (b : Bool)
-        → Of calls.Apply (appliedTold (pick {X = ApplyOutcome} b (record { answer = applied.Nodes (length (partsOf ops)); table = u; list = m }) (record { answer = applied.Refused NoPlace 0; table = decode l; list = answers }) .answer))
+        → Of calls.Apply (appliedTold (pick {X = ApplyOutcome} b (record { answer = applied.Nodes (length (partsOf ops)); table = u; list = m }) (record { answer = applied.Refused NoPlace 0; table = decodeWhole l .table; list = answers }) .answer))
     room ops u m true = refl
     room ops u m false = refl
 
-    go : (x : Ops) → OpsSo F refl refl refl refl refl refl x → Of calls.Apply (appliedTold (applyOps (applyNode plainWays now) x (decode l) answers .answer))
+    go : (x : Ops) → OpsSo F refl refl refl refl refl refl x → Of calls.Apply (appliedTold (applyOps (applyNode (waysOf (decodeWhole l .mode)) now) x (decodeWhole l .table) answers .answer))
     go (Good ops) h = room ops _ _ (leb (length (partsOf ops)) (length answers))
     go (Faulty r at) h = h
 
-    start : (v : Bool) → Of calls.Apply (appliedTold (pick v (storedApply (applyOps (applyNode plainWays now) (readDelta delta) (decode l) answers)) (given (applied.Refused BadTable 0) (both l answers)) .answer))
-    start true = go (readDelta delta) (delta-comes F refl refl refl refl refl refl delta)
+    start : (v : Bool) → Of calls.Apply (appliedTold (pick v (storedApply (decodeWhole l) (applyOps (applyNode (waysOf (decodeWhole l .mode)) now) (waysOf (decodeWhole l .mode) .reads delta) (decodeWhole l .table) answers)) (given (applied.Refused BadTable 0) (both l answers)) .answer))
+    start true =
+        go (waysOf (decodeWhole l .mode) .reads delta)
+        (subst (OpsSo F refl refl refl refl refl refl) (sym (reads-is (decodeWhole l .mode) delta)) (delta-comes F refl refl refl refl refl refl delta))
     start false = refl
 
 shows : (delta out : Bytes) → Of calls.ListDelta (writtenTold (digest.writeBytes (listing delta) 0 out .answer))
@@ -437,12 +441,12 @@ asks-on unasked k p f = go (leb (length (digest.digestBytes (digest.digestOf una
 
 asks : (unasked : List ℕ) (k : Rooms) (publisher follower : Bytes) → Asks (readyFor unasked k publisher follower)
 unfolding readyFor among calls.refusals
-asks unasked k publisher follower = go (valid follower) (valid publisher)
+asks unasked k publisher follower = go (validWhole follower) (validWhole publisher)
   where
-    go : (u v : Bool) → Asks (pick u (pick v (readyOn unasked k (decode publisher) (decode follower)) (ready.No Delta BadTable)) (ready.No Digest BadTable))
+    go : (u v : Bool) → Asks (pick u (pick v (readyOn unasked k (decodeWhole publisher .table) (decodeWhole follower .table)) (ready.No Delta BadTable)) (ready.No Digest BadTable))
     go false v = refl
     go true false = refl
-    go true true = asks-on unasked k (decode publisher) (decode follower)
+    go true true = asks-on unasked k (decodeWhole publisher .table) (decodeWhole follower .table)
 
 exchanges : (g : Lending) (publisher follower : Bytes) → Of calls.Exchange (exchangedTold (lentExchange g publisher follower .answer))
 unfolding lentExchange exchangedTold
@@ -461,7 +465,7 @@ exchanges g publisher follower = go (readyFor (g .unasked) (roomsOf g) publisher
 
 pub no-other : {k : calls.Kind} (c : calls.Call k) → Of k (calls.leaves c .answer)
 unfolding calls.leaves
-no-other (calls.new-table t) = made t
+no-other (calls.new-table t m) = made m t
 no-other (calls.add-node t i) = added (i .value) t
 no-other (calls.remove-node t i) = removed (i .value) t
 no-other (calls.set t k v i) = set v (i .value) k t

@@ -10,6 +10,7 @@ use Rattle.rules.specs.Node.{Setting, SettingTtl, Deleting, DeletingAfterTtl, b
 use Rattle.rules.specs.Delta.{deltaRead}
 use Rattle.rules.specs.Listing.{listDelta}
 use Rattle.rules.specs.Lent.{lentAdd, lentRemoveNode, lentCall, lentGc, lentOffer, lentBeat, lentPrefixed, lentDigest, lentCompute, lentApply}
+use Rattle.rules.specs.declared.Mode.{Mode}
 use Rattle.nodes.specs.New.{lentMade}
 use Rattle.lookup.specs.Lookup.{lentFind}
 use Rattle.lookup.specs.Told.{foundTold}
@@ -64,7 +65,7 @@ pub data Kind : Type 0 where
 
 -- one call of an entry point: what is lent comes first, tables before all else
 pub data Call : Kind → Type 0 where
-  new-table : (table : Bytes) → Call NewTable
+  new-table : (table : Bytes) (mode : Mode) → Call NewTable
   add-node : (table : Bytes) (number : U64) → Call AddNode
   remove-node : (table : Bytes) (number : U64) → Call RemoveNode
   set : (table key value : Bytes) (number : U64) → Call Set
@@ -93,7 +94,7 @@ pub data Call : Kind → Type 0 where
 
 -- everything lent to a call
 unfoldable pub lentTo : {k : Kind} (call : Call k) → List Bytes
-lentTo (new-table t) = t ∷ []
+lentTo (new-table t m) = t ∷ []
 lentTo (add-node t i) = t ∷ []
 lentTo (remove-node t i) = t ∷ []
 lentTo (set t k v i) = t ∷ k ∷ v ∷ []
@@ -158,7 +159,7 @@ asTold told lent of = given (told (of .answer)) (lent (of .lent))
 
 -- What the call tells, and everything that was lent to it as it is afterwards. What is lent for reading alone stays.
 unfoldable pub leaves : {k : Kind} (call : Call k) → Given Told (List Bytes)
-leaves (new-table t) = asTold answerTold (λ u. u ∷ []) (lentMade t)
+leaves (new-table t m) = asTold answerTold (λ u. u ∷ []) (lentMade m t)
 leaves (add-node t i) = asTold answerTold (λ u. u ∷ []) (lentAdd (i .value) t)
 leaves (remove-node t i) = asTold answerTold (λ u. u ∷ []) (lentRemoveNode (i .value) t)
 leaves (set t k v i) = asTold answerTold (λ u. u ∷ k ∷ v ∷ []) (lentCall (Setting v) (i .value) k t)

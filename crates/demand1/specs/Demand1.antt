@@ -4,7 +4,7 @@ use mathlib.Core.Bool.{true}
 use mathlib.Core.Path.{_≡_}
 use lib.ListN.{take}
 use Rattle.fields.specs.Choice.{all}
-use Rattle.rules.specs.Layout.{valid}
+use Rattle.rules.specs.Whole.{validWhole}
 use Rattle.rules.specs.Table.{among}
 use Rattle.demand1.specs.Calls.{Call, Kind, leaves, lentTo, possible, tables}
 
@@ -13,8 +13,8 @@ pub record Demand1 : Type 0 where
   pub refused-changes-nothing : (k : Kind) (c : Call k) → (leaves c .answer .number ≡ 0 → ⊥) → leaves c .lent ≡ lentTo c
   -- tables that obey the rules are left as tables that obey them
   pub tables-obey : (k : Kind) (c : Call k)
-      → all valid (take (tables k) (lentTo c)) ≡ true
-      → all valid (take (tables k) (leaves c .lent)) ≡ true
+      → all validWhole (take (tables k) (lentTo c)) ≡ true
+      → all validWhole (take (tables k) (leaves c .lent)) ≡ true
   -- no other number is ever given
   pub no-other-number : (k : Kind) (c : Call k) → among (leaves c .answer .number) (possible k) ≡ true
   -- and each of them is, to some call

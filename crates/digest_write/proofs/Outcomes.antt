@@ -15,7 +15,7 @@ use Rattle.fields.proofs.Parts.{put-field}
 use Rattle.rules.specs.Given.{Gives}
 use Rattle.rules.specs.Table.{Table}
 use Rattle.rules.specs.Digest.{NodeDigest, countWidth, digestBytes, digestOf, entryBytes, entryWidth, writeDigest}
-use Rattle.rules.specs.Layout.{decode, valid}
+use Rattle.rules.specs.Whole.{decodeWhole, validWhole}
 use Rattle.rules.specs.Lent.{fromTable, lentDigest}
 use Rattle.rules.specs.declared.Refusal.the-variants.{BadTable, NoPlace}
 use Rattle.rules.specs.declared.Written.the-variants.{Bytes, Refused}
@@ -67,10 +67,10 @@ module _ (excluded : List ℕ) (place : ℕ) (d : List ℕ) (t : Table) where
 -- ---- 14
 
 module _ (excluded : List ℕ) (place : ℕ) (d l : List ℕ) where
-  pub bad-table : valid l ≡ false → Gives (lentDigest excluded place d l) (Refused BadTable) d
+  pub bad-table : validWhole l ≡ false → Gives (lentDigest excluded place d l) (Refused BadTable) d
   unfolding fromTable
   bad-table v = (rw v, rw v)
 
-  pub good-table : valid l ≡ true → writeDigest excluded place (decode l) d ≡ lentDigest excluded place d l
+  pub good-table : validWhole l ≡ true → writeDigest excluded place (decodeWhole l .table) d ≡ lentDigest excluded place d l
   unfolding fromTable
-  good-table v = sym (pick-true (valid l) _ _ v)
+  good-table v = sym (pick-true (validWhole l) _ _ v)

@@ -136,7 +136,7 @@ pub fn write_digest(table: &[u8], excluded: &[u64], datagram: &mut [u8], place: 
     ensures { λ r. ⌜ Tells writtenTold (lentDigest (now (excluded .entry)) place (now (datagram .entry)) (now (table .entry))) r (now (datagram .exit)) ⌝ }
 {
     if table_check::check_table(table) {
-        return write_good(table, excluded, datagram, place);
+        return write_good(&table[..layout::AREA], excluded, datagram, place);
     }
     Written::Refused(Refusal::BadTable)
 }

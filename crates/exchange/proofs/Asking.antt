@@ -6,7 +6,7 @@ use mathlib.Core.List.{List}
 use lib.ListN.{length}
 use borrow.Author.Tests.{le-leb, lt-leb}
 use Rattle.rules.specs.Digest.{digestBytes, digestOf}
-use Rattle.rules.specs.Layout.{decode, valid}
+use Rattle.rules.specs.Whole.{decodeWhole, validWhole}
 use Rattle.rules.specs.Table.{Table}
 use Rattle.rules.specs.declared.Refusal.{Refusal}
 use Rattle.rules.specs.declared.Refusal.the-variants.{BadTable, NoPlace}
@@ -38,15 +38,15 @@ module _ (unasked : List ℕ) (k : Rooms) (publisher follower : Table) (size : �
 -- ---- 14 first
 
 module _ (unasked : List ℕ) (k : Rooms) (publisher follower : List ℕ) where
-  pub follower-bad : valid follower ≡ false → ready.No Digest BadTable ≡ readyFor unasked k publisher follower
+  pub follower-bad : validWhole follower ≡ false → ready.No Digest BadTable ≡ readyFor unasked k publisher follower
   unfolding readyFor
   follower-bad f = rw f refl
 
-  module _ (f : valid follower ≡ true) where
-    pub publisher-bad : valid publisher ≡ false → ready.No Delta BadTable ≡ readyFor unasked k publisher follower
+  module _ (f : validWhole follower ≡ true) where
+    pub publisher-bad : validWhole publisher ≡ false → ready.No Delta BadTable ≡ readyFor unasked k publisher follower
     unfolding readyFor
     publisher-bad p = rw (f, p) refl
 
-    pub both-good : valid publisher ≡ true → readyOn unasked k (decode publisher) (decode follower) ≡ readyFor unasked k publisher follower
+    pub both-good : validWhole publisher ≡ true → readyOn unasked k (decodeWhole publisher .table) (decodeWhole follower .table) ≡ readyFor unasked k publisher follower
     unfolding readyFor
     both-good p = rw (f, p) refl

@@ -14,15 +14,14 @@ use Rattle.rules.specs.Node.{KeyValue, Node}
 use Rattle.rules.specs.Sizes.{numbers}
 use Rattle.rules.specs.Table.{nodeOf, obeys}
 use Rattle.rules.specs.Given.{Given}
-use Rattle.rules.specs.Apply.{plainWays}
-use Rattle.rules.specs.Layout.{decode}
 use Rattle.rules.specs.World.{Applying, Beating, Computing, Digesting, Event, Followers, Offering, Publishers, Side, freshTable}
 use Rattle.rules.specs.Demand3.{Answered, Asked, Holds, NotBegun, SameMax, Stage, allQuiet, ending, holdings, isNone, leastWidth, onward, quiet, unlimited}
 use Rattle.rules.specs.declared.Heartbeat.{Heartbeat}
+use Rattle.rules.specs.declared.Mode.{Mode}
 use Rattle.rules.specs.declared.Status.the-variants.{Set}
 use Rattle.exchange.specs.declared.Exchanged.{Exchanged}
 use Rattle.exchange.specs.declared.Exchanged.the-variants as exchanged
-use Rattle.exchange.specs.LentWorld.{LentWorld, lentAfter, lentCalls, lentHappen, lentStart}
+use Rattle.exchange.specs.LentWorld.{LentWorld, lentAfter, lentCalls, lentHappen, lentStart, tableIn}
 use Rattle.exchange.specs.LentDemand3.{LentSound, lentGranted, lentWholes}
 use Rattle.exchange.specs.Exchanging.{ExchangeLent, Lending, lentExchange}
 use Rattle.exchange.specs.Runs.{Act, Beats, Exchanges, Hubs, Offers, afterAct, afterActs, allFit, eventsOf, fits, grantedAs, hubs, isWhole, runOf, wholeCalls}
@@ -37,24 +36,24 @@ quiet-append [] fs a b = b
 quiet-append (e ∷ es) fs a b = and-intro (quiet e) _ (and-left (quiet e) _ a) (quiet-append es fs (and-right (quiet e) _ a) b)
 
 -- what comes before takes nothing away
-before : (es fs : List Event) (n : ℕ) (st : Stage) (w : LentWorld) → ((s : Stage) → n ≤ lentWholes plainWays s fs (lentAfter plainWays es w)) → n ≤ lentWholes plainWays st (es ++ fs) w
+before : (es fs : List Event) (n : ℕ) (st : Stage) (w : LentWorld) → ((s : Stage) → n ≤ lentWholes s fs (lentAfter es w)) → n ≤ lentWholes st (es ++ fs) w
 unfolding lentWholes lentAfter
 before [] fs n st w h = h st
 before (e ∷ es) fs n st w h =
-    go (unlimited e && lentGranted plainWays e w) (before es fs n (onward e st) (lentHappen plainWays e w) h) (before es fs n NotBegun (lentHappen plainWays e w) h)
+    go (unlimited e && lentGranted e w) (before es fs n (onward e st) (lentHappen e w) h) (before es fs n NotBegun (lentHappen e w) h)
   where
     go : (b : Bool)
-        → n ≤ lentWholes plainWays (onward e st) (es ++ fs) (lentHappen plainWays e w)
-        → n ≤ lentWholes plainWays NotBegun (es ++ fs) (lentHappen plainWays e w)
-        → n ≤ pick b (ending e st + lentWholes plainWays (onward e st) (es ++ fs) (lentHappen plainWays e w)) (lentWholes plainWays NotBegun (es ++ fs) (lentHappen plainWays e w))
+        → n ≤ lentWholes (onward e st) (es ++ fs) (lentHappen e w)
+        → n ≤ lentWholes NotBegun (es ++ fs) (lentHappen e w)
+        → n ≤ pick b (ending e st + lentWholes (onward e st) (es ++ fs) (lentHappen e w)) (lentWholes NotBegun (es ++ fs) (lentHappen e w))
     go true x y = omega arith
     go false x y = y
 
-one-step : (e : Event) (es : List Event) (st : Stage) (w : LentWorld) → unlimited e ≡ true → lentGranted plainWays e w ≡ true → lentWholes plainWays st (e ∷ es) w ≡ ending e st + lentWholes plainWays (onward e st) es (lentHappen plainWays e w)
+one-step : (e : Event) (es : List Event) (st : Stage) (w : LentWorld) → unlimited e ≡ true → lentGranted e w ≡ true → lentWholes st (e ∷ es) w ≡ ending e st + lentWholes (onward e st) es (lentHappen e w)
 unfolding lentWholes
 one-step e es st w u g =
-    ap (λ (b : Bool). pick b (ending e st + lentWholes plainWays (onward e st) es (lentHappen plainWays e w)) (lentWholes plainWays NotBegun es (lentHappen plainWays e w)))
-    (and-intro (unlimited e) (lentGranted plainWays e w) u g)
+    ap (λ (b : Bool). pick b (ending e st + lentWholes (onward e st) es (lentHappen e w)) (lentWholes NotBegun es (lentHappen e w)))
+    (and-intro (unlimited e) (lentGranted e w) u g)
 
 -- a call with nothing excluded, a wide MTU and all its events granted is one
 module _ (g : Lending) (fs : List Event) (n : ℕ) (st : Stage) (w : LentWorld) where
@@ -69,17 +68,17 @@ module _ (g : Lending) (fs : List Event) (n : ℕ) (st : Stage) (w : LentWorld) 
 
   counted : (isNone (g .unasked) && (isNone (g .unsent) && leb leastWidth (g .mtu))) ≡ true
       → allLentGranted (eventsOf g) w ≡ true
-      → n ≤ lentWholes plainWays NotBegun fs (lentAfter plainWays (eventsOf g) w)
-      → suc n ≤ lentWholes plainWays st (eventsOf g ++ fs) w
+      → n ≤ lentWholes NotBegun fs (lentAfter (eventsOf g) w)
+      → suc n ≤ lentWholes st (eventsOf g ++ fs) w
   unfolding lentAfter allLentGranted
   counted p a h =
-      let x = lentHappen plainWays asking w in
-      let y = lentHappen plainWays answering x in
-      let b = and-right (lentGranted plainWays asking w) _ a in
-      let c = and-right (lentGranted plainWays answering x) _ b in
-      let i = one-step asking (answering ∷ taking-in ∷ fs) st w (and-left (isNone (g .unasked)) _ p) (and-left (lentGranted plainWays asking w) _ a) in
-      let j = one-step answering (taking-in ∷ fs) Asked x (and-right (isNone (g .unasked)) _ p) (and-left (lentGranted plainWays answering x) _ b) in
-      let k = one-step taking-in fs Answered y refl (and-left (lentGranted plainWays taking-in y) _ c) in
+      let x = lentHappen asking w in
+      let y = lentHappen answering x in
+      let b = and-right (lentGranted asking w) _ a in
+      let c = and-right (lentGranted answering x) _ b in
+      let i = one-step asking (answering ∷ taking-in ∷ fs) st w (and-left (isNone (g .unasked)) _ p) (and-left (lentGranted asking w) _ a) in
+      let j = one-step answering (taking-in ∷ fs) Asked x (and-right (isNone (g .unasked)) _ p) (and-left (lentGranted answering x) _ b) in
+      let k = one-step taking-in fs Answered y refl (and-left (lentGranted taking-in y) _ c) in
       omega arith
 
 -- ---- a call, a beat, an offer
@@ -91,10 +90,10 @@ hubsOf w = hubs (w .publisher) (w .follower)
 record Ran (a : Act) (w : LentWorld) : Type 0 where
   events : List Event
   calm : allQuiet events ≡ true
-  ends : hubsOf (lentAfter plainWays events w) ≡ afterAct a (hubsOf w)
+  ends : hubsOf (lentAfter events w) ≡ afterAct a (hubsOf w)
   counts : (fs : List Event) (n : ℕ) (st : Stage)
-      → ((s : Stage) → n ≤ lentWholes plainWays s fs (lentAfter plainWays events w))
-      → pick (isWhole a (hubsOf w)) (suc n) n ≤ lentWholes plainWays st (events ++ fs) w
+      → ((s : Stage) → n ≤ lentWholes s fs (lentAfter events w))
+      → pick (isWhole a (hubsOf w)) (suc n) n ≤ lentWholes st (events ++ fs) w
 
 -- whatever a call of the exchange answers
 quiet-run : (g : Lending) (a : Exchanged) → allQuiet (runOf g a) ≡ true
@@ -113,7 +112,7 @@ module _ (w : LentWorld) where
       record {
         events = run;
         calm = quiet-run g (came-to .answer);
-        ends = ap hubsOf (exchange-run g w clock .1);
+        ends = ap hubsOf (exchange-run g w clock .2);
         counts = λ fs n st h. go (isWhole (Exchanges g) (hubsOf w)) refl fs n st h;
       }
     where
@@ -123,21 +122,21 @@ module _ (w : LentWorld) where
       run : List Event
       run = runOf g (came-to .answer)
 
-      go : (b : Bool) → isWhole (Exchanges g) (hubsOf w) ≡ b → (fs : List Event) (n : ℕ) (st : Stage) → ((s : Stage) → n ≤ lentWholes plainWays s fs (lentAfter plainWays run w)) → pick b (suc n) n ≤ lentWholes plainWays st (run ++ fs) w
+      go : (b : Bool) → isWhole (Exchanges g) (hubsOf w) ≡ b → (fs : List Event) (n : ℕ) (st : Stage) → ((s : Stage) → n ≤ lentWholes s fs (lentAfter run w)) → pick b (suc n) n ≤ lentWholes st (run ++ fs) w
       go true q fs n st h =
           let plain = and-left (isNone (g .unasked) && (isNone (g .unsent) && leb leastWidth (g .mtu))) _ q in
           let granted = and-right (isNone (g .unasked) && (isNone (g .unsent) && leb leastWidth (g .mtu))) _ q in
           let all-of-it = granted-run g (came-to .answer) (came-to .lent .answers) granted in
-          subst (λ (es : List Event). suc n ≤ lentWholes plainWays st (es ++ fs) w) (sym all-of-it)
+          subst (λ (es : List Event). suc n ≤ lentWholes st (es ++ fs) w) (sym all-of-it)
           (counted g fs n st w plain (exchange-granted g w clock granted)
-          (subst (λ (es : List Event). n ≤ lentWholes plainWays NotBegun fs (lentAfter plainWays es w)) all-of-it (h NotBegun)))
+          (subst (λ (es : List Event). n ≤ lentWholes NotBegun fs (lentAfter es w)) all-of-it (h NotBegun)))
       go false q fs n st h = before run fs n st w h
 
   ran-beat : (s : Side) (i : ℕ) → Ran (Beats s i) w
   unfolding allQuiet lentAfter lentHappen
   ran-beat s i = record { events = Beating s i ∷ []; calm = refl; ends = at s; counts = λ fs n st h. before (Beating s i ∷ []) fs n st w h }
     where
-      at : (s : Side) → hubsOf (lentCalls plainWays (Beating s i) w) ≡ afterAct (Beats s i) (hubsOf w)
+      at : (s : Side) → hubsOf (lentCalls (Beating s i) w) ≡ afterAct (Beats s i) (hubsOf w)
       at Publishers = refl
       at Followers = refl
 
@@ -145,7 +144,7 @@ module _ (w : LentWorld) where
   unfolding allQuiet lentAfter lentHappen
   ran-offer s i b fit = record { events = Offering s i b ∷ []; calm = refl; ends = rw fit (at s); counts = λ fs n st h. before (Offering s i b ∷ []) fs n st w h }
     where
-      at : (s : Side) → hubsOf (lentCalls plainWays (Offering s i b) w) ≡ afterAct (Offers s i b) (hubsOf w)
+      at : (s : Side) → hubsOf (lentCalls (Offering s i b) w) ≡ afterAct (Offers s i b) (hubsOf w)
       at Publishers = refl
       at Followers = refl
 
@@ -160,52 +159,52 @@ module _ (w : LentWorld) where
 record AllRan (acts : List Act) (w : LentWorld) : Type 0 where
   events : List Event
   calm : allQuiet events ≡ true
-  ends : hubsOf (lentAfter plainWays events w) ≡ afterActs acts (hubsOf w)
-  counts : (st : Stage) → wholeCalls acts (hubsOf w) ≤ lentWholes plainWays st events w
+  ends : hubsOf (lentAfter events w) ≡ afterActs acts (hubsOf w)
+  counts : (st : Stage) → wholeCalls acts (hubsOf w) ≤ lentWholes st events w
 
 runs : (acts : List Act) (w : LentWorld) → allFit acts ≡ true → AllRan acts w
 unfolding allFit afterActs wholeCalls allQuiet lentAfter lentWholes
 runs [] w fit = record { events = []; calm = refl; ends = refl; counts = λ st. omega arith }
 runs (a ∷ acts) w fit =
     let one = ran w a (and-left (fits a) _ fit) in
-    let x = lentAfter plainWays (one .events) w in
+    let x = lentAfter (one .events) w in
     let rest = runs acts x (and-right (fits a) _ fit) in
     record {
       events = one .events ++ rest .events;
       calm = quiet-append (one .events) (rest .events) (one .calm) (rest .calm);
-      ends = ap hubsOf (lent-append plainWays (one .events) (rest .events) w) ∙ rest .ends ∙ ap (afterActs acts) (one .ends);
+      ends = ap hubsOf (lent-append (one .events) (rest .events) w) ∙ rest .ends ∙ ap (afterActs acts) (one .ends);
       counts =
           λ st.
           one .counts (rest .events) (wholeCalls acts (afterAct a (hubsOf w))) st
-          (λ s. subst (λ (h : Hubs). wholeCalls acts h ≤ lentWholes plainWays s (rest .events) x) (one .ends) (rest .counts s));
+          (λ s. subst (λ (h : Hubs). wholeCalls acts h ≤ lentWholes s (rest .events) x) (one .ends) (rest .counts s));
     }
 
-module _ (is : List ℕ) (ok : obeys (freshTable is) ≡ true) where
+module _ (pm fm : Mode) (is : List ℕ) (ok : obeys (freshTable is) ≡ true) where
   -- After any run the whole calls make every node's max the same in both tables.
   pub exchanges-close : (es : List Event) (acts : List Act)
       → allFit acts ≡ true
-      → let w = lentAfter plainWays es (lentStart is) in let h = hubs (w .publisher) (w .follower) in holdings (decode (h .publisher)) ≤ wholeCalls acts h
-      → SameMax (decode (afterActs acts h .publisher)) (decode (afterActs acts h .follower))
+      → let w = lentAfter es (lentStart pm fm is) in let h = hubs (w .publisher) (w .follower) in holdings (tableIn (h .publisher)) ≤ wholeCalls acts h
+      → SameMax (tableIn (afterActs acts h .publisher)) (tableIn (afterActs acts h .follower))
   exchanges-close es acts fit held =
-      let w = lentAfter plainWays es (lentStart is) in
+      let w = lentAfter es (lentStart pm fm is) in
       let r = runs acts w fit in
-      subst (λ (x : Hubs). SameMax (decode (x .publisher)) (decode (x .follower))) (r .ends)
-      (lent-demand3 is ok .closing-count es (r .events) (r .calm) (let k = r .counts NotBegun in omega arith))
+      subst (λ (x : Hubs). SameMax (tableIn (x .publisher)) (tableIn (x .follower))) (r .ends)
+      (lent-demand3 pm fm is ok .closing-count es (r .events) (r .calm) (let k = r .counts NotBegun in omega arith))
 
   -- So that in the end every Set record of the publisher has arrived, and the follower has no other.
   pub exchanges-arrive : (es : List Event) (acts : List Act)
       → allFit acts ≡ true
-      → let w = lentAfter plainWays es (lentStart is) in let h = hubs (w .publisher) (w .follower) in holdings (decode (h .publisher)) ≤ wholeCalls acts h
+      → let w = lentAfter es (lentStart pm fm is) in let h = hubs (w .publisher) (w .follower) in holdings (tableIn (h .publisher)) ≤ wholeCalls acts h
       → (i : ℕ) (p f : Node)
-      → nodeOf i (decode (afterActs acts h .publisher)) ≡ some p
-      → nodeOf i (decode (afterActs acts h .follower)) ≡ some f
+      → nodeOf i (tableIn (afterActs acts h .publisher)) ≡ some p
+      → nodeOf i (tableIn (afterActs acts h .follower)) ≡ some f
       → (s : KeyValue)
       → s .status ≡ Set
       → (Holds p s → Holds f s) × (Holds f s → Holds p s)
   exchanges-arrive es acts fit held i p f a b =
-      let w = lentAfter plainWays es (lentStart is) in
+      let w = lentAfter es (lentStart pm fm is) in
       let r = runs acts w fit in
-      let sound = subst (LentSound is) (lent-append plainWays es (r .events) (lentStart is)) (lent-demand3 is ok .at-every-moment (es ++ r .events)) in
-      let publisher-is = ap (λ (x : Hubs). nodeOf i (decode (x .publisher))) (r .ends) in
-      let follower-is = ap (λ (x : Hubs). nodeOf i (decode (x .follower))) (r .ends) in
+      let sound = subst (LentSound is) (lent-append es (r .events) (lentStart pm fm is)) (lent-demand3 pm fm is ok .at-every-moment (es ++ r .events)) in
+      let publisher-is = ap (λ (x : Hubs). nodeOf i (tableIn (x .publisher))) (r .ends) in
+      let follower-is = ap (λ (x : Hubs). nodeOf i (tableIn (x .follower))) (r .ends) in
       sound .claims i p f (publisher-is ∙ a) (follower-is ∙ b) .same-set (exchanges-close es acts fit held i p f a b)

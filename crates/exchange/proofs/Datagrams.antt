@@ -15,7 +15,7 @@ use Rattle.rules.specs.Table.{Table}
 use Rattle.rules.specs.Digest.{digestBytes, digestOf, writeBytes, writeDigest}
 use Rattle.rules.specs.Delta.{deltaBytes}
 use Rattle.rules.specs.Compute.{allOps, compute, cut, deltaFor, ordered, staleNodes}
-use Rattle.rules.specs.Layout.{decode, valid}
+use Rattle.rules.specs.Whole.{validWhole}
 use Rattle.rules.specs.Lent.{fromTable, lentCompute, lentDigest}
 use Rattle.rules.specs.declared.Refusal.the-variants.{BadTable, NoPlace}
 use Rattle.rules.specs.declared.Written.{Written}
@@ -24,15 +24,16 @@ use Rattle.rules.specs.declared.Computed.{Computed}
 use Rattle.rules.specs.declared.Computed.the-variants as computed
 use Rattle.rules.proofs.Accepted.{cut-bytes}
 use Rattle.rules.proofs.OnTheWay.{Comes, comes, refuses, writes}
+use Rattle.exchange.specs.LentWorld.{tableIn}
 
 -- ---- what a call says it wrote stands in its datagram
 
 -- a law of the rule's outcome and of 14's is one of the call's
-from-table : {A : Type 0} (P : A → Type 0) (bad : A) (rule : Table → A) (l : List ℕ) → P bad → P (rule (decode l)) → P (fromTable bad rule l)
+from-table : {A : Type 0} (P : A → Type 0) (bad : A) (rule : Table → A) (l : List ℕ) → P bad → P (rule (tableIn l)) → P (fromTable bad rule l)
 unfolding fromTable
-from-table P bad rule l b r = go (valid l)
+from-table P bad rule l b r = go (validWhole l)
   where
-    go : (v : Bool) → P (pick v (rule (decode l)) bad)
+    go : (v : Bool) → P (pick v (rule (tableIn l)) bad)
     go true = r
     go false = b
 
@@ -56,21 +57,21 @@ pub digest-within : (excluded d l : List ℕ) (n : ℕ) → lentDigest excluded 
 unfolding writeDigest
 digest-within excluded d l n =
     from-table (λ (o : Given Written (List ℕ)). o .answer ≡ written.Bytes n → n ≤ length (o .lent)) (given (written.Refused BadTable) d) (λ t. writeDigest excluded 0 t d) l (λ e. let z : _≡_ {A = ℕ} 0 1 = cc in absurd (omega arith))
-    (bytes-within (digestBytes (digestOf excluded (decode l))) d n)
+    (bytes-within (digestBytes (digestOf excluded (tableIn l))) d n)
 
 pub delta-within : (excluded ties : List ℕ) (mtu : ℕ) (digest d l : List ℕ) (ops bytes : ℕ) → lentCompute excluded ties mtu 0 digest d l .answer ≡ computed.Delta ops bytes → bytes ≤ length (lentCompute excluded ties mtu 0 digest d l .lent)
 unfolding deltaFor
 delta-within excluded ties mtu digest d l ops bytes =
-    from-table Out (given (computed.Refused BadTable) d) (λ t. compute excluded ties mtu 0 digest t d) l (λ e. let z : _≡_ {A = ℕ} 0 1 = cc in absurd (omega arith)) (go _ (comes excluded ties mtu 0 digest (decode l) d))
+    from-table Out (given (computed.Refused BadTable) d) (λ t. compute excluded ties mtu 0 digest t d) l (λ e. let z : _≡_ {A = ℕ} 0 1 = cc in absurd (omega arith)) (go _ (comes excluded ties mtu 0 digest (tableIn l) d))
   where
     Out : Given Computed (List ℕ) → Type 0
     Out o = o .answer ≡ computed.Delta ops bytes → bytes ≤ length (o .lent)
 
-    go : (o : Given Computed (List ℕ)) → Comes excluded ties mtu 0 digest (decode l) d o → Out o
+    go : (o : Given Computed (List ℕ)) → Comes excluded ties mtu 0 digest (tableIn l) d o → Out o
     go o (refuses r) e = let z : _≡_ {A = ℕ} 0 1 = cc in absurd (omega arith)
     go o (writes ds rest q h g) e =
-        let b = deltaBytes (cut mtu (allOps (ordered (staleNodes excluded ds ties (decode l))))) in
+        let b = deltaBytes (cut mtu (allOps (ordered (staleNodes excluded ds ties (tableIn l))))) in
         let k : length b ≡ bytes = cc in
-        let m = cut-bytes mtu (allOps (ordered (staleNodes excluded ds ties (decode l)))) in
+        let m = cut-bytes mtu (allOps (ordered (staleNodes excluded ds ties (tableIn l)))) in
         let j = length-put 0 b d (omega arith) in
         omega arith

@@ -9,7 +9,7 @@ use Rattle.fields.specs.Parts.{part}
 use Rattle.rules.specs.Given.{Given, Gives}
 use Rattle.rules.specs.Compute.{compute}
 use Rattle.rules.specs.Digest.{writeDigest}
-use Rattle.rules.specs.Layout.{decode, valid}
+use Rattle.rules.specs.Whole.{decodeWhole, validWhole}
 use Rattle.rules.specs.Lent.{TableAndList, both, lentApply, lentCompute, lentDigest}
 use Rattle.rules.specs.declared.Refusal.{Refusal}
 use Rattle.rules.specs.declared.Written.{Written}
@@ -39,7 +39,7 @@ module _ (unsent ties : List ℕ) (mtu clock : ℕ) (told delta answers publishe
   outcome = lentAnswer unsent ties mtu clock told delta answers publisher follower
 
   -- of a good table it is the rule on it
-  pub made-good : valid publisher ≡ true → (a : Computed) (d : List ℕ) → Gives (compute unsent ties mtu 0 told (decode publisher) delta) a d → Gives made a d
+  pub made-good : validWhole publisher ≡ true → (a : Computed) (d : List ℕ) → Gives (compute unsent ties mtu 0 told (decodeWhole publisher .table) delta) a d → Gives made a d
   made-good v a d x =
       let same = good-table unsent ties mtu 0 told publisher delta v in
       (x .0 ∙ ap (λ (o : Given Computed (List ℕ)). o .answer) same, x .1 ∙ ap (λ (o : Given Computed (List ℕ)). o .lent) same)
@@ -76,7 +76,7 @@ module _ (g : Lending) (publisher follower : List ℕ) where
   answer-to b = lentAnswer (g .unsent) (g .ties) (g .mtu) (g .clock) b (g .delta) (g .answers) publisher follower
 
   -- of a good table it is the rule on it
-  pub told-good : valid follower ≡ true → (a : Written) (d : List ℕ) → Gives (writeDigest (g .unasked) 0 (decode follower) (g .digest)) a d → Gives told a d
+  pub told-good : validWhole follower ≡ true → (a : Written) (d : List ℕ) → Gives (writeDigest (g .unasked) 0 (decodeWhole follower .table) (g .digest)) a d → Gives told a d
   told-good v a d x =
       let same = Outcomes.good-table (g .unasked) 0 (g .digest) follower v in
       (x .0 ∙ ap (λ (o : Given Written (List ℕ)). o .answer) same, x .1 ∙ ap (λ (o : Given Written (List ℕ)). o .lent) same)

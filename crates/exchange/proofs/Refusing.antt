@@ -15,8 +15,8 @@ use Rattle.rules.specs.Given.{Given, given}
 use Rattle.rules.specs.Digest.{Entries, NodeDigest, digestBytes, digestOf, readDigest, writeDigest}
 use Rattle.rules.specs.Delta.{Good, Op, deltaBytes, partsOf, readDelta}
 use Rattle.rules.specs.Compute.{deltaFor, written}
-use Rattle.rules.specs.Apply.{apply}
-use Rattle.rules.specs.Layout.{decode, valid}
+use Rattle.rules.specs.Apply.{apply, waysOf}
+use Rattle.rules.specs.Whole.{areaOf, decodeWhole, validWhole}
 use Rattle.rules.specs.Lent.{fromTable, lentApply, lentApplyAs, lentCompute, lentDigest}
 use Rattle.rules.specs.declared.Refusal.the-variants.{BadTable, NoPlace}
 use Rattle.rules.specs.declared.Written.{Written}
@@ -26,6 +26,8 @@ use Rattle.rules.specs.declared.Applied.the-variants as applied
 use Rattle.rules.proofs.Accepted.{read-computed, within-mtu}
 use Rattle.rules.proofs.Digests.{read-digest}
 use Rattle.table.proofs.Tables.{valid-obeys}
+use Rattle.table.proofs.Wholes.{area-valid}
+use Rattle.apply.proofs.Applied.{reads-is}
 use Rattle.compute.specs.Asking.{askedOf}
 use Rattle.compute.specs.declared.Asked.{Asked}
 use Rattle.compute.specs.declared.Asked.the-variants as asked
@@ -39,27 +41,27 @@ use Rattle.exchange.proofs.FewNodes.{few-parts}
 -- ---- what was asked
 
 pub record IsReady (g : Lending) (publisher follower : List ℕ) : Type 0 where
-  pub follower-valid : valid follower ≡ true
-  pub publisher-valid : valid publisher ≡ true
-  pub digest-fits : length (digestBytes (digestOf (g .unasked) (decode follower))) ≤ length (g .digest)
-  pub numbers-good : askedOf (g .mtu) 0 (length (g .delta)) (length (g .ties)) (length (decode publisher)) ≡ asked.Good
-  pub places : length (decode publisher) ≤ length (g .answers)
+  pub follower-valid : validWhole follower ≡ true
+  pub publisher-valid : validWhole publisher ≡ true
+  pub digest-fits : length (digestBytes (digestOf (g .unasked) (decodeWhole follower .table))) ≤ length (g .digest)
+  pub numbers-good : askedOf (g .mtu) 0 (length (g .delta)) (length (g .ties)) (length (decodeWhole publisher .table)) ≡ asked.Good
+  pub places : length (decodeWhole publisher .table) ≤ length (g .answers)
 
 pub is-ready : (g : Lending) (publisher follower : List ℕ) → readyFor (g .unasked) (roomsOf g) publisher follower ≡ ready.Yes → IsReady g publisher follower
 unfolding readyFor readyOn
 is-ready g publisher follower =
-    go (valid follower) refl (valid publisher) refl (leb (length b) (length (g .digest))) refl
-    (askedOf (g .mtu) 0 (length (g .delta)) (length (g .ties)) (length (decode publisher))) refl
-    (leb (length (decode publisher)) (length (g .answers))) refl
+    go (validWhole follower) refl (validWhole publisher) refl (leb (length b) (length (g .digest))) refl
+    (askedOf (g .mtu) 0 (length (g .delta)) (length (g .ties)) (length (decodeWhole publisher .table))) refl
+    (leb (length (decodeWhole publisher .table)) (length (g .answers))) refl
   where
     b : List ℕ
-    b = digestBytes (digestOf (g .unasked) (decode follower))
+    b = digestBytes (digestOf (g .unasked) (decodeWhole follower .table))
 
-    go : (u : Bool) → valid follower ≡ u
-        → (v : Bool) → valid publisher ≡ v
+    go : (u : Bool) → validWhole follower ≡ u
+        → (v : Bool) → validWhole publisher ≡ v
         → (d : Bool) → leb (length b) (length (g .digest)) ≡ d
-        → (n : Asked) → askedOf (g .mtu) 0 (length (g .delta)) (length (g .ties)) (length (decode publisher)) ≡ n
-        → (p : Bool) → leb (length (decode publisher)) (length (g .answers)) ≡ p
+        → (n : Asked) → askedOf (g .mtu) 0 (length (g .delta)) (length (g .ties)) (length (decodeWhole publisher .table)) ≡ n
+        → (p : Bool) → leb (length (decodeWhole publisher .table)) (length (g .answers)) ≡ p
         → pick u (pick v (pick d (unlessRefused n (pick p ready.Yes (ready.No Applying NoPlace))) (ready.No Digest NoPlace)) (ready.No Delta BadTable)) (ready.No Digest BadTable) ≡ ready.Yes
         → IsReady g publisher follower
     go true u true v true d asked.Good n true p e =
@@ -74,14 +76,14 @@ is-ready g publisher follower =
 
 module _ (g : Lending) (publisher follower : List ℕ) (r : IsReady g publisher follower) where
   abbrev pub ds : List NodeDigest
-  ds = digestOf (g .unasked) (decode follower)
+  ds = digestOf (g .unasked) (decodeWhole follower .table)
 
   -- the digest's bytes, as they stand in their datagram
   abbrev pub told : List ℕ
   told = put 0 (digestBytes ds) (g .digest)
 
   abbrev pub sent : List Op
-  sent = deltaFor (g .unsent) (g .ties) (g .mtu) ds (decode publisher)
+  sent = deltaFor (g .unsent) (g .ties) (g .mtu) ds (decodeWhole publisher .table)
 
   pub digest-told : lentDigest (g .unasked) 0 (g .digest) follower ≡ given (written-as.Bytes (length (digestBytes ds))) told
   unfolding fromTable writeDigest
@@ -95,29 +97,31 @@ module _ (g : Lending) (publisher follower : List ℕ) (r : IsReady g publisher 
   digest-read =
       let h = r .digest-fits in
       ap readDigest (part-put 0 (digestBytes ds) (g .digest) (omega arith) ∙ sym (append-nil (digestBytes ds)))
-      ∙ read-digest (g .unasked) (decode follower) [] (valid-obeys follower (r .follower-valid))
+      ∙ read-digest (g .unasked) (decodeWhole follower .table) [] (valid-obeys (areaOf follower) (area-valid follower (r .follower-valid)))
 
   pub delta-made : lentCompute (g .unsent) (g .ties) (g .mtu) 0 (part 0 (length (digestBytes ds)) told) (g .delta) publisher ≡ written sent 0 (g .delta)
   delta-made =
       sym
-      (by-delta (g .unsent) (g .ties) (g .mtu) 0 (part 0 (length (digestBytes ds)) told) (decode publisher) (g .delta) ds [] (r .numbers-good) digest-read
+      (by-delta (g .unsent) (g .ties) (g .mtu) 0 (part 0 (length (digestBytes ds)) told) (decodeWhole publisher .table) (g .delta) ds [] (r .numbers-good) digest-read
       ∙ good-table (g .unsent) (g .ties) (g .mtu) 0 (part 0 (length (digestBytes ds)) told) publisher (g .delta) (r .publisher-valid))
 
   pub delta-read : readDelta (part 0 (length (deltaBytes sent)) (put 0 (deltaBytes sent) (g .delta))) ≡ Good sent
   delta-read =
-      let ok = valid-obeys publisher (r .publisher-valid) in
-      let n = granted (g .mtu) 0 (length (g .delta)) (length (g .ties)) (length (decode publisher)) (r .numbers-good) in
+      let ok = valid-obeys (areaOf publisher) (area-valid publisher (r .publisher-valid)) in
+      let n = granted (g .mtu) 0 (length (g .delta)) (length (g .ties)) (length (decodeWhole publisher .table)) (r .numbers-good) in
       let f = n .free in
-      let w = within-mtu (g .unsent) (g .ties) ds (decode publisher) ok (g .mtu) in
-      ap readDelta (part-put 0 (deltaBytes sent) (g .delta) (omega arith)) ∙ read-computed (g .unsent) (g .ties) ds (decode publisher) ok (g .mtu) (n .most)
+      let w = within-mtu (g .unsent) (g .ties) ds (decodeWhole publisher .table) ok (g .mtu) in
+      ap readDelta (part-put 0 (deltaBytes sent) (g .delta) (omega arith)) ∙ read-computed (g .unsent) (g .ties) ds (decodeWhole publisher .table) ok (g .mtu) (n .most)
 
   delta-taken : lentApply (part 0 (length (deltaBytes sent)) (put 0 (deltaBytes sent) (g .delta))) (g .clock) (g .answers) follower .answer ≡ applied.Nodes (length (partsOf sent))
   unfolding lentApplyAs apply
   delta-taken =
-      let f = few-parts (g .unsent) (g .ties) (g .mtu) ds (decode publisher) in
+      let f = few-parts (g .unsent) (g .ties) (g .mtu) ds (decodeWhole publisher .table) in
       let p = r .places in
       let b = le-leb (length (partsOf sent)) (length (g .answers)) (omega arith) in
-      rw (r .follower-valid, delta-read, b) refl
+      let d = part 0 (length (deltaBytes sent)) (put 0 (deltaBytes sent) (g .delta)) in
+      let q : waysOf (decodeWhole follower .mode) .reads d ≡ Good sent = reads-is (decodeWhole follower .mode) d ∙ delta-read in
+      rw (r .follower-valid, q, b) refl
 
   -- Nothing is refused.
   pub ready-done : threeCalls g publisher follower .answer ≡ exchanged.Done (length sent) (length (deltaBytes sent)) (length (partsOf sent))

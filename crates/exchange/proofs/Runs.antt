@@ -9,9 +9,8 @@ use Rattle.fields.specs.Choice.{pick}
 use Rattle.fields.specs.Parts.{part}
 use Rattle.rules.specs.Given.{Given}
 use Rattle.rules.specs.Sizes.{numbers}
-use Rattle.rules.specs.Apply.{plainWays}
 use Rattle.rules.specs.Lent.{lentApply, lentCompute, lentDigest}
-use Rattle.rules.specs.World.{Applying, Computing, DeltaSent, DigestSent, Digesting, Event, Exchange, afterDelta, afterDigest}
+use Rattle.rules.specs.World.{Applying, Computing, DeltaSent, DigestSent, Digesting, Event, Exchange, afterDelta, afterDigest, sentAfter}
 use Rattle.rules.specs.Demand3.{noRoom, wroteDelta, wroteDigest}
 use Rattle.rules.specs.declared.Written.{Written}
 use Rattle.rules.specs.declared.Written.the-variants as written
@@ -31,7 +30,7 @@ use Rattle.exchange.proofs.Refusing.{digest-told, is-ready, ready-done}
 -- the calls of a run are all granted
 unfoldable pub allLentGranted : List Event → LentWorld → Bool
 allLentGranted [] w = true
-allLentGranted (e ∷ es) w = lentGranted plainWays e w && allLentGranted es (lentHappen plainWays e w)
+allLentGranted (e ∷ es) w = lentGranted e w && allLentGranted es (lentHappen e w)
 
 and-true : (b : Bool) → (b && true) ≡ b
 and-true true = refl
@@ -55,32 +54,32 @@ module _ (g : Lending) (w : LentWorld) (clock : g .clock < numbers) where
 
   -- ---- the three events
 
-  first : (n : ℕ) → told .answer ≡ written.Bytes n → lentHappen plainWays asking w ≡ onWay (DigestSent (part 0 n (told .lent))) w
+  first : (n : ℕ) → told .answer ≡ written.Bytes n → lentHappen asking w ≡ onWay (DigestSent (part 0 n (told .lent))) (w .sent) w
   unfolding lentHappen
-  first n e = ap (λ (a : Written). onWay (afterDigest 0 (told .lent) a (w .exchange)) w) e
+  first n e = ap (λ (a : Written). onWay (afterDigest 0 (told .lent) a (w .exchange)) (w .sent) w) e
 
-  second : (b : List ℕ) (a : Computed) → made b .answer ≡ a → lentHappen plainWays answering (onWay (DigestSent b) w) ≡ onWay (afterDelta 0 (made b .lent) a (DigestSent b)) w
+  second : (b : List ℕ) (a : Computed) → made b .answer ≡ a → lentHappen answering (onWay (DigestSent b) (w .sent) w) ≡ onWay (afterDelta 0 (made b .lent) a (DigestSent b)) (sentAfter 0 (made b .lent) a (w .sent)) w
   unfolding lentHappen
-  second b a e = ap (λ (x : Computed). onWay (afterDelta 0 (made b .lent) x (DigestSent b)) w) e
+  second b a e = ap (λ (x : Computed). onWay (afterDelta 0 (made b .lent) x (DigestSent b)) (sentAfter 0 (made b .lent) x (w .sent)) w) e
 
-  third : (b : List ℕ) → lentHappen plainWays taking-in (onWay (DeltaSent b) w) ≡ exchangedTo (lentApply b (g .clock) (g .answers) (w .follower) .lent .table) (DeltaSent b) w
+  third : (b : List ℕ) (ss : List (List ℕ)) → lentHappen taking-in (onWay (DeltaSent b) ss w) ≡ exchangedTo (lentApply b (g .clock) (g .answers) (w .follower) .lent .table) (DeltaSent b) ss w
   unfolding lentHappen
-  third b = ap (λ (c : Bool). pick c (lentCalls plainWays taking-in (onWay (DeltaSent b) w)) (onWay (DeltaSent b) w)) (lt-ltb (g .clock) numbers clock)
+  third b ss = ap (λ (c : Bool). pick c (lentCalls taking-in (onWay (DeltaSent b) ss w)) (onWay (DeltaSent b) ss w)) (lt-ltb (g .clock) numbers clock)
 
   -- a digest that nobody answered
-  third-none : (b : List ℕ) → lentHappen plainWays taking-in (onWay (DigestSent b) w) ≡ exchangedTo (w .follower) (DigestSent b) w
+  third-none : (b : List ℕ) → lentHappen taking-in (onWay (DigestSent b) (w .sent) w) ≡ exchangedTo (w .follower) (DigestSent b) (w .sent) w
   unfolding lentHappen
-  third-none b = ap (λ (c : Bool). pick c (lentCalls plainWays taking-in (onWay (DigestSent b) w)) (onWay (DigestSent b) w)) (lt-ltb (g .clock) numbers clock)
+  third-none b = ap (λ (c : Bool). pick c (lentCalls taking-in (onWay (DigestSent b) (w .sent) w)) (onWay (DigestSent b) (w .sent) w)) (lt-ltb (g .clock) numbers clock)
 
   -- the three together
-  three : (b : List ℕ) (u v : LentWorld) → lentHappen plainWays asking w ≡ onWay (DigestSent b) w → lentHappen plainWays answering (onWay (DigestSent b) w) ≡ u → lentHappen plainWays taking-in u ≡ v → lentAfter plainWays (eventsOf g) w ≡ v
+  three : (b : List ℕ) (u v : LentWorld) → lentHappen asking w ≡ onWay (DigestSent b) (w .sent) w → lentHappen answering (onWay (DigestSent b) (w .sent) w) ≡ u → lentHappen taking-in u ≡ v → lentAfter (eventsOf g) w ≡ v
   unfolding lentAfter
-  three b u v p q r = ap (λ (x : LentWorld). lentHappen plainWays taking-in (lentHappen plainWays answering x)) p ∙ ap (lentHappen plainWays taking-in) q ∙ r
+  three b u v p q r = ap (λ (x : LentWorld). lentHappen taking-in (lentHappen answering x)) p ∙ ap (lentHappen taking-in) q ∙ r
 
   -- ---- the run
 
   -- The three calls are the three events, once there is a digest.
-  three-run : (n : ℕ) → told .answer ≡ written.Bytes n → (x : Exchange) × (lentAfter plainWays (eventsOf g) w ≡ exchangedTo (threeCalls g (w .publisher) (w .follower) .lent .follower) x w)
+  three-run : (n : ℕ) → told .answer ≡ written.Bytes n → (x : Exchange) × (ss : List (List ℕ)) × (lentAfter (eventsOf g) w ≡ exchangedTo (threeCalls g (w .publisher) (w .follower) .lent .follower) x ss w)
   unfolding threeCalls lentAnswer
   three-run n e = subst (λ (a : Written). Run (afterDigesting g (w .publisher) (w .follower) (told .lent) a)) (sym e) (answered (made b .answer) refl)
     where
@@ -88,11 +87,11 @@ module _ (g : Lending) (w : LentWorld) (clock : g .clock < numbers) where
       b = part 0 n (told .lent)
 
       Run : Given Exchanged ExchangeLent → Type 0
-      Run o = (x : Exchange) × (lentAfter plainWays (eventsOf g) w ≡ exchangedTo (o .lent .follower) x w)
+      Run o = (x : Exchange) × (ss : List (List ℕ)) × (lentAfter (eventsOf g) w ≡ exchangedTo (o .lent .follower) x ss w)
 
       answered : (a : Computed) → made b .answer ≡ a → Run (withDigest (told .lent) (afterComputing (g .clock) (g .answers) (w .follower) (made b .lent) a))
-      answered (computed.Delta ops bytes) q = let d = part 0 bytes (made b .lent) in (DeltaSent d, three b _ _ (first n e) (second b _ q) (third d))
-      answered (computed.Refused r) q = (DigestSent b, three b _ _ (first n e) (second b _ q) (third-none b))
+      answered (computed.Delta ops bytes) q = let d = part 0 bytes (made b .lent) in (DeltaSent d, d ∷ w .sent, three b _ _ (first n e) (second b _ q) (third d (d ∷ w .sent)))
+      answered (computed.Refused r) q = (DigestSent b, w .sent, three b _ _ (first n e) (second b _ q) (third-none b))
 
   abbrev is-asked : Ready
   is-asked = readyFor (g .unasked) (roomsOf g) (w .publisher) (w .follower)
@@ -106,8 +105,8 @@ module _ (g : Lending) (w : LentWorld) (clock : g .clock < numbers) where
       go ready.Yes e =
           let r = is-ready g (w .publisher) (w .follower) e in
           let run = three-run _ (ap (λ (o : Given Written (List ℕ)). o .answer) (digest-told g (w .publisher) (w .follower) r)) in
-          (run .0, ap (λ (a : Exchanged). lentAfter plainWays (runOf g a) w) (ready-done g (w .publisher) (w .follower) r) ∙ run .1)
-      go (ready.No s r) e = (w .exchange, refl)
+          (run .0, run .1, ap (λ (a : Exchanged). lentAfter (runOf g a) w) (ready-done g (w .publisher) (w .follower) r) ∙ run .2)
+      go (ready.No s r) e = (w .exchange, w .sent, refl)
 
   -- ---- nothing refused
 
@@ -118,10 +117,10 @@ module _ (g : Lending) (w : LentWorld) (clock : g .clock < numbers) where
     where
       -- of an exchange that goes on with a digest of these bytes
       rest : LentWorld → Bool
-      rest u = lentGranted plainWays answering u && (lentGranted plainWays taking-in (lentHappen plainWays answering u) && true)
+      rest u = lentGranted answering u && (lentGranted taking-in (lentHappen answering u) && true)
 
       after-made : LentWorld → Bool
-      after-made u = lentGranted plainWays taking-in u && true
+      after-made u = lentGranted taking-in u && true
 
       clock-is : ltb (g .clock) numbers ≡ true
       clock-is = lt-ltb (g .clock) numbers clock
@@ -130,22 +129,22 @@ module _ (g : Lending) (w : LentWorld) (clock : g .clock < numbers) where
       taken ops bytes (applied.Nodes n) l = and-true _
       taken ops bytes (applied.Refused r at) l = refl
 
-      answered : (b : List ℕ) (a : Computed) → made b .answer ≡ a → rest (onWay (DigestSent b) w) ≡ isGranted (withDigest (told .lent) (afterComputing (g .clock) (g .answers) (w .follower) (made b .lent) a))
+      answered : (b : List ℕ) (a : Computed) → made b .answer ≡ a → rest (onWay (DigestSent b) (w .sent) w) ≡ isGranted (withDigest (told .lent) (afterComputing (g .clock) (g .answers) (w .follower) (made b .lent) a))
       answered b (computed.Delta ops bytes) q =
           let d = part 0 bytes (made b .lent) in
           let o = lentApply d (g .clock) (g .answers) (w .follower) in
-          ap (λ (a : Computed). wroteDelta a && after-made (lentHappen plainWays answering (onWay (DigestSent b) w))) q
+          ap (λ (a : Computed). wroteDelta a && after-made (lentHappen answering (onWay (DigestSent b) (w .sent) w))) q
           ∙ ap after-made (second b _ q)
           ∙ ap (λ (c : Bool). (c && noRoom (o .answer) (o .lent .list)) && true) clock-is
           ∙ taken ops bytes (o .answer) (o .lent .list)
-      answered b (computed.Refused r) q = ap (λ (a : Computed). wroteDelta a && after-made (lentHappen plainWays answering (onWay (DigestSent b) w))) q
+      answered b (computed.Refused r) q = ap (λ (a : Computed). wroteDelta a && after-made (lentHappen answering (onWay (DigestSent b) (w .sent) w))) q
 
-      asked : (a : Written) → told .answer ≡ a → (wroteDigest (told .answer) && rest (lentHappen plainWays asking w)) ≡ isGranted (afterDigesting g (w .publisher) (w .follower) (told .lent) a)
+      asked : (a : Written) → told .answer ≡ a → (wroteDigest (told .answer) && rest (lentHappen asking w)) ≡ isGranted (afterDigesting g (w .publisher) (w .follower) (told .lent) a)
       asked (written.Bytes n) e =
-          ap (λ (a : Written). wroteDigest a && rest (lentHappen plainWays asking w)) e
+          ap (λ (a : Written). wroteDigest a && rest (lentHappen asking w)) e
           ∙ ap rest (first n e)
           ∙ answered (part 0 n (told .lent)) (made (part 0 n (told .lent)) .answer) refl
-      asked (written.Refused r) e = ap (λ (a : Written). wroteDigest a && rest (lentHappen plainWays asking w)) e
+      asked (written.Refused r) e = ap (λ (a : Written). wroteDigest a && rest (lentHappen asking w)) e
 
   -- What the call grants, its three events grant.
   pub exchange-granted : isGranted (lentExchange g (w .publisher) (w .follower)) ≡ true → allLentGranted (eventsOf g) w ≡ true

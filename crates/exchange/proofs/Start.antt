@@ -15,15 +15,15 @@ use Rattle.rules.specs.Sizes.{maxNodes, numbers}
 use Rattle.rules.specs.Node.{fresh}
 use Rattle.rules.specs.Table.{Entry, Table, addNode, among, numbersOf, obeys}
 use Rattle.rules.specs.Local.{add}
-use Rattle.rules.specs.Layout.{encode}
 use Rattle.rules.specs.Lent.{lentNew}
 use Rattle.rules.specs.World.{freshTable}
+use Rattle.rules.specs.declared.Mode.{Mode}
 use Rattle.rules.specs.declared.Answer.{Answer}
 use Rattle.rules.specs.declared.Answer.the-variants as plain
 use Rattle.rules.specs.declared.Refusal.the-variants.{BadTable}
 use Rattle.rules.proofs.Calls.{add-keeps, none-obeys}
 use Rattle.rules.proofs.Obeys.{Ascending, number-in, table-facts}
-use Rattle.exchange.specs.LentWorld.{lentAdds, lentStart}
+use Rattle.exchange.specs.LentWorld.{inMode, lentAdds, lentStart}
 use Rattle.exchange.proofs.LentWorld.{on-encoded}
 
 -- ---- a node whose number is above all others comes last
@@ -59,19 +59,19 @@ module _ (i : ℕ) (t rest : Table) (ok : obeys (t ++ (made i ∷ rest)) ≡ tru
       let x = last-added i t rest (table-facts _ ok .ascending) in
       rw (x .1, lt-ltb (length t) maxNodes few, x .0)
 
-adds : (is : List ℕ) (t : Table) → obeys t ≡ true → obeys (t ++ freshTable is) ≡ true → lentAdds is (encode t) ≡ encode (t ++ freshTable is)
+adds : (m : Mode) (is : List ℕ) (t : Table) → obeys t ≡ true → obeys (t ++ freshTable is) ≡ true → lentAdds is (inMode m t) ≡ inMode m (t ++ freshTable is)
 unfolding lentAdds freshTable
-adds [] t o ok = ap encode (sym (append-nil t))
-adds (i ∷ is) t o ok =
+adds m [] t o ok = ap (inMode m) (sym (append-nil t))
+adds m (i ∷ is) t o ok =
     let e = add-last i t (freshTable is) ok in
     let u = append-assoc t (made i ∷ []) (freshTable is) in
-    ap (λ (x : Given Answer (List ℕ)). lentAdds is (x .lent)) (on-encoded t o (plain.Refused BadTable) (add i))
-    ∙ ap (λ (x : Table). lentAdds is (encode x)) e
-    ∙ adds is (t ++ (made i ∷ [])) (subst (λ (x : Table). obeys x ≡ true) e (add-keeps i t (number-fits i t (freshTable is) ok) o)) (ap obeys u ∙ ok)
-    ∙ ap encode u
+    ap (λ (x : Given Answer (List ℕ)). lentAdds is (x .lent)) (on-encoded m t o (plain.Refused BadTable) (add i))
+    ∙ ap (λ (x : Table). lentAdds is (inMode m x)) e
+    ∙ adds m is (t ++ (made i ∷ [])) (subst (λ (x : Table). obeys x ≡ true) e (add-keeps i t (number-fits i t (freshTable is) ok) o)) (ap obeys u ∙ ok)
+    ∙ ap (inMode m) u
 
 module _ (is : List ℕ) (ok : obeys (freshTable is) ≡ true) where
   -- both tables at the start
-  pub start-made : (lentStart is .publisher ≡ lentAdds is lentNew) × (lentStart is .follower ≡ lentAdds is lentNew)
+  pub start-made : (p f : Mode) → (lentStart p f is .publisher ≡ lentAdds is (lentNew p)) × (lentStart p f is .follower ≡ lentAdds is (lentNew f))
   unfolding lentStart lentNew
-  start-made = let e = sym (adds is [] none-obeys ok) in (e, e)
+  start-made p f = (sym (adds p is [] none-obeys ok), sym (adds f is [] none-obeys ok))

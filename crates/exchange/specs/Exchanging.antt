@@ -10,7 +10,7 @@ use Rattle.fields.specs.Parts.{part}
 use Rattle.rules.specs.Answers.{Told, numberOf}
 use Rattle.rules.specs.Digest.{digestBytes, digestOf}
 use Rattle.rules.specs.Given.{Given, given}
-use Rattle.rules.specs.Layout.{decode, valid}
+use Rattle.rules.specs.Whole.{decodeWhole, validWhole}
 use Rattle.rules.specs.Lent.{TableAndList, lentDigest, lentCompute, lentApply}
 use Rattle.rules.specs.Table.{Table}
 use Rattle.rules.specs.declared.Refusal.the-variants.{BadTable, NoPlace}
@@ -90,8 +90,8 @@ readyOn unasked k publisher follower =
 -- 14 first: of the follower's table, of the publisher's
 unfoldable pub readyFor : (unasked : List ℕ) (rooms : Rooms) (publisher follower : Bytes) → Ready
 readyFor unasked k publisher follower =
-    pick (valid follower)
-    (pick (valid publisher) (readyOn unasked k (decode publisher) (decode follower)) (ready.No Delta BadTable))
+    pick (validWhole follower)
+    (pick (validWhole publisher) (readyOn unasked k (decodeWhole publisher .table) (decodeWhole follower .table)) (ready.No Delta BadTable))
     (ready.No Digest BadTable)
 
 -- ---- the second call and the third

@@ -9,7 +9,6 @@ use Rattle.fields.specs.Numbers.{Bytes}
 use Rattle.fields.specs.Choice.{pick}
 use Rattle.rules.specs.Sizes.{numbers}
 use Rattle.rules.specs.Given.{Given}
-use Rattle.rules.specs.Apply.{plainWays}
 use Rattle.rules.specs.Lent.{lentBeat, lentOffer}
 use Rattle.rules.specs.World.{Exchange, Event, Digesting, Computing, Applying, Side, Publishers, Followers}
 use Rattle.rules.specs.Demand3.{noRoom, leastWidth, isNone}
@@ -34,13 +33,13 @@ abbrev pub runOf : (lending : Lending) (answer : Exchanged) → List Event
 runOf g (exchanged.Done ops bytes nodes) = eventsOf g
 runOf g (exchanged.Refused s r) = []
 
--- the world after a call: only the follower's bytes and what is on its way may be others
-abbrev pub exchangedTo : (follower : Bytes) (exchange : Exchange) (world : LentWorld) → LentWorld
-exchangedTo f x w = record { publisher = w .publisher; follower = f; given = w .given; exchange = x }
+-- the world after a call: only the follower's bytes, what is on its way and what was ever computed may be others
+abbrev pub exchangedTo : (follower : Bytes) (exchange : Exchange) (sent : List Bytes) (world : LentWorld) → LentWorld
+exchangedTo f x ss w = record { publisher = w .publisher; follower = f; given = w .given; exchange = x; sent = ss }
 
 -- a call is a run
 abbrev pub IsRun : (lending : Lending) (world : LentWorld) (outcome : Given Exchanged ExchangeLent) → Type 0
-IsRun g w o = (x : Exchange) × (lentAfter plainWays (runOf g (o .answer)) w ≡ exchangedTo (o .lent .follower) x w)
+IsRun g w o = (x : Exchange) × (ss : List Bytes) × (lentAfter (runOf g (o .answer)) w ≡ exchangedTo (o .lent .follower) x ss w)
 
 -- nothing refused, read off the answer: no number, and no node answers Room
 abbrev pub grantedAs : (answer : Exchanged) (answers : Bytes) → Bool

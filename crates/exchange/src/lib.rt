@@ -9,7 +9,8 @@ use table::layout;
 ghost use mathlib.Core.Bool.{true};
 ghost use mathlib.Core.Path.{_≡_};
 ghost use Rattle.rules.specs.Given.{Gives, Tells};
-ghost use Rattle.rules.specs.Layout.{decode, valid};
+ghost use Rattle.rules.specs.Layout.{decode};
+ghost use Rattle.rules.specs.Whole.{validWhole};
 ghost use Rattle.table.specs.Fits.{LaidTable};
 ghost use Rattle.exchange.specs.Exchanging.{allFour, allThree, exchangedTold, lending, lentAnswer, lentExchange, readyFor, readyOn, rooms, threeCalls};
 
@@ -98,8 +99,8 @@ fn ask(
     if table_check::check_table(follower) {
         if table_check::check_table(publisher) {
             return ask_rooms(
-                publisher,
-                follower,
+                &publisher[..layout::AREA],
+                &follower[..layout::AREA],
                 unasked,
                 mtu,
                 ties,
@@ -133,13 +134,21 @@ fn answer_digest(
     delta: &mut [u8],
     answers: &mut [u8],
 ) -> Exchanged
-    requires { ⌜ valid (now publisher) ≡ true ⌝ }
+    requires { ⌜ validWhole (now publisher) ≡ true ⌝ }
     ensures { λ r. ⌜ Gives
         (lentAnswer (now (unsent .entry)) (now (ties .entry)) mtu clock
         (now (told .entry)) (now (delta .entry)) (now (answers .entry)) (now (publisher .entry)) (now (follower .entry)))
         r (allThree (now (follower .exit)) (now (delta .exit)) (now (answers .exit))) ⌝ }
 {
-    let computed = compute::compute_good(publisher, told, mtu, unsent, ties, delta, 0);
+    let computed = compute::compute_good(
+        &publisher[..layout::AREA],
+        told,
+        mtu,
+        unsent,
+        ties,
+        delta,
+        0,
+    );
     match computed {
         Computed::Delta { ops, bytes } => {
             let applied = apply::apply(follower, &delta[..bytes], clock, answers);
@@ -171,7 +180,7 @@ fn exchange_good(
     delta: &mut [u8],
     answers: &mut [u8],
 ) -> Exchanged
-    requires { ⌜ (valid (now publisher) ≡ true) × (valid (now follower) ≡ true) ⌝ }
+    requires { ⌜ (validWhole (now publisher) ≡ true) × (validWhole (now follower) ≡ true) ⌝ }
     ensures { λ r. ⌜ Gives
         (threeCalls
         (lending (now (unasked .entry)) (now (unsent .entry)) (now (ties .entry)) mtu clock
@@ -179,7 +188,7 @@ fn exchange_good(
         (now (publisher .entry)) (now (follower .entry)))
         r (allFour (now (follower .exit)) (now (digest .exit)) (now (delta .exit)) (now (answers .exit))) ⌝ }
 {
-    let written = digest_write::write_good(follower, unasked, digest, 0);
+    let written = digest_write::write_good(&follower[..layout::AREA], unasked, digest, 0);
     match written {
         Written::Bytes(n) => answer_digest(
             publisher,

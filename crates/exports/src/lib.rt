@@ -1,6 +1,6 @@
 // The calls that are measured beside the original, as C functions: a slice is a pointer and a length. Each is one call of a crate below and tells one
 // number of its answer. They are for measuring: where that number is a count, a refusal is told as 0 too, so a hub calls the crates below. A `_good`
-// function asks for a table that `kev_check` accepts, and nobody checks a foreign caller.
+// function asks for the area of a table that `kev_check` accepts, and nobody checks a foreign caller.
 use digest_read::DigestRead;
 use local_node::Kind;
 use lookup::Found;
@@ -8,6 +8,7 @@ use rules::Answer;
 use rules::Applied;
 use rules::Computed;
 use rules::DeltaRead;
+use rules::Mode;
 use rules::Written;
 ghost use mathlib.Core.Path.{_≡_};
 ghost use mathlib.Core.Bool.{true};
@@ -20,6 +21,7 @@ ghost use Rattle.rules.specs.Table.{removeAll};
 ghost use Rattle.rules.specs.Compute as computing;
 ghost use Rattle.rules.specs.Delta.{deltaRead};
 ghost use Rattle.rules.specs.Layout.{encode, decode, valid};
+ghost use Rattle.rules.specs.Whole.{modeOfByte, validWhole};
 ghost use Rattle.rules.specs.Lent.{stored, lentCall, lentGc, lentDigest, lentCompute, both, lentApply};
 ghost use Rattle.lookup.specs.Lookup.{foundIn, lentFind, startOf};
 ghost use Rattle.digest_read.specs.Held.{digestIn};
@@ -104,7 +106,7 @@ fn nodes_told(d: DigestRead) -> usize
 
 #[no_mangle]
 pub extern "C" fn kev_check(table: &[u8]) -> bool
-    ensures { λ r. ⌜ r ≡ valid (now (table .entry)) ⌝ }
+    ensures { λ r. ⌜ r ≡ validWhole (now (table .entry)) ⌝ }
 {
     table_check::check_table(table)
 }
@@ -257,12 +259,18 @@ pub extern "C" fn kev_apply(table: &mut [u8], delta: &[u8], clock: u64, answers:
     nodes_applied(apply::apply(table, delta, clock, answers))
 }
 
-// The delta must be one that `kev_read_delta` accepts, with a place for each answer.
+// The delta must be one that `kev_read_delta` accepts, with a place for each answer. The mode is told by its number, as it stands behind the area.
 #[no_mangle]
-pub extern "C" fn kev_apply_good(table: &mut [u8], delta: &[u8], clock: u64, answers: &mut [u8])
+pub extern "C" fn kev_apply_good(
+    table: &mut [u8],
+    mode: usize,
+    delta: &[u8],
+    clock: u64,
+    answers: &mut [u8],
+)
     requires { ⌜ (valid (now table) ≡ true) × Accepted (now delta) × (length (partsFrom (now delta) 0) ≤ length (now answers)) ⌝ }
     ensures { λ _. ⌜ both (now (table .exit)) (now (answers .exit))
-        ≡ partsApplied clock (partsFrom (now (delta .entry)) 0) (now (answers .entry)) (now (table .entry)) ⌝ }
+        ≡ partsApplied (modeOfByte mode) clock (partsFrom (now (delta .entry)) 0) (now (answers .entry)) (now (table .entry)) ⌝ }
 {
-    apply::apply_good(table, delta, clock, answers);
+    apply::apply_good(table, Mode::of_byte(mode), delta, clock, answers);
 }

@@ -5,6 +5,7 @@ use rules::Answer;
 use rules::Heartbeat;
 use rules::Offered;
 use rules::Refusal;
+use table::layout;
 use table_read::Span;
 ghost use mathlib.Core.Path.{_≡_};
 ghost use mathlib.Core.Bool.{true};
@@ -73,7 +74,7 @@ pub fn offer_heartbeat(table: &mut [u8], number: u64, got: Heartbeat) -> Offered
     ensures { λ r. ⌜ Tells offeredTold (lentOffer number got (now (table .entry))) r (now (table .exit)) ⌝ }
 {
     if table_check::check_table(table) {
-        return offer_good(table, number, got);
+        return offer_good(&mut table[..layout::AREA], number, got);
     }
     Offered::Refused(Refusal::BadTable)
 }
@@ -83,7 +84,7 @@ pub fn local_beat(table: &mut [u8], number: u64) -> Answer
     ensures { λ r. ⌜ Tells answerTold (lentBeat number (now (table .entry))) r (now (table .exit)) ⌝ }
 {
     if table_check::check_table(table) {
-        return beat_good(table, number);
+        return beat_good(&mut table[..layout::AREA], number);
     }
     Answer::Refused(Refusal::BadTable)
 }

@@ -10,6 +10,7 @@ use inspect_text::Text;
 use libc::STDOUT_FILENO;
 use rules::Answer;
 use rules::Header;
+use rules::Mode;
 use rules::Refusal;
 use rules::Status;
 use rules::sizes;
@@ -47,7 +48,7 @@ fn done(a: Answer) {
 }
 
 fn open(hub: &mut [u8]) {
-    done(nodes::new_table(hub));
+    done(nodes::new_table(hub, Mode::Plain));
     done(nodes::add_node(hub, POWER));
     done(nodes::add_node(hub, WATER));
 }
@@ -157,8 +158,10 @@ fn say_answer(code: u8) {
         say(b" reset");
     } else if code == 3 {
         say(b" room");
-    } else {
+    } else if code == 4 {
         say(b" unknown");
+    } else {
+        say(b" fenced");
     }
 }
 

@@ -58,7 +58,7 @@ pub fn node_count(table: &[u8]) -> Count
     ensures { λ r. ⌜ Says countTold (lentNodeCount (now (table .entry))) r ⌝ }
 {
     if table_check::check_table(table) {
-        node_count_good(table)
+        node_count_good(&table[..layout::AREA])
     } else {
         Count::Refused(Refusal::BadTable)
     }
@@ -81,7 +81,7 @@ pub fn node_number(table: &[u8], i: usize) -> NodeNumber
     ensures { λ r. ⌜ Says nodeNumberTold (lentNodeNumber i (now (table .entry))) r ⌝ }
 {
     if table_check::check_table(table) {
-        node_number_good(table, i)
+        node_number_good(&table[..layout::AREA], i)
     } else {
         NodeNumber::Refused(Refusal::BadTable)
     }
@@ -103,7 +103,7 @@ pub fn node_header(table: &[u8], number: u64) -> NodeHeader
     ensures { λ r. ⌜ Says nodeHeaderTold (lentNodeHeader number (now (table .entry))) r ⌝ }
 {
     if table_check::check_table(table) {
-        node_header_good(table, number)
+        node_header_good(&table[..layout::AREA], number)
     } else {
         NodeHeader::Refused(Refusal::BadTable)
     }
@@ -128,7 +128,7 @@ pub fn record_count(table: &[u8], number: u64) -> Count
     ensures { λ r. ⌜ Says countTold (lentRecordCount number (now (table .entry))) r ⌝ }
 {
     if table_check::check_table(table) {
-        record_count_good(table, number)
+        record_count_good(&table[..layout::AREA], number)
     } else {
         Count::Refused(Refusal::BadTable)
     }
@@ -162,7 +162,7 @@ pub fn record_at(table: &[u8], number: u64, j: usize) -> RecordRead
     ensures { λ r. ⌜ Says recordReadTold (lentReadRecord number j (now (table .entry))) r ⌝ }
 {
     if table_check::check_table(table) {
-        record_at_good(table, number, j)
+        record_at_good(&table[..layout::AREA], number, j)
     } else {
         RecordRead::Refused(Refusal::BadTable)
     }
@@ -198,7 +198,7 @@ pub fn record_by_key(table: &[u8], number: u64, key: &[u8]) -> RecordRead
     ensures { λ r. ⌜ Says recordReadTold (lentRecordByKey number (now (key .entry)) (now (table .entry))) r ⌝ }
 {
     if table_check::check_table(table) {
-        record_by_key_good(table, number, key)
+        record_by_key_good(&table[..layout::AREA], number, key)
     } else {
         RecordRead::Refused(Refusal::BadTable)
     }

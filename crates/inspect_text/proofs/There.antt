@@ -11,17 +11,20 @@ use Rattle.fields.specs.Choice.{pick}
 use Rattle.fields.specs.Parts.{part}
 use Rattle.rules.specs.Node.{Rec}
 use Rattle.rules.specs.Layout.{recWidth, nodeWidth, decodeRec, decode, valid}
+use Rattle.rules.specs.Table.{Table}
+use Rattle.rules.specs.Whole.{areaOf, decodeWhole, validWhole}
 use Rattle.rules.specs.Lent.{fromTable}
 use Rattle.rules.specs.declared.Refusal.the-variants.{NoNode, NoPlace, BadTable}
 use Rattle.table.specs.Tests.{keyLength, valueLength, countOf, recsIn}
 use Rattle.table.proofs.Places.{recBytes, recAt}
 use Rattle.table.proofs.Laid.{laid-key, laid-value}
+use Rattle.table.proofs.Wholes.{area-valid}
 use Rattle.table_read.specs.Find.{spanIn}
 use Rattle.table_read.specs.declared.Span.{Span}
 use Rattle.table_read.specs.declared.Span.the-variants.{Held, Missing}
 use Rattle.table_read.proofs.Held.{held-laid, held-start, held-node, missing-node}
 use Rattle.lookup.specs.declared.Found.the-variants.{Refused}
-use Rattle.lookup.proofs.Values.{text-within, text-there, Stands, refused-stands}
+use Rattle.lookup.proofs.Values.{text-within, text-there, Stands, refused-stands, area-stands}
 use Rattle.inspect.specs.Look.{elementAt}
 use Rattle.inspect.proofs.Elements.{rec-there, no-rec-there}
 use Rattle.inspect_text.specs.Texts.{textOf, textOffset, placeOn, textFound, lentTextFound, recordBytes, bytesIn}
@@ -68,8 +71,11 @@ text-stands l v x n j = go (spanIn n l) refl
 -- in any bytes
 pub lent-text-stands : (l : List ℕ) (x : Text) (n j : ℕ) → Stands l (lentTextFound x n j l) (fromTable [] (bytesIn x n j) l)
 unfolding fromTable
-lent-text-stands l x n j = go (valid l) refl
+lent-text-stands l x n j = go (validWhole l) refl
   where
-    go : (t : Bool) → valid l ≡ t → Stands l (pick t (textFound x n j (decode l)) (Refused BadTable)) (pick t (bytesIn x n j (decode l)) [])
-    go true v = text-stands l v x n j
+    t : Table
+    t = decodeWhole l .table
+
+    go : (b : Bool) → validWhole l ≡ b → Stands l (pick b (textFound x n j t) (Refused BadTable)) (pick b (bytesIn x n j t) [])
+    go true v = area-stands l v (textFound x n j t) (bytesIn x n j t) (text-stands (areaOf l) (area-valid l v) x n j)
     go false v = refused-stands l (Refused BadTable) refl refl

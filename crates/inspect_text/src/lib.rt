@@ -61,7 +61,7 @@ pub fn find_text(table: &[u8], number: u64, j: usize, text: Text) -> Found
     ensures { λ r. ⌜ Says foundTold (lentTextFound text number j (now (table .entry))) r ⌝ }
 {
     if table_check::check_table(table) {
-        find_text_good(table, number, j, text)
+        find_text_good(&table[..layout::AREA], number, j, text)
     } else {
         Found::Refused(Refusal::BadTable)
     }

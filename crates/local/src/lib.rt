@@ -4,6 +4,7 @@
 use local_node::Kind;
 use rules::Answer;
 use rules::Refusal;
+use table::layout;
 use table_read::Span;
 ghost use mathlib.Core.Path.{_≡_};
 ghost use mathlib.Core.Bool.{true};
@@ -42,7 +43,7 @@ fn write(table: &mut [u8], number: u64, kind: Kind, key: &[u8], value: &[u8], cl
         r (now (table .exit)) ⌝ }
 {
     if table_check::check_table(table) {
-        return write_good(table, number, kind, key, value, clock);
+        return write_good(&mut table[..layout::AREA], number, kind, key, value, clock);
     }
     Answer::Refused(Refusal::BadTable)
 }

@@ -1,5 +1,5 @@
 -- What a lookup finds on the bytes is what the rules find: a place that was found lies within the table, and the bytes there are the rules' value
--- (`found-means`, `lent-means`), which are then handed out. Before that, what the search for the key says of the place. Assumes nothing.
+-- (`found-means`), which are then handed out. Before that, what the search for the key says of the place. Assumes nothing.
 use Prim.Native.Nat.{ℕ, _+_, _≤_, _<_}
 use mathlib.Core.Path.{_≡_, refl, ap, ap₂, sym, _∙_, subst}
 use mathlib.Core.Bool.{Bool, true, false}
@@ -13,19 +13,23 @@ use Rattle.fields.specs.Choice.{pick}
 use Rattle.fields.specs.Order.{sameBytes}
 use Rattle.fields.specs.Parts.{part}
 use Rattle.fields.specs.Widths.{offset}
+use Rattle.fields.proofs.Lent.{seen-first}
 use Rattle.fields.proofs.Parts.{length-part, part-part}
 use Rattle.rules.specs.Sizes.{maxKey}
 use Rattle.rules.specs.Node.{Rec, hidden, shown, find}
-use Rattle.rules.specs.Table.{keysRise}
+use Rattle.rules.specs.Table.{Table, keysRise}
 use Rattle.rules.specs.Local as rule
 use Rattle.rules.specs.Local.{foundOf, lookupOn}
-use Rattle.rules.specs.Layout.{recWidths, recPlace, recWidth, nodeWidth, decodeRec, decodeNode, decode, valid}
+use Rattle.rules.specs.Layout.{recWidths, recPlace, recWidth, nodeWidth, tableWidth, decodeRec, decodeNode, decode, valid}
+use Rattle.rules.specs.Whole.{areaOf, decodeWhole, validWhole}
 use Rattle.rules.specs.Lent.{fromTable, lentLookup}
 use Rattle.rules.specs.declared.Refusal.the-variants.{TooLong, BadTable}
 use Rattle.table.specs.Tests.{valueLength, countOf, recsIn}
 use Rattle.table.specs.Fits.{LaidNode}
 use Rattle.table.proofs.Places.{recBytes, recAt, recs-at, in-rec}
 use Rattle.table.proofs.Laid.{rec-long, laid-value}
+use Rattle.table.proofs.Tables.{valid-long}
+use Rattle.table.proofs.Wholes.{area-valid, whole-long}
 use Rattle.table_read.specs.Find.{toKey, findKey, spanIn}
 use Rattle.table_read.specs.declared.Place.{Place}
 use Rattle.table_read.specs.declared.Place.the-variants as place
@@ -138,15 +142,6 @@ found-means l v n k = go (spanIn n l) refl
     go (Held start end) e = rw (held-start n l v e, held-node n l v e) (node-means n l v e k)
     go Missing e = rw (missing-node n l v e) (omega arith, refl)
 
--- in any bytes
-pub lent-means : (l : List ℕ) (n : ℕ) (k : List ℕ) → Means l (lentFind n k l) (lentLookup n k l)
-unfolding fromTable
-lent-means l n k = go (valid l) refl
-  where
-    go : (t : Bool) → valid l ≡ t → Means l (pick t (foundIn n k (decode l)) (Refused BadTable)) (pick t (rule.lookup n k (decode l)) (rule.NotFound BadTable))
-    go true v = found-means l v n k
-    go false v = (omega arith, refl)
-
 -- ---- what is handed out
 
 -- a place that was found stands for these bytes
@@ -167,8 +162,28 @@ means-stands l (Refused x) r h = (h .0, ap handed (h .1))
 pub found-stands : (l : List ℕ) (v : valid l ≡ true) (n : ℕ) (k : List ℕ) → Stands l (foundIn n k (decode l)) (handed (rule.lookup n k (decode l)))
 found-stands l v n k = means-stands l (foundIn n k (decode l)) (rule.lookup n k (decode l)) (found-means l v n k)
 
+-- what stands at a place of the area stands there in the whole
+pub area-stands : (l : List ℕ) → validWhole l ≡ true → (f : Found) (bytes : List ℕ) → Stands (areaOf l) f bytes → Stands l f bytes
+area-stands l v f bytes s =
+    let long : length (areaOf l) ≡ tableWidth = valid-long (areaOf l) (area-valid l v) in
+    let w = whole-long l v in
+    let same : part (startOf f) (lenOf f) (areaOf l) ≡ part (startOf f) (lenOf f) l =
+    ap (part (startOf f) (lenOf f)) (seen-first tableWidth l)
+    ∙ part-part (startOf f) (lenOf f) 0 tableWidth l (omega (arith, s .0, long)) (omega (arith, w))
+    ∙ ap (λ (k : ℕ). part k (lenOf f) l) (zero-add (startOf f)) in
+    (omega (arith, s .0, long, w), sym same ∙ s .1)
+
+-- in any bytes
 pub lent-stands : (l : List ℕ) (n : ℕ) (k : List ℕ) → Stands l (lentFind n k l) (handed (lentLookup n k l))
-lent-stands l n k = means-stands l (lentFind n k l) (lentLookup n k l) (lent-means l n k)
+unfolding fromTable
+lent-stands l n k = go (validWhole l) refl
+  where
+    t : Table
+    t = decodeWhole l .table
+
+    go : (b : Bool) → validWhole l ≡ b → Stands l (pick b (foundIn n k t) (Refused BadTable)) (handed (pick b (rule.lookup n k t) (rule.NotFound BadTable)))
+    go true v = area-stands l v (foundIn n k t) (handed (rule.lookup n k t)) (found-stands (areaOf l) (area-valid l v) n k)
+    go false v = refused-stands l (Refused BadTable) refl refl
 
 -- the code found the place f, and it is g
 module _ (l : List ℕ) {f g : Found} (e : f ≡ g) (bytes : List ℕ) (s : Stands l g bytes) where

@@ -80,7 +80,7 @@ pub fn find(table: &[u8], number: u64, key: &[u8]) -> Found
     ensures { λ r. ⌜ Says foundTold (lentFind number (now (key .entry)) (now (table .entry))) r ⌝ }
 {
     if table_check::check_table(table) {
-        find_good(table, number, key)
+        find_good(&table[..layout::AREA], number, key)
     } else {
         Found::Refused(Refusal::BadTable)
     }

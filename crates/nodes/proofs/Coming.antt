@@ -8,18 +8,23 @@ use lib.ListN.{length}
 use lib.Dec.{eqb, ltb}
 use borrow.Author.Tests.{eq-eqb, ne-eqb, lt-ltb, le-ltb}
 use Rattle.fields.specs.Choice.{pick}
+use Rattle.fields.specs.Numbers.{bytesOf}
 use Rattle.fields.specs.Parts.{put}
 use Rattle.fields.specs.Blocks.{zeros, flat, blocks, insertAt, removeAt}
 use Rattle.fields.specs.Widths.{joined}
 use Rattle.fields.proofs.Choice.{pick-true, pick-false}
 use Rattle.fields.proofs.Parts.{put-at}
 use Rattle.fields.proofs.Blocks.{length-zeros, zeros-add, bytes-zero, blocks-is}
+use Rattle.rules.specs.Answers.{modeOf}
 use Rattle.rules.specs.Given.{Given, given, Gives}
 use Rattle.rules.specs.Sizes.{maxNodes}
 use Rattle.rules.specs.Table.{Table, addNode, dropNode, numbersOf, among}
 use Rattle.rules.specs.Local.{Outcome, gives, add, removeNode}
 use Rattle.rules.specs.Lent.{stored, lentNew}
 use Rattle.rules.specs.Layout.{nodeWidth, tableWidth, encodeNode, encode, decode, valid}
+use Rattle.rules.specs.Whole.{wholeWidth, encodeWhole}
+use Rattle.rules.specs.declared.Mode.{Mode}
+use Rattle.rules.specs.declared.Mode.the-variants.{Plain}
 use Rattle.rules.specs.declared.Answer.{Answer}
 use Rattle.rules.specs.declared.Answer.the-variants.{Done, Refused}
 use Rattle.rules.specs.declared.Refusal.the-variants.{BadTable, NinthNode, NoNode}
@@ -27,6 +32,7 @@ use Rattle.table.specs.Changes.{freshEntry}
 use Rattle.table.specs.Tests.{nodesOf}
 use Rattle.table.proofs.Nodes.{length-node}
 use Rattle.table.proofs.Tables.{encode-decode, length-decode}
+use Rattle.table.proofs.Wholes.{mode-put, plain-tail}
 use Rattle.table_read.specs.Find.{findNode}
 use Rattle.table_read.specs.declared.Place.the-variants.{At, Free}
 use Rattle.table_read.proofs.Searched.{nodes-ordered}
@@ -43,24 +49,33 @@ zero-table : encode [] ≡ zeros tableWidth
 unfolding encode joined
 zero-table = rw (encode, joined, no-nodes, bytes-zero 1, append-nil) (simp zeros-add)
 
+zero-whole : encodeWhole (record { mode = Plain; table = [] }) ≡ zeros wholeWidth
+unfolding encodeWhole joined
+zero-whole = rw (encodeWhole, joined, zero-table, plain-tail, append-nil) (simp zeros-add)
+
 put-whole : (vs l : List ℕ) → length vs ≡ length l → put 0 vs l ≡ vs
 put-whole vs l e = ap (put 0 vs) (sym (append-nil l)) ∙ put-at 0 vs [] l [] refl e ∙ append-nil vs
 
-module _ (l : List ℕ) where
-  pub made : length l ≡ tableWidth → (s : List ℕ) → s ≡ put 0 (zeros tableWidth) l → Gives (lentMade l) Done s
+module _ (m : Mode) (l : List ℕ) where
+  -- the slice is cleared, and then the mode stands in it
+  pub made : length l ≡ wholeWidth → (s t : List ℕ) → s ≡ put 0 (zeros wholeWidth) l → t ≡ put tableWidth (bytesOf 1 (modeOf m)) s → Gives (lentMade m l) Done t
   unfolding lentMade lentNew
-  made e s q =
-      let o : lentMade l ≡ given Done lentNew =
-      pick-true (eqb (length l) tableWidth) (given Done lentNew) (given (Refused BadTable) l) (eq-eqb (length l) tableWidth e) in (
+  made e s t p q =
+      let o : lentMade m l ≡ given Done (lentNew m) =
+      pick-true (eqb (length l) wholeWidth) (given Done (lentNew m)) (given (Refused BadTable) l) (eq-eqb (length l) wholeWidth e) in
+      let empty : s ≡ encodeWhole (record { mode = Plain; table = [] }) = p ∙ put-whole (zeros wholeWidth) l (length-zeros wholeWidth ∙ sym e) ∙ sym zero-whole in (
         ap (λ (x : Given Answer (List ℕ)). x .answer) (sym o),
-        q ∙ put-whole (zeros tableWidth) l (length-zeros tableWidth ∙ sym e) ∙ sym zero-table ∙ ap (λ (x : Given Answer (List ℕ)). x .lent) (sym o),
+        q
+            ∙ ap (put tableWidth (bytesOf 1 (modeOf m))) empty
+            ∙ mode-put m (record { mode = Plain; table = [] })
+            ∙ ap (λ (x : Given Answer (List ℕ)). x .lent) (sym o),
       )
 
-  pub not-made : (length l ≡ tableWidth → ⊥) → Gives (lentMade l) (Refused BadTable) l
+  pub not-made : (length l ≡ wholeWidth → ⊥) → Gives (lentMade m l) (Refused BadTable) l
   unfolding lentMade
   not-made n =
-      let o : lentMade l ≡ given (Refused BadTable) l =
-      pick-false (eqb (length l) tableWidth) (given Done lentNew) (given (Refused BadTable) l) (ne-eqb (length l) tableWidth n) in (
+      let o : lentMade m l ≡ given (Refused BadTable) l =
+      pick-false (eqb (length l) wholeWidth) (given Done (lentNew m)) (given (Refused BadTable) l) (ne-eqb (length l) wholeWidth n) in (
         ap (λ (x : Given Answer (List ℕ)). x .answer) (sym o),
         ap (λ (x : Given Answer (List ℕ)). x .lent) (sym o),
       )

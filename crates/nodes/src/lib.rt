@@ -2,6 +2,7 @@
 // 14 and 2, and a node held already is left as it is. `new_table` asks only how long the slice is. `add_good` and `remove_good` do the same on a
 // table known to be good. A refused call changes no byte.
 use rules::Answer;
+use rules::Mode;
 use rules::Refusal;
 use rules::sizes;
 use table::layout;
@@ -15,14 +16,15 @@ ghost use Rattle.rules.specs.Lent.{stored, lentAdd, lentRemoveNode};
 ghost use Rattle.rules.specs.Layout.{decode, valid};
 ghost use Rattle.nodes.specs.New.{lentMade};
 
-// The slice becomes an empty table, whatever stood there; one of another length is refused with 14.
-pub fn new_table(table: &mut [u8]) -> Answer
-    ensures { λ r. ⌜ Tells answerTold (lentMade (now (table .entry))) r (now (table .exit)) ⌝ }
+// The slice becomes an empty table in this mode, whatever stood there; one of another length is refused with 14.
+pub fn new_table(table: &mut [u8], mode: Mode) -> Answer
+    ensures { λ r. ⌜ Tells answerTold (lentMade mode (now (table .entry))) r (now (table .exit)) ⌝ }
 {
     if table.len() != layout::TABLE {
         return Answer::Refused(Refusal::BadTable);
     }
     fields::clear(table, 0, layout::TABLE);
+    fields::write_byte(table, layout::AREA + layout::MODE, mode.byte());
     Answer::Done
 }
 
@@ -62,7 +64,7 @@ pub fn add_node(table: &mut [u8], number: u64) -> Answer
     ensures { λ r. ⌜ Tells answerTold (lentAdd number (now (table .entry))) r (now (table .exit)) ⌝ }
 {
     if table_check::check_table(table) {
-        return add_good(table, number);
+        return add_good(&mut table[..layout::AREA], number);
     }
     Answer::Refused(Refusal::BadTable)
 }
@@ -72,7 +74,7 @@ pub fn remove_node(table: &mut [u8], number: u64) -> Answer
     ensures { λ r. ⌜ Tells answerTold (lentRemoveNode number (now (table .entry))) r (now (table .exit)) ⌝ }
 {
     if table_check::check_table(table) {
-        return remove_good(table, number);
+        return remove_good(&mut table[..layout::AREA], number);
     }
     Answer::Refused(Refusal::BadTable)
 }

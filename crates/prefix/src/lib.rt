@@ -107,7 +107,7 @@ pub fn list_prefix(table: &[u8], number: u64, prefix: &[u8], out: &mut [u8]) -> 
     ensures { λ r. ⌜ Tells listedTold (lentPrefixed number (now (prefix .entry)) (now (out .entry)) (now (table .entry))) r (now (out .exit)) ⌝ }
 {
     if table_check::check_table(table) {
-        list_good(table, number, prefix, out)
+        list_good(&table[..layout::AREA], number, prefix, out)
     } else {
         Listed::Refused(Refusal::BadTable)
     }

@@ -103,7 +103,7 @@ pub fn remove_scheduled(table: &mut [u8], clock: u64, grace: u64) -> Answer
     ensures { λ r. ⌜ Tells answerTold (lentGc clock grace (now (table .entry))) r (now (table .exit)) ⌝ }
 {
     if table_check::check_table(table) {
-        remove_good(table, clock, grace);
+        remove_good(&mut table[..layout::AREA], clock, grace);
         Answer::Done
     } else {
         Answer::Refused(Refusal::BadTable)

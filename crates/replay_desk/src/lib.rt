@@ -4,6 +4,9 @@ use replay_words::read;
 use replay_words::read::Count;
 use replay_words::read::Numeral;
 use replay_words::verbs;
+use rules::Answer;
+use rules::Mode;
+use rules::Refusal;
 use table::layout;
 
 // Room for a table, good or not: a byte more than a good one has.
@@ -94,11 +97,26 @@ fn hub(desk: Desk, line: &[u8], out: &mut [u8]) -> Desk {
     desk
 }
 
-// An empty table in the first bytes of the room.
-fn new_table(desk: Desk, room: &mut [u8], out: &mut [u8]) -> Desk {
-    let answer = nodes::new_table(read::front_mut(room, layout::TABLE));
+// An empty table in this mode in the first bytes of the room.
+fn new_table(desk: Desk, mode: Mode, room: &mut [u8], out: &mut [u8]) -> Desk {
+    let answer = nodes::new_table(read::front_mut(room, layout::TABLE), mode);
     let next = replay_tell::answer(out, desk.out, answer);
     desk.with_lent(layout::TABLE).with_out(next)
+}
+
+// The same in the mode that the word names by its number. A number that names none is 14, and the table stays.
+fn make_table(desk: Desk, room: &mut [u8], word: &[u8], out: &mut [u8]) -> Desk {
+    let Numeral::Is(n) = read::number(word) else {
+        return desk;
+    };
+    if n == 0 {
+        return new_table(desk, Mode::Plain, room, out);
+    }
+    if n == 1 {
+        return new_table(desk, Mode::Fenced, room, out);
+    }
+    let next = replay_tell::answer(out, desk.out, Answer::Refused(Refusal::BadTable));
+    desk.with_out(next)
 }
 
 // From now on the bytes that the word says are the lent table, good or not.
@@ -136,7 +154,8 @@ pub fn shelf_call(
     out: &mut [u8],
 ) -> Desk {
     match verb {
-        verbs::NEW => new_table(desk, room, out),
+        verbs::NEW => new_table(desk, Mode::Plain, room, out),
+        verbs::MAKE => make_table(desk, room, read::word(line, 1), out),
         verbs::HUB => hub(desk, line, out),
         verbs::DUMP => dump(desk, room, out),
         _ => take_table(desk, room, digest, delta, read::word(line, 1), out),

@@ -92,7 +92,7 @@ fn verdict(out: &mut [u8], at: usize, code: u8) -> usize {
     print::text(
         out,
         at,
-        read::word(b"reject apply reset room unknown", code as usize),
+        read::word(b"reject apply reset room unknown fenced", code as usize),
     )
 }
 

@@ -17,7 +17,7 @@ use Rattle.rules.specs.Table.{Entry, Table, versions, among}
 use Rattle.rules.specs.Digest.{NodeDigest}
 use Rattle.rules.specs.Delta.{Op, sizeOf, NodeDelta, Part, partsOf, maxOf, opBytes, recsOf, textBytes}
 use Rattle.rules.specs.Compute.{fromOf, deltaFor, allOps, byVersion, cut, keyValueOps, ordered, queue, sooner, stale, staleNodes, toldOf}
-use Rattle.rules.specs.Apply.{Taken, applyNode, deltaStatus, newerOf, outcome, plainWays, statusOf, takeAll, takes}
+use Rattle.rules.specs.Apply.{Taken, applyNode, deltaStatus, fencedWays, newerOf, outcome, plainWays, statusOf, takeAll, takes}
 use Rattle.rules.specs.declared.Beat.{Beat}
 use Rattle.rules.specs.declared.Status.{Status}
 use Rattle.rules.specs.declared.Status.the-variants.{Set, Delete, Ttl}
@@ -66,6 +66,10 @@ told x = codeOf (x .answer) ∷ x .node .heartbeat .0 ∷ x .node .last-gc ∷ x
 
 abbrev applied : Node → NodeDelta → List ℕ
 applied n d = told (applyNode plainWays 1000 d n)
+
+-- by a node of a fenced table
+abbrev fenced : Node → NodeDelta → List ℕ
+fenced n d = told (applyNode fencedWays 1000 d n)
 
 -- a tombstone of version 3 that starts at 100, under a grace of 50: last_gc afterwards, and the versions held
 abbrev tombstone : Rec
@@ -175,6 +179,15 @@ cases =
     ∷ case (applied (node 0 5 (live 5 ∷ [])) (delta 0 0 (kv 1 4 Set ∷ kv 2 6 Ttl ∷ []) 6)) (1 ∷ 7 ∷ 0 ∷ 6 ∷ 6 ∷ 5 ∷ [])
     -- a late delta is taken by the rule: own (10,3) takes last_gc 0, from 3, max 5
     ∷ case (applied (node 10 3 []) (delta 0 3 (kv 1 5 Set ∷ []) 5)) (1 ∷ 7 ∷ 10 ∷ 5 ∷ 5 ∷ [])
+    -- a fenced node at (10,3) answers Fenced to it and stays, also where step 3 would reject; but a delta from the future is rejected
+    ∷ case (fenced (node 10 3 (live 2 ∷ [])) (delta 0 3 (kv 1 5 Set ∷ []) 5)) (5 ∷ 7 ∷ 10 ∷ 3 ∷ 2 ∷ [])
+    ∷ case (fenced (node 10 3 (live 2 ∷ [])) (delta 9 0 [] 3)) (5 ∷ 7 ∷ 10 ∷ 3 ∷ 2 ∷ [])
+    ∷ case (fenced (node 10 3 (live 2 ∷ [])) (delta 0 4 (kv 1 5 Set ∷ []) 5)) (0 ∷ 7 ∷ 10 ∷ 3 ∷ 2 ∷ [])
+    -- it takes one with the same last_gc, and is reset by one with a greater; at (10,12) no delta is fenced off, at (10,10) neither
+    ∷ case (fenced (node 10 3 (live 2 ∷ [])) (delta 10 3 (kv 1 5 Set ∷ []) 5)) (1 ∷ 7 ∷ 10 ∷ 5 ∷ 5 ∷ 2 ∷ [])
+    ∷ case (fenced (node 10 3 (live 2 ∷ [])) (delta 11 0 (kv 1 5 Set ∷ []) 5)) (2 ∷ 0 ∷ 11 ∷ 5 ∷ 5 ∷ [])
+    ∷ case (fenced (node 10 12 []) (delta 0 12 (kv 1 13 Set ∷ []) 13)) (1 ∷ 7 ∷ 10 ∷ 13 ∷ 13 ∷ [])
+    ∷ case (fenced (node 10 10 []) (delta 0 10 (kv 1 13 Set ∷ []) 13)) (1 ∷ 7 ∷ 10 ∷ 13 ∷ 13 ∷ [])
     ∷ []
 
 pub all-hold : all holds cases ≡ true

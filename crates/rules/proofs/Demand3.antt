@@ -1,6 +1,7 @@
 -- Demand 3: the theorem. Whatever happens to a publisher and a follower that began fresh with the same nodes, the claims of specs/Demand3 hold
 -- at every moment, no pair falls, and the closing count ends it. Nothing is assumed but that the fresh tables obey document 01's rules: at most
--- eight nodes, ascending numbers below 2^64. It is proved of a follower in any lawful ways (specs/Apply); document 01's are the plain ones.
+-- eight nodes, ascending numbers below 2^64. It is proved of a follower in any lawful ways (specs/Apply); document 01's are the plain ones, and those of
+-- ticket 3 the fenced ones.
 use Prim.Native.Nat.{_≤_, ℕ}
 use mathlib.Core.Bool.{true}
 use mathlib.Core.List.{List, _++_}
@@ -8,10 +9,10 @@ use mathlib.Core.Option.{some}
 use mathlib.Core.Path.{_≡_, ap, subst, subst₂}
 use Rattle.rules.proofs.Closing.{after-append, closing}
 use Rattle.rules.proofs.EachNode.{at, orFresh}
-use Rattle.rules.proofs.Keeps.{plain-lawful}
+use Rattle.rules.proofs.Keeps.{fenced-lawful, plain-lawful}
 use Rattle.rules.proofs.Moments.{InOrder, Moment, moment, moment-claims, run-rises}
 use Rattle.rules.proofs.Obeys.{facts-table}
-use Rattle.rules.specs.Apply.{Lawful, Ways, plainWays}
+use Rattle.rules.specs.Apply.{Lawful, Ways, fencedWays, plainWays}
 use Rattle.rules.specs.Demand3.{AllRise, Claims, Demand3, Holds, NotBegun, Rises, Sound, allQuiet, holdings, wholes}
 use Rattle.rules.specs.Node.{KeyValue, Node}
 use Rattle.rules.specs.Table.{nodeOf, obeys}
@@ -29,13 +30,13 @@ module _ (ways : Ways) (law : Lawful ways) (is : List ℕ) (ok : obeys (freshTab
         publisher-obeys = facts-table (w .publisher) (o .publisher-ok);
         follower-obeys = facts-table (w .follower) (o .follower-ok);
         claims =
-            λ i p f a b. subst₂ (Claims (w .given i)) (ap orFresh a) (ap orFresh b) (moment-claims is w m i);
+            λ i p f a b. subst₂ (Claims (w .given i)) (ap orFresh a) (ap orFresh b) (moment-claims ways is w m i);
       }
     where
       w : World
       w = after ways es (start is)
 
-      m : Moment is w
+      m : Moment ways is w
       m = moment is ok ways law es
 
       o : InOrder is w
@@ -73,3 +74,7 @@ module _ (ways : Ways) (law : Lawful ways) (is : List ℕ) (ok : obeys (freshTab
 -- of plain tables
 pub demand3 : (is : List ℕ) → obeys (freshTable is) ≡ true → Demand3 plainWays is
 demand3 = demand3-as plainWays plain-lawful
+
+-- of fenced ones, to which deltas may come late, again and in any order, also within the counted exchanges
+pub demand3-fenced : (is : List ℕ) → obeys (freshTable is) ≡ true → Demand3 fencedWays is
+demand3-fenced = demand3-as fencedWays fenced-lawful

@@ -2,14 +2,14 @@
 -- decision, and a delta that is sent may be any whose part for the node computing could make.
 use Prim.Native.Nat.{_+_, ℕ}
 use mathlib.Core.Bool.{Bool, false, true}
-use mathlib.Core.List.{List, []}
+use mathlib.Core.List.{List, [], _∷_}
 use mathlib.Core.Logic.{_⊎_, inl, inr}
 use mathlib.Core.Option.{Option, none, some}
 use mathlib.Core.Path.{_∙_, _≡_, ap, refl, subst, sym}
 use lib.Dec.{eqb, ltb}
 use borrow.Author.Tests.{eqb-true}
-use Rattle.fields.specs.Choice.{keep, pick}
-use Rattle.rules.proofs.OneNode.{Facts, One, Step, lost, stays, step-keeps, step-rises, they-beat, they-remove, they-take, we-beat, we-remove, we-send, we-write, withFlight, withOurs, withTheirs, withWrite}
+use Rattle.fields.specs.Choice.{_∈_, here, keep, later, pick}
+use Rattle.rules.proofs.OneNode.{Facts, Makes, One, Step, comes-late, lost, stays, step-keeps, step-rises, they-beat, they-remove, they-take, we-beat, we-compute, we-remove, we-send, we-write, withOurs, withTheirs, withWrite}
 use Rattle.rules.proofs.Sending.{MadeOf}
 use Rattle.rules.proofs.Tables.{applied-table, mapped, node-each, node-remove, node-set-other, node-set-same, partAt, repeated, taking}
 use Rattle.rules.specs.Apply.{Lawful, Taking, Ways, apply, applyEach, applyNode}
@@ -20,7 +20,7 @@ use Rattle.rules.specs.Local.{beatOn, call, callOn, gives, localBeat, of
 use Rattle.rules.specs.Node.{Call, Decision, Node, Rec, act, beats, decide, due, fresh, lastGc, offerOf, remove, withHeartbeat}
 use Rattle.rules.specs.Sizes.{top}
 use Rattle.rules.specs.Table.{Table, nodeOf, removeAll, setNode}
-use Rattle.rules.specs.World.{Beating, DeltaSent, DigestSent, Digesting, Exchange, Followers, Idle, Offering, Publishers, Side, World, Writing, afterDigest, calls, givenAfter, givenIn, onExchange, onSide}
+use Rattle.rules.specs.World.{Beating, DeltaSent, DigestSent, Digesting, Exchange, Followers, Idle, Offering, Publishers, Side, World, Writing, afterDigest, calls, givenAfter, givenIn, onExchange, onSent, onSide}
 use Rattle.rules.specs.declared.Answer.the-variants.{Done, Refused}
 use Rattle.rules.specs.declared.Heartbeat.{Heartbeat}
 use Rattle.rules.specs.declared.Refusal.the-variants.{Exhausted}
@@ -46,15 +46,25 @@ orFresh (some n) = n
 abbrev pub nodeAt : ℕ → Table → Node
 nodeAt i t = orFresh (nodeOf i t)
 
+-- the parts of all deltas that were ever computed
+unfoldable pub sentOf : ℕ → List (List ℕ) → List (Option NodeDelta)
+sentOf i [] = []
+sentOf i (b ∷ ss) = flightOf i (DeltaSent b) ∷ sentOf i ss
+
+pub sent-in : (i : ℕ) {b : List ℕ} {ss : List (List ℕ)} → b ∈ ss → flightOf i (DeltaSent b) ∈ sentOf i ss
+unfolding sentOf
+sent-in i (here e) = here (ap (λ (b : List ℕ). flightOf i (DeltaSent b)) e)
+sent-in i (later m) = later (sent-in i m)
+
 abbrev pub at : ℕ → World → One
-at i w = record { given = w .given i; ours = nodeAt i (w .publisher); theirs = nodeAt i (w .follower); flight = flightOf i (w .exchange) }
+at i w = record { given = w .given i; ours = nodeAt i (w .publisher); theirs = nodeAt i (w .follower); flight = flightOf i (w .exchange); sent = sentOf i (w .sent) }
 
 -- a step leads from the one to the other
 abbrev pub Seen : Ways → One → One → Type 0
 Seen ways v x = (y : One) × Step ways v y × (x ≡ y)
 
-pub seen-facts : (ways : Ways) (v x : One) → Seen ways v x → Facts v → Facts x
-seen-facts ways v x s ok = subst Facts (sym (s .2)) (step-keeps ways v (s .0) (s .1) ok)
+pub seen-facts : (ways : Ways) → Lawful ways → (v x : One) → Seen ways v x → Facts ways v → Facts ways x
+seen-facts ways law v x s ok = subst (Facts ways) (sym (s .2)) (step-keeps ways law v (s .0) (s .1) ok)
 
 pub seen-rises : (ways : Ways) (v x : One) → Seen ways v x → Rises (v .ours) (x .ours) × Rises (v .theirs) (x .theirs)
 seen-rises ways v x s = subst (λ (y : One). Rises (v .ours) (y .ours) × Rises (v .theirs) (y .theirs)) (sym (s .2)) (step-rises ways v (s .0) (s .1))
@@ -204,12 +214,25 @@ module _ (ways : Ways) (i : ℕ) (w : World) where
       flight-is : flightOf i (w .exchange) ≡ partAt i (partsOf ops)
       flight-is = ap (flightOf i) x ∙ ap (λ (o : Ops). partAt i (partsIn o)) e
 
-  -- a delta is sent: its part for the node, if there is one, is what computing makes of it
-  pub seen-sent : (b : List ℕ) → ((d : NodeDelta) → partAt i (partsIn (readDelta b)) ≡ some d → MadeOf (nodeAt i (w .publisher)) d) → Seen ways (at i w) (at i (onExchange (DeltaSent b) w))
-  seen-sent b made = go (partAt i (partsIn (readDelta b))) refl
-    where
-      go : (o : Option NodeDelta) → partAt i (partsIn (readDelta b)) ≡ o → Seen ways (at i w) (withFlight o (at i w))
-      go none q = (_, lost, refl)
-      go (some d) q =
-          let x = made d q in
-          (_, we-send (x .told-gc) (x .told-max) (x .count) (x .fits), ap (λ (y : NodeDelta). withFlight (some y) (at i w)) (x .delta-is))
+  -- one that was ever computed, late or again
+  pub seen-arriving : Lawful ways → ways .late ≡ true → (now : ℕ) (l b : List ℕ) (ops : List Op) → b ∈ w .sent → readDelta b ≡ Good ops → repeated (partsOf ops) ≡ false → Seen ways (at i w) (at i (onSide Followers (λ t. apply ways b now t l .table) w))
+  seen-arriving law late now l b ops m e once =
+      seen-taken law now l b ops e once
+      (comes-late now (partAt i (partsOf ops)) late (subst (λ (o : Ops). partAt i (partsIn o) ∈ sentOf i (w .sent)) e (sent-in i m)))
+
+  -- A delta is computed: its part for the node, if there is one, is what computing makes of it. It is kept, or sent at once.
+  module _ (b : List ℕ) (made : (d : NodeDelta) → partAt i (partsIn (readDelta b)) ≡ some d → MadeOf (nodeAt i (w .publisher)) d) where
+    makes : Makes (nodeAt i (w .publisher)) (flightOf i (DeltaSent b))
+    makes = go (partAt i (partsIn (readDelta b))) refl
+      where
+        go : (o : Option NodeDelta) → partAt i (partsIn (readDelta b)) ≡ o → Makes (nodeAt i (w .publisher)) o
+        go none q = tt
+        go (some d) q = made d q
+
+    pub seen-computed : Seen ways (at i w) (at i (onSent (b ∷ w .sent) w))
+    unfolding sentOf
+    seen-computed = (_, we-compute (flightOf i (DeltaSent b)) makes, refl)
+
+    pub seen-sent : Seen ways (at i w) (at i (onExchange (DeltaSent b) (onSent (b ∷ w .sent) w)))
+    unfolding sentOf
+    seen-sent = (_, we-send (flightOf i (DeltaSent b)) makes, refl)

@@ -1,14 +1,15 @@
 -- Evidence, and no part of a promise: four runs. Runs computes them, Witnesses says what they show. The first needs every exchange that the closing count grants. In the second a reset forgets a deleted
 -- key and takes a live one below last_gc; in the third one delta brings two nodes. In the fourth a delta arrives late, after the next digest,
--- which no run of demand 3's world has; it brings a deleted key back, so that the demand must not be carried over to late deltas.
+-- which no run of demand 3's world has for a plain follower; it brings a deleted key back, so that the demand must not be carried over to late deltas
+-- there. The same run with a fenced follower is one of that world, and the key stays dead.
 use Prim.Native.Nat.{ℕ}
 use mathlib.Core.List.{List, [], _∷_, _++_}
 use mathlib.Core.Option.{Option, none, some}
 use lib.ListN.{replicate}
 use Rattle.rules.specs.Node.{KeyValue, Rec, Node, Setting, Deleting, beats}
 use Rattle.rules.specs.Table.{Table, nodeOf}
-use Rattle.rules.specs.Apply.{plainWays}
-use Rattle.rules.specs.World.{World, Publishers, Followers, Event, Writing, Beating, Offering, Removing, Digesting, Computing, Applying, onExchange, start, after}
+use Rattle.rules.specs.Apply.{Ways, fencedWays, plainWays}
+use Rattle.rules.specs.World.{World, Publishers, Followers, Event, Writing, Beating, Offering, Removing, Digesting, Computing, Applying, Arriving, onExchange, start, after}
 use Rattle.rules.specs.declared.Status.the-variants.{Set}
 
 -- one node, number 7, and its pair (last_gc, max)
@@ -114,25 +115,25 @@ bothNodes =
 
 -- ---- a late delta
 
--- The follower is at (0,3). Then b is set at 4, with a long value, and k at 5, and a delta from 3 with last_gc 0 and max 5 is on its way.
-abbrev pub onItsWay : World
-onItsWay =
-    after plainWays
+-- The follower, in its ways, is at (0,3). Then b is set at 4, with a long value, and k at 5, and a delta from 3 with last_gc 0 and max 5 is on its way.
+abbrev pub onItsWay : Ways → World
+onItsWay ways =
+    after ways
     ((Writing 7 (1 ∷ []) (Setting one) ∷ Writing 7 (2 ∷ []) (Setting one) ∷ Writing 7 a (Setting one) ∷ [])
     ++ (exchange 300 ++ ((Writing 7 b (Setting (replicate 40 49)) ∷ Writing 7 k (Setting one) ∷ []) ++ delta 300)))
     (start seven)
 
 -- k is deleted at 8 and removed. The next exchange, whose MTU ends before b, resets the follower to (10,3).
-abbrev pub wasReset : World
-wasReset =
-    after plainWays
+abbrev pub wasReset : Ways → World
+wasReset ways =
+    after ways
     ((Writing 7 m (Setting one) ∷ Writing 7 n (Setting one) ∷ Writing 7 k (Deleting 0) ∷ Writing 7 m (Deleting 0) ∷ Writing 7 n (Deleting 0) ∷ Removing Publishers 9 5 ∷ [])
     ++ exchange 100)
-    onItsWay
+    (onItsWay ways)
 
 -- the first delta arrives
 abbrev pub tookLate : World
-tookLate = after plainWays (Applying 50 (0 ∷ []) ∷ []) (onExchange (onItsWay .exchange) wasReset)
+tookLate = after plainWays (Applying 50 (0 ∷ []) ∷ []) (onExchange (onItsWay plainWays .exchange) (wasReset plainWays))
 
 -- and one more exchange makes the two max equal
 abbrev pub caughtUp : World
@@ -141,3 +142,20 @@ caughtUp = after plainWays (exchange 300) tookLate
 -- what k was given at 5
 abbrev pub dead : KeyValue
 dead = record { key = k; value = one; version = 5; status = Set }
+
+-- It arrives at a fenced follower: it is the second of all, for the delta of the reset is newer.
+abbrev arriving : List Event
+arriving = Arriving 1 50 (0 ∷ []) ∷ []
+
+abbrev pub heldOff : World
+heldOff = after fencedWays arriving (wasReset fencedWays)
+
+-- Two exchanges make the two max equal. It arrives again before the first, and between its steps: when one more is computed, it is the third of all.
+abbrev pub amid : List Event
+amid =
+    arriving
+    ++ ((Digesting [] 0 (replicate 34 0) ∷ [])
+    ++ (arriving ++ ((Computing [] (0 ∷ []) 300 0 (replicate 300 0) ∷ Arriving 2 50 (0 ∷ []) ∷ Applying 50 (0 ∷ []) ∷ []) ++ exchange 300)))
+
+abbrev pub fencedUp : World
+fencedUp = after fencedWays amid heldOff

@@ -1,7 +1,7 @@
 -- Every rule of a node keeps the table rules: from a node that obeys them comes one that obeys them. Clocks and heartbeats are numbers of eight
 -- bytes, as code passes them. Assumes nothing.
 use Prim.Native.Nat.{_+_, _<_, _≤_, max, suc, ℕ}
-use mathlib.Core.Bool.{Bool, _&&_, false, not, true}
+use mathlib.Core.Bool.{Bool, _&&_, false, false≢true, not, true, true≢false}
 use mathlib.Core.List.{List, [], _∷_}
 use mathlib.Core.Logic.{_⊎_, inl, inr}
 use mathlib.Core.Option.{Option, none, some}
@@ -9,7 +9,7 @@ use mathlib.Core.Path.{_∙_, _≡_, ap, refl, subst, sym}
 use native.Mathlib.Omega.{arith}
 use lib.Dec.{eqb, leb, ltb}
 use lib.ListN.{length}
-use borrow.Author.Tests.{leb-false, leb-true, ltb-true}
+use borrow.Author.Tests.{leb-false, leb-true, ltb-false, ltb-true}
 use Rattle.fields.proofs.Choice.{in-none, keep-from}
 use Rattle.fields.proofs.Ordered.{less-other, less-trans, same-true}
 use Rattle.fields.specs.Choice.{_∈_, here, keep, later, pick}
@@ -18,13 +18,15 @@ use Rattle.rules.proofs.Next.{Differ, Strict, versionOf}
 use Rattle.rules.proofs.Obeys.{OkNode, OkRec}
 use Rattle.rules.proofs.Received.{OkDelta}
 use Rattle.rules.proofs.Records.{Above, Sorted, gc-below, keyOf, sorted-keep, sorted-store, store-from}
-use Rattle.rules.proofs.Taking.{Came, From, came, left, reset, sorted-take, take-from, takes-above, took}
-use Rattle.rules.specs.Apply.{Lawful, Ways, applyNode, outcome, plainWays, stamp, startAt, takeAll, takes}
+use Rattle.rules.proofs.Taking.{Came, From, came, left, not-both, reset, sorted-take, take-from, takes-above, took}
+use Rattle.rules.specs.Apply.{Lawful, Ways, applyNode, fencedWays, outcome, plainWays, stamp, startAt, takeAll, takes, waysOf}
 use Rattle.rules.specs.Delta.{NodeDelta}
 use Rattle.rules.specs.Local.{gc}
 use Rattle.rules.specs.Node.{Call, Change, Decision, Deleting, DeletingAfterTtl, Give, KeyValue, Leave, Node, Rec, Refuse, Setting, SettingTtl, act, allowed, beat, beats, brought, decide, due, find, fresh, fullFor, goes, lastGc, offerOf, remove, sameStatus, scheduled, store, unlessSame, wish, withHeartbeat, write}
 use Rattle.rules.specs.Sizes.{maxKey, maxRecords, maxValue, numbers, top}
 use Rattle.rules.specs.declared.Heartbeat.{Heartbeat}
+use Rattle.rules.specs.declared.Mode.{Mode}
+use Rattle.rules.specs.declared.Mode.the-variants as mode
 use Rattle.rules.specs.declared.Refusal.{Refusal}
 use Rattle.rules.specs.declared.Refusal.the-variants.{Exhausted, NodeFull, TooLong}
 use Rattle.rules.specs.declared.Status.the-variants.{Set, Ttl}
@@ -278,7 +280,26 @@ offer-fits held got h g = go (eqb (held .0) 0) (ltb (held .0) (got .0))
 
 -- document 01's ways
 pub plain-lawful : Lawful plainWays
-plain-lawful = record { reads-so = λ b ops e. e; few = λ l e. leb-true (length l) maxRecords e }
+plain-lawful = record { reads-so = λ b ops e. e; few = λ l e. leb-true (length l) maxRecords e; lets = λ g m gc x h. refl; safe = λ e. absurd (false≢true e) }
+
+-- and a fenced table's
+pub fenced-lawful : Lawful fencedWays
+fenced-lawful = record { reads-so = λ b ops e. e; few = λ l e. leb-true (length l) maxRecords e; lets = stands-open; safe = λ e. keeps-off }
+  where
+    stands-open : (g m gc x : ℕ) → g ≤ max m gc → (ltb m g && ltb gc g) ≡ false
+    stands-open g m gc x h = not-both m gc g h
+
+    keeps-off : (g m gc x : ℕ) → (ltb m g && ltb gc g) ≡ false → g ≤ max m (max gc x)
+    keeps-off g m gc x e = go (ltb m g) refl (ltb gc g) refl e
+      where
+        go : (a : Bool) → ltb m g ≡ a → (b : Bool) → ltb gc g ≡ b → (a && b) ≡ false → g ≤ max m (max gc x)
+        go true p true q e = absurd (true≢false e)
+        go true p false q e = let y = ltb-false gc g q in omega arith
+        go false p b q e = let y = ltb-false m g p in omega arith
+
+pub mode-lawful : (m : Mode) → Lawful (waysOf m)
+mode-lawful mode.Plain = plain-lawful
+mode-lawful mode.Fenced = fenced-lawful
 
 module _ (held gc now : ℕ) where
   take-differ : (m : ℕ) (ss : List KeyValue) (l : List Rec) → Sorted l → Differ l → Strict m ss → ((x : Rec) → x ∈ l → versionOf x ≤ max held m) → Differ (takeAll held gc now ss l)

@@ -11,13 +11,13 @@ use borrow.Author.Tests.{eq-eqb, eqb-true, le-leb, leb-false, leb-true, lt-ltb}
 use Rattle.fields.proofs.Choice.{in-none}
 use Rattle.fields.specs.Choice.{_∈_, here, later, pick}
 use Rattle.rules.proofs.EachNode.{nodeAt, orFresh}
-use Rattle.rules.proofs.Needed.{delta-falls, needed, needed-some}
+use Rattle.rules.proofs.Needed.{Onward, delta-falls, needed, needed-some}
 use Rattle.rules.proofs.Calls.{node-in}
 use Rattle.rules.proofs.Obeys.{Ascending, number-in}
 use Rattle.rules.proofs.Sending.{emit, fitting, nodeDelta, partOf, recordSize}
 use Rattle.rules.proofs.Stale.{stale-from}
 use Rattle.rules.proofs.Tables.{Behind, behind-from, computed-once, mapped, node-each, node-entry, node-there, ordered-from, partAt, repeated, taking}
-use Rattle.rules.specs.Apply.{Taking, applyEach, deltaStatus, outcome}
+use Rattle.rules.specs.Apply.{Fence, Taking, applyEach, deltaStatus, outcome}
 use Rattle.rules.specs.Compute.{StaleNode, firstTie, fromFor, fromOf, ordered, otherTies, queue, sooner, stale, staleNode, staleNodes, staleOf, toldOf}
 use Rattle.rules.specs.Delta.{NodeDelta, Part, maxOpWidth, nodeOpWidth}
 use Rattle.rules.specs.Demand3.{leastWidth}
@@ -128,7 +128,17 @@ part-first mtu x r h = rw (le-leb nodeOpWidth mtu h, eq-eqb (x .number) (x .numb
 abbrev pub Tells : List NodeDigest → Table → Type 0
 Tells told t = (i : ℕ) (f : Node) → nodeOf i t ≡ some f → (toldOf i told .last-gc ≡ f .last-gc) × (toldOf i told .max ≡ f .max)
 
-module _ (now mtu : ℕ) (ties : List ℕ) (told : List NodeDigest) (ours theirs : Table) (asc : Ascending (numbersOf ours)) (both : (e : Entry) → e ∈ ours → (f : Node) × (nodeOf (e .number) theirs ≡ some f)) (tells : Tells told theirs) where
+-- A node p of the publisher, the follower's at the digest (in the table `theirs`) and at the applying (in `met`): in between it went onward, and no
+-- fence stands against a delta that has the publisher's last_gc.
+pub record Way (fence : Fence) (theirs met : Table) (i : ℕ) (p : Node) : Type 0 where
+  pub was : Node
+  pub was-is : nodeOf i theirs ≡ some was
+  pub came : Node
+  pub came-is : nodeOf i met ≡ some came
+  pub onward : Onward p was came
+  pub lets : (m : ℕ) → fence (came .last-gc) (came .max) (p .last-gc) m ≡ false
+
+module _ (fence : Fence) (now mtu : ℕ) (ties : List ℕ) (told : List NodeDigest) (ours theirs met : Table) (asc : Ascending (numbersOf ours)) (way : (e : Entry) → e ∈ ours → Way fence theirs met (e .number) (e .node)) (tells : Tells told theirs) where
   unfoldable pub queued : List StaleNode
   queued = ordered (staleNodes [] told ties ours)
 
@@ -157,18 +167,18 @@ module _ (now mtu : ℕ) (ties : List ℕ) (told : List NodeDigest) (ours theirs
   once = computed-once [] ties mtu told ours asc
 
   -- where every node that has a part takes it, whatever else its ways may be: none answers Room
-  module _ (take : Taking) (took : (i : ℕ) (d : NodeDelta) (f : Node) → partAt i sent ≡ some d → nodeOf i theirs ≡ some f → take d f .node ≡ outcome (deltaStatus f d) now d f) where
+  module _ (take : Taking) (took : (i : ℕ) (d : NodeDelta) (x : Node) → partAt i sent ≡ some d → nodeOf i met ≡ some x → take d x .node ≡ outcome (deltaStatus fence x d) now d x) where
     unfoldable pub next : Table
-    next = applyEach take sent theirs .table
+    next = applyEach take sent met .table
 
     -- the node after the exchange
-    takes-it : (i : ℕ) (d : NodeDelta) (f : Node) → partAt i sent ≡ some d → nodeOf i theirs ≡ some f → nodeAt i next ≡ outcome (deltaStatus f d) now d f
+    takes-it : (i : ℕ) (d : NodeDelta) (x : Node) → partAt i sent ≡ some d → nodeOf i met ≡ some x → nodeAt i next ≡ outcome (deltaStatus fence x d) now d x
     unfolding next
-    takes-it i d f p h =
-        ap orFresh (node-each take i sent theirs once)
+    takes-it i d x p h =
+        ap orFresh (node-each take i sent met once)
         ∙ ap (λ (o : Option Node). orFresh (mapped (taking take (partAt i sent)) o)) h
-        ∙ ap (λ (o : Option NodeDelta). taking take o f) p
-        ∙ took i d f p h
+        ∙ ap (λ (o : Option NodeDelta). taking take o x) p
+        ∙ took i d x p h
 
     delta-of : (x : StaleNode) (e : Entry) (f : Node) (count : ℕ) (fits : Bool) → Matched x e f → nodeDelta (x .node) (x .told-gc) (x .told-max) count fits ≡ nodeDelta (e .node) (f .last-gc) (f .max) count fits
     delta-of x e f count fits m = λ z. nodeDelta (m .node-is z) (m .gc-is z) (m .max-is z) count fits
@@ -191,14 +201,17 @@ module _ (now mtu : ℕ) (ties : List ℕ) (told : List NodeDigest) (ours theirs
           m : e ∈ ours
           m = o .held
 
-          f : Node
-          f = both e m .0
+          v : Way fence theirs met (e .number) (e .node)
+          v = way e m
 
-          h : nodeOf (e .number) theirs ≡ some f
-          h = both e m .1
+          f : Node
+          f = v .was
+
+          y : Node
+          y = v .came
 
           mm : Matched x e f
-          mm = matched x o f h
+          mm = matched x o f (v .was-is)
 
           d : NodeDelta
           d = partOf mtu x .delta
@@ -217,9 +230,9 @@ module _ (now mtu : ℕ) (ties : List ℕ) (told : List NodeDigest) (ours theirs
 
           sizes : (s : KeyValue) → s ∈ staleOf x → recordSize s ≤ mtu - nodeOpWidth
           sizes s n =
-              let y = stale-from (fromFor x) (x .node .recs) n in
-              let a = small e m (y .0) (subst (λ (k : Node). y .0 ∈ k .recs) (mm .node-is) (y .1)) in
-              let b : recordSize s ≤ 110 = subst (λ (k : KeyValue). recordSize k ≤ 110) (y .2) a in
+              let z = stale-from (fromFor x) (x .node .recs) n in
+              let a = small e m (z .0) (subst (λ (k : Node). z .0 ∈ k .recs) (mm .node-is) (z .1)) in
+              let b : recordSize s ≤ 110 = subst (λ (k : KeyValue). recordSize k ≤ 110) (z .2) a in
               omega arith
 
           delta-is : d ≡ nodeDelta (e .node) (f .last-gc) (f .max) count true
@@ -228,10 +241,11 @@ module _ (now mtu : ℕ) (ties : List ℕ) (told : List NodeDigest) (ours theirs
           fall : lack ours next (e .number) < lack ours theirs (e .number)
           fall =
               let k =
-              delta-falls now (e .node) f count (mm .behind) (λ z. first-fits (mtu - nodeOpWidth) (staleOf x) sizes (subst (λ (l : List KeyValue). 0 < length l) (sym stale-is) z)) d delta-is in
+              delta-falls fence now (e .node) f y count (mm .behind) (λ z. first-fits (mtu - nodeOpWidth) (staleOf x) sizes (subst (λ (l : List KeyValue). 0 < length l) (sym stale-is) z)) d delta-is
+              (v .onward) (v .lets) in
               let p : nodeAt (e .number) ours ≡ e .node = ap orFresh (node-entry e asc m) in
-              let a : lack ours next (e .number) ≡ needed (e .node) (outcome (deltaStatus f d) now d f) = λ z. needed (p z) (takes-it (e .number) d f is h z) in
-              let b : lack ours theirs (e .number) ≡ needed (e .node) f = λ z. needed (p z) (orFresh (h z)) in
+              let a : lack ours next (e .number) ≡ needed (e .node) (outcome (deltaStatus fence y d) now d y) = λ z. needed (p z) (takes-it (e .number) d y is (v .came-is) z) in
+              let b : lack ours theirs (e .number) ≡ needed (e .node) f = λ z. needed (p z) (orFresh (v .was-is z)) in
               omega arith
 
       -- one node needs less, while any needs something
@@ -249,10 +263,10 @@ module _ (now mtu : ℕ) (ties : List ℕ) (told : List NodeDigest) (ours theirs
           e = x .0
 
           f : Node
-          f = both e (x .1) .0
+          f = way e (x .1) .was
 
           h : nodeOf (e .number) theirs ≡ some f
-          h = both e (x .1) .1
+          h = way e (x .1) .was-is
 
           same : lack ours theirs i ≡ needed (e .node) f
           same = λ k. needed ((ap orFresh (p .1) ∙ sym (x .2)) k) ((ap (λ (j : ℕ). nodeAt j theirs) (x .3) ∙ ap orFresh h) k)

@@ -5,14 +5,14 @@ use mathlib.Core.List.{List, [], _∷_}
 use mathlib.Core.Logic.{_⊎_, inl, inr}
 use mathlib.Core.Path.{_∙_, _≡_, ap, refl, subst, sym}
 use native.Mathlib.Omega.{arith}
-use lib.Dec.{leb}
+use lib.Dec.{leb, ltb}
 use lib.ListN.{length, take}
-use borrow.Author.Tests.{leb-false, leb-true, lt-leb}
+use borrow.Author.Tests.{leb-false, leb-true, lt-leb, ltb-false, ltb-true}
 use Rattle.fields.specs.Choice.{_∈_, all, here, pick}
 use Rattle.rules.proofs.Sending.{carried, nodeDelta}
 use Rattle.rules.proofs.Stale.{Rising, rising-stale, rising-take, stale-fewer, stale-from, stale-length, stale-less, take-in, top-is, top-within, topOf}
-use Rattle.rules.proofs.Taking.{Came, FromOf, came, from-no-reset, from-of, left, no-reset, reset, reset-due, status-apply, status-reset, took}
-use Rattle.rules.specs.Apply.{Ways, applyNode, deltaStatus, outcome}
+use Rattle.rules.proofs.Taking.{Came, FromOf, came, from-no-reset, from-of, left, no-reset, reset, reset-due, status-apply, status-old, status-reset, took}
+use Rattle.rules.specs.Apply.{Fence, Ways, applyNode, deltaStatus, outcome}
 use Rattle.rules.specs.Compute.{fromOf, stale}
 use Rattle.rules.specs.Delta.{NodeDelta}
 use Rattle.rules.specs.Node.{KeyValue, Node, Rec}
@@ -76,25 +76,38 @@ needed-less p f n h g = go (leb (p .max) (f .max)) refl (leb (p .max) (n .max)) 
     go true q false r = let x = g (leb-true _ _ q) in let y = leb-false (p .max) (n .max) r in absurd (omega arith)
     go false q false r = let k = stale-fewer (fromOf (p .last-gc) (f .last-gc) (f .max)) (fromOf (p .last-gc) (n .last-gc) (n .max)) (p .recs) h in omega arith
 
--- Whatever delta comes whose last_gc is not above the publisher's, and however often, the node needs no more than before.
-pub needed-came : (ways : Ways) (now : ℕ) (d : NodeDelta) (p f : Node) → d .last-gc ≤ p .last-gc → p .last-gc ≤ p .max → needed p (applyNode ways now d f .node) ≤ needed p f
-unfolding outcome
-needed-came ways now d p f low top = go _ (came ways now d f)
-  where
-    at : (g m x y : ℕ) → FromOf p (f .last-gc) (f .max) x → FromOf p g m y → (p .last-gc ≤ max (f .last-gc) (f .max) → (p .last-gc ≤ max g m) × (f .max ≤ m)) → x ≤ y
-    at g m x y (reset-due a b) o h = omega arith
-    at g m x y (no-reset a) (reset-due b c) h = let k = h a .0 in absurd (omega arith)
-    at g m x y (no-reset a) (no-reset b) h = h a .1
+-- Where no reset is due, none becomes due, and max does not fall: from the node f to the node x, of a publisher p.
+abbrev pub Onward : Node → Node → Node → Type 0
+Onward p f x = p .last-gc ≤ max (f .last-gc) (f .max) → (p .last-gc ≤ max (x .last-gc) (x .max)) × (f .max ≤ x .max)
 
-    go : (x : Node) → Came ways now d f x → needed p x ≤ needed p f
-    go x left = omega arith
-    go x (reset r) =
-        let a = r .above-gc in
-        let b = r .above-max in
-        needed-less p f _ (at (d .last-gc) (d .max) _ _ (from-of p (f .last-gc) (f .max)) (from-of p (d .last-gc) (d .max)) (λ h. absurd (omega arith))) (λ h. absurd (omega arith))
-    go x (took r) =
-        let a = r .newer in
-        needed-less p f _ (at (f .last-gc) (d .max) _ _ (from-of p (f .last-gc) (f .max)) (from-of p (f .last-gc) (d .max)) (λ h. (omega arith, omega arith))) (λ h. omega arith)
+pub onward-same : (p f : Node) → Onward p f f
+onward-same p f g = (g, omega arith)
+
+pub onward-then : (p f x y : Node) → Onward p f x → Onward p x y → Onward p f y
+onward-then p f x y a b g = let c = a g in let d = b (c .0) in (d .0, let e = c .1 in let k = d .1 in omega arith)
+
+-- of the publisher it looks at last_gc alone
+pub onward-gc : (p q f x : Node) → p .last-gc ≡ q .last-gc → Onward p f x → Onward q f x
+onward-gc p q f x e on g = let k = on (omega arith) in (let a = k .0 in omega arith, k .1)
+
+-- so it goes with every delta whose last_gc is not above the publisher's, however often it comes
+pub onward-came : (ways : Ways) (now : ℕ) (d : NodeDelta) (p f : Node) → d .last-gc ≤ p .last-gc → Onward p f (applyNode ways now d f .node)
+unfolding outcome
+onward-came ways now d p f low = go _ (came ways now d f)
+  where
+    go : (x : Node) → Came ways now d f x → Onward p f x
+    go x left g = (g, omega arith)
+    go x (reset r) g = let a = r .above-gc in let b = r .above-max in absurd (omega arith)
+    go x (took r) g = let a = r .newer in (omega arith, omega arith)
+
+-- and the node needs no more than before
+pub onward-needed : (p f x : Node) → p .last-gc ≤ p .max → Onward p f x → needed p x ≤ needed p f
+onward-needed p f x top on = needed-less p f x (at _ _ (from-of p (f .last-gc) (f .max)) (from-of p (x .last-gc) (x .max))) (λ h. let k = on (omega arith) .1 in omega arith)
+  where
+    at : (a b : ℕ) → FromOf p (f .last-gc) (f .max) a → FromOf p (x .last-gc) (x .max) b → a ≤ b
+    at a b (reset-due u v) o = omega arith
+    at a b (no-reset u) (reset-due v w) = let k = on u .0 in absurd (omega arith)
+    at a b (no-reset u) (no-reset v) = on u .1
 
 -- ---- a delta that brings something makes it less
 
@@ -103,9 +116,10 @@ pub data Moves (p : Node) (d : NodeDelta) : Type 0 where
   brings : (r : Rec) → r ∈ p .recs → d .from < r .kv .version → r .kv .version ≤ d .max → Moves p d
   completes : p .max ≤ d .max → Moves p d
 
-module _ (now : ℕ) (p f : Node) (d : NodeDelta) (behind : f .max < p .max) (gc-is : d .last-gc ≡ p .last-gc) (from-is : d .from ≡ fromOf (p .last-gc) (f .last-gc) (f .max)) where
+-- f told the pair that the delta was computed for, and is x when the delta comes, which no fence keeps off
+module _ (fence : Fence) (now : ℕ) (p f x : Node) (d : NodeDelta) (behind : f .max < p .max) (gc-is : d .last-gc ≡ p .last-gc) (from-is : d .from ≡ fromOf (p .last-gc) (f .last-gc) (f .max)) (on : Onward p f x) (lets : fence (x .last-gc) (x .max) (d .last-gc) (d .max) ≡ false) where
   abbrev Next : DeltaStatus → Node
-  Next v = outcome v now d f
+  Next v = outcome v now d x
 
   size : ℕ
   size = length (stale (d .from) (p .recs))
@@ -114,25 +128,30 @@ module _ (now : ℕ) (p f : Node) (d : NodeDelta) (behind : f .max < p .max) (gc
   unfolding size
   needs = needed-behind p f behind ∙ ap (λ (n : ℕ). suc (length (stale n (p .recs)))) (sym from-is)
 
-  fewer : Moves p d → d .max < p .max → length (stale (d .max) (p .recs)) < size
+  fewer : Moves p d → (m : ℕ) → d .max ≤ m → m < p .max → length (stale m (p .recs)) < size
   unfolding size
-  fewer (brings r m a b) h = stale-less (d .from) (d .max) m a b
-  fewer (completes a) h = absurd (omega arith)
+  fewer (brings r m a b) k g h = stale-less (d .from) k m a (omega arith)
+  fewer (completes a) k g h = absurd (omega arith)
 
-  further : Moves p d → d .from ≡ f .max → f .max < d .max
-  further (brings r m a b) h = omega arith
-  further (completes a) h = omega arith
+  -- a node that has what the delta brings, and no reset is due
+  lands : Moves p d → (y : Node) → p .last-gc ≤ max (y .last-gc) (y .max) → d .max ≤ y .max → needed p y < suc size
+  lands m y g a = let h = needed-at p y size g (fewer m (y .max) a) in omega arith
 
-  pub needed-falls : Moves p d → needed p (Next (deltaStatus f d)) < needed p f
+  pub needed-falls : Moves p d → needed p (Next (deltaStatus fence x d)) < needed p f
   unfolding outcome
-  needed-falls m = rw needs (go (fromOf (p .last-gc) (f .last-gc) (f .max)) from-is (from-of p (f .last-gc) (f .max)))
+  needed-falls m = rw needs (go (fromOf (p .last-gc) (f .last-gc) (f .max)) from-is (from-of p (f .last-gc) (f .max)) _ (from-of p (x .last-gc) (x .max)))
     where
-      go : (x : ℕ) → d .from ≡ x → FromOf p (f .last-gc) (f .max) x → needed p (Next (deltaStatus f d)) < suc size
-      go x e (reset-due a b) =
-          rw (status-reset f d e (omega arith) (omega arith)) (let h = needed-at p (Next ApplyAfterReset) size (omega arith) (fewer m) in omega arith)
-      go x e (no-reset a) =
-          let b : f .max < d .max = further m e in
-          rw (status-apply f d (omega arith) (omega arith) b) (let h = needed-at p (Next Apply) size (omega arith) (fewer m) in omega arith)
+      -- no reset is due any more: it is taken, or the node has as much already
+      takes : d .from ≤ x .max → p .last-gc ≤ max (x .last-gc) (x .max) → (b : Bool) → ltb (x .max) (d .max) ≡ b → needed p (Next (deltaStatus fence x d)) < suc size
+      takes a g true q =
+          let k = ltb-true (x .max) (d .max) q in
+          rw (status-apply fence x d lets a (omega arith) k) (lands m (Next Apply) (omega arith) (omega arith))
+      takes a g false q = rw (status-old fence x d lets a (omega arith) (ltb-false _ _ q)) (lands m x g (ltb-false _ _ q))
+
+      go : (n : ℕ) → d .from ≡ n → FromOf p (f .last-gc) (f .max) n → (k : ℕ) → FromOf p (x .last-gc) (x .max) k → needed p (Next (deltaStatus fence x d)) < suc size
+      go n e (reset-due a b) k (reset-due u v) = rw (status-reset fence x d lets e (omega arith) (omega arith)) (lands m (Next ApplyAfterReset) (omega arith) (omega arith))
+      go n e (reset-due a b) k (no-reset u) = takes (omega arith) u (ltb (x .max) (d .max)) refl
+      go n e (no-reset a) k w = let c = on a in takes (let z = c .1 in omega arith) (c .0) (ltb (x .max) (d .max)) refl
 
 -- a computed delta moves, or has max 0; it moves where it may carry a record and a SetMaxVersion
 made-moves : (p : Node) (from count : ℕ) (fits : Bool) (all : List KeyValue) → stale from (p .recs) ≡ all → (carried fits (p .max) all (take count all) ≡ 0) ⊎ Moves p (record { from = from; last-gc = p .last-gc; recs = take count all; max = carried fits (p .max) all (take count all) })
@@ -177,8 +196,12 @@ delta-moves p g m count h c = at (delta-moves-or p g m count true)
     at (inl z) = let t = some-top p (fromOf (p .last-gc) g m) count (stale (fromOf (p .last-gc) g m) (p .recs)) refl c (omega arith) in absurd (omega arith)
     at (inr x) = x
 
--- for a computed delta that meets no Room
-pub delta-falls : (now : ℕ) (p f : Node) (count : ℕ) → f .max < p .max → (0 < length (stale (fromOf (p .last-gc) (f .last-gc) (f .max)) (p .recs)) → 0 < count) → (d : NodeDelta) → d ≡ nodeDelta p (f .last-gc) (f .max) count true → needed p (outcome (deltaStatus f d) now d f) < needed p f
+-- for a computed delta that meets neither a fence nor Room
+pub delta-falls : (fence : Fence) (now : ℕ) (p f x : Node) (count : ℕ) → f .max < p .max → (0 < length (stale (fromOf (p .last-gc) (f .last-gc) (f .max)) (p .recs)) → 0 < count) → (d : NodeDelta) → d ≡ nodeDelta p (f .last-gc) (f .max) count true → Onward p f x → ((m : ℕ) → fence (x .last-gc) (x .max) (p .last-gc) m ≡ false) → needed p (outcome (deltaStatus fence x d) now d x) < needed p f
 unfolding nodeDelta
-delta-falls now p f count b c d e =
-    needed-falls now p f d b (ap (λ (x : NodeDelta). x .last-gc) e) (ap (λ (x : NodeDelta). x .from) e) (subst (Moves p) (sym e) (delta-moves p (f .last-gc) (f .max) count b c))
+delta-falls fence now p f x count b c d e on lets =
+    needed-falls fence now p f x d b gc-is (ap (λ (y : NodeDelta). y .from) e) on (subst (λ (g : ℕ). fence (x .last-gc) (x .max) g (d .max) ≡ false) (sym gc-is) (lets (d .max)))
+    (subst (Moves p) (sym e) (delta-moves p (f .last-gc) (f .max) count b c))
+  where
+    gc-is : d .last-gc ≡ p .last-gc
+    gc-is = ap (λ (y : NodeDelta). y .last-gc) e

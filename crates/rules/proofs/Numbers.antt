@@ -14,7 +14,8 @@ use Rattle.rules.specs.Apply.{apply, applyEach, codes, plainWays}
 use Rattle.rules.specs.Compute.{allOps, byVersion, compute, cut, deltaFor, fromOf, keyValueOps, ordered, queue, sooner, stale, staleNodes, toldOf}
 use Rattle.rules.specs.Delta.{NodeOp, deltaBytes, deltaRead, follow, opBytes, partsOf, readDelta, readNode, readOp, readOps, readSetMaxVersion, sizeOf}
 use Rattle.rules.specs.Digest.{digestBytes, digestOf, entryBytes, readDigest, readEntries, tell, tellAll, writeDigest}
-use Rattle.rules.specs.Layout.{decode, encode, valid}
+use Rattle.rules.specs.Layout.{decode, encode}
+use Rattle.rules.specs.Whole.{encodeWhole, validWhole}
 use Rattle.rules.specs.Lent.{lentAdd, onTable}
 use Rattle.rules.specs.Local.{add, call, localBeat, offer, prefixed, removeNode}
 use Rattle.rules.specs.Node.{Deleting, Node, Rec, Setting, act, beats, decide, find, fresh, hitsFrom, offerOf, wish}
@@ -111,10 +112,10 @@ rows =
     ∷ []
 
 pub as-the-paper : inCalls rows ≡ inPaper rows
-unfolding inCalls inPaper rows zeros records nodes answerTold computedTold writtenTold readTold appliedTold offeredTold listedTold call removeNode add localBeat compute writeDigest deltaRead apply offer prefixed decide act find wish among numbersOf nodeOf setNode addNode dropNode readDelta readOps readOp readNode readSetMaxVersion follow deltaBytes opBytes bytesOf flat partsOf applyEach codes readDigest readEntries tell tellAll digestOf digestBytes entryBytes offerOf hitsFrom sameBytes allOps byVersion cut deltaFor fromOf keyValueOps ordered queue sooner stale staleNodes toldOf sizeOf natOf startsWith unblock onTable valid obeys decode part rising all encode joined
+unfolding inCalls inPaper rows zeros records nodes answerTold computedTold writtenTold readTold appliedTold offeredTold listedTold call removeNode add localBeat compute writeDigest deltaRead apply offer prefixed decide act find wish among numbersOf nodeOf setNode addNode dropNode readDelta readOps readOp readNode readSetMaxVersion follow deltaBytes opBytes bytesOf flat partsOf applyEach codes readDigest readEntries tell tellAll digestOf digestBytes entryBytes offerOf hitsFrom sameBytes allOps byVersion cut deltaFor fromOf keyValueOps ordered queue sooner stale staleNodes toldOf sizeOf natOf startsWith unblock onTable validWhole obeys decode part rising all encode encodeWhole joined
 as-the-paper = refl
 
 -- the answers of nodes in a lent list
-pub codes-of-the-paper : codes (node.Reject ∷ node.Apply ∷ node.ApplyAfterReset ∷ node.Room ∷ node.Unknown ∷ []) ≡ 0 ∷ 1 ∷ 2 ∷ 3 ∷ 4 ∷ []
+pub codes-of-the-paper : codes (node.Reject ∷ node.Apply ∷ node.ApplyAfterReset ∷ node.Room ∷ node.Unknown ∷ node.Fenced ∷ []) ≡ 0 ∷ 1 ∷ 2 ∷ 3 ∷ 4 ∷ 5 ∷ []
 unfolding codes
 codes-of-the-paper = refl

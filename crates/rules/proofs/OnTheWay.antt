@@ -11,7 +11,7 @@ use lib.ListN.{length}
 use borrow.Author.Tests.{leb-true}
 use Rattle.fields.proofs.Parts.{part-put}
 use Rattle.fields.specs.Choice.{pick}
-use Rattle.fields.specs.Parts.{put}
+use Rattle.fields.specs.Parts.{part, put}
 use Rattle.rules.specs.Given.{Given, given}
 use Rattle.rules.proofs.Accepted.{cut-bytes, computed-chain, computed-small, read-computed}
 use Rattle.rules.specs.Compute.{allOps, compute, cut, deltaFor, onDigest, ordered, staleNodes, written, StaleNode}
@@ -26,7 +26,7 @@ use Rattle.rules.specs.Digest.{DigestRead, Entries, NodeDigest, Refused,
 use Rattle.rules.specs.Node.{Node}
 use Rattle.rules.specs.Sizes.{leastMtu, maxDelta}
 use Rattle.rules.specs.Table.{Table, obeys}
-use Rattle.rules.specs.World.{DeltaSent, DigestSent, Exchange, afterDelta, afterDigest, digested}
+use Rattle.rules.specs.World.{DigestSent, Exchange, afterDigest, digested}
 use Rattle.rules.specs.declared.Computed.{Computed}
 use Rattle.rules.specs.declared.Refusal.{Refusal}
 use Rattle.rules.specs.declared.Refusal.the-variants.{BadMtu, BadTies, NoPlace}
@@ -86,14 +86,14 @@ module _ (excluded ties : List ℕ) (mtu place : ℕ) (d : List ℕ) (t : Table)
           writes ds rest e (leb-true mtu maxDelta b) (omega arith)
       go true true b true p true q true (Refused r) e = refuses r
 
-  abbrev onWay : Given Computed (List ℕ) → Exchange → Exchange
-  onWay o x = afterDelta place (o .lent) (o .answer) x
-
-  pub delta-written : (ds : List NodeDigest) → place + mtu ≤ length l → (x : Exchange) → onWay (written (deltaFor excluded ties mtu ds t) place l) x ≡ DeltaSent (deltaBytes (deltaFor excluded ties mtu ds t))
+  -- the bytes that a delta leaves in the datagram
+  pub delta-bytes : (ds : List NodeDigest)
+      → place + mtu ≤ length l
+      → part place (length (deltaBytes (deltaFor excluded ties mtu ds t))) (put place (deltaBytes (deltaFor excluded ties mtu ds t)) l) ≡ deltaBytes (deltaFor excluded ties mtu ds t)
   unfolding deltaFor
-  delta-written ds h x =
+  delta-bytes ds h =
       let g = cut-bytes mtu (allOps (ordered (staleNodes excluded ds ties t))) in
-      ap DeltaSent (part-put place (deltaBytes (cut mtu (allOps (ordered (staleNodes excluded ds ties t))))) l (omega arith))
+      part-put place (deltaBytes (cut mtu (allOps (ordered (staleNodes excluded ds ties t))))) l (omega arith)
 
 -- ---- what may be sent
 

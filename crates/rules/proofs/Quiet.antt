@@ -1,5 +1,5 @@
 -- What may still happen once writes, deletes and removals cease: beats and offers, which change heartbeats alone, and the calls of exchanges, also
--- refused ones and deltas applied again. No node comes to need more.
+-- refused ones, deltas applied again and deltas that come late. No node of the follower goes back, and none comes to need more.
 use Prim.Native.Nat.{_≤_, ℕ}
 use mathlib.Core.Bool.{Bool, false, false≢true, true}
 use mathlib.Core.List.{List}
@@ -7,22 +7,20 @@ use mathlib.Core.Logic.{_⊎_, inl, inr}
 use mathlib.Core.Option.{Option, none, some}
 use mathlib.Core.Path.{_∙_, _≡_, ap, refl, subst, sym}
 use native.Mathlib.Omega.{arith}
-use Rattle.fields.specs.Choice.{_∈_, pick}
-use Rattle.rules.proofs.Calls.{node-in}
-use Rattle.rules.proofs.EachNode.{Beaten, beaten-local, beaten-offer, flightOf, node-taken, nodeAt, orFresh, partsIn, unbeaten}
-use Rattle.rules.proofs.Moments.{Moment, Readable, read-once}
-use Rattle.rules.proofs.Nearer.{Tells, lack}
-use Rattle.rules.proofs.Needed.{needed, needed-came}
-use Rattle.rules.proofs.Obeys.{number-in}
+use Rattle.fields.specs.Choice.{pick}
+use Rattle.rules.proofs.EachNode.{Beaten, beaten-local, beaten-offer, flightOf, node-taken, nodeAt, partsIn, sent-in, unbeaten}
+use Rattle.rules.proofs.Moments.{Moment, Readable, nth-sent, read-once}
+use Rattle.rules.proofs.Nearer.{lack}
+use Rattle.rules.proofs.Needed.{Onward, needed, onward-came, onward-needed, onward-same}
 use Rattle.rules.proofs.OneNode.{Flies}
-use Rattle.rules.proofs.Tables.{applied-table, node-there, partAt, taking}
+use Rattle.rules.proofs.Tables.{applied-table, partAt, taking}
 use Rattle.rules.specs.Apply.{Lawful, Ways, applyEach, applyNode}
 use Rattle.rules.specs.Delta.{Good, NodeDelta, Ops, nothingRead, partsOf}
 use Rattle.rules.specs.Demand3.{quiet}
-use Rattle.rules.specs.Digest.{NodeDigest}
+use Rattle.rules.specs.Local.{localBeat, offer}
 use Rattle.rules.specs.Node.{KeyValue, Node, withHeartbeat}
-use Rattle.rules.specs.Table.{Table, nodeOf, numbersOf}
-use Rattle.rules.specs.World.{Applying, Beating, Computing, DeltaSent, DigestSent, Digesting, Event, Exchange, Followers, Idle, Offering, Publishers, Removing, Side, World, Writing, appliedTo, calls, happen, onSide, possible}
+use Rattle.rules.specs.Table.{Table}
+use Rattle.rules.specs.World.{Applying, Arriving, Beating, Computing, DeltaSent, DigestSent, Digesting, Event, Exchange, Followers, Idle, Offering, Publishers, Removing, Sending, Side, World, Writing, appliedTo, calls, happen, onSide, possible}
 use Rattle.rules.specs.declared.Heartbeat.{Heartbeat}
 
 -- ---- heartbeats alone
@@ -39,104 +37,124 @@ pub lack-ours : (t u f : Table) → AllBeaten t u → (i : ℕ) → lack u f i �
 unfolding needed
 lack-ours t u f b i = ap (λ (n : Node). needed n (nodeAt i f)) (b i .1)
 
-lack-theirs : (p t u : Table) → AllBeaten t u → (i : ℕ) → lack p u i ≡ lack p t i
-unfolding needed
-lack-theirs p t u b i = ap (needed (nodeAt i p)) (b i .1)
+-- ---- a quiet event
 
--- a digest tells the same of it
-pub tells-beaten : (told : List NodeDigest) (t u : Table) → numbersOf u ≡ numbersOf t → AllBeaten t u → Tells told t → Tells told u
-tells-beaten told t u n b h i f e = (h i (was .0) (was .1) .0 ∙ ap (λ (x : Node). x .last-gc) same, h i (was .0) (was .1) .1 ∙ ap (λ (x : Node). x .max) same)
-  where
-    there : i ∈ numbersOf t
-    there = let x = node-in i u e in subst (λ (l : List ℕ). i ∈ l) n (subst (λ (k : ℕ). k ∈ numbersOf u) (sym (x .3)) (number-in (x .1)))
-
-    was : (g : Node) × (nodeOf i t ≡ some g)
-    was = node-there i t there
-
-    same : withHeartbeat (b i .0) (was .0) ≡ f
-    same = sym (ap (λ (o : Option Node). withHeartbeat (b i .0) (orFresh o)) (was .1)) ∙ sym (b i .1) ∙ ap orFresh e
-
--- what a beat or an offer does to the world
-pub record Beats (w x : World) : Type 0 where
+-- The publisher's nodes change heartbeats alone, and no node of the follower goes back: where no reset is due, none becomes due, and max does not fall.
+pub record Calm (w x : World) : Type 0 where
   pub publisher-beaten : AllBeaten (w .publisher) (x .publisher)
-  pub follower-beaten : AllBeaten (w .follower) (x .follower)
-  pub same-way : x .exchange ≡ w .exchange
+  pub onward : (i : ℕ) → Onward (nodeAt i (w .publisher)) (nodeAt i (w .follower)) (nodeAt i (x .follower))
 
-module _ (ways : Ways) (w : World) where
-  beats-none : Beats w w
-  beats-none = record { publisher-beaten = λ i. unbeaten i (w .publisher); follower-beaten = λ i. unbeaten i (w .follower); same-way = refl }
+module _ (w : World) where
+  calm-same : Calm w w
+  calm-same = record { publisher-beaten = λ i. unbeaten i (w .publisher); onward = λ i. onward-same (nodeAt i (w .publisher)) (nodeAt i (w .follower)) }
 
-  beats-side : (s : Side) (f : Table → Table) → ((t : Table) → AllBeaten t (f t)) → Beats w (onSide s f w)
-  beats-side Publishers f h = record { publisher-beaten = h (w .publisher); follower-beaten = λ i. unbeaten i (w .follower); same-way = refl }
-  beats-side Followers f h = record { publisher-beaten = λ i. unbeaten i (w .publisher); follower-beaten = h (w .follower); same-way = refl }
+  calm-theirs : (t : Table) → ((i : ℕ) → Onward (nodeAt i (w .publisher)) (nodeAt i (w .follower)) (nodeAt i t)) → Calm w (onSide Followers (λ u. t) w)
+  calm-theirs t on = record { publisher-beaten = λ i. unbeaten i (w .publisher); onward = on }
 
-  maybe : (e : Event) → Beats w (calls ways e w) → Beats w (happen ways e w)
-  unfolding happen
-  maybe e h = go (possible e)
-    where
-      go : (b : Bool) → Beats w (pick b (calls ways e w) w)
-      go true = h
-      go false = beats-none
+  calm-beats : (s : Side) (f : Table → Table) → ((t : Table) → AllBeaten t (f t)) → Calm w (onSide s f w)
+  calm-beats Publishers f h = record { publisher-beaten = h (w .publisher); onward = calm-same .onward }
+  calm-beats Followers f h =
+      calm-theirs _ (λ i. let b = h (w .follower) i in subst (Onward (nodeAt i (w .publisher)) (nodeAt i (w .follower))) (sym (b .1)) (λ g. (g, omega arith)))
 
-  pub beats-local : (s : Side) (j : ℕ) → Beats w (happen ways (Beating s j) w)
-  beats-local s j = maybe (Beating s j) (beats-side s _ (λ t i. beaten-local i t j))
-
-  pub beats-offer : (s : Side) (j : ℕ) (h : Heartbeat) → Beats w (happen ways (Offering s j h) w)
-  beats-offer s j h = maybe (Offering s j h) (beats-side s _ (λ t i. beaten-offer i t j h))
-
--- ---- no node comes to need more
-
+-- what a node still needs
 abbrev pub lacks : World → ℕ → ℕ
 lacks w i = lack (w .publisher) (w .follower) i
 
-lacks-beaten : (w x : World) → Beats w x → (i : ℕ) → lacks x i ≡ lacks w i
-lacks-beaten w x b i = lack-ours (w .publisher) (x .publisher) (x .follower) (b .publisher-beaten) i ∙ lack-theirs (w .publisher) (w .follower) (x .follower) (b .follower-beaten) i
+module _ (ways : Ways) (law : Lawful ways) (is : List ℕ) (w : World) (m : Moment ways is w) where
+  abbrev p : ℕ → Node
+  p i = nodeAt i (w .publisher)
 
-module _ (ways : Ways) (law : Lawful ways) (is : List ℕ) (w : World) (m : Moment is w) (i : ℕ) where
-  abbrev p : Node
-  p = nodeAt i (w .publisher)
+  abbrev f : ℕ → Node
+  f i = nodeAt i (w .follower)
 
-  abbrev f : Node
-  f = nodeAt i (w .follower)
+  part-onward : (now i : ℕ) (h : List KeyValue) (o : Option NodeDelta) → Flies h (p i) o → Onward (p i) (f i) (taking (applyNode ways now) o (f i))
+  part-onward now i h none a = onward-same (p i) (f i)
+  part-onward now i h (some d) a = onward-came ways now d (p i) (f i) (a .1)
 
-  part-stays : (now : ℕ) (h : List KeyValue) (o : Option NodeDelta) → Flies h p o → needed p (taking (applyNode ways now) o f) ≤ needed p f
-  part-stays now h none a = omega arith
-  part-stays now h (some d) a =
-      let b = m .facts i .publisher in
-      let c = b .node .honest .gc-low in
-      let e = b .top in
-      needed-came ways now d p f (a .1) (omega arith)
-
-  -- whatever delta is on its way is applied, and however often
-  applied-stays : (now : ℕ) (l : List ℕ) (x : Exchange) → w .exchange ≡ x → Readable x → needed p (nodeAt i (appliedTo ways now l x (w .follower))) ≤ needed p f
-  applied-stays now l Idle q r = omega arith
-  applied-stays now l (DigestSent d) q r = omega arith
-  applied-stays now l (DeltaSent b) q r =
-      applied-table ways b now (w .follower) l (λ t. needed p (nodeAt i t) ≤ needed p f) (omega arith)
-      (λ os e. subst (λ (o : Ops). needed p (nodeAt i (heard o)) ≤ needed p f) (sym (r .1) ∙ law .reads-so b os e) (by (node-taken i (w .follower) (applyNode ways now) (partsOf (r .0)) (read-once (r .0) nothingRead (r .2)))))
+  -- whatever delta was ever computed is applied, and however often
+  applied-onward : (now : ℕ) (l : List ℕ) (x : Exchange) → Readable x → ((i : ℕ) → Flies (w .given i) (p i) (flightOf i x)) → (i : ℕ) → Onward (p i) (f i) (nodeAt i (appliedTo ways now l x (w .follower)))
+  applied-onward now l Idle r a i = onward-same (p i) (f i)
+  applied-onward now l (DigestSent d) r a i = onward-same (p i) (f i)
+  applied-onward now l (DeltaSent b) r a i =
+      applied-table ways b now (w .follower) l (λ t. Onward (p i) (f i) (nodeAt i t)) (onward-same (p i) (f i))
+      (λ os e. subst (λ (o : Ops). Onward (p i) (f i) (nodeAt i (heard o))) (sym (r .1) ∙ law .reads-so b os e) (by (node-taken i (w .follower) (applyNode ways now) (partsOf (r .0)) (read-once (r .0) nothingRead (r .2)))))
     where
       heard : Ops → Table
       heard o = applyEach (applyNode ways now) (partsIn o) (w .follower) .table
 
-      flies : Flies (w .given i) p (partAt i (partsOf (r .0)))
-      flies =
-          subst (λ (o : Ops). Flies (w .given i) p (partAt i (partsIn o))) (r .1)
-          (subst (λ (x : Exchange). Flies (w .given i) p (flightOf i x)) q (m .facts i .flies))
+      flies : Flies (w .given i) (p i) (partAt i (partsOf (r .0)))
+      flies = subst (λ (o : Ops). Flies (w .given i) (p i) (partAt i (partsIn o))) (r .1) (a i)
 
-      by : (nodeAt i (heard (Good (r .0))) ≡ f) ⊎ (nodeAt i (heard (Good (r .0))) ≡ taking (applyNode ways now) (partAt i (partsOf (r .0))) f) → needed p (nodeAt i (heard (Good (r .0)))) ≤ needed p f
-      by (inl a) = let e = ap (needed p) a in omega arith
-      by (inr a) = let e = ap (needed p) a in let k = part-stays now (w .given i) (partAt i (partsOf (r .0))) flies in omega arith
+      by : (nodeAt i (heard (Good (r .0))) ≡ f i) ⊎ (nodeAt i (heard (Good (r .0))) ≡ taking (applyNode ways now) (partAt i (partsOf (r .0))) (f i)) → Onward (p i) (f i) (nodeAt i (heard (Good (r .0))))
+      by (inl e) = subst (Onward (p i) (f i)) (sym e) (onward-same (p i) (f i))
+      by (inr e) = subst (Onward (p i) (f i)) (sym e) (part-onward now i (w .given i) (partAt i (partsOf (r .0))) flies)
 
-  -- so of every quiet event
-  pub lacks-stays : (e : Event) → quiet e ≡ true → lacks (happen ways e w) i ≤ lacks w i
-  lacks-stays (Writing j k c) q = absurd (false≢true q)
-  lacks-stays (Removing s now grace) q = absurd (false≢true q)
-  lacks-stays (Beating s j) q = let a = lacks-beaten w (happen ways (Beating s j) w) (beats-local ways w s j) i in omega arith
-  lacks-stays (Offering s j h) q = let a = lacks-beaten w (happen ways (Offering s j h) w) (beats-offer ways w s j h) i in omega arith
-  lacks-stays (Digesting excluded place l) q = unfold happen in omega arith
-  lacks-stays (Computing excluded ties mtu place l) q = unfold happen in omega arith
-  lacks-stays (Applying now l) q = unfold happen in go (possible (Applying now l))
+  calm-calls : (e : Event) → quiet e ≡ true → Calm w (calls ways e w)
+  calm-calls (Writing j k c) q = absurd (false≢true q)
+  calm-calls (Removing s now grace) q = absurd (false≢true q)
+  calm-calls (Beating s j) q = calm-beats w s (λ t. localBeat j t .table) (λ t i. beaten-local i t j)
+  calm-calls (Offering s j h) q = calm-beats w s (λ t. offer j h t .table) (λ t i. beaten-offer i t j h)
+  calm-calls (Digesting excluded place l) q = record { publisher-beaten = calm-same w .publisher-beaten; onward = calm-same w .onward }
+  calm-calls (Computing excluded ties mtu place l) q = record { publisher-beaten = calm-same w .publisher-beaten; onward = calm-same w .onward }
+  calm-calls (Applying now l) q = calm-theirs w _ (applied-onward now l (w .exchange) (m .order .readable) (λ i. m .facts i .flies))
+  calm-calls (Sending digest excluded ties mtu place l) q = record { publisher-beaten = calm-same w .publisher-beaten; onward = calm-same w .onward }
+  calm-calls (Arriving k now l) q =
+      calm-theirs w _
+      (nth-sent (λ x. (i : ℕ) → Onward (p i) (f i) (nodeAt i (appliedTo ways now l x (w .follower)))) (λ i. onward-same (p i) (f i)) k (w .sent)
+      (λ b n. applied-onward now l (DeltaSent b) (m .order .all-read b n) (λ i. m .facts i .known _ (sent-in i n))))
+
+  pub calm : (e : Event) → quiet e ≡ true → Calm w (happen ways e w)
+  unfolding happen
+  calm e q = go (possible ways e)
     where
-      go : (b : Bool) → lacks (pick b (calls ways (Applying now l) w) w) i ≤ lacks w i
-      go true = applied-stays now l (w .exchange) refl (m .order .readable)
-      go false = omega arith
+      go : (b : Bool) → Calm w (pick b (calls ways e w) w)
+      go true = calm-calls e q
+      go false = calm-same w
+
+  -- ---- no node comes to need more
+
+  top : (i : ℕ) → p i .last-gc ≤ p i .max
+  top i = let b = m .facts i .publisher in let c = b .node .honest .gc-low in let e = b .top in omega arith
+
+  -- than at a table from which it went onward
+  pub onward-lacks : (t : Table) (i : ℕ) → Onward (p i) (nodeAt i t) (f i) → lacks w i ≤ lack (w .publisher) t i
+  onward-lacks t i on = onward-needed (p i) (nodeAt i t) (f i) (top i) on
+
+  -- and after any quiet event
+  pub lacks-stays : (e : Event) → quiet e ≡ true → (i : ℕ) → lacks (happen ways e w) i ≤ lacks w i
+  lacks-stays e q i =
+      let x : World = happen ways e w in
+      let c = calm e q in
+      let a = onward-needed (p i) (f i) (nodeAt i (x .follower)) (top i) (c .onward i) in
+      let b = lack-ours (w .publisher) (x .publisher) (x .follower) (c .publisher-beaten) i in
+      omega arith
+
+-- ---- which events leave what is on its way
+
+module _ (ways : Ways) (w : World) where
+  abbrev SameWay : Event → Type 0
+  SameWay e = happen ways e w .exchange ≡ w .exchange
+
+  maybe : (e : Event) → calls ways e w .exchange ≡ w .exchange → SameWay e
+  unfolding happen
+  maybe e h = go (possible ways e)
+    where
+      go : (b : Bool) → pick b (calls ways e w) w .exchange ≡ w .exchange
+      go true = h
+      go false = refl
+
+  same-side : (s : Side) (f : Table → Table) → onSide s f w .exchange ≡ w .exchange
+  same-side Publishers f = refl
+  same-side Followers f = refl
+
+  pub way-beating : (s : Side) (j : ℕ) → SameWay (Beating s j)
+  way-beating s j = maybe (Beating s j) (same-side s (λ t. localBeat j t .table))
+
+  pub way-offering : (s : Side) (j : ℕ) (h : Heartbeat) → SameWay (Offering s j h)
+  way-offering s j h = maybe (Offering s j h) (same-side s (λ t. offer j h t .table))
+
+  pub way-sending : (digest excluded ties : List ℕ) (mtu place : ℕ) (l : List ℕ) → SameWay (Sending digest excluded ties mtu place l)
+  way-sending digest excluded ties mtu place l = maybe (Sending digest excluded ties mtu place l) refl
+
+  pub way-arriving : (k now : ℕ) (l : List ℕ) → SameWay (Arriving k now l)
+  way-arriving k now l = maybe (Arriving k now l) refl

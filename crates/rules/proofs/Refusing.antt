@@ -17,8 +17,8 @@ use Rattle.rules.specs.Apply.{ApplyOutcome, apply, applyEach, applyNode,
 use Rattle.rules.specs.Compute.{compute, onDigest, written}
 use Rattle.rules.specs.Delta.{Faulty, Good, Ops, Part, partsOf}
 use Rattle.rules.specs.Digest.{DigestRead, Entries, Refused, digestBytes, digestOf, fitsAt, readDigest, writeDigest}
-use Rattle.rules.specs.Layout.{decode, encode, valid}
-use Rattle.rules.specs.Lent.{TableAndList, both, onTable, stored, storedApply, lentApplyAs}
+use Rattle.rules.specs.Whole.{decodeWhole, encodeWhole, validWhole, withTable}
+use Rattle.rules.specs.Lent.{TableAndList, both, onTable, storedIn, storedApply, lentApplyAs}
 use Rattle.rules.specs.Local.{Outcome, add, answerOf, beatOn, call, callOn, gives, listInto, localBeat, offer, offerOn, prefixOn, prefixed, removeNode, yesNo}
 use Rattle.rules.specs.Node.{Call, Decision, Give, Leave, Node, Refuse, act, beats, decide, hitsFrom, offerOf, withHeartbeat}
 use Rattle.rules.specs.Sizes.{leastMtu, maxDelta, maxKey, maxNodes, top}
@@ -184,9 +184,14 @@ apply-refused ways bytes now t l r at = go (ways .reads bytes)
 
 -- ---- the bytes of the lent table
 
-pub valid-bytes : (l : List ℕ) → valid l ≡ true → encode (decode l) ≡ l
-unfolding valid
-valid-bytes l e = same-true _ _ (and-right (obeys (decode l)) (sameBytes (encode (decode l)) l) e)
+-- valid bytes are those of the table that is read in them
+pub whole-bytes : (l : List ℕ) → validWhole l ≡ true → encodeWhole (decodeWhole l) ≡ l
+unfolding validWhole
+whole-bytes l e = same-true _ _ (and-right (obeys (decodeWhole l .table)) (sameBytes (encodeWhole (decodeWhole l)) l) e)
+
+-- and stay those of a table that becomes what it is
+same-whole : (l : List ℕ) → validWhole l ≡ true → (t : Table) → t ≡ decodeWhole l .table → encodeWhole (withTable t (decodeWhole l)) ≡ l
+same-whole l v t e = ap (λ (u : Table). encodeWhole (withTable u (decodeWhole l))) e ∙ whole-bytes l v
 
 -- A call whose refusals leave the table leaves the bytes: `refuses` tells a refusal's answers. This serves every call that changes the table.
 pub lent-refused : {A : Type 0} (bad : A) (rule : Table → Outcome A) (refuses : A → Type 0)
@@ -195,22 +200,25 @@ pub lent-refused : {A : Type 0} (bad : A) (rule : Table → Outcome A) (refuses 
     → refuses (onTable bad rule l .answer)
     → onTable bad rule l .lent ≡ l
 unfolding onTable
-lent-refused {A} bad rule refuses f l = go (valid l) refl
+lent-refused {A} bad rule refuses f l = go (validWhole l) refl
   where
     out : Bool → Given A (List ℕ)
-    out b = pick b (stored (rule (decode l))) (given bad l)
+    out b = pick b (storedIn (decodeWhole l) (rule (decodeWhole l .table))) (given bad l)
 
-    go : (b : Bool) → valid l ≡ b → refuses (out b .answer) → out b .lent ≡ l
-    go true q e = ap encode (f (decode l) e) ∙ valid-bytes l q
+    go : (b : Bool) → validWhole l ≡ b → refuses (out b .answer) → out b .lent ≡ l
+    go true q e = same-whole l q (rule (decodeWhole l .table) .table) (f (decodeWhole l .table) e)
     go false q e = refl
 
 pub lent-apply-refused : (ways : Ways) (delta : List ℕ) (now : ℕ) (list l : List ℕ) (r : Refusal) (at : ℕ) → lentApplyAs ways delta now list l .answer ≡ applied.Refused r at → (lentApplyAs ways delta now list l .lent .table ≡ l) × (lentApplyAs ways delta now list l .lent .list ≡ list)
 unfolding lentApplyAs
-lent-apply-refused ways delta now list l r at = go (valid l) refl
+lent-apply-refused ways delta now list l r at = go (validWhole l) refl
   where
-    out : Bool → Given Applied TableAndList
-    out b = pick b (storedApply (apply ways delta now (decode l) list)) (given (applied.Refused BadTable 0) (both l list))
+    t : Table
+    t = decodeWhole l .table
 
-    go : (b : Bool) → valid l ≡ b → out b .answer ≡ applied.Refused r at → (out b .lent .table ≡ l) × (out b .lent .list ≡ list)
-    go true q e = let x = apply-refused ways delta now (decode l) list r at e in (ap encode (x .0) ∙ valid-bytes l q, x .1)
+    out : Bool → Given Applied TableAndList
+    out b = pick b (storedApply (decodeWhole l) (apply ways delta now t list)) (given (applied.Refused BadTable 0) (both l list))
+
+    go : (b : Bool) → validWhole l ≡ b → out b .answer ≡ applied.Refused r at → (out b .lent .table ≡ l) × (out b .lent .list ≡ list)
+    go true q e = let x = apply-refused ways delta now t list r at e in (same-whole l q (apply ways delta now t list .table) (x .0), x .1)
     go false q e = (refl, refl)

@@ -7,7 +7,7 @@ use Rattle.fields.specs.Choice.{keep}
 use Rattle.fields.specs.Numbers.{bytesOf, natOf}
 use Rattle.fields.specs.Order.{lessBytes, sameBytes}
 use Rattle.fields.specs.Parts.{part, put}
-use Rattle.rules.specs.Apply.{apply, applyEach, applyNode, codes, deltaStatus, newerOf, outcome, plainWays, statusOf, takeAll, takes}
+use Rattle.rules.specs.Apply.{apply, applyEach, applyNode, codes, deltaStatus, fencedWays, newerOf, outcome, plainWays, statusOf, takeAll, takes}
 use Rattle.rules.specs.Compute.{allOps, byVersion, compute, cut, deltaFor, fromOf, keyValueOps, ordered, queue, sooner, stale, staleNodes, toldOf}
 use Rattle.rules.specs.Delta.{deltaBytes, follow, maxOf, opBytes, partsOf, readDelta, readKeyValue, readNode, readOp, readOps, readSetMaxVersion, recsOf, sizeOf, textBytes}
 use Rattle.rules.specs.Demand3.{NotBegun, holdings, wholes}
@@ -15,8 +15,8 @@ use Rattle.rules.specs.Digest.{digestBytes, digestOf, entryBytes, entryO
 use Rattle.rules.specs.Local.{call, gc, localBeat, offer}
 use Rattle.rules.specs.Node.{act, decide, find, lastGc, offerOf, remove, store, wish, write}
 use Rattle.rules.specs.Table.{among, nodeOf, removeAll, setNode}
-use Rattle.rules.proofs.FourRuns.{bothNodes, caughtUp, forgotten, keys, keysOf, lively, oneRecord, pair, pairAt, removedThere, tookLate, wasReset, whole}
-use Rattle.rules.specs.World.{after, freshTable, happen, start}
+use Rattle.rules.proofs.FourRuns.{amid, bothNodes, caughtUp, fencedUp, forgotten, heldOff, keys, keysOf, lively, oneRecord, pair, pairAt, removedThere, tookLate, wasReset, whole}
+use Rattle.rules.specs.World.{after, freshTable, happen, nthSent, start}
 
 -- the publisher holds one record and one node; one whole exchange brings the follower to (3,1), the second to (3,3), also with beats in it
 pub tight : (pair (oneRecord .publisher) ≡ 3 ∷ 3 ∷ [])
@@ -42,10 +42,22 @@ unfolding after happen start freshTable call gc nodeOf setNode removeAll decide 
 both-nodes = (refl, refl)
 
 -- the follower at (10,3) takes a delta with last_gc 0, from 3 and max 5, and is at (10,5); at the end both are at (10,10)
-pub late : (pair (wasReset .publisher) ≡ 10 ∷ 10 ∷ [])
-    × (pair (wasReset .follower) ≡ 10 ∷ 3 ∷ [])
+pub late : (pair (wasReset plainWays .publisher) ≡ 10 ∷ 10 ∷ [])
+    × (pair (wasReset plainWays .follower) ≡ 10 ∷ 3 ∷ [])
     × (pair (tookLate .follower) ≡ 10 ∷ 5 ∷ [])
     × (pair (caughtUp .publisher) ≡ 10 ∷ 10 ∷ [])
     × (pair (caughtUp .follower) ≡ 10 ∷ 10 ∷ [])
 unfolding after happen start freshTable call gc nodeOf setNode removeAll decide wish find act write store remove lastGc keep sameBytes lessBytes among writeDigest digestOf digestBytes entryBytes entryOf readEntries readDigest tell tellAll compute deltaFor cut allOps ordered queue sooner staleNodes toldOf fromOf stale byVersion keyValueOps sizeOf deltaBytes opBytes textBytes bytesOf natOf part put flat unblock apply applyEach applyNode deltaStatus statusOf newerOf outcome takeAll takes codes readDelta readOps readOp readNode readKeyValue readSetMaxVersion follow partsOf recsOf maxOf
 late = (refl, refl, refl, refl, refl)
+
+-- A fenced follower at (10,3) stays. Two exchanges, among more arrivals, bring it to (10,10), where the publisher is, and to the same keys: a, b and two
+-- more, and no k.
+pub late-fenced : (pair (wasReset fencedWays .follower) ≡ 10 ∷ 3 ∷ [])
+    × (pair (heldOff .follower) ≡ 10 ∷ 3 ∷ [])
+    × (wholes fencedWays NotBegun amid heldOff ≡ 2)
+    × (pair (fencedUp .publisher) ≡ 10 ∷ 10 ∷ [])
+    × (pair (fencedUp .follower) ≡ 10 ∷ 10 ∷ [])
+    × (keys (fencedUp .follower) ≡ (1 ∷ 1 ∷ []) ∷ (2 ∷ 2 ∷ []) ∷ (3 ∷ 97 ∷ []) ∷ (4 ∷ 98 ∷ []) ∷ [])
+    × (keys (fencedUp .publisher) ≡ (1 ∷ 1 ∷ []) ∷ (2 ∷ 2 ∷ []) ∷ (3 ∷ 97 ∷ []) ∷ (4 ∷ 98 ∷ []) ∷ [])
+unfolding keysOf wholes nthSent after happen start freshTable call gc nodeOf setNode removeAll decide wish find act write store remove lastGc keep sameBytes lessBytes among writeDigest digestOf digestBytes entryBytes entryOf readEntries readDigest tell tellAll compute deltaFor cut allOps ordered queue sooner staleNodes toldOf fromOf stale byVersion keyValueOps sizeOf deltaBytes opBytes textBytes bytesOf natOf part put flat unblock apply applyEach applyNode deltaStatus statusOf newerOf outcome takeAll takes codes readDelta readOps readOp readNode readKeyValue readSetMaxVersion follow partsOf recsOf maxOf
+late-fenced = (refl, refl, refl, refl, refl, refl, refl)

@@ -14,7 +14,7 @@ use Rattle.fields.specs.Choice.{_∈_}
 use Rattle.rules.proofs.History.{Latest, Newer, Numbered, latest}
 use Rattle.rules.proofs.Honest.{Current, Honest, HonestDelta, HonestNode, Removed}
 use Rattle.rules.proofs.Records.{Sorted, keyOf}
-use Rattle.rules.proofs.Taking.{Came, From, came, left, reset, sorted-take, take-from, take-new, take-old, takes-above, takes-high, takes-or-not, took}
+use Rattle.rules.proofs.Taking.{Applies, Came, From, came, left, reset, sorted-take, take-from, take-new, take-old, takes-above, takes-high, takes-or-not, took}
 use Rattle.rules.specs.Apply.{Ways, applyNode, outcome, stamp, takeAll, takes}
 use Rattle.rules.specs.Delta.{NodeDelta}
 use Rattle.rules.specs.Demand3.{Holds, Last}
@@ -173,10 +173,10 @@ module _ (h : List KeyValue) (num : Numbered h) (now : ℕ) (d : NodeDelta) (x :
                     omega arith
 
     -- in any ways
-    pub node-apply : (ways : Ways) → n .last-gc ≤ max (n .max) (max (d .last-gc) (d .max)) → HonestNode h (applyNode ways now d n .node)
+    pub node-apply : (ways : Ways) → (Applies ways now d n → n .last-gc ≤ max (n .max) (max (d .last-gc) (d .max))) → HonestNode h (applyNode ways now d n .node)
     node-apply ways u = go _ (came ways now d n)
       where
         go : (x : Node) → Came ways now d n x → HonestNode h x
         go x left = ok
         go x (reset r) = after-reset (r .from-none)
-        go x (took r) = after-apply (r .from-held) (r .gc-held) (r .newer) u
+        go x (took r) = after-apply (r .from-held) (r .gc-held) (r .newer) (u r)

@@ -12,27 +12,32 @@ use Rattle.fields.proofs.Ordered.{same-false, same-true}
 use Rattle.fields.specs.Choice.{_∈_, here, later, pick}
 use Rattle.fields.specs.Order.{sameBytes}
 use Rattle.rules.proofs.Records.{Sorted, keyOf, sorted-store, store-from, store-new, store-old}
-use Rattle.rules.specs.Apply.{Ways, answered, applyNode, deltaStatus, newerOf, outcome, stamp, statusOf, takeAll, takenAs, takes}
+use Rattle.rules.specs.Apply.{Fence, Ways, answered, applyNode, deltaStatus, newerOf, outcome, stamp, statusOf, takeAll, takenAs, takes}
 use Rattle.rules.specs.Compute.{fromOf}
 use Rattle.rules.specs.Delta.{NodeDelta}
 use Rattle.rules.specs.Node.{KeyValue, Node, Rec, scheduled, store}
 use Rattle.rules.specs.declared.DeltaStatus.{DeltaStatus}
-use Rattle.rules.specs.declared.DeltaStatus.the-variants.{Apply, ApplyAfterReset, Reject}
+use Rattle.rules.specs.declared.DeltaStatus.the-variants.{Apply, ApplyAfterReset, Fenced, Reject}
 use Rattle.rules.specs.declared.NodeAnswer.{NodeAnswer}
 use Rattle.rules.specs.declared.NodeAnswer.the-variants as node
 
 -- why a deltaStatus was given
-data Judged (n : Node) (d : NodeDelta) : DeltaStatus → Type 0 where
-  rejected : Judged n d Reject
-  resets : d .from ≡ 0 → n .last-gc < d .last-gc → n .max < d .last-gc → Judged n d ApplyAfterReset
-  applies : d .from ≤ n .max → d .last-gc ≤ max (n .last-gc) (n .max) → n .max < d .max → Judged n d Apply
+data Judged (fence : Fence) (n : Node) (d : NodeDelta) : DeltaStatus → Type 0 where
+  rejected : Judged fence n d Reject
+  fenced : Judged fence n d Fenced
+  resets : d .from ≡ 0 → n .last-gc < d .last-gc → n .max < d .last-gc → Judged fence n d ApplyAfterReset
+  applies : d .from ≤ n .max → d .last-gc ≤ max (n .last-gc) (n .max) → n .max < d .max → fence (n .last-gc) (n .max) (d .last-gc) (d .max) ≡ false → Judged fence n d Apply
 
-judge : (n : Node) (d : NodeDelta) → Judged n d (deltaStatus n d)
+judge : (fence : Fence) (n : Node) (d : NodeDelta) → Judged fence n d (deltaStatus fence n d)
 unfolding deltaStatus statusOf newerOf
-judge n d = go (ltb (n .max) (d .from)) refl (ltb (n .last-gc) (d .last-gc)) refl (ltb (n .max) (d .last-gc)) refl (eqb (d .from) 0) refl (ltb (n .max) (d .max)) refl
+judge fence n d =
+    go (ltb (n .max) (d .from)) refl (fence (n .last-gc) (n .max) (d .last-gc) (d .max)) refl (ltb (n .last-gc) (d .last-gc)) refl (ltb (n .max) (d .last-gc)) refl (eqb (d .from) 0) refl
+    (ltb (n .max) (d .max)) refl
   where
     go : (a : Bool)
         → ltb (n .max) (d .from) ≡ a
+        → (s : Bool)
+        → fence (n .last-gc) (n .max) (d .last-gc) (d .max) ≡ s
         → (b : Bool)
         → ltb (n .last-gc) (d .last-gc) ≡ b
         → (c : Bool)
@@ -41,20 +46,21 @@ judge n d = go (ltb (n .max) (d .from)) refl (ltb (n .last-gc) (d .last-gc)) ref
         → eqb (d .from) 0 ≡ z
         → (e : Bool)
         → ltb (n .max) (d .max) ≡ e
-        → Judged n d (pick a Reject (pick (b && c) (pick z ApplyAfterReset Reject) (pick e Apply Reject)))
-    go true a b b′ c c′ z z′ e e′ = rejected
-    go false a true b true c true z e e′ = resets (eqb-true _ _ z) (ltb-true _ _ b) (ltb-true _ _ c)
-    go false a true b true c false z e e′ = rejected
-    go false a true b false c z z′ true e =
+        → Judged fence n d (pick a Reject (pick s Fenced (pick (b && c) (pick z ApplyAfterReset Reject) (pick e Apply Reject))))
+    go true a s s′ b b′ c c′ z z′ e e′ = rejected
+    go false a true s b b′ c c′ z z′ e e′ = fenced
+    go false a false s true b true c true z e e′ = resets (eqb-true _ _ z) (ltb-true _ _ b) (ltb-true _ _ c)
+    go false a false s true b true c false z e e′ = rejected
+    go false a false s true b false c z z′ true e =
         let h : d .from ≤ n .max = ltb-false _ _ a in
         let g : d .last-gc ≤ n .max = ltb-false _ _ c in
-        applies h (omega arith) (ltb-true _ _ e)
-    go false a true b false c z z′ false e = rejected
-    go false a false b c c′ z z′ true e =
+        applies h (omega arith) (ltb-true _ _ e) s
+    go false a false s true b false c z z′ false e = rejected
+    go false a false s false b c c′ z z′ true e =
         let h : d .from ≤ n .max = ltb-false _ _ a in
         let g : d .last-gc ≤ n .last-gc = ltb-false _ _ b in
-        applies h (omega arith) (ltb-true _ _ e)
-    go false a false b c c′ z z′ false e = rejected
+        applies h (omega arith) (ltb-true _ _ e) s
+    go false a false s false b c c′ z z′ false e = rejected
 
 -- ---- the node afterwards
 
@@ -70,6 +76,7 @@ pub record Applies (ways : Ways) (now : ℕ) (d : NodeDelta) (n : Node) : Type 0
   pub from-held : d .from ≤ n .max
   pub gc-held : d .last-gc ≤ max (n .last-gc) (n .max)
   pub newer : n .max < d .max
+  pub let-in : ways .fence (n .last-gc) (n .max) (d .last-gc) (d .max) ≡ false
   pub roomy : ways .roomy (outcome Apply now d n .recs) ≡ true
 
 -- The node stays, or it takes the delta. This and `taken-node` are all that demand 3 sees of the ways.
@@ -81,23 +88,24 @@ pub data Came (ways : Ways) (now : ℕ) (d : NodeDelta) (n : Node) : Node → Ty
 module _ (ways : Ways) (now : ℕ) (d : NodeDelta) (n : Node) where
   pub came : Came ways now d n (applyNode ways now d n .node)
   unfolding applyNode
-  came = at (deltaStatus n d) (judge n d)
+  came = at (deltaStatus (ways .fence) n d) (judge (ways .fence) n d)
     where
       room : (a : NodeAnswer) (o : Node) → (ways .roomy (o .recs) ≡ true → Came ways now d n o) → (b : Bool) → ways .roomy (o .recs) ≡ b → Came ways now d n (pick b (takenAs a o) (takenAs node.Room n) .node)
       room a o f true q = f q
       room a o f false q = left
 
-      at : (v : DeltaStatus) → Judged n d v → Came ways now d n (answered ways v (outcome v now d n) n .node)
+      at : (v : DeltaStatus) → Judged (ways .fence) n d v → Came ways now d n (answered ways v (outcome v now d n) n .node)
       at Reject j = left
+      at Fenced j = left
       at ApplyAfterReset (resets z a b) =
           room node.ApplyAfterReset (outcome ApplyAfterReset now d n) (λ q. reset (record { from-none = z; above-gc = a; above-max = b; roomy = q })) _ refl
-      at Apply (applies a g m) =
-          room node.Apply (outcome Apply now d n) (λ q. took (record { from-held = a; gc-held = g; newer = m; roomy = q })) _ refl
+      at Apply (applies a g m s) =
+          room node.Apply (outcome Apply now d n) (λ q. took (record { from-held = a; gc-held = g; newer = m; let-in = s; roomy = q })) _ refl
 
   -- without Room it is what its status makes of it
-  pub taken-node : (applyNode ways now d n .answer ≡ node.Room → ⊥) → applyNode ways now d n .node ≡ outcome (deltaStatus n d) now d n
+  pub taken-node : (applyNode ways now d n .answer ≡ node.Room → ⊥) → applyNode ways now d n .node ≡ outcome (deltaStatus (ways .fence) n d) now d n
   unfolding applyNode outcome
-  taken-node h = at (deltaStatus n d) h
+  taken-node h = at (deltaStatus (ways .fence) n d) h
     where
       room : (a : NodeAnswer) (o : Node) (b : Bool) → (pick b (takenAs a o) (takenAs node.Room n) .answer ≡ node.Room → ⊥) → pick b (takenAs a o) (takenAs node.Room n) .node ≡ o
       room a o true g = refl
@@ -105,17 +113,19 @@ module _ (ways : Ways) (now : ℕ) (d : NodeDelta) (n : Node) where
 
       at : (v : DeltaStatus) → (answered ways v (outcome v now d n) n .answer ≡ node.Room → ⊥) → answered ways v (outcome v now d n) n .node ≡ outcome v now d n
       at Reject g = refl
+      at Fenced g = refl
       at Apply g = room node.Apply (outcome Apply now d n) (ways .roomy (outcome Apply now d n .recs)) g
       at ApplyAfterReset g = room node.ApplyAfterReset (outcome ApplyAfterReset now d n) (ways .roomy (outcome ApplyAfterReset now d n .recs)) g
 
 -- ---- when a status is given
 
--- for a from that the node has
-pub status-reset : (n : Node) (d : NodeDelta) → d .from ≡ 0 → n .last-gc < d .last-gc → n .max < d .last-gc → deltaStatus n d ≡ ApplyAfterReset
+-- for a from that the node has, where no fence stands against it
+pub status-reset : (fence : Fence) (n : Node) (d : NodeDelta) → fence (n .last-gc) (n .max) (d .last-gc) (d .max) ≡ false → d .from ≡ 0 → n .last-gc < d .last-gc → n .max < d .last-gc → deltaStatus fence n d ≡ ApplyAfterReset
 unfolding deltaStatus statusOf newerOf
-status-reset n d z a b = rw (le-ltb (n .max) (d .from) (omega arith), lt-ltb _ _ a, lt-ltb _ _ b, eq-eqb _ _ z)
+status-reset fence n d s z a b = rw (le-ltb (n .max) (d .from) (omega arith), s, lt-ltb _ _ a, lt-ltb _ _ b, eq-eqb _ _ z)
 
-not-both : (a b m : ℕ) → m ≤ max a b → (ltb a m && ltb b m) ≡ false
+-- neither of two is below what is within them
+pub not-both : (a b m : ℕ) → m ≤ max a b → (ltb a m && ltb b m) ≡ false
 not-both a b m h = go (ltb a m) refl (ltb b m) refl
   where
     go : (s : Bool) → ltb a m ≡ s → (t : Bool) → ltb b m ≡ t → (s && t) ≡ false
@@ -123,9 +133,14 @@ not-both a b m h = go (ltb a m) refl (ltb b m) refl
     go true s false t = refl
     go false s t u = refl
 
-pub status-apply : (n : Node) (d : NodeDelta) → d .from ≤ n .max → d .last-gc ≤ max (n .last-gc) (n .max) → n .max < d .max → deltaStatus n d ≡ Apply
+pub status-apply : (fence : Fence) (n : Node) (d : NodeDelta) → fence (n .last-gc) (n .max) (d .last-gc) (d .max) ≡ false → d .from ≤ n .max → d .last-gc ≤ max (n .last-gc) (n .max) → n .max < d .max → deltaStatus fence n d ≡ Apply
 unfolding deltaStatus statusOf newerOf
-status-apply n d a b c = rw (le-ltb _ _ a, not-both _ _ _ b, lt-ltb _ _ c)
+status-apply fence n d s a b c = rw (le-ltb _ _ a, s, not-both _ _ _ b, lt-ltb _ _ c)
+
+-- a delta that ends within the node's max
+pub status-old : (fence : Fence) (n : Node) (d : NodeDelta) → fence (n .last-gc) (n .max) (d .last-gc) (d .max) ≡ false → d .from ≤ n .max → d .last-gc ≤ max (n .last-gc) (n .max) → d .max ≤ n .max → deltaStatus fence n d ≡ Reject
+unfolding deltaStatus statusOf newerOf
+status-old fence n d s a b c = rw (le-ltb _ _ a, s, not-both _ _ _ b, le-ltb _ _ c)
 
 -- from is 0 where a reset is due, else the digest's max
 pub data FromOf (p : Node) (g m : ℕ) : ℕ → Type 0 where

@@ -86,7 +86,7 @@ same-number a b e = sym (numbered a) ∙ ap refusalOf e ∙ numbered b
 
 -- the answer of a code
 abbrev answerOf : ℕ → NodeAnswer
-answerOf n = pick (eqb n 0) node.Reject (pick (eqb n 1) node.Apply (pick (eqb n 2) node.ApplyAfterReset (pick (eqb n 3) node.Room node.Unknown)))
+answerOf n = pick (eqb n 0) node.Reject (pick (eqb n 1) node.Apply (pick (eqb n 2) node.ApplyAfterReset (pick (eqb n 3) node.Room (pick (eqb n 4) node.Unknown node.Fenced))))
 
 coded : (a : NodeAnswer) → answerOf (codeOf a) ≡ a
 coded node.Reject = refl
@@ -94,6 +94,7 @@ coded node.Apply = refl
 coded node.ApplyAfterReset = refl
 coded node.Room = refl
 coded node.Unknown = refl
+coded node.Fenced = refl
 
 pub same-code : (a b : NodeAnswer) → codeOf a ≡ codeOf b → a ≡ b
 same-code a b e = sym (coded a) ∙ ap answerOf e ∙ coded b

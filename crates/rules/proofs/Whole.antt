@@ -16,7 +16,7 @@ use Rattle.fields.specs.Parts.{part, put}
 use Rattle.rules.specs.Given.{Given}
 use Rattle.rules.proofs.Accepted.{read-computed}
 use Rattle.rules.proofs.Obeys.{among-not}
-use Rattle.rules.proofs.OnTheWay.{Comes, comes, delta-written, digest-written, refuses, writes}
+use Rattle.rules.proofs.OnTheWay.{Comes, comes, delta-bytes, digest-written, refuses, writes}
 use Rattle.rules.proofs.Sending.{emit, sends}
 use Rattle.rules.specs.Answers.{codeOf}
 use Rattle.rules.specs.Apply.{ApplyOutcome, Lawful, Stream, Taking, Ways, apply, applyEach, applyNode, applyOps, codes, onNode}
@@ -27,7 +27,7 @@ use Rattle.rules.specs.Digest.{Entries, NodeDigest, digestBytes, digestO
 use Rattle.rules.specs.Node.{Node}
 use Rattle.rules.specs.Sizes.{maxDelta, numbers}
 use Rattle.rules.specs.Table.{Table, among, nodeOf, obeys}
-use Rattle.rules.specs.World.{Applying, Computing, DeltaSent, DigestSent, Digesting, Exchange, Followers, World, afterDelta, appliedTo, computedFor, happen, onExchange, onSide}
+use Rattle.rules.specs.World.{Applying, Computing, DeltaSent, DigestSent, Digesting, Exchange, Followers, World, afterDelta, appliedTo, computedFor, happen, onSide}
 use Rattle.rules.specs.declared.Computed.{Computed}
 use Rattle.rules.specs.declared.NodeAnswer.{NodeAnswer}
 use Rattle.rules.specs.declared.Refusal.the-variants.{NoPlace}
@@ -62,31 +62,31 @@ front n vs l e h = subst (λ (k : ℕ). take k (put 0 vs l) ≡ vs) e (part-put 
 -- ---- the three calls
 
 module _ (ways : Ways) (w : World) where
-  pub asked : (place : ℕ) (l : List ℕ) → granted ways (Digesting [] place l) w ≡ true → happen ways (Digesting [] place l) w ≡ onExchange (DigestSent (digestBytes (digestOf [] (w .follower)))) w
+  pub asked : (place : ℕ) (l : List ℕ) → granted ways (Digesting [] place l) w ≡ true → happen ways (Digesting [] place l) w .exchange ≡ DigestSent (digestBytes (digestOf [] (w .follower)))
   unfolding happen
-  asked place l g = ap (λ (x : Exchange). onExchange x w) (digest-written [] place l (w .follower) (w .exchange) g)
+  asked place l g = digest-written [] place l (w .follower) (w .exchange) g
 
   -- for a digest that is read as it was told
   pub answered : (ties : List ℕ) (mtu place : ℕ) (l b : List ℕ) (told : List NodeDigest)
       → w .exchange ≡ DigestSent b
       → readDigest b ≡ Entries told []
       → granted ways (Computing [] ties mtu place l) w ≡ true
-      → (happen ways (Computing [] ties mtu place l) w ≡ onExchange (DeltaSent (deltaBytes (deltaFor [] ties mtu told (w .publisher)))) w) × (mtu ≤ maxDelta)
+      → (happen ways (Computing [] ties mtu place l) w .exchange ≡ DeltaSent (deltaBytes (deltaFor [] ties mtu told (w .publisher)))) × (mtu ≤ maxDelta)
   unfolding happen
   answered ties mtu place l b told x read g =
       subst (λ (y : Exchange). isComputed [] ties mtu place l (w .publisher) y ≡ true → Done (computedFor [] ties mtu place l (w .publisher) y)) (sym x)
       (go _ (comes [] ties mtu place b (w .publisher) l)) g
     where
       Done : Exchange → Type 0
-      Done y = (onExchange y w ≡ onExchange (DeltaSent (deltaBytes (deltaFor [] ties mtu told (w .publisher)))) w) × (mtu ≤ maxDelta)
+      Done y = (y ≡ DeltaSent (deltaBytes (deltaFor [] ties mtu told (w .publisher)))) × (mtu ≤ maxDelta)
 
       go : (o : Given Computed (List ℕ)) → Comes [] ties mtu place b (w .publisher) l o → wroteDelta (o .answer) ≡ true → Done (afterDelta place (o .lent) (o .answer) (DigestSent b))
       go o (refuses r) g = absurd (false≢true g)
       go o (writes ds rest e h k) g =
           let same : Entries ds rest ≡ Entries told [] = sym e ∙ read in
           let ds-is : ds ≡ told = cc in (
-            ap (λ (y : Exchange). onExchange y w) (delta-written [] ties mtu place b (w .publisher) l ds k (DigestSent b))
-                ∙ ap (λ (y : List NodeDigest). onExchange (DeltaSent (deltaBytes (deltaFor [] ties mtu y (w .publisher)))) w) ds-is,
+            ap DeltaSent (delta-bytes [] ties mtu place b (w .publisher) l ds k)
+                ∙ ap (λ (y : List NodeDigest). DeltaSent (deltaBytes (deltaFor [] ties mtu y (w .publisher)))) ds-is,
             h,
           )
 

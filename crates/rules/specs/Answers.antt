@@ -1,11 +1,13 @@
--- What stands for each case of an answer: document 01's number of a refusal, the number of a node's answer in a lent list, and for each
--- answer of a call its number (0 where it was accepted) and its values.
+-- What stands for each case of an answer: document 01's number of a refusal, the number of a node's answer in a lent list, the number of
+-- a table's mode, and for each answer of a call its number (0 where it was accepted) and its values.
 use Prim.Native.Nat.{ℕ}
 use mathlib.Core.List.{List, [], _∷_}
 use Rattle.rules.specs.declared.Refusal.{Refusal}
 use Rattle.rules.specs.declared.Refusal.the-variants.{TooLong, NoNode, NoKey, NinthNode, NodeFull, Exhausted, BadMtu, NoPlace, Cut, BadTag, OutOfOrder, NodeTwice, TooMany, BadTable, BadTies}
 use Rattle.rules.specs.declared.NodeAnswer.{NodeAnswer}
 use Rattle.rules.specs.declared.NodeAnswer.the-variants as node
+use Rattle.rules.specs.declared.Mode.{Mode}
+use Rattle.rules.specs.declared.Mode.the-variants as mode
 use Rattle.rules.specs.declared.Answer.{Answer}
 use Rattle.rules.specs.declared.Answer.the-variants as plain
 use Rattle.rules.specs.declared.Offered.{Offered}
@@ -46,6 +48,12 @@ codeOf node.Apply = 1
 codeOf node.ApplyAfterReset = 2
 codeOf node.Room = 3
 codeOf node.Unknown = 4
+codeOf node.Fenced = 5
+
+-- the number of a table's mode
+abbrev pub modeOf : Mode → ℕ
+modeOf mode.Plain = 0
+modeOf mode.Fenced = 1
 
 -- the number and the values of an answer
 pub record Told : Type 0 where

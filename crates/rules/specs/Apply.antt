@@ -1,6 +1,6 @@
 -- Applying a delta: what a node does with a node delta, and what a table does with a stream of them. What may differ from table to table is a
 -- parameter, `Ways`; document 01's value is `plainWays`.
-use Prim.Native.Nat.{ℕ, _≤_}
+use Prim.Native.Nat.{ℕ, _≤_, max}
 use mathlib.Core.Path.{_≡_}
 use mathlib.Core.Bool.{Bool, true, false, not, _&&_}
 use mathlib.Core.List.{List, [], _∷_}
@@ -16,7 +16,9 @@ use Rattle.rules.specs.Node.{KeyValue, Rec, Node, scheduled, store, beat
 use Rattle.rules.specs.Table.{Table, nodeOf, setNode}
 use Rattle.rules.specs.Delta.{NodeDelta, Part, Op, Ops, Good, Faulty, partsOf, readDelta}
 use Rattle.rules.specs.declared.DeltaStatus.{DeltaStatus}
-use Rattle.rules.specs.declared.DeltaStatus.the-variants.{Reject, Apply, ApplyAfterReset}
+use Rattle.rules.specs.declared.DeltaStatus.the-variants.{Reject, Apply, ApplyAfterReset, Fenced}
+use Rattle.rules.specs.declared.Mode.{Mode}
+use Rattle.rules.specs.declared.Mode.the-variants as mode
 use Rattle.rules.specs.declared.NodeAnswer.{NodeAnswer}
 use Rattle.rules.specs.declared.NodeAnswer.the-variants as node
 use Rattle.rules.specs.declared.Refusal.the-variants.{NoPlace}
@@ -25,20 +27,38 @@ use Rattle.rules.specs.declared.Applied.the-variants.{Nodes, Refused}
 
 -- ---- what may differ from table to table
 
--- how bytes are read as a delta, and whether these records have room in a node
+-- where a node answers Fenced, by its own last_gc and max and those of the delta
+abbrev pub Fence : Type 0
+Fence = (own-last-gc own-max last-gc max : ℕ) → Bool
+
+-- How bytes are read as a delta, whether these records have room in a node, where a node answers Fenced; and whether the deltas of demand 3's world
+-- may come late to this table (World).
 pub record Ways : Type 0 where
   pub reads : Bytes → Ops
   pub roomy : List Rec → Bool
+  pub fence : Fence
+  pub late : Bool
 
--- document 01: at most 32 records
+-- document 01: at most 32 records, and no node is ever fenced
 abbrev pub plainWays : Ways
-plainWays = record { reads = readDelta; roomy = λ l. leb (length l) maxRecords }
+plainWays = record { reads = readDelta; roomy = λ l. leb (length l) maxRecords; fence = λ ownGc ownMax gc max. false; late = false }
 
--- What any ways keep to: a delta is refused, or read as document 01 reads it; and what has room has room by document 01. So a table keeps the
--- rules that it obeys (number 14), and demand 3 holds.
+-- ticket 3: a node whose own last_gc exceeds its own max is fenced against a delta with a smaller last_gc
+abbrev pub fencedWays : Ways
+fencedWays = record { reads = readDelta; roomy = λ l. leb (length l) maxRecords; fence = λ ownGc ownMax gc max. ltb ownMax ownGc && ltb gc ownGc; late = true }
+
+abbrev pub waysOf : Mode → Ways
+waysOf mode.Plain = plainWays
+waysOf mode.Fenced = fencedWays
+
+-- What any ways keep to. A delta is refused, or read as document 01 reads it; and what has room has room by document 01. So a table keeps the
+-- rules that it obeys (number 14). No delta is fenced off whose last_gc, or the node's own max, is as high as the node's own last_gc; so the closing count
+-- holds. And where deltas may come late, what is not fenced off reaches the node's own last_gc; so demand 3 holds of them too.
 pub record Lawful (ways : Ways) : Type 0 where
   pub reads-so : (bytes : List ℕ) (ops : List Op) → ways .reads bytes ≡ Good ops → readDelta bytes ≡ Good ops
   pub few : (recs : List Rec) → ways .roomy recs ≡ true → length recs ≤ maxRecords
+  pub lets : (ownGc ownMax gc m : ℕ) → ownGc ≤ max ownMax gc → ways .fence ownGc ownMax gc m ≡ false
+  pub safe : ways .late ≡ true → (ownGc ownMax gc m : ℕ) → ways .fence ownGc ownMax gc m ≡ false → ownGc ≤ max ownMax (max gc m)
 
 -- ---- one node
 
@@ -46,16 +66,17 @@ pub record Lawful (ways : Ways) : Type 0 where
 unfoldable pub newerOf : (own-max max : ℕ) → DeltaStatus
 newerOf ownMax max = pick (ltb ownMax max) Apply Reject
 
--- by the numbers alone: 1. from > own max: Reject. 2. delta last_gc above both own last_gc and own max: Reject if from is not 0, else
--- ApplyAfterReset. 3. as above.
-unfoldable pub statusOf : (own-last-gc own-max from last-gc max : ℕ) → DeltaStatus
-statusOf ownGc ownMax from gc max =
+-- by the numbers alone: 1. from > own max: Reject. Then Fenced, where the ways have it. 2. delta last_gc above both own last_gc and own max: Reject
+-- if from is not 0, else ApplyAfterReset. 3. as above.
+unfoldable pub statusOf : (fence : Fence) (own-last-gc own-max from last-gc max : ℕ) → DeltaStatus
+statusOf fence ownGc ownMax from gc max =
     pick (ltb ownMax from) Reject
+    (pick (fence ownGc ownMax gc max) Fenced
     (pick (ltb ownGc gc && ltb ownMax gc) (pick (eqb from 0) ApplyAfterReset Reject)
-    (newerOf ownMax max))
+    (newerOf ownMax max)))
 
-unfoldable pub deltaStatus : (node : Node) (delta : NodeDelta) → DeltaStatus
-deltaStatus n d = statusOf (n .last-gc) (n .max) (d .from) (d .last-gc) (d .max)
+unfoldable pub deltaStatus : (fence : Fence) (node : Node) (delta : NodeDelta) → DeltaStatus
+deltaStatus fence n d = statusOf fence (n .last-gc) (n .max) (d .from) (d .last-gc) (d .max)
 
 -- a record is taken if its version is above the max held before the first of them and, where it is scheduled, above last_gc
 unfoldable pub takes : (held last-gc : ℕ) (kv : KeyValue) → Bool
@@ -74,9 +95,10 @@ unfoldable pub takeAll : (held last-gc now : ℕ) (kvs : List KeyValue) (recs : 
 takeAll held gc now [] l = l
 takeAll held gc now (r ∷ rs) l = takeAll held gc now rs (pick (takes held gc r) (store (stamp now r) l) l)
 
--- Reject changes nothing. A reset gives a fresh node with the delta's last_gc; then records are taken. At the end max is the delta's max.
+-- Reject and Fenced change nothing. A reset gives a fresh node with the delta's last_gc; then records are taken. At the end max is the delta's max.
 unfoldable pub outcome : (status : DeltaStatus) (now : ℕ) (delta : NodeDelta) (node : Node) → Node
 outcome Reject now d n = n
+outcome Fenced now d n = n
 outcome ApplyAfterReset now d n =
     record { heartbeat = beats 0; max = d .max; last-gc = d .last-gc; recs = takeAll 0 (d .last-gc) now (d .recs) [] }
 outcome Apply now d n =
@@ -96,11 +118,12 @@ withRoom ways a o n = pick (ways .roomy (o .recs)) (takenAs a o) (takenAs node.R
 
 abbrev pub answered : (ways : Ways) (status : DeltaStatus) (outcome node : Node) → Taken
 answered ways Reject o n = takenAs node.Reject n
+answered ways Fenced o n = takenAs node.Fenced n
 answered ways Apply o n = withRoom ways node.Apply o n
 answered ways ApplyAfterReset o n = withRoom ways node.ApplyAfterReset o n
 
 unfoldable pub applyNode : (ways : Ways) (now : ℕ) (delta : NodeDelta) (node : Node) → Taken
-applyNode ways now d n = answered ways (deltaStatus n d) (outcome (deltaStatus n d) now d n) n
+applyNode ways now d n = answered ways (deltaStatus (ways .fence) n d) (outcome (deltaStatus (ways .fence) n d) now d n) n
 
 -- ---- a table
 

@@ -16,7 +16,7 @@ use Rattle.rules.specs.Table.{Table, nodeOf, numbersOf, among, obeys}
 use Rattle.rules.specs.Digest.{writeDigest}
 use Rattle.rules.specs.Compute.{compute}
 use Rattle.rules.specs.Apply.{Ways, apply}
-use Rattle.rules.specs.World.{World, Exchange, Idle, DigestSent, DeltaSent, Event, Writing, Beating, Offering, Removing, Digesting, Computing, Applying, possible, happen, after, start}
+use Rattle.rules.specs.World.{World, Exchange, Idle, DigestSent, DeltaSent, Event, Writing, Beating, Offering, Removing, Digesting, Computing, Applying, Sending, Arriving, possible, happen, after, start}
 use Rattle.rules.specs.declared.Status.the-variants.{Set}
 use Rattle.rules.specs.declared.NodeAnswer.the-variants as node
 use Rattle.rules.specs.declared.Written.{Written}
@@ -63,7 +63,7 @@ AllRise t u = (i : ℕ) (a b : Node) → nodeOf i t ≡ some a → nodeOf i u �
 
 -- ---- the closing count
 
--- no write, no delete and no removal; beats, offers and exchanges go on
+-- no write, no delete and no removal; beats, offers, exchanges and late deltas go on
 abbrev pub quiet : (event : Event) → Bool
 quiet (Writing i k c) = false
 quiet (Beating s i) = true
@@ -72,6 +72,8 @@ quiet (Removing s now grace) = false
 quiet (Digesting excluded place l) = true
 quiet (Computing excluded ties mtu place l) = true
 quiet (Applying now l) = true
+quiet (Sending digest excluded ties mtu place l) = true
+quiet (Arriving k now l) = true
 
 unfoldable pub allQuiet : (events : List Event) → Bool
 allQuiet [] = true
@@ -94,6 +96,8 @@ unlimited (Removing s now grace) = true
 unlimited (Digesting excluded place l) = isNone excluded
 unlimited (Computing excluded ties mtu place l) = isNone excluded && leb leastWidth mtu
 unlimited (Applying now l) = true
+unlimited (Sending digest excluded ties mtu place l) = true
+unlimited (Arriving k now l) = true
 
 -- Nothing refused, read off the answers: the three calls of an exchange give no number, and no node answers Room. A Reject is no refusal.
 abbrev pub wroteDigest : Written → Bool
@@ -127,10 +131,12 @@ granted ways (Offering s i h) w = true
 granted ways (Removing s now grace) w = true
 granted ways (Digesting excluded place l) w = wroteDigest (writeDigest excluded place (w .follower) l .answer)
 granted ways (Computing excluded ties mtu place l) w = isComputed excluded ties mtu place l (w .publisher) (w .exchange)
-granted ways (Applying now l) w = possible (Applying now l) && isApplied ways now l (w .follower) (w .exchange)
+granted ways (Applying now l) w = possible ways (Applying now l) && isApplied ways now l (w .follower) (w .exchange)
+granted ways (Sending digest excluded ties mtu place l) w = true
+granted ways (Arriving k now l) w = true
 
 -- A whole exchange is a digest, a delta and its applying, in this order, with no node excluded, an MTU of 135 or more, nothing lost and nothing
--- refused. Beats and offers may fall between its steps. The stages: none has begun, its digest is written, its delta is computed.
+-- refused. Beats, offers and late deltas may fall between its steps. The stages: none has begun, its digest is written, its delta is computed.
 pub data Stage : Type 0 where
   NotBegun : Stage
   Asked : Stage
@@ -147,6 +153,8 @@ onward (Computing excluded ties mtu place l) NotBegun = NotBegun
 onward (Computing excluded ties mtu place l) Asked = Answered
 onward (Computing excluded ties mtu place l) Answered = NotBegun
 onward (Applying now l) st = NotBegun
+onward (Sending digest excluded ties mtu place l) st = st
+onward (Arriving k now l) st = st
 
 -- the applying is its end; the same delta, applied again, counts no more
 abbrev pub ending : (event : Event) (stage : Stage) → ℕ
@@ -159,6 +167,8 @@ ending (Computing excluded ties mtu place l) st = 0
 ending (Applying now l) NotBegun = 0
 ending (Applying now l) Asked = 0
 ending (Applying now l) Answered = 1
+ending (Sending digest excluded ties mtu place l) st = 0
+ending (Arriving k now l) st = 0
 
 -- the whole exchanges of a run; a step that is limited or refused ends its exchange uncounted
 unfoldable pub wholes : (ways : Ways) (stage : Stage) (events : List Event) (world : World) → ℕ

@@ -1,5 +1,6 @@
--- The bytes of a table in lent memory. All places are fixed and all numbers little-endian; every byte that is not in use is zero. So a table
--- that obeys the rules and its bytes determine each other, and a removed reading leaves no byte behind.
+-- The bytes of a table in lent memory: its area, in which the nodes stand (Whole has what stands behind it). All places are fixed and all numbers
+-- little-endian; every byte that is not in use is zero. So a table that obeys the rules and its bytes determine each other, and a removed reading leaves
+-- no byte behind.
 use Prim.Native.Nat.{ℕ, zero, suc, _+_, _*_}
 use mathlib.Core.Bool.{Bool, _&&_}
 use mathlib.Core.List.{List, [], _∷_}
@@ -99,7 +100,7 @@ decodeNode b =
 abbrev pub tableWidths : List ℕ
 tableWidths = 1 ∷ maxNodes * nodeWidth ∷ []
 
--- how long the lent slice is
+-- how long the area is
 abbrev pub tableWidth : ℕ
 tableWidth = total tableWidths
 
@@ -116,6 +117,6 @@ encode t = joined (tableFields t)
 unfoldable pub decode : (bytes : Bytes) → Table
 decode l = unblock nodeWidth decodeNode (natOf (part (offset tableWidths 0) 1 l)) (drop (offset tableWidths 1) l)
 
--- number 14 is refused exactly where this is false: the bytes are those of a table that obeys the rules
+-- the bytes are those of a table that obeys the rules
 unfoldable pub valid : (bytes : Bytes) → Bool
 valid l = obeys (decode l) && sameBytes (encode (decode l)) l

@@ -10,9 +10,11 @@ use Rattle.rules.specs.Table.{Table}
 use Rattle.rules.specs.Local.{Outcome, Found, NotFound, add, removeNode, call, gc, offer, localBeat, lookup, prefixed}
 use Rattle.rules.specs.Digest.{writeDigest}
 use Rattle.rules.specs.Compute.{compute}
-use Rattle.rules.specs.Apply.{Ways, plainWays, ApplyOutcome, apply}
-use Rattle.rules.specs.Layout.{encode, decode, valid}
+use Rattle.rules.specs.Apply.{Ways, waysOf, ApplyOutcome, apply}
+use Rattle.rules.specs.Layout.{encode}
+use Rattle.rules.specs.Whole.{Whole, withTable, encodeWhole, decodeWhole, validWhole}
 use Rattle.rules.specs.declared.Heartbeat.{Heartbeat}
+use Rattle.rules.specs.declared.Mode.{Mode}
 use Rattle.rules.specs.declared.Refusal.the-variants.{BadTable}
 use Rattle.rules.specs.declared.Answer.{Answer}
 use Rattle.rules.specs.declared.Answer.the-variants as plain
@@ -27,16 +29,21 @@ use Rattle.rules.specs.declared.Computed.the-variants as computed
 use Rattle.rules.specs.declared.Applied.{Applied}
 use Rattle.rules.specs.declared.Applied.the-variants as applied
 
+-- what a rule leaves in the area
 abbrev pub stored : {A : Type 0} (outcome : Outcome A) → Given A Bytes
 stored o = given (o .answer) (encode (o .table))
 
+-- and in the whole, whose tail it keeps
+abbrev pub storedIn : {A : Type 0} (whole : Whole) (outcome : Outcome A) → Given A Bytes
+storedIn w o = given (o .answer) (encodeWhole (withTable (o .table) w))
+
 -- 14, or the rule on the table that the bytes are
 unfoldable pub onTable : {A : Type 0} (bad : A) (rule : Table → Outcome A) (table : Bytes) → Given A Bytes
-onTable bad rule table = pick (valid table) (stored (rule (decode table))) (given bad table)
+onTable bad rule table = pick (validWhole table) (storedIn (decodeWhole table) (rule (decodeWhole table .table))) (given bad table)
 
 -- the same for a call that leaves the table and given another lent list
 unfoldable pub fromTable : {A : Type 0} (bad : A) (rule : Table → A) (table : Bytes) → A
-fromTable bad rule table = pick (valid table) (rule (decode table)) bad
+fromTable bad rule table = pick (validWhole table) (rule (decodeWhole table .table)) bad
 
 -- ---- calls that change the table
 
@@ -82,17 +89,20 @@ pub record TableAndList : Type 0 where
 abbrev pub both : (table list : Bytes) → TableAndList
 both table list = record { table = table; list = list }
 
-abbrev pub storedApply : (outcome : ApplyOutcome) → Given Applied TableAndList
-storedApply o = given (o .answer) (both (encode (o .table)) (o .list))
+abbrev pub storedApply : (whole : Whole) (outcome : ApplyOutcome) → Given Applied TableAndList
+storedApply w o = given (o .answer) (both (encodeWhole (withTable (o .table) w)) (o .list))
 
--- in any ways; a table of document 01 has the plain ones
+-- in any ways
 unfoldable pub lentApplyAs : (ways : Ways) (delta : Bytes) (now : ℕ) (list table : Bytes) → Given Applied TableAndList
 lentApplyAs ways delta now list table =
-    pick (valid table) (storedApply (apply ways delta now (decode table) list)) (given (applied.Refused BadTable 0) (both table list))
+    pick (validWhole table)
+    (storedApply (decodeWhole table) (apply ways delta now (decodeWhole table .table) list))
+    (given (applied.Refused BadTable 0) (both table list))
 
+-- in those of the table's mode
 abbrev pub lentApply : (delta : Bytes) (now : ℕ) (list table : Bytes) → Given Applied TableAndList
-lentApply delta now list table = lentApplyAs plainWays delta now list table
+lentApply delta now list table = lentApplyAs (waysOf (decodeWhole table .mode)) delta now list table
 
--- an empty table
-unfoldable pub lentNew : List ℕ
-lentNew = encode []
+-- an empty table in a mode
+unfoldable pub lentNew : (mode : Mode) → Bytes
+lentNew m = encodeWhole (record { mode = m; table = [] })

@@ -11,6 +11,7 @@ pub mod Apply
 pub mod Compute
 pub mod Listing
 pub mod Layout
+pub mod Whole
 pub mod Lent
 pub mod World
 pub mod Demand3

@@ -5,6 +5,10 @@ use Prim.Native.Nat.{ℕ, _-_, _^_}
 abbrev pub maxNodes : ℕ
 maxNodes = 8
 
+-- removed nodes that a table has room to remember
+abbrev pub maxRemoved : ℕ
+maxRemoved = 16
+
 -- records in a node, tombstones counted
 abbrev pub maxRecords : ℕ
 maxRecords = 32

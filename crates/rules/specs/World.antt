@@ -2,8 +2,8 @@
 -- events, and `after` gives the world after it. Whatever happens is a call of document 01, as the files beside this one define it: local
 -- calls and removal (Local), digest writing (Digest), computing (Compute), applying (Apply). Bytes go from one side to the other. `Ways` are the
 -- follower's (Apply); document 01's are `plainWays`.
-use Prim.Native.Nat.{ℕ, _+_}
-use mathlib.Core.Bool.{Bool, true}
+use Prim.Native.Nat.{ℕ, zero, suc, _+_}
+use mathlib.Core.Bool.{Bool, true, _&&_}
 use mathlib.Core.List.{List, [], _∷_}
 use mathlib.Core.Option.{Option, none, some}
 use lib.Dec.{ltb, eqb}
@@ -31,13 +31,14 @@ pub data Exchange : Type 0 where
   DigestSent : List ℕ → Exchange
   DeltaSent : List ℕ → Exchange
 
--- The two tables; what the publisher gave so far, node by node, the newest first: each version with its key, value and status; the exchange.
--- No call looks at what was given; the claims are about it.
+-- The two tables; what the publisher gave so far, node by node, the newest first: each version with its key, value and status; the exchange; and
+-- the bytes of every delta that was ever computed, the newest first. No call looks at what was given; the claims are about it.
 pub record World : Type 0 where
   pub publisher : Table
   pub follower : Table
   pub given : ℕ → List KeyValue
   pub exchange : Exchange
+  pub sent : List Bytes
 
 -- fresh nodes under these numbers
 unfoldable pub freshTable : List ℕ → Table
@@ -46,7 +47,7 @@ freshTable (i ∷ is) = record { number = i; node = fresh } ∷ freshTable is
 
 -- both tables fresh with the same nodes, and nothing given yet
 unfoldable pub start : (numbers : List ℕ) → World
-start is = record { publisher = freshTable is; follower = freshTable is; given = λ i. []; exchange = Idle }
+start is = record { publisher = freshTable is; follower = freshTable is; given = λ i. []; exchange = Idle; sent = [] }
 
 -- ---- what may happen
 
@@ -68,6 +69,11 @@ pub data Event : Type 0 where
   Computing : List ℕ → List ℕ → ℕ → ℕ → List ℕ → Event
   -- the follower applies the delta on its way, and may apply it again: now, the lent list of answers
   Applying : ℕ → List ℕ → Event
+  -- the publisher computes a delta for any bytes as a digest, late or forged ones too, beside the exchange: those bytes, excluded nodes, ties, MTU,
+  -- the place in the datagram, the datagram
+  Sending : List ℕ → List ℕ → List ℕ → ℕ → ℕ → List ℕ → Event
+  -- a delta that was ever computed arrives at the follower, late or again: which of them, now, the lent list of answers
+  Arriving : ℕ → ℕ → List ℕ → Event
 
 -- the time that a call brings
 abbrev pub timeOf : Call → ℕ
@@ -76,15 +82,17 @@ timeOf (SettingTtl v now) = now
 timeOf (Deleting now) = now
 timeOf (DeletingAfterTtl now) = now
 
--- times and heartbeats are numbers of eight bytes: with another there is no such call
-abbrev pub possible : Event → Bool
-possible (Writing i k c) = ltb (timeOf c) numbers
-possible (Beating s i) = true
-possible (Offering s i h) = ltb (h .0) numbers
-possible (Removing s now grace) = true
-possible (Digesting excluded place l) = true
-possible (Computing excluded ties mtu place l) = true
-possible (Applying now l) = ltb now numbers
+-- Times and heartbeats are numbers of eight bytes: with another there is no such call. Deltas come late only where the follower's ways say so.
+abbrev pub possible : (ways : Ways) (event : Event) → Bool
+possible ways (Writing i k c) = ltb (timeOf c) numbers
+possible ways (Beating s i) = true
+possible ways (Offering s i h) = ltb (h .0) numbers
+possible ways (Removing s now grace) = true
+possible ways (Digesting excluded place l) = true
+possible ways (Computing excluded ties mtu place l) = true
+possible ways (Applying now l) = ltb now numbers
+possible ways (Sending digest excluded ties mtu place l) = true
+possible ways (Arriving k now l) = ways .late && ltb now numbers
 
 -- ---- what a call gives to its key
 
@@ -123,6 +131,27 @@ computedFor excluded ties mtu place l t (DigestSent d) =
     afterDelta place (compute excluded ties mtu place d t l .lent) (compute excluded ties mtu place d t l .answer) (DigestSent d)
 computedFor excluded ties mtu place l t (DeltaSent b) = DeltaSent b
 
+-- what was ever computed, when a call has computed one more
+abbrev pub sentAfter : (place : ℕ) (datagram : Bytes) (answer : Computed) (sent : List Bytes) → List Bytes
+sentAfter place l (computed.Delta ops bytes) ss = part place bytes l ∷ ss
+sentAfter place l (computed.Refused r) ss = ss
+
+abbrev pub sentFor : (digest : Bytes) (excluded ties : List ℕ) (mtu place : ℕ) (datagram : Bytes) (table : Table) (sent : List Bytes) → List Bytes
+sentFor digest excluded ties mtu place l t ss =
+    sentAfter place (compute excluded ties mtu place digest t l .lent) (compute excluded ties mtu place digest t l .answer) ss
+
+-- for a digest that is on its way
+abbrev pub sentOn : (excluded ties : List ℕ) (mtu place : ℕ) (datagram : Bytes) (table : Table) (way : Exchange) (sent : List Bytes) → List Bytes
+sentOn excluded ties mtu place l t Idle ss = ss
+sentOn excluded ties mtu place l t (DigestSent d) ss = sentFor d excluded ties mtu place l t ss
+sentOn excluded ties mtu place l t (DeltaSent b) ss = ss
+
+-- the delta of this place among all of them, as if it were on its way
+unfoldable pub nthSent : (place : ℕ) (sent : List Bytes) → Exchange
+nthSent k [] = Idle
+nthSent zero (b ∷ ss) = DeltaSent b
+nthSent (suc k) (b ∷ ss) = nthSent k ss
+
 -- only a delta that is on its way
 abbrev pub appliedTo : (ways : Ways) (now : ℕ) (answers : Bytes) (way : Exchange) (table : Table) → Table
 appliedTo ways now l Idle t = t
@@ -133,11 +162,14 @@ appliedTo ways now l (DeltaSent b) t = apply ways b now t l .table
 
 -- a call that changes the table of one side
 abbrev pub onSide : (side : Side) (f : Table → Table) (world : World) → World
-onSide Publishers f w = record { publisher = f (w .publisher); follower = w .follower; given = w .given; exchange = w .exchange }
-onSide Followers f w = record { publisher = w .publisher; follower = f (w .follower); given = w .given; exchange = w .exchange }
+onSide Publishers f w = record { publisher = f (w .publisher); follower = w .follower; given = w .given; exchange = w .exchange; sent = w .sent }
+onSide Followers f w = record { publisher = w .publisher; follower = f (w .follower); given = w .given; exchange = w .exchange; sent = w .sent }
 
 abbrev pub onExchange : (way : Exchange) (world : World) → World
-onExchange x w = record { publisher = w .publisher; follower = w .follower; given = w .given; exchange = x }
+onExchange x w = record { publisher = w .publisher; follower = w .follower; given = w .given; exchange = x; sent = w .sent }
+
+abbrev pub onSent : (sent : List Bytes) (world : World) → World
+onSent ss w = record { publisher = w .publisher; follower = w .follower; given = w .given; exchange = w .exchange; sent = ss }
 
 abbrev pub calls : (ways : Ways) (event : Event) (world : World) → World
 calls ways (Writing i k c) w =
@@ -146,17 +178,21 @@ calls ways (Writing i k c) w =
       follower = w .follower;
       given = λ j. pick (eqb j i) (givenIn k c (nodeOf i (w .publisher)) (w .given j)) (w .given j);
       exchange = w .exchange;
+      sent = w .sent;
     }
 calls ways (Beating s i) w = onSide s (λ t. localBeat i t .table) w
 calls ways (Offering s i h) w = onSide s (λ t. offer i h t .table) w
 calls ways (Removing s now grace) w = onSide s (λ t. gc now grace t .table) w
 calls ways (Digesting excluded place l) w = onExchange (digested excluded place l (w .follower) (w .exchange)) w
-calls ways (Computing excluded ties mtu place l) w = onExchange (computedFor excluded ties mtu place l (w .publisher) (w .exchange)) w
+calls ways (Computing excluded ties mtu place l) w =
+    onExchange (computedFor excluded ties mtu place l (w .publisher) (w .exchange)) (onSent (sentOn excluded ties mtu place l (w .publisher) (w .exchange) (w .sent)) w)
 calls ways (Applying now l) w = onSide Followers (appliedTo ways now l (w .exchange)) w
+calls ways (Sending digest excluded ties mtu place l) w = onSent (sentFor digest excluded ties mtu place l (w .publisher) (w .sent)) w
+calls ways (Arriving k now l) w = onSide Followers (appliedTo ways now l (nthSent k (w .sent))) w
 
 -- the world after an event; one that is not possible changes nothing
 unfoldable pub happen : (ways : Ways) (event : Event) (world : World) → World
-happen ways e w = pick (possible e) (calls ways e w) w
+happen ways e w = pick (possible ways e) (calls ways e w) w
 
 -- the world after a run
 unfoldable pub after : (ways : Ways) (events : List Event) (world : World) → World

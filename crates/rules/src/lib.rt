@@ -1,10 +1,12 @@
 // The types of document 01 that code and definitions share. What they mean stands in specs/.
+ghost use Prim.Native.Nat.{ℕ};
 ghost use mathlib.Core.Path.{_≡_};
-ghost use Rattle.rules.specs.Answers.{numberOf, codeOf};
+ghost use Rattle.rules.specs.Answers.{numberOf, codeOf, modeOf};
 ghost use Rattle.rules.specs.Node.{freshHeader, offerOf, emptyRecord};
-ghost use Rattle.rules.specs.Apply.{statusOf, newerOf};
+ghost use Rattle.rules.specs.Apply.{statusOf, newerOf, waysOf};
 ghost use Rattle.rules.specs.Delta.{statusByte};
 ghost use Rattle.rules.specs.Layout.{statusOfByte};
+ghost use Rattle.rules.specs.Whole.{modeOfByte};
 
 pub mod sizes;
 pub mod wire;
@@ -126,6 +128,39 @@ pub fn after_offer(held: Heartbeat, got: Heartbeat) -> Beat
     }
 }
 
+// How a table takes deltas that may come late. It is chosen when the table is made, and kept in its bytes.
+pub enum Mode {
+    // Document 01's: no node is fenced.
+    Plain,
+    // A node that is in a reset is fenced against deltas that are older.
+    Fenced,
+}
+
+impl Mode {
+    // The largest byte that stands for one.
+    pub const LAST: usize = 1;
+
+    // The byte that stands for it in a table.
+    pub fn byte(self) -> usize
+        ensures { λ r. ⌜ r ≡ modeOf self ⌝ }
+    {
+        match self {
+            Mode::Plain => 0,
+            Mode::Fenced => 1,
+        }
+    }
+
+    // The mode that a byte stands for; one above 1 is read as fenced, and who can meet it looks at it first.
+    pub fn of_byte(n: usize) -> Self
+        ensures { λ r. ⌜ r ≡ modeOfByte n ⌝ }
+    {
+        if n == 0 {
+            return Mode::Plain;
+        }
+        Mode::Fenced
+    }
+}
+
 // Whether a node delta can be applied to a node.
 pub enum DeltaStatus {
     // It is from the future, or brings nothing new.
@@ -134,6 +169,23 @@ pub enum DeltaStatus {
     Apply,
     // It brings something new, but the node must begin afresh: tombstones that it may lack are gone at the sender.
     ApplyAfterReset,
+    // The node is in a reset, and the delta is older.
+    Fenced,
+}
+
+// Whether a node of a table in this mode is fenced against a delta with this last_gc.
+fn is_fenced(mode: Mode, own_last_gc: u64, own_max: u64, last_gc: u64) -> bool
+    ensures { λ r. ⌜ ((max : ℕ) → r ≡ waysOf mode .fence «own_last_gc» «own_max» «last_gc» max) ⌝ }
+{
+    match mode {
+        Mode::Plain => false,
+        Mode::Fenced => {
+            if own_last_gc <= own_max {
+                return false;
+            }
+            last_gc < own_last_gc
+        }
+    }
 }
 
 // Step 3: whether there is something new, where no reset is due.
@@ -146,18 +198,22 @@ fn check_newer(own_max: u64, max: u64) -> DeltaStatus
     DeltaStatus::Reject
 }
 
-// The three steps of document 01, "Applying to a node", by the numbers alone.
+// The three steps of document 01, "Applying to a node", by the numbers alone; between the first and the second the fence of a fenced table.
 pub fn check_delta_status(
+    mode: Mode,
     own_last_gc: u64,
     own_max: u64,
     from: u64,
     last_gc: u64,
     max: u64,
 ) -> DeltaStatus
-    ensures { λ r. ⌜ r ≡ statusOf «own_last_gc» «own_max» from «last_gc» max ⌝ }
+    ensures { λ r. ⌜ r ≡ statusOf (waysOf mode .fence) «own_last_gc» «own_max» from «last_gc» max ⌝ }
 {
     if own_max < from {
         return DeltaStatus::Reject;
+    }
+    if is_fenced(mode, own_last_gc, own_max, last_gc) {
+        return DeltaStatus::Fenced;
     }
     if last_gc <= own_last_gc {
         return check_newer(own_max, max);
@@ -180,6 +236,8 @@ pub enum NodeAnswer {
     Room,
     // The table has no such node.
     Unknown,
+    // The node is in a reset that the delta is older than: it stays as it is.
+    Fenced,
 }
 
 impl NodeAnswer {
@@ -193,6 +251,7 @@ impl NodeAnswer {
             NodeAnswer::ApplyAfterReset => 2,
             NodeAnswer::Room => 3,
             NodeAnswer::Unknown => 4,
+            NodeAnswer::Fenced => 5,
         }
     }
 }

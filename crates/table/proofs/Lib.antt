@@ -2,6 +2,7 @@ pub mod Records
 pub mod Nodes
 pub mod Tables
 pub mod Checked
+pub mod Wholes
 pub mod Places
 pub mod Areas
 pub mod Rows

@@ -1,5 +1,5 @@
--- The check behind number 14 as plain tests of bytes, from left to right. `valid` says what a good table is: the bytes of a table that obeys the
--- rules. These tests say how one sees it on the bytes; that they come to the same is proved (proofs/Checked.antt).
+-- The check behind number 14 as plain tests of bytes, from left to right. `valid` says what a good area is, and `validWhole` what a good table is: the
+-- bytes of a table that obeys the rules. These tests say how one sees it on the bytes; that they come to the same is proved (proofs/Checked, Wholes).
 use Prim.Native.Nat.{ℕ, _+_, _*_, _-_}
 use mathlib.Core.Bool.{Bool, _&&_}
 use mathlib.Core.List.{List, [], _∷_}
@@ -13,7 +13,8 @@ use Rattle.fields.specs.Widths.{offset}
 use Rattle.rules.specs.Sizes.{maxNodes, maxRecords, maxKey, maxValue}
 use Rattle.rules.specs.Node.{Rec}
 use Rattle.rules.specs.Table.{keysRise, versions, differ, rising, numbersOf}
-use Rattle.rules.specs.Layout.{recWidths, recWidth, nodeWidths, nodeWidth, tableWidths, tableWidth, decodeNode, decode}
+use Rattle.rules.specs.Layout.{recWidths, recWidth, nodeWidths, nodeWidth, tableWidths, tableWidth, decodeNode, decode, valid}
+use Rattle.rules.specs.Whole.{tailWidths, tailWidth, wholeWidth, areaOf, tailOf}
 
 -- ---- a record's bytes, in a node with this max
 
@@ -86,3 +87,18 @@ tableTests l =
 
 unfoldable pub tableGood : (table : Bytes) → Bool
 tableGood l = eqb (length l) tableWidth && every (tableTests l)
+
+-- ---- the tail behind a table's area, and the whole
+
+abbrev pub modeIn : (tail : Bytes) → ℕ
+modeIn b = natOf (part (offset tailWidths 0) 1 b)
+
+-- a mode of the two, zeros behind it
+abbrev pub tailTests : (tail : Bytes) → List Bool
+tailTests b = leb (modeIn b) 1 ∷ allZero (part (offset tailWidths 1) (tailWidth - offset tailWidths 1) b) ∷ []
+
+unfoldable pub tailGood : (tail : Bytes) → Bool
+tailGood b = every (tailTests b)
+
+unfoldable pub wholeGood : (bytes : Bytes) → Bool
+wholeGood l = eqb (length l) wholeWidth && (valid (areaOf l) && tailGood (tailOf l))

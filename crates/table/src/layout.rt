@@ -35,9 +35,23 @@ pub const RECORDS: usize = RECORD_COUNT + 1;
 
 pub const NODE: usize = RECORDS + Header::RECORDS * RECORD;
 
-// A table: count of nodes, room for 8 of them.
+// A table's area, its first bytes: count of nodes, room for 8 of them.
 pub const NODE_COUNT: usize = 0;
 
 pub const NODES: usize = NODE_COUNT + 1;
 
-pub const TABLE: usize = NODES + sizes::NODES * NODE;
+pub const AREA: usize = NODES + sizes::NODES * NODE;
+
+// The tail behind the area, from its own first byte: mode, profile, count of removed nodes, room for 16 of them. All but the mode are zero.
+pub const MODE: usize = 0;
+
+pub const PROFILE: usize = MODE + 1;
+
+pub const REMOVED_COUNT: usize = PROFILE + 1;
+
+pub const REMOVED_NODES: usize = REMOVED_COUNT + 1;
+
+pub const TAIL: usize = REMOVED_NODES + sizes::REMOVED * 16;
+
+// A table: the area and the tail.
+pub const TABLE: usize = AREA + TAIL;

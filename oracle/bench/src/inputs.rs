@@ -35,7 +35,7 @@ pub fn table(records: &[usize], version: impl Fn(usize) -> u64) -> Vec<u8> {
                 .collect(),
         })
         .collect();
-    table::encode(&nodes)
+    table::encode(&nodes, table::PLAIN)
 }
 
 /// The records were set in the order of their keys.
@@ -66,7 +66,7 @@ pub fn others() -> Vec<usize> {
 }
 
 pub fn empty() -> Vec<u8> {
-    table::encode(&[])
+    table::encode(&[], table::PLAIN)
 }
 
 /// The same table where removals have gone up to this version in each node.

@@ -1,5 +1,7 @@
 //! The port's calls, as the crate `exports` exports them: a slice is a pointer and a length.
 
+use script::table::AREA_BYTES;
+
 #[allow(improper_ctypes)]
 mod c {
     unsafe extern "C" {
@@ -86,6 +88,7 @@ mod c {
         pub fn kev_apply_good(
             table: *mut u8,
             len: usize,
+            mode: usize,
             delta: *const u8,
             deltalen: usize,
             clock: u64,
@@ -95,6 +98,11 @@ mod c {
     }
 }
 
+/// How much of a table is lent: a `good` function takes the area alone.
+fn lent(table: &[u8], good: bool) -> usize {
+    if good { AREA_BYTES } else { table.len() }
+}
+
 pub fn check(table: &[u8]) -> bool {
     unsafe { c::kev_check(table.as_ptr(), table.len()) }
 }
@@ -102,23 +110,23 @@ pub fn check(table: &[u8]) -> bool {
 /// Where the value begins in the table, 0 where there is none. `good` skips the check.
 pub fn find(table: &[u8], number: u64, key: &str, good: bool) -> usize {
     let f = if good { c::kev_find_good } else { c::kev_find };
-    unsafe { f(table.as_ptr(), table.len(), number, key.as_ptr(), key.len()) }
+    unsafe { f(table.as_ptr(), lent(table, good), number, key.as_ptr(), key.len()) }
 }
 
 pub fn set(table: &mut [u8], number: u64, key: &str, value: &str, good: bool) -> u64 {
     let f = if good { c::kev_set_good } else { c::kev_set };
-    unsafe { f(table.as_mut_ptr(), table.len(), number, key.as_ptr(), key.len(), value.as_ptr(), value.len()) }
+    unsafe { f(table.as_mut_ptr(), lent(table, good), number, key.as_ptr(), key.len(), value.as_ptr(), value.len()) }
 }
 
 pub fn delete(table: &mut [u8], number: u64, key: &str, time: u64, good: bool) -> u64 {
     let f = if good { c::kev_delete_good } else { c::kev_delete };
-    unsafe { f(table.as_mut_ptr(), table.len(), number, key.as_ptr(), key.len(), time) }
+    unsafe { f(table.as_mut_ptr(), lent(table, good), number, key.as_ptr(), key.len(), time) }
 }
 
 pub fn remove(table: &mut [u8], time: u64, grace: u64, good: bool) {
     unsafe {
         if good {
-            c::kev_remove_good(table.as_mut_ptr(), table.len(), time, grace);
+            c::kev_remove_good(table.as_mut_ptr(), AREA_BYTES, time, grace);
         } else {
             c::kev_remove(table.as_mut_ptr(), table.len(), time, grace);
         }
@@ -147,7 +155,7 @@ pub fn compute(table: &[u8], digest: &[u8], ties: &[u64], datagram: &mut [u8], g
     unsafe {
         f(
             table.as_ptr(),
-            table.len(),
+            lent(table, good),
             digest.as_ptr(),
             digest.len(),
             16_384,
@@ -167,7 +175,8 @@ pub fn apply(table: &mut [u8], delta: &[u8], clock: u64, answers: &mut [u8], goo
     let (t, n, a, m) = (table.as_mut_ptr(), table.len(), answers.as_mut_ptr(), answers.len());
     unsafe {
         if good {
-            c::kev_apply_good(t, n, delta.as_ptr(), delta.len(), clock, a, m);
+            let mode = usize::from(table[AREA_BYTES]);
+            c::kev_apply_good(t, AREA_BYTES, mode, delta.as_ptr(), delta.len(), clock, a, m);
             0
         } else {
             c::kev_apply(t, n, delta.as_ptr(), delta.len(), clock, a, m)

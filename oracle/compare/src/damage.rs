@@ -1,6 +1,6 @@
 //! Damaged copies of good bytes. Texts stay valid UTF-8, because the original can be asked about nothing else; beyond it they need not.
 
-use script::table::{self, KEY, NODE_BYTES, NODE_HEAD_BYTES, Node, RECORD_BYTES, TABLE_BYTES, VALUE};
+use script::table::{self, AREA_BYTES, KEY, NODE_BYTES, NODE_HEAD_BYTES, Node, RECORD_BYTES, TABLE_BYTES, VALUE};
 
 use crate::random::Random;
 
@@ -79,16 +79,17 @@ pub fn table(random: &mut Random, nodes: &[Node]) -> Vec<u8> {
 /// None where the table has nothing that could be broken in the way that chance asked for.
 fn break_table(random: &mut Random, nodes: &[Node]) -> Option<Vec<u8>> {
     let mut nodes = nodes.to_vec();
+    let mode = random.below(2) as u8;
     let at = if nodes.is_empty() { 0 } else { random.place(nodes.len()) };
     let record_at = nodes.get(at).map_or(0, |node| random.place(node.records.len().max(1)));
     let node_start = 1 + at * NODE_BYTES;
     let record_start = node_start + NODE_HEAD_BYTES + record_at * RECORD_BYTES;
     let set = |nodes: &[Node], place: usize, byte: u8| {
-        let mut bytes = table::encode(nodes);
+        let mut bytes = table::encode(nodes, mode);
         bytes[place] = byte;
         bytes
     };
-    match random.below(16) {
+    match random.below(18) {
         0 => Some(set(&nodes, 0, over(random, 9))),
         1 => nodes.get(at).map(|_| set(&nodes, node_start + NODE_HEAD_BYTES - 1, over(random, 33))),
         2 => has_record(&nodes, at).then(|| set(&nodes, record_start, over(random, 33))),
@@ -96,44 +97,44 @@ fn break_table(random: &mut Random, nodes: &[Node]) -> Option<Vec<u8>> {
         4 => has_record(&nodes, at).then(|| set(&nodes, record_start + RECORD_BYTES - 9, over(random, 3))),
         5 => {
             nodes.get_mut(at)?.records.get_mut(record_at)?.version = 0;
-            Some(table::encode(&nodes))
+            Some(table::encode(&nodes, mode))
         }
         6 => {
             let max = nodes.get(at)?.max.checked_add(1)?;
             nodes[at].records.get_mut(record_at)?.version = max;
-            Some(table::encode(&nodes))
+            Some(table::encode(&nodes, mode))
         }
         7 => {
             let other = nodes.get(at)?.records.iter().map(|record| record.version).next()?;
             nodes[at].records.last_mut()?.version = other;
-            (nodes[at].records.len() > 1).then(|| table::encode(&nodes))
+            (nodes[at].records.len() > 1).then(|| table::encode(&nodes, mode))
         }
         8 => {
             let records = &mut nodes.get_mut(at)?.records;
             (records.len() > 1).then(|| records.swap(0, 1))?;
-            Some(table::encode(&nodes))
+            Some(table::encode(&nodes, mode))
         }
         9 => {
             let records = &mut nodes.get_mut(at)?.records;
             (records.len() > 1).then(|| records[1].key = records[0].key.clone())?;
-            Some(table::encode(&nodes))
+            Some(table::encode(&nodes, mode))
         }
         10 => (nodes.len() > 1).then(|| {
             nodes.swap(0, 1);
-            table::encode(&nodes)
+            table::encode(&nodes, mode)
         }),
         11 => (nodes.len() > 1).then(|| {
             nodes[1].number = nodes[0].number;
-            table::encode(&nodes)
+            table::encode(&nodes, mode)
         }),
         12 => {
-            let mut bytes = table::encode(&nodes);
+            let mut bytes = table::encode(&nodes, mode);
             let used = 1 + nodes.len() * NODE_BYTES;
-            soil(random, bytes.get_mut(used..)?)?;
+            soil(random, bytes.get_mut(used..AREA_BYTES)?)?;
             Some(bytes)
         }
         13 => {
-            let mut bytes = table::encode(&nodes);
+            let mut bytes = table::encode(&nodes, mode);
             let records = nodes.get(at)?.records.len();
             let used = node_start + NODE_HEAD_BYTES + records * RECORD_BYTES;
             soil(random, &mut bytes[used..node_start + NODE_BYTES])?;
@@ -151,9 +152,15 @@ fn break_table(random: &mut Random, nodes: &[Node]) -> Option<Vec<u8>> {
             };
             Some(set(&nodes, place, random.within(1, 255) as u8))
         }
+        15 => Some(set(&nodes, AREA_BYTES, over(random, 2))),
+        16 => {
+            let mut bytes = table::encode(&nodes, mode);
+            soil(random, &mut bytes[AREA_BYTES + 1..])?;
+            Some(bytes)
+        }
         _ => {
-            let mut bytes = table::encode(&nodes);
-            bytes.resize(*random.pick(&[0, 1, TABLE_BYTES - 1, TABLE_BYTES + 1]), 0);
+            let mut bytes = table::encode(&nodes, mode);
+            bytes.resize(*random.pick(&[0, 1, AREA_BYTES, TABLE_BYTES - 1, TABLE_BYTES + 1]), 0);
             Some(bytes)
         }
     }

@@ -19,6 +19,8 @@ pub struct Maker {
     pub keys: Vec<Vec<u8>>,
     pub values: Vec<Vec<u8>>,
     clock: u64,
+    /// Of both hubs' tables.
+    mode: u8,
 }
 
 fn list(numbers: &[u64]) -> String {
@@ -33,7 +35,9 @@ impl Maker {
         let nodes = (0..nodes).map(|_| pieces::node(&mut random)).collect();
         let keys = (0..keys).map(|_| pieces::key(&mut random)).collect();
         let values = (0..4).map(|_| pieces::value(&mut random)).collect();
-        Maker { random, lines: Vec::new(), hub: 0, held: Default::default(), nodes, keys, values, clock: 10 }
+        let mode = if random.once_in(2) { table::FENCED } else { table::PLAIN };
+        let lines = ["hub 1".to_string(), format!("make {mode}"), "hub 0".to_string(), format!("make {mode}")];
+        Maker { random, lines: lines.to_vec(), hub: 0, held: Default::default(), nodes, keys, values, clock: 10, mode }
     }
 
     pub fn finish(self) -> Vec<String> {
@@ -85,7 +89,7 @@ impl Maker {
 
     pub fn empty(&mut self) {
         self.held[self.hub].clear();
-        self.line("new");
+        self.line(format!("make {}", self.mode));
     }
 
     pub fn add(&mut self, node: u64) {
@@ -326,7 +330,7 @@ impl Maker {
 
     pub fn give(&mut self, nodes: &[Node]) {
         self.held[self.hub] = nodes.iter().map(|node| node.number).collect();
-        let bytes = table::encode(nodes);
+        let bytes = table::encode(nodes, self.mode);
         self.line(format!("table {}", hex(&bytes)));
     }
 

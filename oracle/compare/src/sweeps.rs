@@ -6,10 +6,11 @@ use script::table::{self, Node, RECORDS, Record, SET};
 use crate::damage::texts_are_utf8;
 use crate::pieces::{Op, delta, digest};
 
-const SWEEPS: [(&str, fn() -> Vec<String>); 14] = [
+const SWEEPS: [(&str, fn() -> Vec<String>); 15] = [
     ("bench", bench),
     ("writes", writes),
     ("verdicts", verdicts),
+    ("fence", fence),
     ("taking", taking),
     ("room", room),
     ("from", from),
@@ -136,6 +137,22 @@ fn verdicts() -> Vec<String> {
     lines
 }
 
+/// The same in a fenced table, with a record before the max.
+fn fence() -> Vec<String> {
+    let mut lines = Vec::new();
+    for own in 0..16 {
+        for case in 0..64 {
+            let (last_gc, max) = (own / 4, own % 4);
+            let held = Node { number: 1, heartbeat: 7, max, last_gc, records: vec![] };
+            lines.push(format!("table {}", hex(&table::encode(&[held], table::FENCED))));
+            let (last_gc, from, max) = (case / 16, case / 4 % 4, case % 4);
+            lines.push(apply(&[node(last_gc, from), record("a", max, SET), Op::SetMax { max }]));
+            lines.push(apply(&[node(last_gc, from), Op::SetMax { max }]));
+        }
+    }
+    lines
+}
+
 /// Records of each status around max and last_gc, after a reset and without.
 fn taking() -> Vec<String> {
     let mut lines = Vec::new();
@@ -252,7 +269,7 @@ fn brim() -> Vec<String> {
                 Node { number, heartbeat: 0, max: 32 + number, last_gc: 0, records }
             })
             .collect();
-        lines.push(format!("table {}", hex(&table::encode(&nodes))));
+        lines.push(format!("table {}", hex(&table::encode(&nodes, table::PLAIN))));
         lines.extend((16_270..=16_384).map(|mtu| format!("compute x0000 {mtu} - 0,0,0,0,0,0 0 {mtu}")));
     }
     lines

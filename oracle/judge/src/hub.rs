@@ -13,7 +13,7 @@ use script::{Answer, Bytes, Call, DigestEntry, Side, Verdict};
 use tokio::sync::watch;
 use tokio::time::{Instant, set_clock};
 
-use crate::delta::{Delta, Reader, operation_bytes};
+use crate::delta::{Delta, NodeDelta, Reader, operation_bytes};
 use crate::digest::Digest;
 use crate::message::ProtocolVersion;
 use crate::serialize::{Deserializable, Serializable};
@@ -31,6 +31,8 @@ pub struct Hub {
     pub(crate) cluster: ClusterState,
     /// The lent bytes where they are no good table. The original is never asked then.
     bad: Option<Vec<u8>>,
+    /// The table's mode, of which the original knows nothing.
+    mode: u8,
 }
 
 /// A call ends early with a refusal, or with something that document 01 does not foresee.
@@ -336,7 +338,14 @@ impl Hub {
         }
     }
 
-    /// Layer: Unknown where the original passes over a node in silence, Room, 8. Original: status and change.
+    /// Whether a fenced table answers Fenced. Where the delta is from the future step 1 comes first, and the original rejects it.
+    fn fences(&self, node: &NodeState, delta: &NodeDelta) -> bool {
+        let (own_max, own_last_gc) = (node.max_version(), node.last_gc_version());
+        let future = delta.from_version_excluded > own_max;
+        self.mode == table::FENCED && !future && own_last_gc > own_max && delta.last_gc_version < own_last_gc
+    }
+
+    /// Layer: Unknown where the original passes over a node in silence, Room, Fenced, 8. Original: status and change.
     fn apply(&mut self, bytes: &[u8], now: u64, places: u64) -> Outcome<Answer> {
         let mut delta = read_delta(bytes)?.delta;
         if delta.node_deltas.len() as u64 > places {
@@ -347,6 +356,7 @@ impl Hub {
         for tried in read_delta(bytes)?.delta.node_deltas {
             verdicts.push(match self.cluster.node_state(&tried.chitchat_id) {
                 None => Verdict::Unknown,
+                Some(node) if self.fences(node, &tried) => Verdict::Fenced,
                 Some(node) => match ask(|| node.try_delta(tried, Instant::now()))? {
                     (Status::Reject, _) => Verdict::Reject,
                     (_, keys) if keys > RECORDS => Verdict::Room,
@@ -355,9 +365,9 @@ impl Hub {
                 },
             });
         }
-        // The original applies the whole delta but for the nodes that have no room for it.
+        // The original applies the whole delta but for the nodes that have no room for it or are fenced against it.
         let mut verdict = verdicts.iter();
-        delta.node_deltas.retain(|_| verdict.next() != Some(&Verdict::Room));
+        delta.node_deltas.retain(|_| !matches!(verdict.next(), Some(Verdict::Room | Verdict::Fenced)));
         let reset = ask(|| self.cluster.apply_delta(delta))?;
         if reset != verdicts.contains(&Verdict::ApplyAfterReset) {
             return Err(Answer::Broken(format!("the original says reset={reset} for {verdicts:?}")));
@@ -412,11 +422,13 @@ impl Hub {
         }
     }
 
-    /// The table that these bytes are, if they are one that obeys the rules. Layer: number 14.
-    fn load(bytes: &[u8]) -> Option<Vec<table::Node>> {
+    /// The nodes and the mode of the table that these bytes are, if they are one that obeys the rules. Layer: number 14.
+    fn load(bytes: &[u8]) -> Option<(Vec<table::Node>, u8)> {
         let nodes = decode(bytes)?;
+        let mode = bytes[table::AREA_BYTES];
         let ascending = nodes.windows(2).all(|pair| pair[0].number < pair[1].number);
-        (ascending && nodes.iter().all(obeys) && table::encode(&nodes) == bytes).then_some(nodes)
+        let good = ascending && nodes.iter().all(obeys) && mode <= table::FENCED;
+        (good && table::encode(&nodes, mode) == bytes).then_some((nodes, mode))
     }
 }
 
@@ -446,7 +458,7 @@ fn decode(bytes: &[u8]) -> Option<Vec<table::Node>> {
         let [number, heartbeat, max, last_gc] = [0, 8, 16, 24].map(|at| number(&head[at..]));
         (records.len() == usize::from(head[32])).then_some(table::Node { number, heartbeat, max, last_gc, records })
     };
-    let nodes = bytes[1..].chunks(table::NODE_BYTES).take(bytes[0].into()).map(node).collect::<Option<Vec<_>>>()?;
+    let nodes = bytes[1..table::AREA_BYTES].chunks(table::NODE_BYTES).take(bytes[0].into()).map(node).collect::<Option<Vec<_>>>()?;
     (nodes.len() == usize::from(bytes[0])).then_some(nodes)
 }
 
@@ -460,8 +472,8 @@ fn obeys(node: &table::Node) -> bool {
 }
 
 impl Side for Hub {
-    fn new() -> Hub {
-        Hub { cluster: ClusterState::with_seed_addrs(watch::Receiver::holding(HashSet::new())), bad: None }
+    fn new(mode: u8) -> Hub {
+        Hub { cluster: ClusterState::with_seed_addrs(watch::Receiver::holding(HashSet::new())), bad: None, mode }
     }
 
     fn answer(&mut self, call: &Call) -> Answer {
@@ -493,11 +505,12 @@ impl Side for Hub {
 
     /// Builds the table with the original's own setters.
     fn take_table(&mut self, bytes: &[u8]) -> Answer {
-        *self = Hub::new();
-        let Some(nodes) = Hub::load(bytes) else {
+        *self = Hub::new(table::PLAIN);
+        let Some((nodes, mode)) = Hub::load(bytes) else {
             self.bad = Some(bytes.to_vec());
             return Answer::Done;
         };
+        self.mode = mode;
         for node in nodes {
             let state = self.cluster.node_state_mut_or_init(&wire::chitchat_id(node.number));
             for record in node.records {
@@ -548,6 +561,6 @@ impl Side for Hub {
                 records: state.key_values_including_deleted().map(record).collect(),
             })
             .collect();
-        table::encode(&nodes)
+        table::encode(&nodes, self.mode)
     }
 }

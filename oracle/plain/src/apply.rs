@@ -5,9 +5,12 @@ use script::Verdict;
 use crate::delta::NodeDelta;
 use crate::table::{MOST_RECORDS, Node, Record, Status, Table};
 
-fn status(node: &Node, delta: &NodeDelta) -> Verdict {
+fn status(fenced: bool, node: &Node, delta: &NodeDelta) -> Verdict {
     if delta.from > node.max {
         return Verdict::Reject;
+    }
+    if fenced && node.last_gc > node.max && delta.last_gc < node.last_gc {
+        return Verdict::Fenced;
     }
     if delta.last_gc > node.last_gc && delta.last_gc > node.max {
         return if delta.from != 0 { Verdict::Reject } else { Verdict::ApplyAfterReset };
@@ -34,11 +37,12 @@ fn outcome(node: &Node, delta: &NodeDelta, reset: bool, now: u64) -> Node {
 }
 
 fn apply_one(table: &mut Table, delta: &NodeDelta, now: u64) -> Verdict {
+    let fenced = table.fenced;
     let Some(node) = table.nodes.get_mut(&delta.number) else {
         return Verdict::Unknown;
     };
-    let verdict = status(node, delta);
-    if verdict == Verdict::Reject {
+    let verdict = status(fenced, node, delta);
+    if verdict == Verdict::Reject || verdict == Verdict::Fenced {
         return verdict;
     }
     let after = outcome(node, delta, verdict == Verdict::ApplyAfterReset, now);

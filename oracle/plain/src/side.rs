@@ -119,8 +119,8 @@ fn answer_good(table: &mut Table, call: &Call) -> Result<Answer, Answer> {
 }
 
 impl Side for Lent {
-    fn new() -> Lent {
-        Lent::Good(Table::default())
+    fn new(mode: u8) -> Lent {
+        Lent::Good(Table::in_mode(mode))
     }
 
     fn answer(&mut self, call: &Call) -> Answer {

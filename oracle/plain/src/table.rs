@@ -60,9 +60,15 @@ pub struct Node {
 #[derive(Clone, Default)]
 pub struct Table {
     pub nodes: BTreeMap<u64, Node>,
+    /// Ticket 3's mode; else document 01's.
+    pub fenced: bool,
 }
 
 impl Table {
+    pub fn in_mode(mode: u8) -> Table {
+        Table { fenced: mode == layout::FENCED, ..Table::default() }
+    }
+
     pub fn to_bytes(&self) -> Vec<u8> {
         let record = |(key, record): (&Vec<u8>, &Record)| layout::Record {
             key: key.clone(),
@@ -78,7 +84,8 @@ impl Table {
             last_gc: node.last_gc,
             records: node.records.iter().map(record).collect(),
         };
-        layout::encode(&self.nodes.iter().map(node).collect::<Vec<_>>())
+        let mode = if self.fenced { layout::FENCED } else { layout::PLAIN };
+        layout::encode(&self.nodes.iter().map(node).collect::<Vec<_>>(), mode)
     }
 
     /// None: number 14.
@@ -94,6 +101,12 @@ impl Table {
             table.nodes.insert(number, node);
         }
         walk.zeros((MOST_NODES - count) * layout::NODE_BYTES)?;
+        table.fenced = match walk.byte()? {
+            layout::PLAIN => false,
+            layout::FENCED => true,
+            _ => return None,
+        };
+        walk.zeros(layout::TAIL_BYTES - 1)?;
         walk.0.is_empty().then_some(table)
     }
 }

@@ -12,6 +12,7 @@ pub enum Verdict {
     ApplyAfterReset,
     Room,
     Unknown,
+    Fenced,
 }
 
 #[derive(Clone, Copy, Debug, PartialEq, Eq)]
@@ -83,6 +84,7 @@ impl Display for Verdict {
             Verdict::ApplyAfterReset => "reset",
             Verdict::Room => "room",
             Verdict::Unknown => "unknown",
+            Verdict::Fenced => "fenced",
         })
     }
 }

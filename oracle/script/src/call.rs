@@ -10,7 +10,8 @@ pub enum Bytes {
 
 #[derive(Clone, Debug, PartialEq, Eq)]
 pub enum Call {
-    New,
+    /// A number that names no mode is refused with 14.
+    New { mode: u64 },
     Hub(usize),
     Add { node: u64 },
     Remove { node: u64 },
@@ -95,7 +96,8 @@ impl Call {
         let verb = words.0.next()?;
         let w = &mut words;
         let call = match verb {
-            "new" => Call::New,
+            "new" => Call::New { mode: 0 },
+            "make" => Call::New { mode: w.number()? },
             "hub" => Call::Hub(w.size().filter(|&hub| hub < 2)?),
             "add" => Call::Add { node: w.number()? },
             "remove" => Call::Remove { node: w.number()? },

@@ -2,14 +2,14 @@
 
 use std::io::{BufRead, Write};
 
-use crate::table::checksum;
+use crate::table::{FENCED, PLAIN, checksum};
 use crate::{Answer, Bytes, Call};
 
 /// One lent table and who answers for it. Calls come with their bytes written out; `new`, `hub`, `table` and
 /// `dump` are answered by the runner through `take_table` and `table_bytes`.
 pub trait Side {
-    /// An empty table.
-    fn new() -> Self;
+    /// An empty table in a mode.
+    fn new(mode: u8) -> Self;
     fn answer(&mut self, call: &Call) -> Answer;
     /// From now on the lent table is these bytes, good or not.
     fn take_table(&mut self, bytes: &[u8]) -> Answer;
@@ -25,7 +25,7 @@ struct Desk<S> {
 
 impl<S: Side> Desk<S> {
     fn new() -> Self {
-        Desk { hubs: [S::new(), S::new()], current: 0, last_digest: Vec::new(), last_delta: Vec::new() }
+        Desk { hubs: [S::new(PLAIN), S::new(PLAIN)], current: 0, last_digest: Vec::new(), last_delta: Vec::new() }
     }
 
     fn write_out(&self, bytes: &mut Bytes) {
@@ -46,8 +46,9 @@ impl<S: Side> Desk<S> {
             _ => {}
         }
         let answer = match &call {
-            Call::New => {
-                self.hubs[self.current] = S::new();
+            Call::New { mode } if *mode > u64::from(FENCED) => Answer::Refused(14),
+            Call::New { mode } => {
+                self.hubs[self.current] = S::new(*mode as u8);
                 Answer::Done
             }
             Call::Hub(hub) => {

@@ -11,8 +11,15 @@ pub const RECORD_BYTES: usize = 1 + KEY + 1 + VALUE + 8 + 1 + 8;
 /// A node: number, heartbeat, max, last_gc, count of records, records.
 pub const NODE_HEAD_BYTES: usize = 8 + 8 + 8 + 8 + 1;
 pub const NODE_BYTES: usize = NODE_HEAD_BYTES + RECORDS * RECORD_BYTES;
-/// A table: count of nodes, nodes.
-pub const TABLE_BYTES: usize = 1 + NODES * NODE_BYTES;
+/// A table's area: count of nodes, nodes.
+pub const AREA_BYTES: usize = 1 + NODES * NODE_BYTES;
+/// The tail behind it: mode, profile, count of removed nodes, room for 16 of them (number, heartbeat). All but the mode are zero.
+pub const TAIL_BYTES: usize = 1 + 1 + 1 + 16 * (8 + 8);
+pub const TABLE_BYTES: usize = AREA_BYTES + TAIL_BYTES;
+
+/// The modes of a table.
+pub const PLAIN: u8 = 0;
+pub const FENCED: u8 = 1;
 
 /// Status bytes, in the table and in a delta.
 pub const SET: u8 = 0;
@@ -38,13 +45,15 @@ pub struct Node {
 }
 
 /// The bytes of a table that is within the sizes. Nodes and records stand in the order given.
-pub fn encode(nodes: &[Node]) -> Vec<u8> {
+pub fn encode(nodes: &[Node], mode: u8) -> Vec<u8> {
     assert!(nodes.len() <= NODES);
     let mut bytes = Vec::with_capacity(TABLE_BYTES);
     bytes.push(nodes.len() as u8);
     for node in nodes {
         encode_node(node, &mut bytes);
     }
+    bytes.resize(AREA_BYTES, 0);
+    bytes.push(mode);
     bytes.resize(TABLE_BYTES, 0);
     bytes
 }
@@ -103,7 +112,7 @@ mod tests {
 
     #[test]
     fn sizes_are_those_agreed() {
-        assert_eq!((RECORD_BYTES, NODE_BYTES, TABLE_BYTES), (115, 3_713, 29_705));
+        assert_eq!((RECORD_BYTES, NODE_BYTES, AREA_BYTES, TABLE_BYTES), (115, 3_713, 29_705, 29_964));
     }
 
     #[test]
@@ -122,14 +131,16 @@ mod tests {
     fn one_record_is_encoded_where_the_widths_say() {
         let record = Record { key: b"k".to_vec(), value: b"vw".to_vec(), version: 258, status: TTL, start: 7 };
         let node = Node { number: 1, heartbeat: 2, max: 258, last_gc: 4, records: vec![record] };
-        let bytes = encode(&[node]);
+        let bytes = encode(&[node], FENCED);
         assert_eq!(bytes.len(), TABLE_BYTES);
+        assert_eq!(bytes[AREA_BYTES], 1);
         assert_eq!((bytes[0], bytes[1], bytes[9], bytes[25], bytes[33]), (1, 1, 2, 4, 1));
         let at = 1 + NODE_HEAD_BYTES;
         assert_eq!(&bytes[at..at + 2], &[1, b'k']);
         assert_eq!(&bytes[at + 33..at + 36], &[2, b'v', b'w']);
         assert_eq!(&bytes[at + 98..at + 100], &[2, 1]);
         assert_eq!(&bytes[at + 106..at + 108], &[TTL, 7]);
-        assert!(bytes[at + 115..].iter().all(|&byte| byte == 0));
+        assert!(bytes[at + 115..AREA_BYTES].iter().all(|&byte| byte == 0));
+        assert!(bytes[AREA_BYTES + 1..].iter().all(|&byte| byte == 0));
     }
 }

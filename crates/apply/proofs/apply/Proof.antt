@@ -2,8 +2,10 @@
 use mathlib.Core.Path.{_≡_, sym, _∙_}
 use mathlib.Core.Bool.{true}
 use Rattle.rules.specs.Answers.{appliedTold}
-use Rattle.rules.specs.Layout.{valid}
+use Rattle.rules.specs.Whole.{validWhole}
 use Rattle.rules.proofs.Unique.{tells}
+use Rattle.table.proofs.Wholes.{whole-long}
+use Rattle.table_check.proofs.Entry.{area-good, area-within, area-long}
 use Rattle.apply.proofs.Applied.{bad-table, at-fault, no-places, accepted, heads-found, applied-all}
 use borrow.Author.Needs.{needs}
 use Rattle.apply.proofs.apply.Statement.{statement}
@@ -13,8 +15,12 @@ abbrev entry : tie.After-check-table → tie.Start
 entry c = c .before .before .before .before .before
 
 -- where a delta is read the table is good
-good : (c : tie.After-read-heads) → valid (entry (c .before .before) .args .table .now) ≡ true
+good : (c : tie.After-read-heads) → validWhole (entry (c .before .before) .args .table .now) ≡ true
 good c = sym (c .before .before .check-table .ensures) ∙ c .before .if1 .taken
+
+-- where there are places for the answers, the delta was read
+abbrev read-at : tie.Else2 → tie.After-read-heads
+read-at c = c .before .before .before .before
 
 check-table-requires : tie.Need-check-table-requires
 check-table-requires c κs = search needs
@@ -39,16 +45,28 @@ returns c =
     tells appliedTold
     (no-places (a .delta .now) (a .clock) (a .answers .now) (a .table .now) (good rd) _ _ (sym (rd .read-heads .ensures .0) ∙ read .read2 .given .1) (c .if2 .taken))
 
+mode-of-requires : tie.Need-mode-of-requires
+mode-of-requires c κs = whole-long _ (good (read-at (c .before)))
+
+slice-relend-prefix-apply-each : tie.Need-slice-relend-prefix-apply-each
+slice-relend-prefix-apply-each c =
+    let rd = read-at (c .before .before) in
+    area-within _ (rd .before .before .check-table .ensures) (rd .before .if1 .taken)
+
+slice-aggregate-apply-each : tie.Need-slice-aggregate-apply-each
+slice-aggregate-apply-each c =
+    let rd = read-at (c .before .before .before) in
+    area-long _ (rd .before .before .check-table .ensures) (rd .before .if1 .taken)
+
 apply-each-requires : tie.Need-apply-each-requires
 apply-each-requires c κs =
-    let places = c .before .before in
-    let known = places .before in
-    let rd = known .before .before .before in
+    let places = c .before .before .before .before in
+    let rd = read-at places in
     let a = entry (rd .before .before) .args in
-    let e = sym (rd .read-heads .ensures .0) ∙ known .before .read2 .given .1 in (
-      good rd,
-      accepted (a .delta .now) (a .clock) (a .answers .now) (a .table .now) (good rd) _ _ e .0,
-      heads-found (a .delta .now) (a .clock) (a .answers .now) (a .table .now) (good rd) _ _ e (rd .read-heads .result) (rd .read-heads .ensures .1),
+    let e = sym (rd .read-heads .ensures .0) ∙ places .before .before .read2 .given .1 in (
+      area-good _ (rd .before .before .check-table .ensures) (rd .before .if1 .taken),
+      accepted (a .delta .now) _ _ e .0,
+      heads-found (a .delta .now) _ _ e (rd .read-heads .result) (rd .read-heads .ensures .1),
       places .if2 .left,
     )
 
@@ -71,12 +89,13 @@ same-length-4 c = search needs
 returns-3 : tie.Need-returns-3
 returns-3 c =
     let call = c .before .before .before .before in
-    let places = call .before .before .before in
-    let read = places .before .before in
-    let rd = read .before .before in
+    let moded = call .before .before .before in
+    let places = moded .before .before in
+    let rd = read-at places in
     let a = entry (rd .before .before) .args in
     tells appliedTold
-    (applied-all (a .delta .now) (a .clock) (a .answers .now) (a .table .now) (good rd) _ _ (sym (rd .read-heads .ensures .0) ∙ read .read2 .given .1) (places .if2 .left) _ _ (call .apply-each .ensures))
+    (applied-all (a .delta .now) (a .clock) (a .answers .now) (a .table .now) (good rd) _ _ (sym (rd .read-heads .ensures .0) ∙ places .before .before .read2 .given .1)
+    (places .if2 .left) _ (moded .mode-of .ensures) _ _ (call .apply-each .ensures))
 
 same-length-5 : tie.Need-same-length-5
 same-length-5 c = search needs
@@ -97,6 +116,9 @@ apply-spec =
     enum-known-read-2
     same-length
     returns
+    mode-of-requires
+    slice-relend-prefix-apply-each
+    slice-aggregate-apply-each
     apply-each-requires
     same-length-2
     returns-2

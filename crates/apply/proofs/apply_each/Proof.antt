@@ -16,10 +16,10 @@ use Rattle.apply.proofs.apply_each.Statement.{statement}
 use Rattle.apply.proofs.apply_each.Tie as tie
 
 abbrev Inv-loop : tie.InvT-loop
-Inv-loop t₀ s nodes clock answers₀ places counts maxes i₀ t answers i = Stands clock s t₀ answers₀ i t answers × (i ≤ nodes)
+Inv-loop t₀ mode s nodes clock answers₀ places counts maxes i₀ t answers i = Stands mode clock s t₀ answers₀ i t answers × (i ≤ nodes)
 
 abbrev μ-loop : tie.MeasureT-loop
-μ-loop t₀ s nodes clock answers₀ places counts maxes i₀ t answers i = nodes - i
+μ-loop t₀ mode s nodes clock answers₀ places counts maxes i₀ t answers i = nodes - i
 
 -- the turn, and where the function is entered
 abbrev entry : tie.In-loop Inv-loop μ-loop → tie.Start Inv-loop μ-loop
@@ -48,7 +48,7 @@ here : (c : tie.In-loop Inv-loop μ-loop) → Here c
 here c = entry c .pre .2 .heads (c .before .loop .i) (c .loop-test .taken)
 
 loop-holds : tie.Need-loop-holds Inv-loop μ-loop
-loop-holds c = (stands-first _ _ _ _ (c .before .before .before .before .before .before .pre .0), omega arith)
+loop-holds c = (stands-first _ _ _ _ _ (c .before .before .before .before .before .before .pre .0), omega arith)
 
 mul-apply-part : tie.Need-mul-apply-part Inv-loop μ-loop
 mul-apply-part c = omega (arith, below-eight (c .before))
@@ -90,9 +90,9 @@ loop-again c =
     let call = c .before .before .before in
     let q = turn call in
     let st = entry q in (
-      stands-next _ _ _ _ _ _ _ (q .before .loop .inv .0) (one-left q) (place-left q) (st .fits .clock .fits) (st .pre .1)
+      stands-next _ _ _ _ _ _ _ _ (q .before .loop .inv .0) (one-left q) (place-left q) (st .fits .clock .fits) (st .pre .1)
           (at-in (λ (b : ℕ). b < 256) (st .args .delta .now) 0 (λ i h. q .before .before .before .before .before .before .shared-slice-known .given i .fits)) _ _ _
-          (subst (λ (x : Part). Gives (stored (partApplied (st .args .clock) x (decode (q .before .loop .table)))) (call .apply-part .result) (call .apply-part .last .0)) (sym (here q .is)) (call .apply-part .ensures))
+          (subst (λ (x : Part). Gives (stored (partApplied (st .args .mode) (st .args .clock) x (decode (q .before .loop .table)))) (call .apply-part .result) (call .apply-part .last .0)) (sym (here q .is)) (call .apply-part .ensures))
           (ap (λ (x : ℕ). set (q .before .loop .answers) (q .before .loop .i) x) (c .code .ensures)),
       omega (arith, q .loop-test .taken),
     )
@@ -104,7 +104,7 @@ same-length-2 : tie.Need-same-length-2 Inv-loop μ-loop
 same-length-2 c = search needs
 
 returns : tie.Need-returns Inv-loop μ-loop
-returns c = stands-last _ _ _ _ _ _ _ (c .before .loop .inv .0) (omega (arith, c .loop-test .left, c .before .before .before .before .before .before .before .before .pre .2 .all))
+returns c = stands-last _ _ _ _ _ _ _ _ (c .before .loop .inv .0) (omega (arith, c .loop-test .left, c .before .before .before .before .before .before .before .before .pre .2 .all))
 
 pub apply-each-spec : {M : Type 1} → statement M
 apply-each-spec =

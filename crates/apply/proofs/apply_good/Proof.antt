@@ -29,7 +29,7 @@ apply-each-requires c κs =
     let rd = known .before .before .before in
     let st = entry rd in
     let a = st .args in
-    let t = heads-found (a .delta .now) (a .clock) (a .answers .now) (a .table .now) (st .pre .0) _ _ (sym (rd .read-heads .ensures .0) ∙ known .before .read .given .1) (rd .read-heads .result) (rd .read-heads .ensures .1) in
+    let t = heads-found (a .delta .now) _ _ (sym (rd .read-heads .ensures .0) ∙ known .before .read .given .1) (rd .read-heads .result) (rd .read-heads .ensures .1) in
     (st .pre .0, st .pre .1, t, omega (arith, t .all, st .pre .2))
 
 same-length : tie.Need-same-length

@@ -1,9 +1,9 @@
 -- `apply::apply_node` meets its contract: by the status. Assumes nothing.
 use mathlib.Core.Path.{_≡_, sym, _∙_}
-use Rattle.rules.specs.Apply.{deltaStatus}
+use Rattle.rules.specs.Apply.{deltaStatus, waysOf}
 use Rattle.rules.specs.Layout.{decodeNode}
 use Rattle.delta_read.specs.NodeDeltas.{deltaOf}
-use Rattle.apply.proofs.Applied.{status-is, rejected, concluded}
+use Rattle.apply.proofs.Applied.{status-is, untouched, concluded}
 use borrow.Author.Needs.{needs}
 use Rattle.apply.proofs.apply_node.Statement.{statement}
 use Rattle.apply.proofs.apply_node.Tie as tie
@@ -14,10 +14,10 @@ entry c = c .before .before .before .before .before
 -- the status is the rules' of the node that is read in the bytes
 is : (c : tie.After-check-delta-status)
     → let a = entry c .args in
-    c .check-delta-status .result ≡ deltaStatus (decodeNode (a .node .now) .node) (deltaOf (a .delta .now) (a .last-gc) (a .from) (a .max) (a .at))
+    c .check-delta-status .result ≡ deltaStatus (waysOf (a .mode) .fence) (decodeNode (a .node .now) .node) (deltaOf (a .delta .now) (a .last-gc) (a .from) (a .max) (a .at))
 is c =
     let a = entry c .args in
-    status-is (a .clock) (a .delta .now) (a .last-gc) (a .from) (a .max) (a .at) (a .node .now) (entry c .pre .0 .laid) _ _ (c .before .read-header .ensures) (c .check-delta-status .ensures)
+    status-is (a .mode) (a .clock) (a .delta .now) (a .last-gc) (a .from) (a .max) (a .at) (a .node .now) (entry c .pre .0 .laid) _ _ (c .before .read-header .ensures) (c .check-delta-status .ensures)
 
 read-header-requires : tie.Need-read-header-requires
 read-header-requires c κs = search needs
@@ -25,17 +25,22 @@ read-header-requires c κs = search needs
 check-delta-status-requires : tie.Need-check-delta-status-requires
 check-delta-status-requires c κs = search needs
 
-is-reject-requires : tie.Need-is-reject-requires
-is-reject-requires c κs = search needs
+is-left-requires : tie.Need-is-left-requires
+is-left-requires c κs = search needs
+
+answer-as-requires : tie.Need-answer-as-requires
+answer-as-requires c κs = search needs
 
 same-length : tie.Need-same-length
 same-length c = search needs
 
 returns : tie.Need-returns
 returns c =
-    let judged = c .before .before in
+    let asked = c .before in
+    let judged = asked .before .before in
     let a = entry judged .args in
-    rejected (a .clock) (a .delta .now) (a .last-gc) (a .from) (a .max) (a .at) (a .node .now) (entry judged .pre .0 .laid) _ (is judged) (sym (c .before .is-reject .ensures) ∙ c .if1 .taken)
+    untouched (a .mode) (a .clock) (a .delta .now) (a .last-gc) (a .from) (a .max) (a .at) (a .node .now) (entry judged .pre .0 .laid) _ (is judged)
+    (sym (asked .before .is-left .ensures) ∙ asked .if1 .taken) _ _ (c .answer-as .ensures)
 
 is-reset-requires : tie.Need-is-reset-requires
 is-reset-requires c κs = search needs
@@ -43,8 +48,8 @@ is-reset-requires c κs = search needs
 grow-in-place-requires : tie.Need-grow-in-place-requires
 grow-in-place-requires c κs = search needs
 
-answer-as-requires : tie.Need-answer-as-requires
-answer-as-requires c κs = search needs
+answer-as-requires-2 : tie.Need-answer-as-requires-2
+answer-as-requires-2 c κs = search needs
 
 same-length-2 : tie.Need-same-length-2
 same-length-2 c = search needs
@@ -56,8 +61,8 @@ returns-2 c =
     let asked = reset .before .before in
     let judged = asked .before .before in
     let a = entry judged .args in
-    concluded (a .clock) (a .delta .now) (a .last-gc) (a .from) (a .max) (a .at) (a .node .now) (entry judged .pre .0 .laid) _ (is judged) (sym (asked .before .is-reject .ensures) ∙ asked .if1 .left)
-    _ (reset .is-reset .ensures) _ _ (grown .grow-in-place .ensures) _ (c .answer-as .ensures)
+    concluded (a .mode) (a .clock) (a .delta .now) (a .last-gc) (a .from) (a .max) (a .at) (a .node .now) (entry judged .pre .0 .laid) _ (is judged) (sym (asked .before .is-left .ensures) ∙ asked .if1 .left)
+    _ (reset .is-reset .ensures) _ _ (grown .grow-in-place .ensures) _ (c .answer-as2 .ensures)
 
 pub apply-node-spec : {M : Type 1} → statement M
 apply-node-spec =
@@ -65,11 +70,12 @@ apply-node-spec =
     (tie.spec
     read-header-requires
     check-delta-status-requires
-    is-reject-requires
+    is-left-requires
+    answer-as-requires
     same-length
     returns
     is-reset-requires
     grow-in-place-requires
-    answer-as-requires
+    answer-as-requires-2
     same-length-2
     returns-2)

@@ -72,7 +72,7 @@ apply-node-requires : tie.Need-apply-node-requires
 apply-node-requires c κs =
     let h = c .before .before in
     let st = entry (sought h) in
-    (lent-rising _ (st .pre .0) (st .args .clock) (part (sought h)) (held h), st .pre .1, st .pre .2)
+    (lent-rising (st .args .mode) _ (st .pre .0) (st .args .clock) (part (sought h)) (held h), st .pre .1, st .pre .2)
 
 enum-told : tie.Need-enum-told
 enum-told c = search needs
@@ -87,8 +87,8 @@ returns c =
     let f = sought h in
     let st = entry f in
     let a = st .args in
-    part-held _ (st .pre .0) (a .clock) (part f) (held h) _ _
-    (numbers-read (a .clock) (a .delta .now) _ _ _ _ (a .max) _ (read f .before .read-u642 .ensures) (read f .read-u643 .ensures) _ _ _ (call .apply-node .ensures))
+    part-held (a .mode) _ (st .pre .0) (a .clock) (part f) (held h) _ _
+    (numbers-read (a .mode) (a .clock) (a .delta .now) _ _ _ _ (a .max) _ (read f .before .read-u642 .ensures) (read f .read-u643 .ensures) _ _ _ (call .apply-node .ensures))
 
 same-length-2 : tie.Need-same-length-2
 same-length-2 c = search needs
@@ -96,7 +96,7 @@ same-length-2 c = search needs
 returns-2 : tie.Need-returns-2
 returns-2 c =
     let f = c .before .before in
-    part-missing _ (entry f .pre .0) (entry f .args .clock) (part f) (found f ∙ c .enum-told .given .1)
+    part-missing (entry f .args .mode) _ (entry f .pre .0) (entry f .args .clock) (part f) (found f ∙ c .enum-told .given .1)
 
 pub apply-part-spec : {M : Type 1} → statement M
 apply-part-spec =

@@ -1,6 +1,6 @@
 -- `exchange::answer_digest` meets its contract: by what computing answers, and then applying. Assumes nothing.
 use Prim.Native.Nat.{_≤_}
-use mathlib.Core.Path.{_≡_, _∙_, sym}
+use mathlib.Core.Path.{_≡_, _∙_, sym, refl}
 use lib.ListN.{length}
 use lib.Seq.{length-take-le}
 use Rattle.rules.specs.declared.Applied.{Applied}
@@ -9,15 +9,20 @@ use Rattle.rules.specs.Lent.{lentCompute}
 use Rattle.rules.proofs.Told.{same-applied}
 use Rattle.exchange.specs.Exchanging.{allThree, exchangedAs, lentAnswer}
 use Rattle.exchange.proofs.Exchanging.{delta-taken, made-good, made-within, no-delta}
+use Rattle.table.proofs.Wholes.{area-valid}
+use Rattle.table_check.proofs.Entry.{area-long}
 use borrow.Author.Needs.{needs}
 use Rattle.exchange.proofs.answer_digest.Statement.{statement}
 use Rattle.exchange.proofs.answer_digest.Tie as tie
 
 abbrev entry : tie.After-compute-good → tie.Start
-entry c = c .before .before .before .before .before .before .before .before .before
+entry c = c .before .before .before .before .before .before .before .before .before .before
+
+slice-aggregate-compute-good : tie.Need-slice-aggregate-compute-good
+slice-aggregate-compute-good c = area-long _ refl (c .before .before .before .before .before .before .before .before .pre)
 
 compute-good-requires : tie.Need-compute-good-requires
-compute-good-requires c κs = c .before .before .before .before .before .before .before .before .pre
+compute-good-requires c κs = area-valid _ (c .before .before .before .before .before .before .before .before .before .pre)
 
 -- what computing gives
 made-so : (c : tie.After-compute-good) → let a = entry c .args in
@@ -107,6 +112,7 @@ pub answer-digest-spec : {M : Type 1} → statement M
 answer-digest-spec =
     tie.close
     (tie.spec
+    slice-aggregate-compute-good
     compute-good-requires
     enum-known-computed
     slice-reshare-prefix-apply

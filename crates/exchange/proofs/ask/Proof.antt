@@ -1,10 +1,12 @@
 -- `exchange::ask` meets its contract: 14 exactly where a table is not valid, the follower's first. Assumes nothing.
-use mathlib.Core.Path.{_≡_, _∙_, sym}
+use mathlib.Core.Path.{_≡_, _∙_, sym, refl}
 use mathlib.Core.Bool.{true}
-use Rattle.rules.specs.Layout.{valid}
+use Rattle.rules.specs.Whole.{validWhole}
 use Rattle.table.proofs.Tables.{valid-laid}
 use Rattle.exchange.specs.Exchanging.{Rooms, rooms}
 use Rattle.exchange.proofs.Asking.{both-good, follower-bad, publisher-bad}
+use Rattle.table.proofs.Wholes.{area-valid}
+use Rattle.table_check.proofs.Entry.{area-long}
 use borrow.Author.Needs.{needs}
 use Rattle.exchange.proofs.ask.Statement.{statement}
 use Rattle.exchange.proofs.ask.Tie as tie
@@ -21,20 +23,29 @@ check-table-requires c κs = search needs
 check-table-requires-2 : tie.Need-check-table-requires-2
 check-table-requires-2 c κs = search needs
 
-follower-good : (c : tie.Then1) → valid (entry (c .before) .args .follower .now) ≡ true
+follower-good : (c : tie.Then1) → validWhole (entry (c .before) .args .follower .now) ≡ true
 follower-good c = sym (c .before .check-table .ensures) ∙ c .if1 .taken
 
-publisher-good : (c : tie.Then2) → valid (entry (c .before .before .before) .args .publisher .now) ≡ true
+publisher-good : (c : tie.Then2) → validWhole (entry (c .before .before .before) .args .publisher .now) ≡ true
 publisher-good c = sym (c .before .check-table2 .ensures) ∙ c .if2 .taken
 
+slice-aggregate-ask-rooms : tie.Need-slice-aggregate-ask-rooms
+slice-aggregate-ask-rooms c = area-long _ refl (publisher-good (c .before))
+
+slice-aggregate-ask-rooms-2 : tie.Need-slice-aggregate-ask-rooms-2
+slice-aggregate-ask-rooms-2 c = area-long _ refl (follower-good (c .before .before .before .before))
+
 ask-rooms-requires : tie.Need-ask-rooms-requires
-ask-rooms-requires c κs = (valid-laid _ (publisher-good c), valid-laid _ (follower-good (c .before .before)))
+ask-rooms-requires c κs =
+    let t = c .before .before in
+    (valid-laid _ (area-valid _ (publisher-good t)), valid-laid _ (area-valid _ (follower-good (t .before .before))))
 
 returns : tie.Need-returns
 returns c =
-    let s = entry (c .before .before .before .before) in
+    let t = c .before .before .before in
+    let s = entry (t .before .before .before) in
     let a = s .args in
-    c .ask-rooms .ensures ∙ both-good (a .unasked .now) (room s) (a .publisher .now) (a .follower .now) (follower-good (c .before .before .before)) (publisher-good (c .before))
+    c .ask-rooms .ensures ∙ both-good (a .unasked .now) (room s) (a .publisher .now) (a .follower .now) (follower-good (t .before .before)) (publisher-good t)
 
 returns-2 : tie.Need-returns-2
 returns-2 c =
@@ -55,6 +66,8 @@ ask-spec =
     (tie.spec
     check-table-requires
     check-table-requires-2
+    slice-aggregate-ask-rooms
+    slice-aggregate-ask-rooms-2
     ask-rooms-requires
     returns
     returns-2

@@ -1,12 +1,14 @@
 -- `exchange::exchange_good` meets its contract: by what the digest's writing answers, and then the publisher. Assumes nothing.
 use Prim.Native.Nat.{_≤_}
-use mathlib.Core.Path.{_∙_, sym}
+use mathlib.Core.Path.{_∙_, sym, refl}
 use lib.ListN.{length}
 use lib.Seq.{length-take-le}
 use Rattle.rules.specs.Given.{Gives}
 use Rattle.rules.specs.Lent.{lentDigest}
 use Rattle.exchange.specs.Exchanging.{Lending, lending}
 use Rattle.exchange.proofs.Exchanging.{answered, no-digest, told-good, told-within}
+use Rattle.table.proofs.Wholes.{area-valid}
+use Rattle.table_check.proofs.Entry.{area-within, area-long}
 use borrow.Author.Needs.{needs}
 use Rattle.exchange.proofs.exchange_good.Statement.{statement}
 use Rattle.exchange.proofs.exchange_good.Tie as tie
@@ -17,8 +19,14 @@ entry c = c .before .before .before .before .before .before .before .before .bef
 abbrev given : tie.After-write-good → Lending
 given c = let a = entry c .args in lending (a .unasked .now) (a .unsent .now) (a .ties .now) (a .mtu) (a .clock) (a .digest .now) (a .delta .now) (a .answers .now)
 
+slice-reshare-prefix-write-good : tie.Need-slice-reshare-prefix-write-good
+slice-reshare-prefix-write-good c = area-within _ refl (c .before .before .before .before .before .before .before .before .pre .1)
+
+slice-aggregate-write-good : tie.Need-slice-aggregate-write-good
+slice-aggregate-write-good c = area-long _ refl (c .before .before .before .before .before .before .before .before .before .pre .1)
+
 write-good-requires : tie.Need-write-good-requires
-write-good-requires c κs = c .before .before .before .before .before .before .before .before .before .before .pre .1
+write-good-requires c κs = area-valid _ (c .before .before .before .before .before .before .before .before .before .before .pre .1)
 
 -- what writing the digest gives
 told-so : (c : tie.After-write-good) → let a = entry c .args in
@@ -83,6 +91,8 @@ pub exchange-good-spec : {M : Type 1} → statement M
 exchange-good-spec =
     tie.close
     (tie.spec
+    slice-reshare-prefix-write-good
+    slice-aggregate-write-good
     write-good-requires
     enum-known-written
     slice-reshare-prefix-answer-digest

@@ -5,7 +5,7 @@ use Rattle.rules.specs.Local.{offer}
 use Rattle.rules.specs.declared.Offered.the-variants.{Refused}
 use Rattle.rules.specs.declared.Refusal.the-variants.{BadTable}
 use Rattle.rules.proofs.Unique.{tells}
-use Rattle.table_check.proofs.Entry.{bad-table, good-table}
+use Rattle.table_check.proofs.Entry.{area-good, area-within, area-long, bad-table, good-table}
 use borrow.Author.Needs.{needs}
 use Rattle.heartbeat.proofs.offer_heartbeat.Statement.{statement}
 use Rattle.heartbeat.proofs.offer_heartbeat.Tie as tie
@@ -13,8 +13,14 @@ use Rattle.heartbeat.proofs.offer_heartbeat.Tie as tie
 check-table-requires : tie.Need-check-table-requires
 check-table-requires c κs = search needs
 
+slice-relend-prefix-offer-good : tie.Need-slice-relend-prefix-offer-good
+slice-relend-prefix-offer-good c = area-within _ (c .before .check-table .ensures) (c .if1 .taken)
+
+slice-aggregate-offer-good : tie.Need-slice-aggregate-offer-good
+slice-aggregate-offer-good c = area-long _ (c .before .before .check-table .ensures) (c .before .if1 .taken)
+
 offer-good-requires : tie.Need-offer-good-requires
-offer-good-requires c κs = sym ((c .before .before) .check-table .ensures) ∙ (c .before) .if1 .taken
+offer-good-requires c κs = area-good _ (c .before .before .check-table .ensures) (c .before .if1 .taken)
 
 same-length : tie.Need-same-length
 same-length c = search needs
@@ -36,4 +42,4 @@ returns-2 c =
 pub offer-heartbeat-spec : {M : Type 1} → statement M
 offer-heartbeat-spec =
     tie.close
-    (tie.spec check-table-requires offer-good-requires same-length returns same-length-2 returns-2)
+    (tie.spec check-table-requires slice-relend-prefix-offer-good slice-aggregate-offer-good offer-good-requires same-length returns same-length-2 returns-2)

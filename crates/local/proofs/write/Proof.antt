@@ -5,7 +5,7 @@ use Rattle.rules.specs.Local.{call}
 use Rattle.rules.specs.declared.Answer.the-variants.{Refused}
 use Rattle.rules.specs.declared.Refusal.the-variants.{BadTable}
 use Rattle.rules.proofs.Unique.{tells}
-use Rattle.table_check.proofs.Entry.{bad-table, good-table}
+use Rattle.table_check.proofs.Entry.{area-good, area-within, area-long, bad-table, good-table}
 use Rattle.local_node.specs.Writes.{callOf}
 use borrow.Author.Needs.{needs}
 use Rattle.local.proofs.write.Statement.{statement}
@@ -14,8 +14,14 @@ use Rattle.local.proofs.write.Tie as tie
 check-table-requires : tie.Need-check-table-requires
 check-table-requires c κs = search needs
 
+slice-relend-prefix-write-good : tie.Need-slice-relend-prefix-write-good
+slice-relend-prefix-write-good c = area-within _ (c .before .check-table .ensures) (c .if1 .taken)
+
+slice-aggregate-write-good : tie.Need-slice-aggregate-write-good
+slice-aggregate-write-good c = area-long _ (c .before .before .check-table .ensures) (c .before .if1 .taken)
+
 write-good-requires : tie.Need-write-good-requires
-write-good-requires c κs = sym ((c .before .before) .check-table .ensures) ∙ (c .before) .if1 .taken
+write-good-requires c κs = area-good _ (c .before .before .check-table .ensures) (c .before .if1 .taken)
 
 same-length : tie.Need-same-length
 same-length c = search needs
@@ -38,4 +44,4 @@ returns-2 c =
 pub write-spec : {M : Type 1} → statement M
 write-spec =
     tie.close
-    (tie.spec check-table-requires write-good-requires same-length returns same-length-2 returns-2)
+    (tie.spec check-table-requires slice-relend-prefix-write-good slice-aggregate-write-good write-good-requires same-length returns same-length-2 returns-2)

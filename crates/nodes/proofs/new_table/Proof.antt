@@ -1,5 +1,9 @@
 -- `nodes::new_table` meets its contract. Assumes nothing.
+use mathlib.Core.Path.{ap, _∙_}
+use Rattle.fields.specs.Numbers.{bytesOf}
+use Rattle.fields.specs.Parts.{put}
 use Rattle.rules.specs.Answers.{answerTold}
+use Rattle.rules.specs.Layout.{tableWidth}
 use Rattle.rules.proofs.Unique.{tells}
 use Rattle.nodes.proofs.Coming.{made, not-made}
 use borrow.Author.Needs.{needs}
@@ -7,18 +11,41 @@ use Rattle.nodes.proofs.new_table.Statement.{statement}
 use Rattle.nodes.proofs.new_table.Tie as tie
 
 returns : tie.Need-returns
-returns c = tells answerTold (not-made ((c .before .before) .args .table .now) (c .if1 .taken))
+returns c = let a = c .before .before .args in tells answerTold (not-made (a .mode) (a .table .now) (c .if1 .taken))
 
 clear-requires : tie.Need-clear-requires
 clear-requires c κs = search needs
+
+add-write-byte : tie.Need-add-write-byte
+add-write-byte c = search needs
+
+byte-requires : tie.Need-byte-requires
+byte-requires c κs = search needs
+
+write-byte-requires : tie.Need-write-byte-requires
+write-byte-requires c κs = search needs
 
 same-length : tie.Need-same-length
 same-length c = search needs
 
 returns-2 : tie.Need-returns-2
 returns-2 c =
+    let a = c .before .before .before .before .before .before .before .before .before .before .before .args in
+    let w = c .before .before .write-byte in
+    let b = c .before .before .before in
+    let x = b .before .before .before .before in
     tells answerTold
-    (made ((c .before .before .before .before .before .before) .args .table .now) ((c .before .before .before .before) .if1 .left) ((c .before .before) .clear .last .0) ((c .before .before) .clear .ensures))
+    (made (a .mode) (a .table .now) (x .before .before .if1 .left) (x .clear .last .0) (w .last .0) (x .clear .ensures)
+    (w .ensures ∙ ap (λ n. put tableWidth (bytesOf 1 n) (x .clear .last .0)) (b .byte .ensures)))
 
 pub new-table-spec : {M : Type 1} → statement M
-new-table-spec = tie.close (tie.spec returns clear-requires same-length returns-2)
+new-table-spec =
+    tie.close
+    (tie.spec
+    returns
+    clear-requires
+    add-write-byte
+    byte-requires
+    write-byte-requires
+    same-length
+    returns-2)

@@ -5,7 +5,7 @@ use Rattle.rules.specs.Local.{removeNode}
 use Rattle.rules.specs.declared.Answer.the-variants.{Refused}
 use Rattle.rules.specs.declared.Refusal.the-variants.{BadTable}
 use Rattle.rules.proofs.Unique.{tells}
-use Rattle.table_check.proofs.Entry.{bad-table, good-table}
+use Rattle.table_check.proofs.Entry.{area-good, area-within, area-long, bad-table, good-table}
 use borrow.Author.Needs.{needs}
 use Rattle.nodes.proofs.remove_node.Statement.{statement}
 use Rattle.nodes.proofs.remove_node.Tie as tie
@@ -13,8 +13,14 @@ use Rattle.nodes.proofs.remove_node.Tie as tie
 check-table-requires : tie.Need-check-table-requires
 check-table-requires c κs = search needs
 
+slice-relend-prefix-remove-good : tie.Need-slice-relend-prefix-remove-good
+slice-relend-prefix-remove-good c = area-within _ (c .before .check-table .ensures) (c .if1 .taken)
+
+slice-aggregate-remove-good : tie.Need-slice-aggregate-remove-good
+slice-aggregate-remove-good c = area-long _ (c .before .before .check-table .ensures) (c .before .if1 .taken)
+
 remove-good-requires : tie.Need-remove-good-requires
-remove-good-requires c κs = sym ((c .before .before) .check-table .ensures) ∙ (c .before) .if1 .taken
+remove-good-requires c κs = area-good _ (c .before .before .check-table .ensures) (c .before .if1 .taken)
 
 same-length : tie.Need-same-length
 same-length c = search needs
@@ -38,6 +44,8 @@ remove-node-spec =
     tie.close
     (tie.spec
     check-table-requires
+    slice-relend-prefix-remove-good
+    slice-aggregate-remove-good
     remove-good-requires
     same-length
     returns

@@ -1,21 +1,15 @@
--- `table_check::check_table` meets its contract: a test that fails is one of the table's tests, and past all others only the zeros are left.
--- Assumes nothing.
-use Prim.Native.Nat.{ℕ, _-_, _*_, _≤_}
-use mathlib.Core.Path.{_≡_, _∙_, ap, sym}
-use mathlib.Core.Bool.{Bool, true}
-use mathlib.Core.List.{List}
+-- `table_check::check_table` meets its contract: the length, the area, then the tail. Assumes nothing.
+use mathlib.Core.Path.{ap, sym, _∙_}
 use native.Mathlib.Omega.{arith}
-use lib.ListN.{getD, take, drop}
-use borrow.Author.Tests.{le-leb, lt-leb}
-use Rattle.fields.specs.Numbers.{AreBytes}
-use Rattle.fields.specs.Parts.{part}
-use Rattle.fields.specs.Blocks.{allZero, allBlocks}
-use Rattle.fields.proofs.Numbers.{at-bytes}
-use Rattle.rules.specs.Sizes.{maxNodes}
-use Rattle.rules.specs.Layout.{nodePlace, nodeWidth, tableWidth}
-use Rattle.table.specs.Tests.{nodeGood, nodesOf, tableTests}
-use Rattle.table.proofs.Checked.{length-stop, table-stop, table-pass}
+use lib.Seq.{length-take-le}
 use borrow.Author.Needs.{needs}
+use Rattle.fields.specs.Numbers.{AreBytes}
+use Rattle.fields.proofs.Numbers.{at-bytes}
+use Rattle.fields.proofs.Lent.{seen}
+use Rattle.rules.specs.Layout.{tableWidth}
+use Rattle.rules.specs.Whole.{tailWidth}
+use Rattle.table.specs.Tests.{tailGood}
+use Rattle.table.proofs.Wholes.{other-length, area-stop, tail-decides}
 use Rattle.table_check.proofs.check_table.Statement.{statement}
 use Rattle.table_check.proofs.check_table.Tie as tie
 
@@ -23,92 +17,50 @@ use Rattle.table_check.proofs.check_table.Tie as tie
 bytes : (c : tie.After-shared-slice-known) → AreBytes (c .before .args .table .now)
 bytes c = at-bytes (c .before .args .table .now) (λ i. c .shared-slice-known .given i .fits)
 
-nodes-test : (l : List ℕ) (n : ℕ) (t : Bool) → n ≡ nodesOf l → t ≡ allBlocks nodeGood nodeWidth n (drop (nodePlace 0) l) → getD (tableTests l) 1 true ≡ t
-nodes-test l n t en e = sym (e ∙ ap (λ (k : ℕ). allBlocks nodeGood nodeWidth k (drop (nodePlace 0) l)) en)
-
-zeros-test : (l : List ℕ) (n : ℕ) (t : Bool) → n ≡ nodesOf l → n ≤ maxNodes → t ≡ allZero (take (tableWidth - nodePlace n) (drop (nodePlace n) l))
-    → getD (tableTests l) 3 true ≡ t
-unfolding part
-zeros-test l n t en h e =
-    let p : tableWidth - nodePlace n ≡ (maxNodes - n) * nodeWidth = omega arith in
-    sym (e ∙ ap (λ (k : ℕ). allZero (take k (drop (nodePlace n) l))) p ∙ ap (λ (k : ℕ). allZero (part (nodePlace k) ((maxNodes - k) * nodeWidth) l)) en)
-
 returns : tie.Need-returns
-returns c = length-stop (c .before .before .args .table .now) (c .if1 .taken)
+returns c = other-length (c .before .before .args .table .now) (c .if1 .taken)
 
-byte-at-requires : tie.Need-byte-at-requires
-byte-at-requires c κs = search needs
+slice-aggregate-check-area : tie.Need-slice-aggregate-check-area
+slice-aggregate-check-area c = sym (length-take-le tableWidth (c .before .before .before .args .table .now) (omega arith))
+
+check-area-requires : tie.Need-check-area-requires
+check-area-requires c κs = search needs
+
+sub-check-tail : tie.Need-sub-check-tail
+sub-check-tail c = search needs
+
+part-check-tail-start : tie.Need-part-check-tail-start
+part-check-tail-start c = search needs
+
+part-check-tail-end : tie.Need-part-check-tail-end
+part-check-tail-end c = search needs
+
+check-tail-requires : tie.Need-check-tail-requires
+check-tail-requires c κs = search needs
 
 returns-2 : tie.Need-returns-2
 returns-2 c =
-    let q = c .before .before .before in
-    let l : List ℕ = q .before .args .table .now in
-    table-stop l (bytes q) 0 (lt-leb (nodesOf l) maxNodes (omega arith))
-
-check-nodes-requires : tie.Need-check-nodes-requires
-check-nodes-requires c κs = search needs
-
-numbers-rise-requires : tie.Need-numbers-rise-requires
-numbers-rise-requires c κs = search needs
-
-mul-a : tie.Need-mul-a
-mul-a c = search needs
-
-add-a : tie.Need-add-a
-add-a c = search needs
-
-sub-is-zero : tie.Need-sub-is-zero
-sub-is-zero c = search needs
-
-part-is-zero-start : tie.Need-part-is-zero-start
-part-is-zero-start c = search needs
-
-part-is-zero-end : tie.Need-part-is-zero-end
-part-is-zero-end c = search needs
-
-is-zero-requires : tie.Need-is-zero-requires
-is-zero-requires c κs = search needs
+    let t = c .before .before in
+    let e = t .before .before .before in
+    let l = e .before .before .args .table .now in
+    tail-decides l (bytes (e .before)) (e .if1 .left) (sym (t .before .check-area .ensures) ∙ t .if2 .taken) _
+    (c .check-tail .ensures ∙ ap tailGood (seen tableWidth tailWidth l))
 
 returns-3 : tie.Need-returns-3
 returns-3 c =
-    let then4 = c .before .before in
-    let then3 = then4 .before .before in
-    let b = then3 .before .before .before in
-    let q = b .before .before in
-    let l : List ℕ = q .before .args .table .now in
-    table-pass l (bytes q) _ (b .before .if1 .left) (le-leb (nodesOf l) maxNodes (omega (arith, b .byte-at .ensures .0, then3 .before .before .if2 .left)))
-    (nodes-test l _ _ (b .byte-at .ensures .0) (then3 .before .check-nodes .ensures) ∙ then3 .if3 .taken)
-    (sym (then4 .before .numbers-rise .ensures) ∙ then4 .if4 .taken)
-    (zeros-test l _ _ (b .byte-at .ensures .0) (then3 .before .before .if2 .left) (c .is-zero .ensures))
-
-returns-4 : tie.Need-returns-4
-returns-4 c =
-    let b = c .before .before .before .before .before in
-    let q = b .before .before in
-    table-stop (q .before .args .table .now) (bytes q) 2 (sym (c .before .numbers-rise .ensures) ∙ c .if4 .left)
-
-returns-5 : tie.Need-returns-5
-returns-5 c =
-    let b = c .before .before .before in
-    let q = b .before .before in
-    let l : List ℕ = q .before .args .table .now in
-    table-stop l (bytes q) 1 (nodes-test l _ _ (b .byte-at .ensures .0) (c .before .check-nodes .ensures) ∙ c .if3 .left)
+    let q = c .before .before .before .before in
+    area-stop (q .before .args .table .now) (bytes q) (sym (c .before .check-area .ensures) ∙ c .if2 .left)
 
 pub check-table-spec : {M : Type 1} → statement M
 check-table-spec =
     tie.close
     (tie.spec
     returns
-    byte-at-requires
+    slice-aggregate-check-area
+    check-area-requires
+    sub-check-tail
+    part-check-tail-start
+    part-check-tail-end
+    check-tail-requires
     returns-2
-    check-nodes-requires
-    numbers-rise-requires
-    mul-a
-    add-a
-    sub-is-zero
-    part-is-zero-start
-    part-is-zero-end
-    is-zero-requires
-    returns-3
-    returns-4
-    returns-5)
+    returns-3)
