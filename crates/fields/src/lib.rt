@@ -27,7 +27,7 @@ fn join(high: u64, low: u8) -> u64
     requires { ⌜ high < 256 ^ 7 ⌝ }
     ensures { λ r. ⌜ r ≡ high * 256 + low ⌝ }
 {
-    high * 256 + wide(low)
+    (high << 8) + wide(low)
 }
 
 // `high` with the two bytes from `at` below it.
@@ -44,6 +44,14 @@ fn join_four(s: &[u8], at: usize, high: u64) -> u64
     ensures { λ r. ⌜ (r ≡ high * 256 ^ 4 + natOf (part at 4 (now (s .entry)))) × (r < (high + 1) * 256 ^ 4) ⌝ }
 {
     join_two(s, at, join_two(s, at + 2, high))
+}
+
+// `n` blocks of `width` bytes each: how many bytes that is. The multiply is one of 32 bits, since the smallest processors have no wider one.
+pub fn times(n: usize, width: usize) -> usize
+    requires { ⌜ (n < 65536) × (width < 65536) ⌝ }
+    ensures { λ r. ⌜ r ≡ n * width ⌝ }
+{
+    ((n as u32) * (width as u32)) as usize
 }
 
 // The byte at `at`, as a number.

@@ -73,7 +73,7 @@ pub fn node_number_good(table: &[u8], i: usize) -> NodeNumber
     if n <= i {
         return NodeNumber::Refused(Refusal::NoPlace);
     }
-    NodeNumber::Is(fields::read_u64(table, layout::NODES + i * layout::NODE))
+    NodeNumber::Is(fields::read_u64(table, table::node_place(i)))
 }
 
 // The number of the node in place `i`: 14, 8.

@@ -32,7 +32,7 @@ fn in_node(node: &[u8], start: usize, j: usize, text: Text) -> Found
         return Found::Refused(Refusal::NoPlace);
     }
     let r = table_read::read_record(table::record_of(node, j));
-    let record = start + (layout::RECORDS + j * layout::RECORD);
+    let record = start + table::record_place(j);
     match text {
         Text::Key => Found::At {
             start: record + layout::KEY,

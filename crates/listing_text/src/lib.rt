@@ -1,7 +1,7 @@
 // Texts in a lent buffer: decimal numbers, names, the bytes of a key or a value as they are shown. Each is written at a place where the caller
 // knows that there is room, and answers the place behind it.
 ghost use mathlib.Core.Path.{_≡_};
-ghost use Prim.Native.Nat.{_+_, _≤_, _<_};
+ghost use Prim.Native.Nat.{_+_, _/_, _%_, _≤_, _<_};
 ghost use lib.ListN.{length};
 ghost use Rattle.rules.specs.Given.{Gives};
 ghost use Rattle.rules.specs.Listing.{decimal, shownByte, shownBytes, statusText};
@@ -29,6 +29,17 @@ fn digit(v: u64) -> u8
     48 + v as u8
 }
 
+// The last digit of a number with its tenth at hand, by the lowest four bits of both: `v % 10` beside `v / 10` is compiled to a 64-bit multiply, which the
+// smallest processors have not.
+fn last_digit(v: u64, tenth: u64) -> u8
+    requires { ⌜ tenth ≡ v / 10 ⌝ }
+    ensures { λ r. ⌜ r ≡ 48 + v % 10 ⌝ }
+{
+    let low = (v % 16) as u8;
+    let less = ((tenth % 16) as u8) * 10 % 16;
+    48 + (low + 16 - less) % 16
+}
+
 // `v` in decimal digits, from the last one back.
 pub fn put_decimal(out: &mut [u8], at: usize, v: u64) -> usize
     requires { ⌜ TextFits at (decimal v) (now out) ⌝ }
@@ -38,8 +49,9 @@ pub fn put_decimal(out: &mut [u8], at: usize, v: u64) -> usize
     let mut i = end - 1;
     let mut left = v;
     while 10 <= left {
-        out[i] = digit(left % 10);
-        left = left / 10;
+        let tenth = left / 10;
+        out[i] = last_digit(left, tenth);
+        left = tenth;
         i -= 1;
     }
     out[i] = digit(left);

@@ -35,7 +35,7 @@ fn in_record(node: &[u8], start: usize, j: usize) -> Found
     ensures { λ r. ⌜ r ≡ foundRec start j (decodeRec (part (recPlace j) recWidth (now (node .entry)))) ⌝ }
 {
     let r = table_read::read_record(table::record_of(node, j));
-    let value = start + (layout::RECORDS + j * layout::RECORD) + layout::VALUE;
+    let value = start + table::record_place(j) + layout::VALUE;
     let status = r.status;
     match status {
         Status::Delete => Found::Nothing,

@@ -60,7 +60,7 @@ fn take_out(node: &mut [u8], j: usize)
     ensures { λ _. ⌜ now (node .exit) ≡ encodeNode (takenOut j (recAt j (now (node .entry)) .kv .version) (decodeNode (now (node .entry)))) ⌝ }
 {
     let held = fields::read_u64(node, layout::LAST_GC);
-    let version = fields::read_u64(node, layout::RECORDS + j * layout::RECORD + layout::VERSION);
+    let version = fields::read_u64(node, table::record_place(j) + layout::VERSION);
     let last_gc = larger(held, version);
     table_write::remove_record(node, j);
     table_write::set_last_gc(node, last_gc);
@@ -91,7 +91,7 @@ pub fn remove_good(table: &mut [u8], clock: u64, grace: u64)
     let n = fields::byte_at(table, layout::NODE_COUNT);
     let mut i = 0;
     while i < n {
-        let a = layout::NODES + i * layout::NODE;
+        let a = table::node_place(i);
         let e = a + layout::NODE;
         remove_due(&mut table[a..e], clock, grace);
         i += 1;

@@ -9,12 +9,28 @@ ghost use Rattle.table.specs.Tests.{keyLength, valueLength};
 
 pub mod layout;
 
+// Where node `i` begins in a table's bytes; behind the last one, where they end.
+pub fn node_place(i: usize) -> usize
+    requires { ⌜ i ≤ maxNodes ⌝ }
+    ensures { λ r. ⌜ r ≡ nodePlace i ⌝ }
+{
+    layout::NODES + fields::times(i, layout::NODE)
+}
+
+// Where record `j` begins in a node's bytes; behind the last one, where they end.
+pub fn record_place(j: usize) -> usize
+    requires { ⌜ j ≤ maxRecords ⌝ }
+    ensures { λ r. ⌜ r ≡ recPlace j ⌝ }
+{
+    layout::RECORDS + fields::times(j, layout::RECORD)
+}
+
 // Node `i` of a table's bytes.
 pub fn node_of(table: &[u8], i: usize) -> &[u8]
     requires { ⌜ (length (now table) ≡ tableWidth) × (i < maxNodes) ⌝ }
     ensures { λ r. ⌜ now r ≡ part (nodePlace i) nodeWidth (now (table .entry)) ⌝ }
 {
-    let a = layout::NODES + i * layout::NODE;
+    let a = node_place(i);
     let e = a + layout::NODE;
     &table[a..e]
 }
@@ -24,7 +40,7 @@ pub fn record_of(node: &[u8], j: usize) -> &[u8]
     requires { ⌜ (length (now node) ≡ nodeWidth) × (j < maxRecords) ⌝ }
     ensures { λ r. ⌜ now r ≡ part (recPlace j) recWidth (now (node .entry)) ⌝ }
 {
-    let a = layout::RECORDS + j * layout::RECORD;
+    let a = record_place(j);
     let e = a + layout::RECORD;
     &node[a..e]
 }

@@ -87,9 +87,7 @@ fn check_records(node: &[u8], n: usize, max: u64) -> bool
     let m = mask();
     let mut i = 0;
     while i < n {
-        let a = layout::RECORDS + i * layout::RECORD;
-        let e = a + layout::RECORD;
-        if check_record(&node[a..e], max, &m) {
+        if check_record(table::record_of(node, i), max, &m) {
             i += 1;
         } else {
             return false;
@@ -106,7 +104,7 @@ fn versions_of(node: &[u8], n: usize) -> [u64; Header::RECORDS]
     let mut vs = [0u64; Header::RECORDS];
     let mut i = 0;
     while i < n {
-        vs[i] = fields::read_u64(node, layout::RECORDS + i * layout::RECORD + layout::VERSION);
+        vs[i] = fields::read_u64(node, table::record_place(i) + layout::VERSION);
         i += 1;
     }
     vs
@@ -176,10 +174,7 @@ fn keys_rise(node: &[u8], n: usize, max: u64) -> bool
 {
     let mut i = 0;
     while i + 1 < n {
-        let a = layout::RECORDS + i * layout::RECORD;
-        let m = a + layout::RECORD;
-        let e = m + layout::RECORD;
-        if key_below(&node[a..m], &node[m..e]) {
+        if key_below(table::record_of(node, i), table::record_of(node, i + 1)) {
             i += 1;
         } else {
             return false;
@@ -202,7 +197,7 @@ fn check_node(node: &[u8]) -> bool
         if keys_rise(node, n, max) {
             let vs = versions_of(node, n);
             if all_differ(&vs, n) {
-                let a = layout::RECORDS + n * layout::RECORD;
+                let a = table::record_place(n);
                 return fields::is_zero(&node[a..layout::NODE]);
             }
         }
@@ -217,9 +212,7 @@ fn check_nodes(table: &[u8], n: usize) -> bool
 {
     let mut i = 0;
     while i < n {
-        let a = layout::NODES + i * layout::NODE;
-        let e = a + layout::NODE;
-        if check_node(&table[a..e]) {
+        if check_node(table::node_of(table, i)) {
             i += 1;
         } else {
             return false;
@@ -235,8 +228,8 @@ fn numbers_rise(table: &[u8], n: usize) -> bool
 {
     let mut i = 0;
     while i + 1 < n {
-        let x = fields::read_u64(table, layout::NODES + i * layout::NODE);
-        let y = fields::read_u64(table, layout::NODES + (i + 1) * layout::NODE);
+        let x = fields::read_u64(table, table::node_place(i));
+        let y = fields::read_u64(table, table::node_place(i + 1));
         if x < y {
             i += 1;
         } else {
@@ -259,7 +252,7 @@ fn check_area(area: &[u8]) -> bool
     }
     if check_nodes(area, n) {
         if numbers_rise(area, n) {
-            let a = layout::NODES + n * layout::NODE;
+            let a = table::node_place(n);
             return fields::is_zero(&area[a..layout::AREA]);
         }
     }

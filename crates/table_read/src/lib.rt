@@ -87,7 +87,7 @@ pub fn find_node(table: &[u8], number: u64) -> Place
     let n = fields::byte_at(table, layout::NODE_COUNT);
     let mut i = 0;
     while i < n {
-        let x = fields::read_u64(table, layout::NODES + i * layout::NODE);
+        let x = fields::read_u64(table, table::node_place(i));
         if number == x {
             return Place::At(i);
         }
@@ -106,7 +106,7 @@ pub fn node_span(table: &[u8], number: u64) -> Span
 {
     match find_node(table, number) {
         Place::At(i) => {
-            let start = layout::NODES + i * layout::NODE;
+            let start = table::node_place(i);
             Span::Held {
                 start,
                 end: start + layout::NODE,

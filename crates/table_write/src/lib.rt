@@ -62,7 +62,7 @@ pub fn put_record(
     ensures { λ _. ⌜ now (node .exit) ≡ encodeNode
         (withRecAt j (recOf (now (key .entry)) (now (value .entry)) version status start) (decodeNode (now (node .entry)))) ⌝ }
 {
-    let a = layout::RECORDS + j * layout::RECORD;
+    let a = table::record_place(j);
     let e = a + layout::RECORD;
     write_record(&mut node[a..e], key, value, version, status, start);
 }
@@ -83,21 +83,21 @@ pub fn insert_record(
         (withNewRec j (recOf (now (key .entry)) (now (value .entry)) version status start) (decodeNode (now (node .entry)))) ⌝ }
 {
     let n = fields::byte_at(node, layout::RECORD_COUNT);
-    let a = layout::RECORDS + j * layout::RECORD;
+    let a = table::record_place(j);
     let e = a + layout::RECORD;
-    fields::move_up(node, a, e, (n - j) * layout::RECORD);
+    fields::move_up(node, a, e, fields::times(n - j, layout::RECORD));
     write_record(&mut node[a..e], key, value, version, status, start);
     fields::write_byte(node, layout::RECORD_COUNT, n + 1);
 }
 
 // Block `i` goes from a row of blocks with its count at `at`: those behind it move down, and the place that falls free is cleared.
 fn remove_block(row: &mut [u8], at: usize, width: usize, i: usize)
-    requires { ⌜ (i < blocksIn at (now row)) × (blockPlace at width (blocksIn at (now row)) ≤ length (now row)) ⌝ }
+    requires { ⌜ (i < blocksIn at (now row)) × (blockPlace at width (blocksIn at (now row)) ≤ length (now row)) × (width < 65536) ⌝ }
     ensures { λ _. ⌜ now (row .exit) ≡ withoutBlock at width i (now (row .entry)) ⌝ }
 {
     let n = fields::byte_at(row, at);
-    let a = at + 1 + i * width;
-    let m = (n - (i + 1)) * width;
+    let a = at + 1 + fields::times(i, width);
+    let m = fields::times(n - (i + 1), width);
     fields::move_down(row, a + width, a, m);
     fields::clear(row, a + m, width);
     fields::write_byte(row, at, n - 1);
@@ -141,8 +141,13 @@ pub fn insert_node(table: &mut [u8], i: usize, number: u64)
     ensures { λ _. ⌜ now (table .exit) ≡ encode (insertAt i (freshEntry number) (decode (now (table .entry)))) ⌝ }
 {
     let n = fields::byte_at(table, layout::NODE_COUNT);
-    let a = layout::NODES + i * layout::NODE;
-    fields::move_up(table, a, a + layout::NODE, (n - i) * layout::NODE);
+    let a = table::node_place(i);
+    fields::move_up(
+        table,
+        a,
+        a + layout::NODE,
+        fields::times(n - i, layout::NODE),
+    );
     fields::clear(table, a, layout::NODE);
     fields::write_u64(table, a, number);
     fields::write_byte(table, layout::NODE_COUNT, n + 1);

@@ -1,8 +1,10 @@
 -- `inspect_text::in_node` meets its contract: 8, or the length that was read, at the place of the layout. Assumes nothing.
-use Prim.Native.Nat.{ℕ, _<_}
-use mathlib.Core.Path.{_≡_, ap, sym, _∙_}
+use Prim.Native.Nat.{ℕ, _+_, _<_}
+use mathlib.Core.Path.{_≡_, ap, ap₂, sym, _∙_}
 use native.Mathlib.Omega.{arith}
 use lib.ListN.{length}
+use Rattle.fields.specs.Widths.{offset}
+use Rattle.rules.specs.Layout.{recWidths}
 use Rattle.rules.specs.declared.Record.{Record}
 use Rattle.table.specs.Tests.{countOf, recsIn}
 use Rattle.table.proofs.Places.{recAt}
@@ -28,16 +30,20 @@ read c =
     let a = p .before .before .before .before .args in
     rec-read (a .node .now) (a .j) _ (p .record-of .ensures) _ (c .read-record .ensures)
 
+-- where the node's bytes begin
+abbrev start : tie.After-read-record → ℕ
+start c = c .before .before .before .before .before .args .start
+
 -- by the text that is asked for
-answer : (c : tie.After-read-record) (x : Text) (n : ℕ)
+answer : (c : tie.After-read-record) (x : Text) (at n : ℕ)
     → let a = c .before .before .before .before .before .args in
-    a .text ≡ x → n ≡ length (textOf x (recAt (a .j) (a .node .now)))
-    → At (textPlace x (a .start) (a .j)) n ≡ placeOn (a .text) (a .start) (a .j) (elementAt (a .j) (recsIn (a .node .now)))
-answer c x n e q =
+    a .text ≡ x → at ≡ textPlace x (a .start) (a .j) → n ≡ length (textOf x (recAt (a .j) (a .node .now)))
+    → At at n ≡ placeOn (a .text) (a .start) (a .j) (elementAt (a .j) (recsIn (a .node .now)))
+answer c x at n e p q =
     let t = c .before .before in
     let a = t .before .before .before .args in
     rec-there (placeOn (a .text) (a .start) (a .j)) (a .node .now) (a .j) (within t) _
-    (ap (At (textPlace x (a .start) (a .j))) q
+    (ap₂ At p q
     ∙ ap (λ (y : Text). At (textPlace y (a .start) (a .j)) (length (textOf y (recAt (a .j) (a .node .now))))) (sym e))
 
 byte-at-requires : tie.Need-byte-at-requires
@@ -54,36 +60,35 @@ record-of-requires c κs = search needs
 read-record-requires : tie.Need-read-record-requires
 read-record-requires c κs = rec-fits _ (c .before .before .before .before .pre .0) _ (within (c .before)) _ (c .record-of .ensures)
 
-mul-record : tie.Need-mul-record
-mul-record c = search needs
+record-place-requires : tie.Need-record-place-requires
+record-place-requires c κs = search needs
 
 add-record : tie.Need-add-record
 add-record c = search needs
 
-add-record-2 : tie.Need-add-record-2
-add-record-2 c = search needs
-
 enum-told : tie.Need-enum-told
 enum-told c = search needs
 
-add-t14 : tie.Need-add-t14
-add-t14 c = search needs
+add-t13 : tie.Need-add-t13
+add-t13 c = search needs
 
 enum-told-2 : tie.Need-enum-told-2
 enum-told-2 c = search needs
 
-add-t15 : tie.Need-add-t15
-add-t15 c = search needs
+add-t14 : tie.Need-add-t14
+add-t14 c = search needs
 
 returns-2 : tie.Need-returns-2
 returns-2 c =
-    let m = c .before .before in
-    answer m Key (m .read-record .result .keylen) (c .enum-told .given .1) (ap (λ (r : Record). r .keylen) (read m))
+    let m = c .before .before .before in
+    answer m Key _ (m .read-record .result .keylen) (c .enum-told .given .1)
+    (ap (λ (k : ℕ). start m + k + offset recWidths 1) (c .before .before .record-place .ensures)) (ap (λ (r : Record). r .keylen) (read m))
 
 returns-3 : tie.Need-returns-3
 returns-3 c =
-    let m = c .before .before in
-    answer m Value (m .read-record .result .valuelen) (c .enum-told2 .given .1) (ap (λ (r : Record). r .valuelen) (read m))
+    let m = c .before .before .before in
+    answer m Value _ (m .read-record .result .valuelen) (c .enum-told2 .given .1)
+    (ap (λ (k : ℕ). start m + k + offset recWidths 3) (c .before .before .record-place .ensures)) (ap (λ (r : Record). r .valuelen) (read m))
 
 pub in-node-spec : {M : Type 1} → statement M
 in-node-spec =
@@ -93,12 +98,11 @@ in-node-spec =
     returns
     record-of-requires
     read-record-requires
-    mul-record
+    record-place-requires
     add-record
-    add-record-2
     enum-told
-    add-t14
+    add-t13
     enum-told-2
-    add-t15
+    add-t14
     returns-2
     returns-3)

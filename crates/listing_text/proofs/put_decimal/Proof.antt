@@ -64,8 +64,8 @@ sub-i c = omega (arith, c .decimal-len .ensures .0, decimal-some (c .before .bef
 loop-holds : tie.Need-loop-holds Inv-loop μ-loop
 loop-holds c = (omega arith, refl, omega (arith, c .decimal-len .ensures .0, decimal-some (c .before .before .args .v)), omega arith, refl)
 
-digit-requires : tie.Need-digit-requires Inv-loop μ-loop
-digit-requires c κs = omega arith
+last-digit-requires : tie.Need-last-digit-requires Inv-loop μ-loop
+last-digit-requires c κs = refl
 
 slice-write-out : tie.Need-slice-write-out Inv-loop μ-loop
 slice-write-out c = omega arith
@@ -92,12 +92,12 @@ loop-again c =
       simp length-set (inv .1),
       omega (arith, decimal-some (left / 10)),
       omega arith,
-      turn (a .at) left i (c .before .loop-test .taken) (omega arith) (inv .2) (at-loop .loop .out) _ (c .digit .result) (omega arith) (c .digit .ensures)
+      turn (a .at) left i (c .before .loop-test .taken) (omega arith) (inv .2) (at-loop .loop .out) _ (c .last-digit .result) (omega arith) (c .last-digit .ensures)
           (inv .4),
     )
 
-digit-requires-2 : tie.Need-digit-requires-2 Inv-loop μ-loop
-digit-requires-2 c κs = search needs
+digit-requires : tie.Need-digit-requires Inv-loop μ-loop
+digit-requires c κs = search needs
 
 slice-write-out-2 : tie.Need-slice-write-out-2 Inv-loop μ-loop
 slice-write-out-2 c = search needs
@@ -110,8 +110,8 @@ returns c =
     let at-loop = c .before .before in
     let a = at-loop .before .before .before .args in
     let inv = at-loop .loop .inv in
-    first (a .at) (at-loop .loop .left) (at-loop .loop .i) (a .v) (a .out .now) (at-loop .loop .out) (c .digit2 .result) _ (c .before .loop-test .left)
-    (inv .2) (omega arith) (c .digit2 .ensures) (inv .4) (ap (λ (n : ℕ). a .at + n) (at-loop .before .decimal-len .ensures .0))
+    first (a .at) (at-loop .loop .left) (at-loop .loop .i) (a .v) (a .out .now) (at-loop .loop .out) (c .digit .result) _ (c .before .loop-test .left)
+    (inv .2) (omega arith) (c .digit .ensures) (inv .4) (ap (λ (n : ℕ). a .at + n) (at-loop .before .decimal-len .ensures .0))
 
 pub put-decimal-spec : {M : Type 1} → statement M
 put-decimal-spec =
@@ -123,12 +123,12 @@ put-decimal-spec =
     add-end
     sub-i
     loop-holds
-    digit-requires
+    last-digit-requires
     slice-write-out
     sub-i-2
     loop-less
     loop-again
-    digit-requires-2
+    digit-requires
     slice-write-out-2
     same-length
     returns)

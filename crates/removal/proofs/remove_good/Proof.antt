@@ -1,13 +1,14 @@
 -- `removal::remove_good` meets its contract: what is in front of node `i` is done, and the rest gives the whole. Assumes nothing.
 use Prim.Native.Nat.{ℕ, _-_, _≤_, _<_}
-use mathlib.Core.Path.{_≡_, refl, sym, subst, _∙_}
+use mathlib.Core.Path.{_≡_, refl, ap, sym, subst, _∙_}
 use mathlib.Core.List.{List}
 use native.Mathlib.Omega.{arith}
+use Rattle.fields.specs.Parts.{part, put}
 use Rattle.fields.proofs.Lent.{seen, lent-by}
 use mathlib.Core.Bool.{Bool}
 use Rattle.rules.specs.Node.{Rec, due}
 use Rattle.rules.specs.Table.{removeAll}
-use Rattle.rules.specs.Layout.{nodePlace, nodeWidth, decodeNode, encodeNode, decode}
+use Rattle.rules.specs.Layout.{nodeWidth, decodeNode, encodeNode, decode}
 use Rattle.table.specs.Tests.{nodesOf}
 use Rattle.table.specs.Fits.{LaidNode, LaidTable}
 use Rattle.table.proofs.Tables.{valid-laid, valid-long}
@@ -41,11 +42,8 @@ loop-holds c =
     let st = c .before .before .before in
     (valid-laid (st .args .table .now) (st .pre), sym (c .byte-at .ensures .0), omega arith, refl)
 
-mul-a : tie.Need-mul-a Inv-loop μ-loop
-mul-a c = search needs
-
-add-a : tie.Need-add-a Inv-loop μ-loop
-add-a c = search needs
+node-place-requires : tie.Need-node-place-requires Inv-loop μ-loop
+node-place-requires c κs = search needs
 
 add-e : tie.Need-add-e Inv-loop μ-loop
 add-e c = search needs
@@ -61,9 +59,11 @@ part-remove-due-end c = search needs
 
 remove-due-requires : tie.Need-remove-due-requires Inv-loop μ-loop
 remove-due-requires c κs =
-    let q = c .before .before in
+    let p = c .before .node-place in
+    let q = c .before .before .before in
     let l : List ℕ = q .loop .table in
-    subst LaidNode (sym (seen (nodePlace (q .loop .i)) nodeWidth l)) (laid-at l (q .loop .inv .0) (q .loop .i) (within (c .before)))
+    subst LaidNode (sym (seen (p .result) nodeWidth l ∙ ap (λ (k : ℕ). part k nodeWidth l) (p .ensures)))
+    (laid-at l (q .loop .inv .0) (q .loop .i) (within (c .before .before)))
 
 add-i : tie.Need-add-i Inv-loop μ-loop
 add-i c = search needs
@@ -74,7 +74,8 @@ loop-less c = search needs
 loop-again : tie.Need-loop-again Inv-loop μ-loop
 loop-again c =
     let r = c .before .before in
-    let j = r .before .before in
+    let k = r .before .before in
+    let j = k .before in
     let q = j .before in
     let a = q .before .before .before .before .args in
     let l : List ℕ = q .loop .table in
@@ -82,9 +83,11 @@ loop-again c =
     let i : ℕ = q .loop .i in
     let p : Rec → Bool = due (a .clock) (a .grace) in
     let h = within j in
+    let f : List ℕ → List ℕ = λ x. encodeNode (removed p (decodeNode x)) in
     let e =
-    lent-by (λ (x : List ℕ). encodeNode (removed p (decodeNode x))) (nodePlace i) nodeWidth l (r .remove-due .last .0) (omega (arith, h, o .long, o .few))
-    (r .remove-due .ensures) (r .remove-due .kept .0) in (
+    lent-by f (k .node-place .result) nodeWidth l (r .remove-due .last .0) (omega (arith, h, o .long, o .few, k .node-place .ensures))
+    (r .remove-due .ensures) (r .remove-due .kept .0)
+    ∙ ap (λ (at : ℕ). put at (f (part at nodeWidth l)) l) (k .node-place .ensures) in (
       next-laid l o p i h _ e,
       next-count l o p i h _ e ∙ q .loop .inv .1,
       omega arith,
@@ -112,8 +115,7 @@ remove-good-spec =
     μ-loop
     byte-at-requires
     loop-holds
-    mul-a
-    add-a
+    node-place-requires
     add-e
     sub-remove-due
     part-remove-due-start

@@ -1,6 +1,6 @@
 -- `removal::take_out` meets its contract: the record goes, then last_gc is written. Assumes nothing.
 use Prim.Native.Nat.{ℕ, _+_, _<_, max}
-use mathlib.Core.Path.{_≡_, ap₂, sym, _∙_}
+use mathlib.Core.Path.{_≡_, ap, ap₂, sym, _∙_}
 use mathlib.Core.List.{List}
 use native.Mathlib.Omega.{arith}
 use Rattle.fields.specs.Numbers.{natOf}
@@ -24,14 +24,11 @@ raised b o j h held version g e f q = q ∙ ap₂ max e (f ∙ sym (version-at j
 read-u64-requires : tie.Need-read-u64-requires
 read-u64-requires c κs = search needs
 
-mul-read-u64 : tie.Need-mul-read-u64
-mul-read-u64 c = search needs
+record-place-requires : tie.Need-record-place-requires
+record-place-requires c κs = search needs
 
 add-read-u64 : tie.Need-add-read-u64
 add-read-u64 c = search needs
-
-add-read-u64-2 : tie.Need-add-read-u64-2
-add-read-u64-2 c = search needs
 
 read-u64-requires-2 : tie.Need-read-u64-requires-2
 read-u64-requires-2 c κs = search needs
@@ -45,7 +42,7 @@ remove-record-requires c κs = search needs
 set-last-gc-requires : tie.Need-set-last-gc-requires
 set-last-gc-requires c κs =
     let w = c .before .before .before in
-    let st = w .before .before .before .before .before .before .before .before in
+    let st = w .before .before .before .before .before .before .before .before .before in
     less-laid (st .args .node .now) (st .pre .0) (st .args .j) (st .pre .1) _ (w .remove-record .ensures)
 
 same-length : tie.Need-same-length
@@ -57,12 +54,14 @@ returns c =
     let w = g .before .before .before .before in
     let m = w .before .before in
     let v = m .before in
-    let u = v .before .before in
+    let k = v .before in
+    let u = k .before .before in
     let st = u .before .before .before in
     let b : List ℕ = st .args .node .now in
     let j : ℕ = st .args .j in
     taken-steps b (st .pre .0) j (st .pre .1) _ (w .remove-record .ensures) (m .larger .result) (recAt j b .kv .version) _
-    (raised b (st .pre .0) j (st .pre .1) (u .read-u64 .result) (v .read-u642 .result) (m .larger .result) (u .read-u64 .ensures) (v .read-u642 .ensures) (m .larger .ensures))
+    (raised b (st .pre .0) j (st .pre .1) (u .read-u64 .result) (v .read-u642 .result) (m .larger .result) (u .read-u64 .ensures)
+    (v .read-u642 .ensures ∙ ap (λ (at : ℕ). natOf (part (at + offset recWidths 4) 8 b)) (k .record-place .ensures)) (m .larger .ensures))
     (g .set-last-gc .ensures)
 
 pub take-out-spec : {M : Type 1} → statement M
@@ -70,9 +69,8 @@ take-out-spec =
     tie.close
     (tie.spec
     read-u64-requires
-    mul-read-u64
+    record-place-requires
     add-read-u64
-    add-read-u64-2
     read-u64-requires-2
     larger-requires
     remove-record-requires

@@ -51,11 +51,8 @@ check-nodes-requires c κs = search needs
 numbers-rise-requires : tie.Need-numbers-rise-requires
 numbers-rise-requires c κs = search needs
 
-mul-a : tie.Need-mul-a
-mul-a c = search needs
-
-add-a : tie.Need-add-a
-add-a c = search needs
+node-place-requires : tie.Need-node-place-requires
+node-place-requires c κs = search needs
 
 sub-is-zero : tie.Need-sub-is-zero
 sub-is-zero c = search needs
@@ -71,7 +68,8 @@ is-zero-requires c κs = search needs
 
 returns-3 : tie.Need-returns-3
 returns-3 c =
-    let then4 = c .before .before in
+    let place = c .before .before in
+    let then4 = place .before in
     let then3 = then4 .before .before in
     let b = then3 .before .before .before in
     let q = b .before .before in
@@ -79,7 +77,8 @@ returns-3 c =
     table-pass l (bytes q) _ (b .before .if1 .left) (le-leb (nodesOf l) maxNodes (omega (arith, b .byte-at .ensures .0, then3 .before .before .if2 .left)))
     (nodes-test l _ _ (b .byte-at .ensures .0) (then3 .before .check-nodes .ensures) ∙ then3 .if3 .taken)
     (sym (then4 .before .numbers-rise .ensures) ∙ then4 .if4 .taken)
-    (zeros-test l _ _ (b .byte-at .ensures .0) (then3 .before .before .if2 .left) (c .is-zero .ensures))
+    (zeros-test l _ _ (b .byte-at .ensures .0) (then3 .before .before .if2 .left)
+    (c .is-zero .ensures ∙ ap (λ (k : ℕ). allZero (take (tableWidth - k) (drop k l))) (place .node-place .ensures)))
 
 returns-4 : tie.Need-returns-4
 returns-4 c =
@@ -103,8 +102,7 @@ check-area-spec =
     returns-2
     check-nodes-requires
     numbers-rise-requires
-    mul-a
-    add-a
+    node-place-requires
     sub-is-zero
     part-is-zero-start
     part-is-zero-end

@@ -66,11 +66,8 @@ slice-aggregate-all-differ c = search needs
 all-differ-requires : tie.Need-all-differ-requires
 all-differ-requires c κs = search needs
 
-mul-a : tie.Need-mul-a
-mul-a c = search needs
-
-add-a : tie.Need-add-a
-add-a c = search needs
+record-place-requires : tie.Need-record-place-requires
+record-place-requires c κs = search needs
 
 sub-is-zero : tie.Need-sub-is-zero
 sub-is-zero c = search needs
@@ -86,7 +83,8 @@ is-zero-requires c κs = search needs
 
 returns-2 : tie.Need-returns-2
 returns-2 c =
-    let then4 = c .before .before in
+    let place = c .before .before in
+    let then4 = place .before in
     let v = then4 .before .before .before in
     let then3 = v .before in
     let then2 = then3 .before .before in
@@ -96,7 +94,8 @@ returns-2 c =
     (records-test b _ _ (q .byte-at .ensures .0) (then2 .before .before .read-u64 .ensures) _ (then2 .before .check-records .ensures) ∙ then2 .if2 .taken)
     (sym (then3 .before .keys-rise .ensures) ∙ then3 .if3 .taken)
     (different b (v .versions-of .result) (q .byte-at .result) _ (then4 .before .all-differ .ensures) (v .versions-of .ensures .1) ∙ then4 .if4 .taken)
-    (zeros-test b _ _ (q .byte-at .ensures .0) (then2 .before .before .read-u64 .ensures) _ (then2 .before .before .before .if1 .left) (c .is-zero .ensures))
+    (zeros-test b _ _ (q .byte-at .ensures .0) (then2 .before .before .read-u64 .ensures) _ (then2 .before .before .before .if1 .left)
+    (c .is-zero .ensures ∙ ap (λ (k : ℕ). allZero (take (nodeWidth - k) (drop k b))) (place .record-place .ensures)))
 
 returns-3 : tie.Need-returns-3
 returns-3 c =
@@ -128,8 +127,7 @@ check-node-spec =
     versions-of-requires
     slice-aggregate-all-differ
     all-differ-requires
-    mul-a
-    add-a
+    record-place-requires
     sub-is-zero
     part-is-zero-start
     part-is-zero-end

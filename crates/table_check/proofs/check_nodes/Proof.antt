@@ -1,13 +1,13 @@
 -- `table_check::check_nodes` meets its contract: what is left to be tested has the whole's answer. Assumes nothing.
-use Prim.Native.Nat.{ℕ, _+_, _-_, _*_, _≤_}
+use Prim.Native.Nat.{ℕ, _-_, _≤_}
 use mathlib.Core.Path.{_≡_, refl, sym, ap, _∙_}
 use native.Mathlib.Omega.{arith}
 use native.Mathlib.Nat.{sub-zero}
-use lib.ListN.{drop}
+use lib.ListN.{length, drop}
 use Rattle.fields.specs.Blocks.{allBlocks}
 use Rattle.fields.proofs.Choice.{and-yes, and-no}
 use Rattle.fields.proofs.Blocks.{blocks-turn}
-use Rattle.fields.proofs.Lent.{seen}
+use Rattle.fields.proofs.Parts.{length-part}
 use Rattle.rules.specs.Layout.{nodePlace, nodeWidth}
 use Rattle.table.specs.Tests.{nodeGood}
 use borrow.Author.Needs.{needs}
@@ -23,26 +23,13 @@ abbrev μ-loop : tie.MeasureT-loop
 loop-holds : tie.Need-loop-holds Inv-loop μ-loop
 loop-holds c = (omega arith, rw sub-zero refl)
 
-mul-a : tie.Need-mul-a Inv-loop μ-loop
-mul-a c = search needs
-
-add-a : tie.Need-add-a Inv-loop μ-loop
-add-a c = search needs
-
-add-e : tie.Need-add-e Inv-loop μ-loop
-add-e c = search needs
-
-sub-check-node : tie.Need-sub-check-node Inv-loop μ-loop
-sub-check-node c = search needs
-
-part-check-node-start : tie.Need-part-check-node-start Inv-loop μ-loop
-part-check-node-start c = search needs
-
-part-check-node-end : tie.Need-part-check-node-end Inv-loop μ-loop
-part-check-node-end c = search needs
+node-of-requires : tie.Need-node-of-requires Inv-loop μ-loop
+node-of-requires c κs = search needs
 
 check-node-requires : tie.Need-check-node-requires Inv-loop μ-loop
-check-node-requires c κs = search needs
+check-node-requires c κs =
+    let q = c .before .before in
+    ap length (c .node-of .ensures) ∙ length-part (nodePlace (q .loop .i)) nodeWidth (q .before .before .args .table .now) (omega arith)
 
 add-i : tie.Need-add-i Inv-loop μ-loop
 add-i c = search needs
@@ -55,7 +42,7 @@ loop-again c =
     let q = c .before .before .before .before in
     let a = q .before .before .args in
     let i : ℕ = q .loop .i in
-    let flag = sym (ap nodeGood (seen (1 + i * nodeWidth) nodeWidth (a .table .now))) ∙ sym (c .before .check-node .ensures) in
+    let flag = sym (ap nodeGood (c .before .before .node-of .ensures)) ∙ sym (c .before .check-node .ensures) in
     let e = blocks-turn nodeGood nodeWidth 1 (a .n) i (a .table .now) (omega arith) in
     (omega arith, sym (e ∙ and-yes _ _ (flag ∙ c .if1 .taken)) ∙ q .loop .inv .1)
 
@@ -64,7 +51,7 @@ returns c =
     let q = c .before .before .before .before in
     let a = q .before .before .args in
     let i : ℕ = q .loop .i in
-    let flag = sym (ap nodeGood (seen (1 + i * nodeWidth) nodeWidth (a .table .now))) ∙ sym (c .before .check-node .ensures) in
+    let flag = sym (ap nodeGood (c .before .before .node-of .ensures)) ∙ sym (c .before .check-node .ensures) in
     let e = blocks-turn nodeGood nodeWidth 1 (a .n) i (a .table .now) (omega arith) in
     sym (e ∙ and-no _ _ (flag ∙ c .if1 .left)) ∙ q .loop .inv .1
 
@@ -81,12 +68,7 @@ check-nodes-spec =
     Inv-loop
     μ-loop
     loop-holds
-    mul-a
-    add-a
-    add-e
-    sub-check-node
-    part-check-node-start
-    part-check-node-end
+    node-of-requires
     check-node-requires
     add-i
     loop-less

@@ -3,11 +3,11 @@ use Prim.Native.Nat.{ℕ, _-_, _≤_}
 use mathlib.Core.Path.{_≡_, refl, sym, ap, _∙_}
 use native.Mathlib.Omega.{arith}
 use native.Mathlib.Nat.{sub-zero}
-use lib.ListN.{drop}
+use lib.ListN.{length, drop}
 use Rattle.fields.specs.Blocks.{allBlocks}
 use Rattle.fields.proofs.Choice.{and-yes, and-no}
 use Rattle.fields.proofs.Blocks.{blocks-turn}
-use Rattle.fields.proofs.Lent.{seen}
+use Rattle.fields.proofs.Parts.{length-part}
 use Rattle.rules.specs.Layout.{recPlace, recWidth}
 use Rattle.table.specs.Tests.{recGood}
 use borrow.Author.Needs.{needs}
@@ -26,29 +26,17 @@ mask-requires c κs = search needs
 loop-holds : tie.Need-loop-holds Inv-loop μ-loop
 loop-holds c = (omega arith, rw sub-zero refl)
 
-mul-a : tie.Need-mul-a Inv-loop μ-loop
-mul-a c = search needs
-
-add-a : tie.Need-add-a Inv-loop μ-loop
-add-a c = search needs
-
-add-e : tie.Need-add-e Inv-loop μ-loop
-add-e c = search needs
-
-sub-check-record : tie.Need-sub-check-record Inv-loop μ-loop
-sub-check-record c = search needs
-
-part-check-record-start : tie.Need-part-check-record-start Inv-loop μ-loop
-part-check-record-start c = search needs
-
-part-check-record-end : tie.Need-part-check-record-end Inv-loop μ-loop
-part-check-record-end c = search needs
+record-of-requires : tie.Need-record-of-requires Inv-loop μ-loop
+record-of-requires c κs = search needs
 
 slice-aggregate-check-record : tie.Need-slice-aggregate-check-record Inv-loop μ-loop
 slice-aggregate-check-record c = search needs
 
 check-record-requires : tie.Need-check-record-requires Inv-loop μ-loop
-check-record-requires c κs = (search needs, c .before .before .before .before .mask .ensures)
+check-record-requires c κs =
+    let q = c .before .before .before in
+    let b = q .before .before .before .args .node .now in
+    (ap length (c .before .record-of .ensures) ∙ length-part (recPlace (q .loop .i)) recWidth b (omega arith), q .before .mask .ensures)
 
 add-i : tie.Need-add-i Inv-loop μ-loop
 add-i c = search needs
@@ -61,7 +49,7 @@ loop-again c =
     let q = c .before .before .before .before .before in
     let a = q .before .before .before .args in
     let i : ℕ = q .loop .i in
-    let flag = sym (ap (recGood (a .max)) (seen (recPlace i) recWidth (a .node .now))) ∙ sym (c .before .check-record .ensures) in
+    let flag = sym (ap (recGood (a .max)) (c .before .before .before .record-of .ensures)) ∙ sym (c .before .check-record .ensures) in
     let e = blocks-turn (recGood (a .max)) recWidth (recPlace 0) (a .n) i (a .node .now) (omega arith) in
     (omega arith, sym (e ∙ and-yes _ _ (flag ∙ c .if1 .taken)) ∙ q .loop .inv .1)
 
@@ -70,7 +58,7 @@ returns c =
     let q = c .before .before .before .before .before in
     let a = q .before .before .before .args in
     let i : ℕ = q .loop .i in
-    let flag = sym (ap (recGood (a .max)) (seen (recPlace i) recWidth (a .node .now))) ∙ sym (c .before .check-record .ensures) in
+    let flag = sym (ap (recGood (a .max)) (c .before .before .before .record-of .ensures)) ∙ sym (c .before .check-record .ensures) in
     let e = blocks-turn (recGood (a .max)) recWidth (recPlace 0) (a .n) i (a .node .now) (omega arith) in
     sym (e ∙ and-no _ _ (flag ∙ c .if1 .left)) ∙ q .loop .inv .1
 
@@ -88,12 +76,7 @@ check-records-spec =
     μ-loop
     mask-requires
     loop-holds
-    mul-a
-    add-a
-    add-e
-    sub-check-record
-    part-check-record-start
-    part-check-record-end
+    record-of-requires
     slice-aggregate-check-record
     check-record-requires
     add-i

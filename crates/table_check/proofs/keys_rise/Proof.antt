@@ -6,12 +6,10 @@ use mathlib.Core.Bool.{Bool, true, _&&_}
 use mathlib.Core.List.{List, [], _∷_}
 use native.Mathlib.Omega.{arith}
 use native.Mathlib.Numerals.{add-one}
-use lib.ListN.{length, drop, take, length-drop}
-use Rattle.fields.specs.Parts.{part}
+use lib.ListN.{length, drop, length-drop}
 use Rattle.fields.specs.Blocks.{allBlocks}
 use Rattle.fields.specs.Order.{lessBytes}
 use Rattle.fields.proofs.Choice.{and-yes, and-no}
-use Rattle.fields.proofs.Lent.{seen}
 use Rattle.rules.specs.Node.{Rec}
 use Rattle.rules.specs.Table.{keysRise}
 use Rattle.rules.specs.Layout.{recPlace, recWidth, nodeWidth, decodeRec}
@@ -30,33 +28,28 @@ Inv-loop b n max i₀ i = (i ≤ n) × (keysRise (drop i (recsIn b)) ≡ keysRis
 abbrev μ-loop : tie.MeasureT-loop
 μ-loop b n max i₀ i = n - i
 
--- the next record begins where one ends
-after : (i : ℕ) → recPlace i + recWidth ≡ recPlace (i + 1)
-after i = omega arith
-
 module _ (b : List ℕ) (n max i : ℕ) (e : length b ≡ nodeWidth) (h : i + 1 < n) (g : n ≤ maxRecords) (good : allBlocks (recGood max) recWidth n (drop (recPlace 0) b) ≡ true) where
   short : (j : ℕ) → j < n → keyLength (recBytes j b) ≤ maxKey
   short j p = good-key max (recBytes j b) (good-at max j n b good p)
 
-  asked : let x : List ℕ = take (recPlace i + recWidth - recPlace i) (drop (recPlace i) b) in
-      let y : List ℕ = take (recPlace i + recWidth + recWidth - (recPlace i + recWidth)) (drop (recPlace i + recWidth) b) in
-      (length x ≡ recWidth) × (keyLength x ≤ maxKey) × (length y ≡ recWidth) × (keyLength y ≤ maxKey)
-  asked =
-      rw (seen (recPlace i) recWidth b, seen (recPlace i + recWidth) recWidth b, after i)
-      (length-part (recPlace i) recWidth b (omega arith), short i (omega arith), length-part (recPlace (i + 1)) recWidth b (omega arith), short (i + 1) (omega arith))
+  -- x and y are the bytes of record i and of the next
+  module _ (x y : List ℕ) (p : x ≡ recBytes i b) (q : y ≡ recBytes (i + 1) b) where
+    asked : (length x ≡ recWidth) × (keyLength x ≤ maxKey) × (length y ≡ recWidth) × (keyLength y ≤ maxKey)
+    asked =
+        rw (p, q) (
+          length-part (recPlace i) recWidth b (omega arith),
+          short i (omega arith),
+          length-part (recPlace (i + 1)) recWidth b (omega arith),
+          short (i + 1) (omega arith),
+        )
 
-  turn : (t : Bool)
-      → t ≡ lessBytes (decodeRec (take (recPlace i + recWidth - recPlace i) (drop (recPlace i) b)) .kv .key)
-      (decodeRec (take (recPlace i + recWidth + recWidth - (recPlace i + recWidth)) (drop (recPlace i + recWidth) b)) .kv .key)
-      → n ≡ countOf b
-      → keysRise (drop i (recsIn b)) ≡ (t && keysRise (drop (i + 1) (recsIn b)))
-  unfolding keysRise
-  turn t q m =
-      let s : t ≡ lessBytes (recAt i b .kv .key) (recAt (suc i) b .kv .key) =
-      q
-      ∙ ap₂ (λ (x y : List ℕ). lessBytes (decodeRec x .kv .key) (decodeRec y .kv .key)) (seen (recPlace i) recWidth b)
-      (seen (recPlace i + recWidth) recWidth b ∙ ap (λ (j : ℕ). part j recWidth b) (after i) ∙ ap (λ (j : ℕ). recBytes j b) (add-one i)) in
-      rw (add-one i, recs-drop i b (omega arith), recs-drop (suc i) b (omega arith), s)
+    turn : (t : Bool) → t ≡ lessBytes (decodeRec x .kv .key) (decodeRec y .kv .key) → n ≡ countOf b
+        → keysRise (drop i (recsIn b)) ≡ (t && keysRise (drop (i + 1) (recsIn b)))
+    unfolding keysRise
+    turn t r m =
+        let s : t ≡ lessBytes (recAt i b .kv .key) (recAt (suc i) b .kv .key) =
+        r ∙ ap₂ (λ (v w : List ℕ). lessBytes (decodeRec v .kv .key) (decodeRec w .kv .key)) p (q ∙ ap (λ (j : ℕ). recBytes j b) (add-one i)) in
+        rw (add-one i, recs-drop i b (omega arith), recs-drop (suc i) b (omega arith), s)
 
 few : (l : List Rec) → length l ≤ 1 → keysRise l ≡ true
 unfolding keysRise
@@ -70,41 +63,21 @@ loop-holds c = (omega arith, refl)
 add-loop : tie.Need-add-loop Inv-loop μ-loop
 add-loop c = search needs
 
-mul-a : tie.Need-mul-a Inv-loop μ-loop
-mul-a c = search needs
+record-of-requires : tie.Need-record-of-requires Inv-loop μ-loop
+record-of-requires c κs = search needs
 
-add-a : tie.Need-add-a Inv-loop μ-loop
-add-a c = search needs
+add-record-of : tie.Need-add-record-of Inv-loop μ-loop
+add-record-of c = search needs
 
-add-m : tie.Need-add-m Inv-loop μ-loop
-add-m c = search needs
-
-add-e : tie.Need-add-e Inv-loop μ-loop
-add-e c = search needs
-
-sub-key-below : tie.Need-sub-key-below Inv-loop μ-loop
-sub-key-below c = search needs
-
-part-key-below-start : tie.Need-part-key-below-start Inv-loop μ-loop
-part-key-below-start c = search needs
-
-part-key-below-end : tie.Need-part-key-below-end Inv-loop μ-loop
-part-key-below-end c = search needs
-
-sub-key-below-2 : tie.Need-sub-key-below-2 Inv-loop μ-loop
-sub-key-below-2 c = search needs
-
-part-key-below-start-2 : tie.Need-part-key-below-start-2 Inv-loop μ-loop
-part-key-below-start-2 c = search needs
-
-part-key-below-end-2 : tie.Need-part-key-below-end-2 Inv-loop μ-loop
-part-key-below-end-2 c = search needs
+record-of-requires-2 : tie.Need-record-of-requires-2 Inv-loop μ-loop
+record-of-requires-2 c κs = search needs
 
 key-below-requires : tie.Need-key-below-requires Inv-loop μ-loop
 key-below-requires c κs =
     let q = c .before .before .before in
     let a = q .before .before .args in
-    asked (a .node .now) (a .n) (a .max) (q .loop .i) (omega arith) (omega arith) (omega arith) (q .before .before .pre .3)
+    asked (a .node .now) (a .n) (a .max) (q .loop .i) (omega arith) (omega arith) (omega arith) (q .before .before .pre .3) _ _
+    (c .before .record-of .ensures) (c .record-of2 .ensures)
 
 add-i : tie.Need-add-i Inv-loop μ-loop
 add-i c = search needs
@@ -116,14 +89,16 @@ loop-again : tie.Need-loop-again Inv-loop μ-loop
 loop-again c =
     let q = c .before .before .before .before .before in
     let a = q .before .before .args in
-    let e = turn (a .node .now) (a .n) (a .max) (q .loop .i) (omega arith) (omega arith) (omega arith) (q .before .before .pre .3) (c .before .key-below .result) (c .before .key-below .ensures) (omega arith) in
+    let e = turn (a .node .now) (a .n) (a .max) (q .loop .i) (omega arith) (omega arith) (omega arith) (q .before .before .pre .3) _ _
+    (c .before .before .before .record-of .ensures) (c .before .before .record-of2 .ensures) _ (c .before .key-below .ensures) (omega arith) in
     (omega arith, sym (e ∙ and-yes _ _ (c .if1 .taken)) ∙ q .loop .inv .1)
 
 returns : tie.Need-returns Inv-loop μ-loop
 returns c =
     let q = c .before .before .before .before .before in
     let a = q .before .before .args in
-    let e = turn (a .node .now) (a .n) (a .max) (q .loop .i) (omega arith) (omega arith) (omega arith) (q .before .before .pre .3) (c .before .key-below .result) (c .before .key-below .ensures) (omega arith) in
+    let e = turn (a .node .now) (a .n) (a .max) (q .loop .i) (omega arith) (omega arith) (omega arith) (q .before .before .pre .3) _ _
+    (c .before .before .before .record-of .ensures) (c .before .before .record-of2 .ensures) _ (c .before .key-below .ensures) (omega arith) in
     sym (e ∙ and-no _ _ (c .if1 .left)) ∙ q .loop .inv .1
 
 returns-2 : tie.Need-returns-2 Inv-loop μ-loop
@@ -140,16 +115,9 @@ keys-rise-spec =
     μ-loop
     loop-holds
     add-loop
-    mul-a
-    add-a
-    add-m
-    add-e
-    sub-key-below
-    part-key-below-start
-    part-key-below-end
-    sub-key-below-2
-    part-key-below-start-2
-    part-key-below-end-2
+    record-of-requires
+    add-record-of
+    record-of-requires-2
     key-below-requires
     add-i
     loop-less

@@ -66,23 +66,17 @@ loop-holds c = (omega arith, refl)
 add-loop : tie.Need-add-loop Inv-loop μ-loop
 add-loop c = search needs
 
-mul-read-u64 : tie.Need-mul-read-u64 Inv-loop μ-loop
-mul-read-u64 c = search needs
-
-add-read-u64 : tie.Need-add-read-u64 Inv-loop μ-loop
-add-read-u64 c = search needs
+node-place-requires : tie.Need-node-place-requires Inv-loop μ-loop
+node-place-requires c κs = search needs
 
 read-u64-requires : tie.Need-read-u64-requires Inv-loop μ-loop
 read-u64-requires c κs = search needs
 
-add-read-u64-2 : tie.Need-add-read-u64-2 Inv-loop μ-loop
-add-read-u64-2 c = search needs
+add-node-place : tie.Need-add-node-place Inv-loop μ-loop
+add-node-place c = search needs
 
-mul-read-u64-2 : tie.Need-mul-read-u64-2 Inv-loop μ-loop
-mul-read-u64-2 c = search needs
-
-add-read-u64-3 : tie.Need-add-read-u64-3 Inv-loop μ-loop
-add-read-u64-3 c = search needs
+node-place-requires-2 : tie.Need-node-place-requires-2 Inv-loop μ-loop
+node-place-requires-2 c κs = search needs
 
 read-u64-requires-2 : tie.Need-read-u64-requires-2 Inv-loop μ-loop
 read-u64-requires-2 c κs = search needs
@@ -93,20 +87,29 @@ add-i c = search needs
 loop-less : tie.Need-loop-less Inv-loop μ-loop
 loop-less c = search needs
 
+-- by the two numbers that were read
+step : (c : tie.After-read-u642 Inv-loop μ-loop)
+    → let q = c .before .before .before .before .before in
+    let numbers : List ℕ = numbersOf (decode (q .before .before .args .table .now)) in
+    rising (drop (q .loop .i) numbers) ≡ (ltb (c .before .before .read-u64 .result) (c .read-u642 .result) && rising (drop (q .loop .i + 1) numbers))
+step c =
+    let first = c .before .before in
+    let q = first .before .before .before in
+    let l : List ℕ = q .before .before .args .table .now in
+    turn l (omega arith) (omega arith) (q .loop .i) (first .read-u64 .result) (c .read-u642 .result) (omega arith)
+    (first .read-u64 .ensures ∙ ap (λ (k : ℕ). natOf (part k 8 l)) (first .before .node-place .ensures))
+    (c .read-u642 .ensures ∙ ap (λ (k : ℕ). natOf (part k 8 l)) (c .before .node-place2 .ensures))
+
 loop-again : tie.Need-loop-again Inv-loop μ-loop
 loop-again c =
-    let q = c .before .before .before .before in
-    let a = q .before .before .args in
-    let i : ℕ = q .loop .i in
-    let e = turn (a .table .now) (omega arith) (omega arith) i (c .before .before .read-u64 .result) (c .before .read-u642 .result) (omega arith) (c .before .before .read-u64 .ensures) (c .before .read-u642 .ensures) in
+    let e = step (c .before) in
+    let q = c .before .before .before .before .before .before in
     (omega arith, sym (e ∙ and-yes _ _ (lt-ltb _ _ (c .if1 .taken))) ∙ q .loop .inv .1)
 
 returns : tie.Need-returns Inv-loop μ-loop
 returns c =
-    let q = c .before .before .before .before in
-    let a = q .before .before .args in
-    let i : ℕ = q .loop .i in
-    let e = turn (a .table .now) (omega arith) (omega arith) i (c .before .before .read-u64 .result) (c .before .read-u642 .result) (omega arith) (c .before .before .read-u64 .ensures) (c .before .read-u642 .ensures) in
+    let e = step (c .before) in
+    let q = c .before .before .before .before .before .before in
     sym (e ∙ and-no _ _ (le-ltb _ _ (c .if1 .left))) ∙ q .loop .inv .1
 
 returns-2 : tie.Need-returns-2 Inv-loop μ-loop
@@ -123,12 +126,10 @@ numbers-rise-spec =
     μ-loop
     loop-holds
     add-loop
-    mul-read-u64
-    add-read-u64
+    node-place-requires
     read-u64-requires
-    add-read-u64-2
-    mul-read-u64-2
-    add-read-u64-3
+    add-node-place
+    node-place-requires-2
     read-u64-requires-2
     add-i
     loop-less

@@ -8,10 +8,11 @@ use lib.ListN.{length, take, drop, set, length-set, drop-of-length-le}
 use lib.Seq.{take-suc-set}
 use Rattle.fields.specs.Numbers.{natOf}
 use Rattle.fields.specs.Parts.{part}
+use Rattle.fields.specs.Widths.{offset}
 use Rattle.rules.specs.Node.{Rec}
 use Rattle.rules.specs.Table.{versions}
 use Rattle.rules.specs.Sizes.{maxRecords}
-use Rattle.rules.specs.Layout.{recPlace, nodeWidth}
+use Rattle.rules.specs.Layout.{recPlace, recWidths, nodeWidth}
 use Rattle.table.specs.Tests.{countOf, recsIn}
 use Rattle.table.proofs.Places.{recs-drop, version-at, recAt, length-recs}
 use borrow.Author.Needs.{needs}
@@ -25,8 +26,9 @@ abbrev μ-loop : tie.MeasureT-loop
 μ-loop b n vs₀ i₀ vs i = n - i
 
 -- one version more
-turn : (b vs : List ℕ) (i x : ℕ) (t : List ℕ) → length b ≡ nodeWidth → i < countOf b → countOf b ≤ maxRecords → length vs ≡ maxRecords → x ≡ natOf (part (recPlace i + 98) 8 b)
-    → take i vs ++ versions (drop i (recsIn b)) ≡ t → take (i + 1) (set vs i x) ++ versions (drop (i + 1) (recsIn b)) ≡ t
+turn : (b vs : List ℕ) (i x : ℕ) (t : List ℕ) → length b ≡ nodeWidth → i < countOf b → countOf b ≤ maxRecords → length vs ≡ maxRecords
+    → x ≡ natOf (part (recPlace i + offset recWidths 4) 8 b) → take i vs ++ versions (drop i (recsIn b)) ≡ t
+    → take (i + 1) (set vs i x) ++ versions (drop (i + 1) (recsIn b)) ≡ t
 unfolding versions
 turn b vs i x t e h g l q p =
     let v : x ≡ recAt i b .kv .version = q ∙ sym (version-at i b e (omega arith)) in
@@ -49,14 +51,11 @@ over b vs i n t p q e =
 loop-holds : tie.Need-loop-holds Inv-loop μ-loop
 loop-holds c = (omega arith, refl, refl)
 
-mul-read-u64 : tie.Need-mul-read-u64 Inv-loop μ-loop
-mul-read-u64 c = search needs
+record-place-requires : tie.Need-record-place-requires Inv-loop μ-loop
+record-place-requires c κs = search needs
 
 add-read-u64 : tie.Need-add-read-u64 Inv-loop μ-loop
 add-read-u64 c = search needs
-
-add-read-u64-2 : tie.Need-add-read-u64-2 Inv-loop μ-loop
-add-read-u64-2 c = search needs
 
 read-u64-requires : tie.Need-read-u64-requires Inv-loop μ-loop
 read-u64-requires c κs = search needs
@@ -75,11 +74,12 @@ loop-less c = search needs
 
 loop-again : tie.Need-loop-again Inv-loop μ-loop
 loop-again c =
-    let q = c .before .before in
-    let a = q .before .before .args in (
+    let q = c .before .before .before in
+    let a = q .before .before .args in
+    let read = c .read-u64 .ensures ∙ ap (λ (k : ℕ). natOf (part (k + offset recWidths 4) 8 (a .node .now))) (c .before .record-place .ensures) in (
       omega arith,
       length-set (q .loop .vs) (q .loop .i) (c .read-u64 .result) ∙ q .loop .inv .1,
-      turn (a .node .now) (q .loop .vs) (q .loop .i) (c .read-u64 .result) _ (omega arith) (omega arith) (omega arith) (q .loop .inv .1) (c .read-u64 .ensures) (q .loop .inv .2),
+      turn (a .node .now) (q .loop .vs) (q .loop .i) (c .read-u64 .result) _ (omega arith) (omega arith) (omega arith) (q .loop .inv .1) read (q .loop .inv .2),
     )
 
 returns : tie.Need-returns Inv-loop μ-loop
@@ -95,9 +95,8 @@ versions-of-spec =
     Inv-loop
     μ-loop
     loop-holds
-    mul-read-u64
+    record-place-requires
     add-read-u64
-    add-read-u64-2
     read-u64-requires
     mul-vs
     array-write-vs

@@ -1,6 +1,6 @@
 -- `table_read::find_node` meets its contract: what is left to be searched has the whole's answer. Assumes nothing.
 use Prim.Native.Nat.{ℕ, _+_, _-_, _≤_, _<_}
-use mathlib.Core.Path.{_≡_, sym, _∙_}
+use mathlib.Core.Path.{_≡_, ap, sym, _∙_}
 use mathlib.Core.List.{List}
 use native.Mathlib.Omega.{arith}
 use lib.ListN.{length, drop}
@@ -46,26 +46,33 @@ loop-holds c =
     let a = c .before .before .args in
     (omega arith, start (toNode (a .number)) (decode (a .table .now)))
 
-mul-read-u64 : tie.Need-mul-read-u64 Inv-loop μ-loop
-mul-read-u64 c = search needs
+-- what was read is the number of node i
+read : (c : tie.After-read-u64 Inv-loop μ-loop)
+    → let q = c .before .before .before in
+    c .read-u64 .result ≡ natOf (part (nodePlace (q .loop .i)) 8 (q .before .before .before .args .table .now))
+read c =
+    let q = c .before .before .before in
+    c .read-u64 .ensures ∙ ap (λ (k : ℕ). natOf (part k 8 (q .before .before .before .args .table .now))) (c .before .node-place .ensures)
 
-add-read-u64 : tie.Need-add-read-u64 Inv-loop μ-loop
-add-read-u64 c = search needs
+node-place-requires : tie.Need-node-place-requires Inv-loop μ-loop
+node-place-requires c κs = search needs
 
 read-u64-requires : tie.Need-read-u64-requires Inv-loop μ-loop
 read-u64-requires c κs = search needs
 
 returns : tie.Need-returns Inv-loop μ-loop
 returns c =
-    let q = c .before .before .before in
+    let q = c .before .before .before .before in
     let a = q .before .before .before .args in
-    sym (turn-same (a .number) (q .loop .i) (c .before .read-u64 .result) (a .table .now) (omega arith) (omega arith) (omega arith) (c .before .read-u64 .ensures) (c .if1 .taken)) ∙ q .loop .inv .1
+    sym (turn-same (a .number) (q .loop .i) (c .before .read-u64 .result) (a .table .now) (omega arith) (omega arith) (omega arith)
+    (read (c .before)) (c .if1 .taken)) ∙ q .loop .inv .1
 
 returns-2 : tie.Need-returns-2 Inv-loop μ-loop
 returns-2 c =
-    let q = c .before .before .before .before in
+    let q = c .before .before .before .before .before in
     let a = q .before .before .before .args in
-    sym (turn-less (a .number) (q .loop .i) (c .before .before .read-u64 .result) (a .table .now) (omega arith) (omega arith) (omega arith) (c .before .before .read-u64 .ensures) (c .if2 .taken)) ∙ q .loop .inv .1
+    sym (turn-less (a .number) (q .loop .i) (c .before .before .read-u64 .result) (a .table .now) (omega arith) (omega arith) (omega arith)
+    (read (c .before .before)) (c .if2 .taken)) ∙ q .loop .inv .1
 
 add-i : tie.Need-add-i Inv-loop μ-loop
 add-i c = search needs
@@ -75,10 +82,13 @@ loop-less c = search needs
 
 loop-again : tie.Need-loop-again Inv-loop μ-loop
 loop-again c =
-    let q = c .before .before .before .before in
+    let q = c .before .before .before .before .before in
     let a = q .before .before .before .args in
-    let far : c .before .before .read-u64 .result < a .number = omega (arith, c .before .if1 .left) in
-    (omega arith, sym (turn-more (a .number) (q .loop .i) (c .before .before .read-u64 .result) (a .table .now) (omega arith) (omega arith) (omega arith) (c .before .before .read-u64 .ensures) far) ∙ q .loop .inv .1)
+    let far : c .before .before .read-u64 .result < a .number = omega (arith, c .before .if1 .left) in (
+      omega arith,
+      sym (turn-more (a .number) (q .loop .i) (c .before .before .read-u64 .result) (a .table .now) (omega arith) (omega arith) (omega arith)
+          (read (c .before .before)) far) ∙ q .loop .inv .1,
+    )
 
 returns-3 : tie.Need-returns-3 Inv-loop μ-loop
 returns-3 c =
@@ -95,8 +105,7 @@ find-node-spec =
     μ-loop
     byte-at-requires
     loop-holds
-    mul-read-u64
-    add-read-u64
+    node-place-requires
     read-u64-requires
     returns
     returns-2

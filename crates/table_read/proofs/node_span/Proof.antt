@@ -1,12 +1,13 @@
 -- `table_read::node_span` meets its contract: a node that is found stands within the table, so that no sum of places wraps. Assumes nothing.
-use Prim.Native.Nat.{_<_}
+use Prim.Native.Nat.{ℕ, _+_, _<_}
 use mathlib.Core.Path.{_≡_, ap, sym, _∙_}
 use native.Mathlib.Omega.{arith}
 use Rattle.rules.specs.Sizes.{maxNodes}
-use Rattle.rules.specs.Layout.{decode}
+use Rattle.rules.specs.Layout.{nodeWidth, decode}
 use Rattle.table.proofs.Tables.{valid-long, valid-few}
 use Rattle.table_read.specs.Find.{findNode, spanOf}
 use Rattle.table_read.specs.declared.Place.the-variants.{At}
+use Rattle.table_read.specs.declared.Span.the-variants.{Held}
 use Rattle.table_read.proofs.Searched.{node-in}
 use borrow.Author.Needs.{needs}
 use Rattle.table_read.proofs.node_span.Statement.{statement}
@@ -29,20 +30,17 @@ find-node-requires c κs = let s = c .before in (valid-long (s .args .table .now
 enum-known-i : tie.Need-enum-known-i
 enum-known-i c = search needs
 
-mul-start : tie.Need-mul-start
-mul-start c = omega (arith, few (c .before))
-
-add-start : tie.Need-add-start
-add-start c = omega (arith, few (c .before))
+node-place-requires : tie.Need-node-place-requires
+node-place-requires c κs = omega (arith, few (c .before))
 
 add-t7 : tie.Need-add-t7
-add-t7 c = omega (arith, few (c .before))
+add-t7 c = omega (arith, few (c .before .before))
 
 enum-told : tie.Need-enum-told
 enum-told c = search needs
 
 returns : tie.Need-returns
-returns c = ap spanOf (sym (found (c .before)))
+returns c = ap (λ (k : ℕ). Held k (k + nodeWidth)) (c .node-place .ensures) ∙ ap spanOf (sym (found (c .before .before)))
 
 returns-2 : tie.Need-returns-2
 returns-2 c = ap spanOf (sym (sym (c .before .before .find-node .ensures) ∙ c .enum-told .given .1))
@@ -53,8 +51,7 @@ node-span-spec =
     (tie.spec
     find-node-requires
     enum-known-i
-    mul-start
-    add-start
+    node-place-requires
     add-t7
     enum-told
     returns

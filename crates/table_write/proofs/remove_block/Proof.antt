@@ -1,8 +1,11 @@
 -- `table_write::remove_block` meets its contract: the blocks behind the one that goes end where the row ends. Assumes nothing.
 use Prim.Native.Nat.{ℕ, _+_, _≤_, _<_}
-use mathlib.Core.Path.{_≡_, sym, subst}
+use mathlib.Core.Path.{_≡_, ap₂, sym, subst, _∙_}
+use mathlib.Core.List.{List}
 use native.Mathlib.Omega.{arith}
 use lib.ListN.{length}
+use Rattle.fields.specs.Parts.{part, put}
+use Rattle.fields.specs.Blocks.{zeros}
 use Rattle.table_write.specs.Rows.{blocksIn, blockPlace, behindBlock}
 use Rattle.table_write.proofs.Steps.{row-end, gone-steps}
 use borrow.Author.Needs.{needs}
@@ -27,32 +30,38 @@ byte-at-requires c κs = search needs
 add-a : tie.Need-add-a
 add-a c = search needs
 
-mul-a : tie.Need-mul-a
-mul-a c = omega (arith, fits c)
+times-requires : tie.Need-times-requires
+times-requires c κs = (omega (arith, c .byte-at .ensures .0, c .byte-at .ensures .1), c .before .before .before .pre .2)
 
 add-a-2 : tie.Need-add-a-2
-add-a-2 c = omega (arith, fits c)
+add-a-2 c = omega (arith, fits (c .before), c .times .ensures)
 
-add-m : tie.Need-add-m
-add-m c = search needs
+add-times : tie.Need-add-times
+add-times c = search needs
 
-sub-m : tie.Need-sub-m
-sub-m c = search needs
+sub-times : tie.Need-sub-times
+sub-times c = search needs
 
-mul-m : tie.Need-mul-m
-mul-m c = omega (arith, fits c)
+times-requires-2 : tie.Need-times-requires-2
+times-requires-2 c κs = (omega (arith, c .before .byte-at .ensures .1), c .before .before .before .before .pre .2)
+
+-- the same by the two products
+lies : (c : tie.After-times2)
+    → let a = c .before .before .before .before .before .args in
+    a .at + 1 + c .before .times .result + a .width + c .times2 .result ≤ length (a .row .now)
+lies c = omega (arith, fits (c .before .before), c .before .times .ensures, c .times2 .ensures)
 
 add-move-down : tie.Need-add-move-down
-add-move-down c = omega (arith, fits (c .before))
+add-move-down c = omega (arith, lies (c .before))
 
 move-down-requires : tie.Need-move-down-requires
-move-down-requires c κs = omega (arith, fits (c .before))
+move-down-requires c κs = omega (arith, lies (c .before))
 
 add-clear : tie.Need-add-clear
-add-clear c = omega (arith, fits (c .before .before .before .before .before))
+add-clear c = omega (arith, lies (c .before .before .before .before .before))
 
 clear-requires : tie.Need-clear-requires
-clear-requires c κs = omega (arith, fits (c .before .before .before .before .before), c .before .before .before .move-down .kept .0)
+clear-requires c κs = omega (arith, lies (c .before .before .before .before .before), c .before .before .before .move-down .kept .0)
 
 sub-write-byte : tie.Need-sub-write-byte
 sub-write-byte c = search needs
@@ -68,9 +77,17 @@ returns c =
     let counted = c .before .before in
     let cleared = counted .before .before .before .before in
     let moved = cleared .before .before .before .before in
-    let n = moved .before .before in
+    let behind = moved .before .before in
+    let front = behind .before in
+    let n = front .before in
     let a = n .before .before .before .args in
-    gone-steps (a .row .now) _ _ _ (a .at) (a .width) (a .i) (n .byte-at .result) (n .byte-at .ensures .0) (moved .move-down .ensures) (cleared .clear .ensures) (counted .write-byte .ensures)
+    let l : List ℕ = a .row .now in
+    gone-steps l _ _ _ (a .at) (a .width) (a .i) (n .byte-at .result) (n .byte-at .ensures .0)
+    (moved .move-down .ensures ∙ ap₂ (λ (k m : ℕ). put (a .at + 1 + k) (part (a .at + 1 + k + a .width) m l) l) (front .times .ensures)
+    (behind .times2 .ensures))
+    (cleared .clear .ensures ∙ ap₂ (λ (k m : ℕ). put (a .at + 1 + k + m) (zeros (a .width)) (moved .move-down .last .0)) (front .times .ensures)
+    (behind .times2 .ensures))
+    (counted .write-byte .ensures)
 
 pub remove-block-spec : {M : Type 1} → statement M
 remove-block-spec =
@@ -78,11 +95,11 @@ remove-block-spec =
     (tie.spec
     byte-at-requires
     add-a
-    mul-a
+    times-requires
     add-a-2
-    add-m
-    sub-m
-    mul-m
+    add-times
+    sub-times
+    times-requires-2
     add-move-down
     move-down-requires
     add-clear
