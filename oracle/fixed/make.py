@@ -12,8 +12,8 @@ from pathlib import Path
 HERE = Path(__file__).resolve().parent
 TOP = 2**64 - 1
 NODE, AREA, TABLE = 3713, 29705, 29964
-CALLS = ("add 7", "remove 7", "set 7 x61 x31", "setttl 7 x61 x31 5", "delete 7 x61 5", "deletettl 7 x61 5", "offer 7 3", "beat 7",
-         "get 7 x61", "list 7 x 32", "gc 9 1", "digest - 0 258", "compute x0000 100 - 0 0 100", "apply x 5 8")
+CALLS = ("add 7", "remove 7", "write 7 x61 x31 0 9", "write 7 x61 x31 2 5", "write 7 x61 x31 1 5", "delete 7 x61 5", "deletettl 7 x61 5",
+         "offer 7 3", "beat 7", "get 7 x61", "list 7 x 32", "gc 9 1", "digest - 0 258", "compute x0000 100 - 0 0 100", "apply x 5 8")
 
 
 def u64(*numbers):
@@ -70,7 +70,7 @@ def nodes():
         yield f"add {number}"
     for number in (4, 5, 0, TOP, 6):
         yield f"add {number}"
-    yield "set 256 x61 x31"
+    yield "write 256 x61 x31 0 9"
     for number in (4, 0, 0, 255, TOP, 3):
         yield f"remove {number}"
     for number in (9, 255, 0, 3, 10):
@@ -102,8 +102,8 @@ def sizes():
     """Keys of 0, 31, 32 and 33 bytes, values of 0, 63, 64 and 65, in each call that takes them; 2 before 1, 1 before 3."""
     keys = [b"k" * n for n in (0, 1, 31, 32, 33)]
     values = [b"v" * n for n in (0, 1, 63, 64, 65)]
-    writes = ("set 1 {} {}", "setttl 1 {} {} 7")
-    for call in ("set 1 {} {}", "setttl 1 {} {} 7", "delete 1 {} 7", "deletettl 1 {} 7", "get 1 {}", "list 1 {} 0"):
+    writes = ("write 1 {} {} 0 9", "write 1 {} {} 2 7")
+    for call in ("write 1 {} {} 0 9", "write 1 {} {} 2 7", "delete 1 {} 7", "deletettl 1 {} 7", "get 1 {}", "list 1 {} 0"):
         yield call.format(x(keys[4]), x(values[4]))
     yield "add 1"
     for call in writes:
@@ -125,19 +125,21 @@ def versions():
     """The last version and the 33rd key: 1, 3, nothing to change, 5, 6 in this order."""
     yield "add 1"
     for place in range(31):
-        yield f"set 1 {x(b'k%02d' % place)} x"
-    yield "setttl 1 x6b3939 x31 9"
-    for call in ("set 1 x6e x31", "setttl 1 x6e x31 4", "set 1 x6b3030 x", "setttl 1 x6b3939 x31 10", "set 1 x6b3939 x31", "setttl 1 x6b3030 x 4"):
+        yield f"write 1 {x(b'k%02d' % place)} x 0 9"
+    yield "write 1 x6b3939 x31 2 9"
+    for call in ("write 1 x6e x31 0 9", "write 1 x6e x31 2 4", "write 1 x6b3030 x 0 9", "write 1 x6b3939 x31 2 10", "write 1 x6b3939 x31 0 9",
+                 "write 1 x6b3030 x 2 4"):
         yield call
-    yield f"set 1 {x(b'n' * 33)} x"
+    yield f"write 1 {x(b'n' * 33)} x 0 9"
     yield apply(node(1), top(TOP - 1), places=1)
-    yield "set 1 x6b3031 x32"
-    writes = ("set 1 x6b3031 x32", "set 1 x6b3031 x33", "setttl 1 x6b3031 x32 4", "setttl 1 x6b3030 x 9", "delete 1 x6b3031 4", "deletettl 1 x6b3031 4",
-              "set 1 x6e x31", "setttl 1 x6e x31 4", "delete 1 x6e 4", "deletettl 1 x6e 4", "delete 1 x6b3939 4", "get 1 x6b3031")
+    yield "write 1 x6b3031 x32 0 9"
+    writes = ("write 1 x6b3031 x32 0 9", "write 1 x6b3031 x33 0 9", "write 1 x6b3031 x32 2 4", "write 1 x6b3030 x 2 9", "delete 1 x6b3031 4",
+              "deletettl 1 x6b3031 4", "write 1 x6e x31 0 9", "write 1 x6e x31 2 4", "delete 1 x6e 4", "deletettl 1 x6e 4",
+              "delete 1 x6b3939 4", "get 1 x6b3031")
     yield from writes
-    for call in ("set 1 {} x", "setttl 1 {} x 4", "delete 1 {} 4", "deletettl 1 {} 4"):
+    for call in ("write 1 {} x 0 9", "write 1 {} x 2 4", "delete 1 {} 4", "deletettl 1 {} 4"):
         yield call.format(x(b"n" * 33))
-    yield f"set 1 x6b3031 {x(b'v' * 65)}"
+    yield f"write 1 x6b3031 {x(b'v' * 65)} 0 9"
     yield "gc 100 1"
     yield from writes
     yield "offer 1 5"
@@ -149,18 +151,50 @@ def statuses():
     def look():
         yield "get 1 x61"
         yield "list 1 x 9"
-    first = ("set 1 x61 x31", "setttl 1 x61 x31 3", "delete 1 x61 4", "deletettl 1 x61 6")
-    second = first + ("set 1 x61 x32", "setttl 1 x61 x32 8", "set 1 x61 x", "setttl 1 x61 x 8")
+    first = ("write 1 x61 x31 0 9", "write 1 x61 x31 2 3", "delete 1 x61 4", "deletettl 1 x61 6")
+    second = first + ("write 1 x61 x32 0 9", "write 1 x61 x32 2 8", "write 1 x61 x 0 9", "write 1 x61 x 2 8")
     yield "add 1"
     for a in first:
         for b in second:
             yield "remove 1"
             yield "add 1"
-            yield "set 1 x61 x31"
+            yield "write 1 x61 x31 0 9"
             yield a
             yield b
             yield from look()
-    yield from (apply(node(1, 0, 0), kv(b"a", b"dead", 99, 1)), *look(), "deletettl 1 x61 5", *look(), "set 1 x61 x", "delete 1 x61 3", *look())
+    yield from (apply(node(1, 0, 0), kv(b"a", b"dead", 99, 1)), *look(), "deletettl 1 x61 5", *look(), "write 1 x61 x 0 9", "delete 1 x61 3", *look())
+
+
+def wanted():
+    """The write's wanted status: Set and TTL alone; any other number is 10, straight after 14 and before 2, 1, nothing to change, 5, 6.
+    Under Set the time is not looked at."""
+    others = (1, 3, 4, 10, 255, 256, 258, 2**32, 2**32 + 2, 2**63, 2**63 + 2, TOP)
+    def each(key, value, now=7):
+        yield from (f"write 1 {x(key)} {x(value)} {status} {now}" for status in others)
+    yield "table x"
+    yield from each(b"a", b"1")
+    yield "new"
+    yield from each(b"a", b"1")
+    yield from each(b"k" * 33, b"v" * 65)
+    yield "add 1"
+    yield from each(b"k" * 33, b"1")
+    yield from each(b"a", b"v" * 65)
+    yield from each(b"a", b"1")
+    for now in (TOP, 0, 7):
+        for status, value in ((0, "x31"), (0, "x31"), (2, "x31"), (2, "x31"), (0, "x31"), (0, "x32"), (2, "x32"), (2, "x33"), (0, "x33")):
+            yield f"write 1 x61 {value} {status} {now}"
+        yield from each(b"a", b"3", now)
+    yield "delete 1 x61 8"
+    yield from each(b"a", b"")
+    yield "write 1 x61 x 0 9"
+    yield "write 1 x61 x 2 9"
+    yield "get 1 x61"
+    for place in range(31):
+        yield f"write 1 {x(b'k%02d' % place)} x {place % 2 * 2} {place}"
+    yield from each(b"n", b"1")
+    yield apply(node(1), top(TOP))
+    yield from each(b"a", b"")
+    yield from each(b"a", b"1")
 
 
 def reading():
@@ -171,7 +205,7 @@ def reading():
     yield "list 1 x 0"
     keys = (b"b", b"", b"a", b"ab", b"abc", b"b\0", b"\0", "é".encode(), "éa".encode(), "\U0010ffff".encode(), b"k" * 32)
     for key in keys:
-        yield f"set 1 {x(key)} {x(key[:1] if key[:1] < bytes([128]) else b'')}"
+        yield f"write 1 {x(key)} {x(key[:1] if key[:1] < bytes([128]) else b'')} 0 9"
     yield "delete 1 x6162 3"
     yield "deletettl 1 x62 3"
     for key in keys + (b"abcd", b"c", b"k" * 31):
@@ -182,7 +216,7 @@ def reading():
     yield f"list 2 {x(b'k' * 33)} 0"
     yield "get 2 x61"
     for place in range(22):
-        yield f"set 1 {x(b'm%02d' % place)} x"
+        yield f"write 1 {x(b'm%02d' % place)} x 0 9"
     for places in (20, 21, 22, 23):
         yield f"list 1 x6d {places}"
     for places in (29, 30, 31, 32, 33):
@@ -193,19 +227,19 @@ def removal():
     """Grace at 149 and 150, sums past 2^64, last_gc as the larger, all nodes, live records stay, freed room."""
     yield "add 1"
     yield "add 2"
-    yield "set 1 x61 x31"
-    yield "set 1 x62 x32"
-    yield "setttl 1 x63 x33 100"
+    yield "write 1 x61 x31 0 9"
+    yield "write 1 x62 x32 0 9"
+    yield "write 1 x63 x33 2 100"
     yield "delete 1 x62 101"
-    yield "set 2 x61 x31"
+    yield "write 2 x61 x31 0 9"
     yield "deletettl 2 x61 100"
     yield "gc 0 0"
     for now in (99, 149, 150, 150, 151):
         yield f"gc {now} 50"
-    yield "set 1 x62 x33"
+    yield "write 1 x62 x33 0 9"
     yield "delete 1 x62 0"
     yield f"gc {TOP} {TOP}"
-    yield f"setttl 2 x61 x {TOP}"
+    yield f"write 2 x61 x 2 {TOP}"
     for now, grace in ((0, 0), (TOP - 1, 0), (TOP, 1), (TOP, TOP), (TOP, 0)):
         yield f"gc {now} {grace}"
     yield apply(node(1, 40, 0), kv(b"a", b"v", 45, 1), kv(b"b", b"v", 50, 2), kv(b"c", b"v", 60), now=7)
@@ -215,11 +249,11 @@ def removal():
     yield "new"
     yield "add 1"
     for place in range(32):
-        yield f"setttl 1 {x(b'k%02d' % place)} x {place}"
-    yield "set 1 x6e x"
+        yield f"write 1 {x(b'k%02d' % place)} x 2 {place}"
+    yield "write 1 x6e x 0 9"
     yield "gc 10 3"
     yield "list 1 x 32"
-    yield "set 1 x6e x"
+    yield "write 1 x6e x 0 9"
     yield "delete 1 x6b3331 40"
     yield "gc 40 30"
     yield "list 1 x 32"
@@ -237,7 +271,7 @@ def digests():
     for number in (9, 3, TOP, 0, 7, 256, 4, 1):
         yield f"add {number}"
         yield f"offer {number} {number % 97}"
-        yield f"set {number} x61 x31"
+        yield f"write {number} x61 x31 0 9"
     yield "delete 7 x61 1"
     yield "gc 5 1"
     for excluded, size in (("-", 258), ("3", 226), ("3,3,3", 226), ("5,6,8,10,11,12,13,14,15", 258), (f"{TOP},0", 194), ("0,1,3,4,7,9,256", 34),
@@ -334,7 +368,7 @@ def asking():
     """Computing's numbers alone: 7, 8, 15, then the digest's 9, 13, 9, each pair in this order."""
     yield "add 1"
     yield "add 2"
-    yield "set 1 x61 x31"
+    yield "write 1 x61 x31 0 9"
     good, bad = "x0000", ("x00", "x0900", x(digest(count=9) + bytes(288)), x(digest(count=1) + bytes(31)), x(digest(count=8)), "x")
     for mtu in (0, 99, 100, 16384, 16385, TOP):
         for place, size in ((0, min(mtu, 16385)), (1, min(mtu, 16385)), (TOP, 100), (0, 0)):
@@ -371,7 +405,7 @@ def in_line():
     yield from (f"add {number}" for number in (1, 2, 3, 4, 5, 6, 7, 8))
     for number, writes in ((1, 3), (2, 1), (3, 3), (4, 2), (5, 4), (6, 4), (7, 5), (8, 4)):
         for write in range(writes):
-            yield f"set {number} {x(bytes([97 + (write if number > 1 else 0)]))} {x(bytes([97 + write]))}"
+            yield f"write {number} {x(bytes([97 + (write if number > 1 else 0)]))} {x(bytes([97 + write]))} 0 9"
     partly = x(digest((5, 0, 0, 1), (6, 0, 0, 1), (7, 0, 0, 1), (8, 0, 0, 3)))
     for ties in ("0,0,0,0,0,0,0,0", "8,7,6,5,4,3,2,1", f"1,0,0,1,{TOP},0,0,0", "5,0,5,0,0,1,9,9"):
         for excluded in ("-", "3,7,99,3", "1,2,3,4", "5,6,7,8"):
@@ -388,9 +422,9 @@ def cuts():
     yield "add 3"
     yield apply(node(1), top(20))
     for write in range(5):
-        yield f"set 2 {x(bytes([97 + write]))} {x(b'v' * (13 * write))}"
-    yield f"set 3 {x(b'k' * 32)} {x(b'v' * 64)}"
-    yield "setttl 3 x61 x31 4"
+        yield f"write 2 {x(bytes([97 + write]))} {x(b'v' * (13 * write))} 0 9"
+    yield f"write 3 {x(b'k' * 32)} {x(b'v' * 64)} 0 9"
+    yield "write 3 x61 x31 2 4"
     yield "delete 3 x61 5"
     for order in ("0,0,0", "2,1,0", "1,2,0"):
         for mtu in (100, 101, 118, 119, 120, 124, 125, 134, 135, 136, 149, 150, 151, 170, 171, 183, 184, 185, 209, 210, 230, 231, 249, 250, 260, 261, 275, 276, 277,
@@ -404,7 +438,7 @@ def cuts():
 def longest_record():
     """A record of 110 bytes: MTU 135 carries it behind its Node, 134 the Node alone."""
     yield "add 1"
-    yield f"set 1 {x(b'k' * 32)} {x(b'v' * 64)}"
+    yield f"write 1 {x(b'k' * 32)} {x(b'v' * 64)} 0 9"
     for mtu in (100, 134, 135, 136):
         yield f"compute x0000 {mtu} - 0 0 {mtu}"
         yield "readdelta @delta"
@@ -468,7 +502,7 @@ def room():
     yield apply(node(1, 100, 0), *(kv(b"r%02d" % place, b"", 1 + place, place % 2) for place in range(33)), node(2), top(10))
     yield "list 1 x 32"
     yield apply(node(1, 200, 0), *(kv(b"s%02d" % place, b"", 201 + place) for place in range(32)), node(2), top(11))
-    yield "set 1 x61 x"
+    yield "write 1 x61 x 0 9"
     yield "gc 0 0"
     yield "digest - 0 66"
 
@@ -490,15 +524,15 @@ def exchange():
             yield f"add {number}"
     for number in (1, 2, 3):
         for place in range(4):
-            yield f"set {number} {x(b'k%d%d' % (number, place))} {x(b'v' * (9 * place))}"
+            yield f"write {number} {x(b'k%d%d' % (number, place))} {x(b'v' * (9 * place))} 0 9"
     yield "beat 1"
     for mtu in (100, 101, 135, 200, 16384, 100):
         yield from round_trip(mtu, "0,1,0")
     yield "delete 1 x6b3130 20"
-    yield "setttl 2 x6b3230 x31 21"
+    yield "write 2 x6b3230 x31 2 21"
     yield from round_trip(16384, "0,0,0", 22)
     yield "compute x0000 16384 - 0,0,0 0 16384"
-    for call in ("delete 1 x6b3131 23", "delete 3 x6b3330 23", "gc 60 30", "set 1 x6b3130 x32"):
+    for call in ("delete 1 x6b3131 23", "delete 3 x6b3330 23", "gc 60 30", "write 1 x6b3130 x32 0 9"):
         yield call
     yield "hub 1"
     yield "apply @delta 61 3"
@@ -528,10 +562,10 @@ def bad_tables():
     yield "add 1"
     yield "new"
     yield "add 3"
-    yield "set 3 x61 x31"
+    yield "write 3 x61 x31 0 9"
     yield "compute x0000 100 - 0 0 100"
     yield "table @delta"
-    yield f"set 3 {x(b'k' * 33)} x"
+    yield f"write 3 {x(b'k' * 33)} x 0 9"
     yield "compute x 99 - - 1 0"
     yield "digest - 9 0"
     yield f"list 3 {x(b'k' * 33)} 0"
@@ -548,8 +582,9 @@ def bad_tables():
 
 
 SCRIPTS = {
-    "nodes": nodes, "beats": beats, "sizes": sizes, "versions": versions, "statuses": statuses, "reading": reading, "removal": removal, "digests": digests,
-    "digest-reading": digest_reading, "delta-reading": delta_reading, "delta-lengths": delta_lengths, "asking": asking, "from": from_where, "in-line": in_line,
+    "nodes": nodes, "beats": beats, "sizes": sizes, "versions": versions, "statuses": statuses, "wanted": wanted, "reading": reading, "removal": removal,
+    "digests": digests, "digest-reading": digest_reading, "delta-reading": delta_reading, "delta-lengths": delta_lengths, "asking": asking,
+    "from": from_where, "in-line": in_line,
     "cuts": cuts, "longest-record": longest_record, "verdicts": verdicts, "taking": taking, "room-counts": room, "exchange": exchange, "bad-tables": bad_tables,
 }
 

@@ -26,8 +26,8 @@ use Rattle.rules.specs.Whole.{Whole, decodeWhole, encodeWhole, validWhole, whol
 use Rattle.rules.specs.declared.Mode.the-variants as mode
 use Rattle.rules.specs.Lent.{TableAndList, both, fromTable, lentApply, lentApplyAs, lentNew, onTable, storedIn, storedApply}
 use Rattle.rules.specs.Listing.{decimal, digits, listing, listingOf}
-use Rattle.rules.specs.Local.{Outcome, add, call, gc, localBeat, offer, prefixed, removeNode}
-use Rattle.rules.specs.Node.{Deleting, DeletingAfterTtl, Node, Rec, Setting, SettingTtl, act, beats, decide, find, fresh, hitsFrom, offerOf, wish}
+use Rattle.rules.specs.Local.{Outcome, add, call, gc, localBeat, offer, prefixed, removeNode, write}
+use Rattle.rules.specs.Node.{Deleting, DeletingAfterTtl, Node, Rec, act, beats, decide, find, fresh, hitsFrom, offerOf, wish}
 use Rattle.rules.specs.Table.{Table, among, differ, entryObeys, keysRise, nodeObeys, nodeOf, numbersOf, obeys, recObeys, rising, setNode, versions}
 use Rattle.rules.specs.declared.Answer.the-variants as plain
 use Rattle.rules.specs.declared.Applied.{Applied}
@@ -91,6 +91,13 @@ shown-in k (m ∷ ns) (a and as-well) n e = go (eqb n m) refl e (shown-in k ns a
 
 abbrev seven : calls.U64
 seven = record { value = 7; fits = ltb-true 7 numbers refl }
+
+-- wanted statuses of a write
+abbrev under-set : calls.U64
+under-set = record { value = 0; fits = ltb-true 0 numbers refl }
+
+abbrev under-ttl : calls.U64
+under-ttl = record { value = 2; fits = ltb-true 2 numbers refl }
 
 abbrev nine : calls.U64
 nine = record { value = 9; fits = ltb-true 9 numbers refl }
@@ -214,26 +221,16 @@ removed =
 
 -- ---- records
 
-sets : AllShown calls.Set (calls.possible calls.Set)
-unfolding calls.leaves calls.refusals answerTold call nodeOf setNode decide wish act find sameBytes zeros records
-sets =
-    (calls.set (lent newly) [] [] seven, on-good answerTold (plain.Refused BadTable) (call (Setting []) 7 []) newly newly-obeys 0 refl)
-    and (calls.set [] [] [] seven, on-bad answerTold (plain.Refused BadTable) (call (Setting []) 7 []) 14 refl)
-    and (calls.set (lent []) [] [] seven, on-good answerTold (plain.Refused BadTable) (call (Setting []) 7 []) [] none-obeys 2 refl)
-    and (calls.set (lent newly) (zeros 33) [] seven, on-good answerTold (plain.Refused BadTable) (call (Setting []) 7 (zeros 33)) newly newly-obeys 1 refl)
-    and (calls.set (lent packed) [] [] seven, on-good answerTold (plain.Refused BadTable) (call (Setting []) 7 []) packed packed-obeys 5 refl)
-    and (calls.set (lent ended) [] [] seven, on-good answerTold (plain.Refused BadTable) (call (Setting []) 7 []) ended ended-obeys 6 refl)
-    and no-more
-
-sets-ttl : AllShown calls.SetWithTtl (calls.possible calls.SetWithTtl)
-unfolding calls.leaves calls.refusals answerTold call nodeOf setNode decide wish act find sameBytes zeros records
-sets-ttl =
-    (calls.set-with-ttl (lent newly) [] [] seven seven, on-good answerTold (plain.Refused BadTable) (call (SettingTtl [] 7) 7 []) newly newly-obeys 0 refl)
-    and (calls.set-with-ttl [] [] [] seven seven, on-bad answerTold (plain.Refused BadTable) (call (SettingTtl [] 7) 7 []) 14 refl)
-    and (calls.set-with-ttl (lent []) [] [] seven seven, on-good answerTold (plain.Refused BadTable) (call (SettingTtl [] 7) 7 []) [] none-obeys 2 refl)
-    and (calls.set-with-ttl (lent newly) (zeros 33) [] seven seven, on-good answerTold (plain.Refused BadTable) (call (SettingTtl [] 7) 7 (zeros 33)) newly newly-obeys 1 refl)
-    and (calls.set-with-ttl (lent packed) [] [] seven seven, on-good answerTold (plain.Refused BadTable) (call (SettingTtl [] 7) 7 []) packed packed-obeys 5 refl)
-    and (calls.set-with-ttl (lent ended) [] [] seven seven, on-good answerTold (plain.Refused BadTable) (call (SettingTtl [] 7) 7 []) ended ended-obeys 6 refl)
+writes : AllShown calls.Write (calls.possible calls.Write)
+unfolding calls.leaves calls.refusals answerTold write call nodeOf setNode decide wish act find sameBytes zeros records
+writes =
+    (calls.write (lent newly) [] [] seven under-set seven, on-good answerTold (plain.Refused BadTable) (write 0 [] 7 7 []) newly newly-obeys 0 refl)
+    and (calls.write [] [] [] seven under-set seven, on-bad answerTold (plain.Refused BadTable) (write 0 [] 7 7 []) 14 refl)
+    and (calls.write (lent []) [] [] seven seven seven, on-good answerTold (plain.Refused BadTable) (write 7 [] 7 7 []) [] none-obeys 10 refl)
+    and (calls.write (lent []) [] [] seven under-ttl seven, on-good answerTold (plain.Refused BadTable) (write 2 [] 7 7 []) [] none-obeys 2 refl)
+    and (calls.write (lent newly) (zeros 33) [] seven under-ttl seven, on-good answerTold (plain.Refused BadTable) (write 2 [] 7 7 (zeros 33)) newly newly-obeys 1 refl)
+    and (calls.write (lent packed) [] [] seven under-set seven, on-good answerTold (plain.Refused BadTable) (write 0 [] 7 7 []) packed packed-obeys 5 refl)
+    and (calls.write (lent ended) [] [] seven under-ttl seven, on-good answerTold (plain.Refused BadTable) (write 2 [] 7 7 []) ended ended-obeys 6 refl)
     and no-more
 
 deletes : AllShown calls.Delete (calls.possible calls.Delete)
@@ -488,8 +485,7 @@ all-shown : (k : calls.Kind) → AllShown k (calls.possible k)
 all-shown calls.NewTable = new-tables
 all-shown calls.AddNode = added
 all-shown calls.RemoveNode = removed
-all-shown calls.Set = sets
-all-shown calls.SetWithTtl = sets-ttl
+all-shown calls.Write = writes
 all-shown calls.Delete = deletes
 all-shown calls.DeleteAfterTtl = deletes-ttl
 all-shown calls.RemoveScheduled = collected

@@ -13,8 +13,8 @@ use Rattle.rules.specs.Delta.{Good, Op, Part, nothingRead, partsOf, readDelta}
 use Rattle.rules.specs.Given.{Given, given}
 use Rattle.rules.specs.Whole.{areaOf, decodeWhole, validWhole, wholeWidth, withTable}
 use Rattle.rules.specs.Lent.{both, lentApply, lentApplyAs, lentNew, onTable, storedIn, storedApply}
-use Rattle.rules.specs.Local.{Outcome, add, call, gc, localBeat, offer, removeNode}
-use Rattle.rules.specs.Node.{Deleting, DeletingAfterTtl, Setting, SettingTtl, beats}
+use Rattle.rules.specs.Local.{Outcome, add, call, gc, localBeat, offer, removeNode, write}
+use Rattle.rules.specs.Node.{Deleting, DeletingAfterTtl, beats}
 use Rattle.rules.specs.Sizes.{numbers}
 use Rattle.rules.specs.Table.{Table, obeys}
 use Rattle.rules.specs.declared.Answer.the-variants as plain
@@ -25,7 +25,7 @@ use Rattle.rules.specs.declared.Offered.the-variants as offered
 use Rattle.rules.specs.declared.Refusal.the-variants.{BadTable}
 use Rattle.rules.specs.declared.Written.{Written}
 use Rattle.rules.proofs.Accepted.{computed-chain, computed-small}
-use Rattle.rules.proofs.Calls.{add-keeps, apply-keeps, beat-keeps, call-keeps, gc-keeps, none-obeys, offer-keeps, ok-each, remove-node-keeps}
+use Rattle.rules.proofs.Calls.{add-keeps, apply-keeps, beat-keeps, call-keeps, gc-keeps, none-obeys, offer-keeps, ok-each, remove-node-keeps, write-keeps}
 use Rattle.rules.proofs.Keeps.{mode-lawful}
 use Rattle.rules.proofs.Obeys.{facts-table, table-facts}
 use Rattle.rules.proofs.Received.{OkDelta, parts-ok}
@@ -125,10 +125,8 @@ unfolding calls.leaves calls.lentTo
 obeying (calls.new-table t m) = one t _ (made m t)
 obeying (calls.add-node t i) = one t _ (kept (plain.Refused BadTable) (add (i .value)) (λ t. add-keeps (i .value) t (i .fits)) t)
 obeying (calls.remove-node t i) = one t _ (kept (plain.Refused BadTable) (removeNode (i .value)) (remove-node-keeps (i .value)) t)
-obeying (calls.set t k v i) = one t _ (kept (plain.Refused BadTable) (call (Setting v) (i .value) k) (λ t. call-keeps (Setting v) (i .value) k t tt) t)
-obeying (calls.set-with-ttl t k v i now) =
-    let c = SettingTtl v (now .value) in
-    one t _ (kept (plain.Refused BadTable) (call c (i .value) k) (λ t. call-keeps c (i .value) k t (now .fits)) t)
+obeying (calls.write t k v i wanted now) =
+    one t _ (kept (plain.Refused BadTable) (write (wanted .value) v (now .value) (i .value) k) (λ t. write-keeps (wanted .value) v (now .value) (i .value) k t (now .fits)) t)
 obeying (calls.delete t k i now) =
     let c = Deleting (now .value) in
     one t _ (kept (plain.Refused BadTable) (call c (i .value) k) (λ t. call-keeps c (i .value) k t (now .fits)) t)

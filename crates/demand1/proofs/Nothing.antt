@@ -17,8 +17,8 @@ use Rattle.rules.specs.Whole.{decodeWhole, validWhole, wholeWidth}
 use Rattle.rules.specs.declared.Mode.{Mode}
 use Rattle.rules.specs.Lent.{fromTable, lentNew, onTable}
 use Rattle.rules.specs.Listing.{listing}
-use Rattle.rules.specs.Local.{Outcome, add, call, gc, localBeat, offer, prefixed, removeNode}
-use Rattle.rules.specs.Node.{Deleting, DeletingAfterTtl, Setting, SettingTtl, beats}
+use Rattle.rules.specs.Local.{Outcome, add, call, gc, localBeat, offer, prefixed, removeNode, write}
+use Rattle.rules.specs.Node.{Deleting, DeletingAfterTtl, beats}
 use Rattle.rules.specs.Table.{Table}
 use Rattle.rules.specs.declared.Answer.{Answer}
 use Rattle.rules.specs.declared.Answer.the-variants as plain
@@ -34,7 +34,7 @@ use Rattle.rules.specs.declared.Refusal.{Refusal}
 use Rattle.rules.specs.declared.Refusal.the-variants.{BadTable, NoPlace}
 use Rattle.rules.specs.declared.Written.{Written}
 use Rattle.rules.specs.declared.Written.the-variants as written
-use Rattle.rules.proofs.Refusing.{add-refused, beat-refused, call-refused, compute-refused, digest-refused, lent-apply-refused, lent-refused, offer-refused, prefixed-refused, remove-node-refused}
+use Rattle.rules.proofs.Refusing.{add-refused, beat-refused, call-refused, compute-refused, digest-refused, lent-apply-refused, lent-refused, offer-refused, prefixed-refused, remove-node-refused, write-refused}
 use Rattle.nodes.specs.New.{lentMade}
 use Rattle.exchange.specs.Exchanging.{ExchangeLent, Lending, afterAsking, allFour, exchangedTold, lending, lentExchange, readyFor, roomsOf}
 use Rattle.exchange.specs.declared.Exchanged.{Exchanged}
@@ -154,13 +154,10 @@ nothing (calls.add-node t i) h =
 nothing (calls.remove-node t i) h =
     ap (λ (u : Bytes). u ∷ [])
     (on-table answerTold (plain.Refused BadTable) (removeNode (i .value)) (λ t g. let x = by-answer _ g in remove-node-refused (i .value) t (x .0) (x .1)) t h)
-nothing (calls.set t k v i) h =
+nothing (calls.write t k v i wanted now) h =
+    let rule = write (wanted .value) v (now .value) (i .value) k in
     ap (λ (u : Bytes). u ∷ k ∷ v ∷ [])
-    (on-table answerTold (plain.Refused BadTable) (call (Setting v) (i .value) k) (λ t g. let x = by-answer _ g in call-refused (Setting v) (i .value) k t (x .0) (x .1)) t h)
-nothing (calls.set-with-ttl t k v i now) h =
-    let c = SettingTtl v (now .value) in
-    ap (λ (u : Bytes). u ∷ k ∷ v ∷ [])
-    (on-table answerTold (plain.Refused BadTable) (call c (i .value) k) (λ t g. let x = by-answer _ g in call-refused c (i .value) k t (x .0) (x .1)) t h)
+    (on-table answerTold (plain.Refused BadTable) rule (λ t g. let x = by-answer _ g in write-refused (wanted .value) v (now .value) (i .value) k t (x .0) (x .1)) t h)
 nothing (calls.delete t k i now) h =
     let c = Deleting (now .value) in
     ap (λ (u : Bytes). u ∷ k ∷ [])

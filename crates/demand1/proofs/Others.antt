@@ -22,7 +22,7 @@ use Rattle.rules.specs.Whole.{decodeWhole, validWhole, wholeWidth}
 use Rattle.rules.specs.declared.Mode.{Mode}
 use Rattle.rules.specs.Lent.{both, fromTable, lentApply, lentApplyAs, lentNew, onTable, storedIn, storedApply}
 use Rattle.rules.specs.Listing.{listing}
-use Rattle.rules.specs.Local.{Outcome, add, answerOf, beatOn, call, callOn, gc, gives, listInto, localBeat, offer, offerOn, prefixOn, prefixed, removeNode, yesNo}
+use Rattle.rules.specs.Local.{Outcome, add, answerOf, beatOn, call, callOn, gc, gives, listInto, localBeat, offer, offerOn, prefixOn, prefixed, removeNode, write, yesNo}
 use Rattle.rules.specs.Node.{Call, Change, Deleting, DeletingAfterTtl, Give, Leave, Node, Rec, Refuse, Setting, SettingTtl, allowed, beats, brought, decide, find, fullFor, hidden, hitsFrom, offerOf, sameStatus, unlessSame, wish}
 use Rattle.rules.specs.Table.{Entry, Table, addNode, among, dropNode, nodeOf, numbersOf}
 use Rattle.rules.specs.declared.Answer.the-variants as plain
@@ -59,6 +59,7 @@ use Rattle.exchange.specs.declared.Exchanged.{Exchanged}
 use Rattle.exchange.specs.declared.Ready.{Ready}
 use Rattle.exchange.specs.declared.Ready.the-variants as ready
 use Rattle.exchange.specs.declared.Step.the-variants.{Applying, Delta, Digest}
+use Rattle.rules.proofs.Writing.{write-is}
 use Rattle.exchange.proofs.Refusing.{is-ready, ready-done}
 use Rattle.demand1.specs.Calls as calls
 use Rattle.demand1.proofs.Deltas.{OpsSo, delta-comes, digest-comes}
@@ -148,38 +149,46 @@ beaten i l = on-table (λ a. Of calls.LocalBeat (answerTold a)) (plain.Refused B
 
 -- ---- records
 
--- 14, 2, 1, then what the call wants of the node
-called : (kind : calls.Kind) (c : Call) → Of kind (answerTold (plain.Refused BadTable)) → Of kind (answerTold (plain.Refused NoNode))
+-- 2, 1, then what the call wants of the node
+called-on : (kind : calls.Kind) (c : Call) → Of kind (answerTold (plain.Refused NoNode))
     → Of kind (answerTold (plain.Refused TooLong))
     → ((k : Bytes) (n : Node) (o : Option Rec) → find k (n .recs) ≡ o → Of kind (answerTold (answerOf (allowed k n (wish c o)))))
-    → (i : ℕ) (k l : Bytes)
-    → Of kind (answerTold (onTable (plain.Refused BadTable) (call c i k) l .answer))
+    → (i : ℕ) (k : Bytes) (t : Table)
+    → Of kind (answerTold (call c i k t .answer))
 unfolding call decide
-called kind c bad missing long f i k l = on-table (λ a. Of kind (answerTold a)) (plain.Refused BadTable) (call c i k) bad (λ t. go t (nodeOf i t)) l
+called-on kind c missing long f i k t = go (nodeOf i t)
   where
     limits : (n : Node) (b : Bool) → Of kind (answerTold (answerOf (pick b (allowed k n (wish c (find k (n .recs)))) (Refuse TooLong))))
     limits n true = f k n (find k (n .recs)) refl
     limits n false = long
 
-    go : (t : Table) (o : Option Node) → Of kind (answerTold (callOn c i k o t .answer))
-    go t none = missing
-    go t (some n) = limits n (leb (length k) maxKey && leb (length (brought c)) maxValue)
+    go : (o : Option Node) → Of kind (answerTold (callOn c i k o t .answer))
+    go none = missing
+    go (some n) = limits n (leb (length k) maxKey && leb (length (brought c)) maxValue)
 
--- a set: nothing to change, 5, 6. Both kinds of set have the same numbers.
-sets : (c : Change) (k : Bytes) (n : Node) (o : Option Rec) → Of calls.Set (answerTold (answerOf (allowed k n (unlessSame o c))))
+-- 14 first
+called : (kind : calls.Kind) (c : Call) → Of kind (answerTold (plain.Refused BadTable)) → Of kind (answerTold (plain.Refused NoNode))
+    → Of kind (answerTold (plain.Refused TooLong))
+    → ((k : Bytes) (n : Node) (o : Option Rec) → find k (n .recs) ≡ o → Of kind (answerTold (answerOf (allowed k n (wish c o)))))
+    → (i : ℕ) (k l : Bytes)
+    → Of kind (answerTold (onTable (plain.Refused BadTable) (call c i k) l .answer))
+called kind c bad missing long f i k = on-table (λ a. Of kind (answerTold a)) (plain.Refused BadTable) (call c i k) bad (called-on kind c missing long f i k)
+
+-- a set: nothing to change, 5, 6
+sets : (c : Change) (k : Bytes) (n : Node) (o : Option Rec) → Of calls.Write (answerTold (answerOf (allowed k n (unlessSame o c))))
 unfolding answerTold among calls.refusals
 sets c k n o = go o
   where
-    grant : (f b : Bool) → Of calls.Set (answerTold (answerOf (pick f (Refuse NodeFull) (pick b (Give c) (Refuse Exhausted)))))
+    grant : (f b : Bool) → Of calls.Write (answerTold (answerOf (pick f (Refuse NodeFull) (pick b (Give c) (Refuse Exhausted)))))
     grant true b = refl
     grant false true = refl
     grant false false = refl
 
-    same : (b : Bool) → Of calls.Set (answerTold (answerOf (allowed k n (pick b Leave (Give c)))))
+    same : (b : Bool) → Of calls.Write (answerTold (answerOf (allowed k n (pick b Leave (Give c)))))
     same true = refl
     same false = grant (fullFor (find k (n .recs)) n) (ltb (n .max) top)
 
-    go : (o : Option Rec) → Of calls.Set (answerTold (answerOf (allowed k n (unlessSame o c))))
+    go : (o : Option Rec) → Of calls.Write (answerTold (answerOf (allowed k n (unlessSame o c))))
     go none = grant (fullFor (find k (n .recs)) n) (ltb (n .max) top)
     go (some r) = same (sameStatus (r .kv .status) (c .status) && sameBytes (r .kv .value) (c .value))
 
@@ -194,13 +203,12 @@ drops c k n r e =
     rise true = refl
     rise false = refl
 
-set : (v : Bytes) (i : ℕ) (k l : Bytes) → Of calls.Set (answerTold (onTable (plain.Refused BadTable) (call (Setting v) i k) l .answer))
+wrote : (wanted : ℕ) (v : Bytes) (now i : ℕ) (k l : Bytes) → Of calls.Write (answerTold (onTable (plain.Refused BadTable) (write wanted v now i k) l .answer))
 unfolding wish answerTold among calls.refusals
-set v = called calls.Set (Setting v) refl refl refl (λ k n o e. sets _ k n o)
-
-set-ttl : (v : Bytes) (now i : ℕ) (k l : Bytes) → Of calls.SetWithTtl (answerTold (onTable (plain.Refused BadTable) (call (SettingTtl v now) i k) l .answer))
-unfolding wish answerTold among calls.refusals
-set-ttl v now = called calls.SetWithTtl (SettingTtl v now) refl refl refl (λ k n o e. sets _ k n o)
+wrote wanted v now i k =
+    on-table (λ a. Of calls.Write (answerTold a)) (plain.Refused BadTable) (write wanted v now i k) refl
+    (λ t. write-is wanted v now i k t (λ o. Of calls.Write (answerTold (o .answer))) (called-on calls.Write (Setting v) refl refl (λ k n o e. sets _ k n o) i k t)
+    (called-on calls.Write (SettingTtl v now) refl refl (λ k n o e. sets _ k n o) i k t) refl)
 
 deleted : (now i : ℕ) (k l : Bytes) → Of calls.Delete (answerTold (onTable (plain.Refused BadTable) (call (Deleting now) i k) l .answer))
 unfolding wish answerTold among calls.refusals
@@ -468,8 +476,7 @@ unfolding calls.leaves
 no-other (calls.new-table t m) = made m t
 no-other (calls.add-node t i) = added (i .value) t
 no-other (calls.remove-node t i) = removed (i .value) t
-no-other (calls.set t k v i) = set v (i .value) k t
-no-other (calls.set-with-ttl t k v i now) = set-ttl v (now .value) (i .value) k t
+no-other (calls.write t k v i wanted now) = wrote (wanted .value) v (now .value) (i .value) k t
 no-other (calls.delete t k i now) = deleted (now .value) (i .value) k t
 no-other (calls.delete-after-ttl t k i now) = deleted-ttl (now .value) (i .value) k t
 no-other (calls.remove-scheduled t now grace) = collected (now .value) (grace .value) t

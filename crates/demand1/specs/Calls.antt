@@ -6,10 +6,10 @@ use Rattle.fields.specs.Numbers.{Bytes, AreBytes}
 use Rattle.rules.specs.Sizes.{numbers}
 use Rattle.rules.specs.Answers.{Told, answerTold, offeredTold, listedTold, writtenTold, computedTold, readTold, appliedTold}
 use Rattle.rules.specs.Given.{Given, given}
-use Rattle.rules.specs.Node.{Setting, SettingTtl, Deleting, DeletingAfterTtl, beats}
+use Rattle.rules.specs.Node.{Deleting, DeletingAfterTtl, beats}
 use Rattle.rules.specs.Delta.{deltaRead}
 use Rattle.rules.specs.Listing.{listDelta}
-use Rattle.rules.specs.Lent.{lentAdd, lentRemoveNode, lentCall, lentGc, lentOffer, lentBeat, lentPrefixed, lentDigest, lentCompute, lentApply}
+use Rattle.rules.specs.Lent.{lentAdd, lentRemoveNode, lentCall, lentWrite, lentGc, lentOffer, lentBeat, lentPrefixed, lentDigest, lentCompute, lentApply}
 use Rattle.rules.specs.declared.Mode.{Mode}
 use Rattle.nodes.specs.New.{lentMade}
 use Rattle.lookup.specs.Lookup.{lentFind}
@@ -39,8 +39,7 @@ pub data Kind : Type 0 where
   NewTable : Kind
   AddNode : Kind
   RemoveNode : Kind
-  Set : Kind
-  SetWithTtl : Kind
+  Write : Kind
   Delete : Kind
   DeleteAfterTtl : Kind
   RemoveScheduled : Kind
@@ -68,8 +67,8 @@ pub data Call : Kind → Type 0 where
   new-table : (table : Bytes) (mode : Mode) → Call NewTable
   add-node : (table : Bytes) (number : U64) → Call AddNode
   remove-node : (table : Bytes) (number : U64) → Call RemoveNode
-  set : (table key value : Bytes) (number : U64) → Call Set
-  set-with-ttl : (table key value : Bytes) (number clock : U64) → Call SetWithTtl
+  -- the wanted status by its number, which may be any
+  write : (table key value : Bytes) (number wanted clock : U64) → Call Write
   delete : (table key : Bytes) (number clock : U64) → Call Delete
   delete-after-ttl : (table key : Bytes) (number clock : U64) → Call DeleteAfterTtl
   remove-scheduled : (table : Bytes) (clock grace : U64) → Call RemoveScheduled
@@ -97,8 +96,7 @@ unfoldable pub lentTo : {k : Kind} (call : Call k) → List Bytes
 lentTo (new-table t m) = t ∷ []
 lentTo (add-node t i) = t ∷ []
 lentTo (remove-node t i) = t ∷ []
-lentTo (set t k v i) = t ∷ k ∷ v ∷ []
-lentTo (set-with-ttl t k v i now) = t ∷ k ∷ v ∷ []
+lentTo (write t k v i wanted now) = t ∷ k ∷ v ∷ []
 lentTo (delete t k i now) = t ∷ k ∷ []
 lentTo (delete-after-ttl t k i now) = t ∷ k ∷ []
 lentTo (remove-scheduled t now grace) = t ∷ []
@@ -130,8 +128,7 @@ tables ListDelta = 0
 tables NewTable = 1
 tables AddNode = 1
 tables RemoveNode = 1
-tables Set = 1
-tables SetWithTtl = 1
+tables Write = 1
 tables Delete = 1
 tables DeleteAfterTtl = 1
 tables RemoveScheduled = 1
@@ -162,8 +159,7 @@ unfoldable pub leaves : {k : Kind} (call : Call k) → Given Told (List Bytes)
 leaves (new-table t m) = asTold answerTold (λ u. u ∷ []) (lentMade m t)
 leaves (add-node t i) = asTold answerTold (λ u. u ∷ []) (lentAdd (i .value) t)
 leaves (remove-node t i) = asTold answerTold (λ u. u ∷ []) (lentRemoveNode (i .value) t)
-leaves (set t k v i) = asTold answerTold (λ u. u ∷ k ∷ v ∷ []) (lentCall (Setting v) (i .value) k t)
-leaves (set-with-ttl t k v i now) = asTold answerTold (λ u. u ∷ k ∷ v ∷ []) (lentCall (SettingTtl v (now .value)) (i .value) k t)
+leaves (write t k v i wanted now) = asTold answerTold (λ u. u ∷ k ∷ v ∷ []) (lentWrite (wanted .value) v (now .value) (i .value) k t)
 leaves (delete t k i now) = asTold answerTold (λ u. u ∷ k ∷ []) (lentCall (Deleting (now .value)) (i .value) k t)
 leaves (delete-after-ttl t k i now) = asTold answerTold (λ u. u ∷ k ∷ []) (lentCall (DeletingAfterTtl (now .value)) (i .value) k t)
 leaves (remove-scheduled t now grace) = asTold answerTold (λ u. u ∷ []) (lentGc (now .value) (grace .value) t)
@@ -195,8 +191,7 @@ unfoldable pub refusals : (kind : Kind) → List ℕ
 refusals NewTable = 14 ∷ []
 refusals AddNode = 14 ∷ 4 ∷ []
 refusals RemoveNode = 14 ∷ 2 ∷ []
-refusals Set = 14 ∷ 2 ∷ 1 ∷ 5 ∷ 6 ∷ []
-refusals SetWithTtl = 14 ∷ 2 ∷ 1 ∷ 5 ∷ 6 ∷ []
+refusals Write = 14 ∷ 10 ∷ 2 ∷ 1 ∷ 5 ∷ 6 ∷ []
 refusals Delete = 14 ∷ 2 ∷ 1 ∷ 3 ∷ 6 ∷ []
 refusals DeleteAfterTtl = 14 ∷ 2 ∷ 1 ∷ 3 ∷ 6 ∷ []
 refusals RemoveScheduled = 14 ∷ []

@@ -15,14 +15,14 @@ ghost use mathlib.Core.Bool.{true};
 ghost use Prim.Native.Nat.{_≤_};
 ghost use lib.ListN.{length};
 ghost use Rattle.rules.specs.Given.{Gives};
-ghost use Rattle.rules.specs.Node.{Setting, Deleting, due};
-ghost use Rattle.rules.specs.Local.{call};
+ghost use Rattle.rules.specs.Node.{Deleting, due};
+ghost use Rattle.rules.specs.Local.{call, write};
 ghost use Rattle.rules.specs.Table.{removeAll};
 ghost use Rattle.rules.specs.Compute as computing;
 ghost use Rattle.rules.specs.Delta.{deltaRead};
 ghost use Rattle.rules.specs.Layout.{encode, decode, valid};
 ghost use Rattle.rules.specs.Whole.{modeOfByte, validWhole};
-ghost use Rattle.rules.specs.Lent.{stored, lentCall, lentGc, lentDigest, lentCompute, both, lentApply};
+ghost use Rattle.rules.specs.Lent.{stored, lentCall, lentWrite, lentGc, lentDigest, lentCompute, both, lentApply};
 ghost use Rattle.lookup.specs.Lookup.{foundIn, lentFind, startOf};
 ghost use Rattle.digest_read.specs.Held.{digestIn};
 ghost use Rattle.delta_read.specs.NodeDeltas.{partsFrom};
@@ -130,21 +130,36 @@ pub extern "C" fn kev_find_good(table: &[u8], number: u64, key: &[u8]) -> usize
 
 // ---- local writes
 
+// The wanted status is any number: 0 Set, 2 TTL, and 10 is told of every other.
 #[no_mangle]
-pub extern "C" fn kev_set(table: &mut [u8], number: u64, key: &[u8], value: &[u8]) -> u64
-    ensures { λ r. ⌜ Gives (toldAs answerNumber (lentCall (Setting (now (value .entry))) number (now (key .entry)) (now (table .entry))))
+pub extern "C" fn kev_write(
+    table: &mut [u8],
+    number: u64,
+    key: &[u8],
+    value: &[u8],
+    wanted: u64,
+    clock: u64,
+) -> u64
+    ensures { λ r. ⌜ Gives (toldAs answerNumber (lentWrite wanted (now (value .entry)) clock number (now (key .entry)) (now (table .entry))))
         r (now (table .exit)) ⌝ }
 {
-    number_of(local::set(table, number, key, value))
+    number_of(local::write(table, number, key, value, local::wanted(wanted), clock))
 }
 
 #[no_mangle]
-pub extern "C" fn kev_set_good(table: &mut [u8], number: u64, key: &[u8], value: &[u8]) -> u64
+pub extern "C" fn kev_write_good(
+    table: &mut [u8],
+    number: u64,
+    key: &[u8],
+    value: &[u8],
+    wanted: u64,
+    clock: u64,
+) -> u64
     requires { ⌜ valid (now table) ≡ true ⌝ }
-    ensures { λ r. ⌜ Gives (toldAs answerNumber (stored (call (Setting (now (value .entry))) number (now (key .entry)) (decode (now (table .entry))))))
+    ensures { λ r. ⌜ Gives (toldAs answerNumber (stored (write wanted (now (value .entry)) clock number (now (key .entry)) (decode (now (table .entry))))))
         r (now (table .exit)) ⌝ }
 {
-    number_of(local::write_good(table, number, Kind::Setting, key, value, 0))
+    number_of(local::write_good(table, number, key, value, local::wanted(wanted), clock))
 }
 
 #[no_mangle]
@@ -160,7 +175,7 @@ pub extern "C" fn kev_delete_good(table: &mut [u8], number: u64, key: &[u8], clo
     ensures { λ r. ⌜ Gives (toldAs answerNumber (stored (call (Deleting clock) number (now (key .entry)) (decode (now (table .entry))))))
         r (now (table .exit)) ⌝ }
 {
-    number_of(local::write_good(table, number, Kind::Deleting, key, b"", clock))
+    number_of(local::call_good(table, number, Kind::Deleting, key, b"", clock))
 }
 
 // ---- removal

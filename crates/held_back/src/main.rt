@@ -8,6 +8,7 @@ use rules::Answer;
 use rules::Applied;
 use rules::Computed;
 use rules::Mode;
+use rules::Status;
 use rules::Written;
 use rules::wire;
 use table::layout;
@@ -140,7 +141,7 @@ fn say_tariff(name: &[u8], hub: &[u8]) {
 }
 
 fn set(hub: &mut [u8], key: &[u8], value: &[u8]) {
-    done(local::set(hub, METER, key, value));
+    done(local::write(hub, METER, key, value, Status::Set, 0));
 }
 
 // Up to the delta that is held back.

@@ -53,30 +53,31 @@ fn open(hub: &mut [u8]) {
     done(nodes::add_node(hub, WATER));
 }
 
-fn set(hub: &mut [u8], number: u64, key: &[u8], value: &[u8]) {
-    done(local::set(hub, number, key, value));
+// A reading that stays until another takes its place.
+fn read_off(hub: &mut [u8], number: u64, key: &[u8], value: &[u8]) {
+    done(local::write(hub, number, key, value, Status::Set, 0));
 }
 
 fn first_day_power(hub: &mut [u8]) {
-    set(hub, POWER, b"total", b"004127.3 kWh");
-    set(
+    read_off(hub, POWER, b"total", b"004127.3 kWh");
+    read_off(
         hub,
         POWER,
         b"load",
         b"0.4 0.3 0.3 0.2 0.9 1.7 2.2 1.1 0.8 0.7 0.6 1.3",
     );
-    set(hub, POWER, b"tariff", b"night");
+    read_off(hub, POWER, b"tariff", b"night");
 }
 
 fn first_day_water(hub: &mut [u8]) {
-    set(hub, WATER, b"total", b"000088.031 m3");
-    set(hub, WATER, b"flow", b"0 0 0 3 11 4 2 0 0 6 9 1");
-    done(local::set_with_ttl(hub, WATER, b"valve", b"open", 1000));
+    read_off(hub, WATER, b"total", b"000088.031 m3");
+    read_off(hub, WATER, b"flow", b"0 0 0 3 11 4 2 0 0 6 9 1");
+    done(local::write(hub, WATER, b"valve", b"open", Status::Ttl, 1000));
 }
 
 // The tariff is deleted, and the valve's time has come: the removal takes both. The flow is to go later.
 fn second_day(hub: &mut [u8]) {
-    set(hub, POWER, b"total", b"004139.0 kWh");
+    read_off(hub, POWER, b"total", b"004139.0 kWh");
     done(local::delete(hub, POWER, b"tariff", 50000));
     done(local::delete_after_ttl(hub, WATER, b"flow", 80000));
     done(removal::remove_scheduled(hub, 90000, 30000));

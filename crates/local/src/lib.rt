@@ -1,23 +1,26 @@
-// The four local calls that give a version, on a lent table: set, set with TTL, delete, delete after TTL. The entry points take any bytes and refuse in
-// document 01's order: 14, 2, then what the node's rules say (crate `local_node`): 1, 3, nothing to change, 5, 6. A refused call changes no byte.
-// `write_good` is all four on a table known to be good, for a caller that need not pay for the check again.
+// The local calls that give a version, on a lent table: the write, delete, delete after TTL. The write takes the wanted status, Set or TTL. The entry points
+// take any bytes and refuse in document 01's order: 14, for the write then 10, then 2, then what the node's rules say (crate `local_node`): 1, 3, nothing
+// to change, 5, 6. A refused call changes no byte. A name with `good` in it is for a table known to be good, so that a caller need not pay for the check again.
 use local_node::Kind;
 use rules::Answer;
 use rules::Refusal;
+use rules::Status;
 use table::layout;
 use table_read::Span;
 ghost use mathlib.Core.Path.{_≡_};
 ghost use mathlib.Core.Bool.{true};
 ghost use Rattle.rules.specs.Answers.{answerTold};
 ghost use Rattle.rules.specs.Given.{Gives, Tells};
-ghost use Rattle.rules.specs.Node.{Setting, SettingTtl, Deleting, DeletingAfterTtl};
-ghost use Rattle.rules.specs.Local.{call};
-ghost use Rattle.rules.specs.Lent.{stored, lentCall};
+ghost use Rattle.rules.specs.Node.{Deleting, DeletingAfterTtl};
+ghost use Rattle.rules.specs.Local as rule;
+ghost use Rattle.rules.specs.Delta.{statusByte};
+ghost use Rattle.rules.specs.Lent.{stored, lentCall, lentWrite};
 ghost use Rattle.rules.specs.Layout.{decode, valid};
 ghost use Rattle.local_node.specs.Writes.{callOf};
+ghost use Rattle.local.specs.Wanted.{askedBy, wantedOf};
 
-// One of the four calls at a key of a node of a good table: 2, then what the node's rules say.
-pub fn write_good(
+// One of document 01's four calls at a key of a node of a good table: 2, then what the node's rules say.
+pub fn call_good(
     table: &mut [u8],
     number: u64,
     kind: Kind,
@@ -26,7 +29,7 @@ pub fn write_good(
     clock: u64,
 ) -> Answer
     requires { ⌜ valid (now table) ≡ true ⌝ }
-    ensures { λ r. ⌜ Gives (stored (call (callOf kind (now (value .entry)) clock) number (now (key .entry)) (decode (now (table .entry)))))
+    ensures { λ r. ⌜ Gives (stored (rule.call (callOf kind (now (value .entry)) clock) number (now (key .entry)) (decode (now (table .entry)))))
         r (now (table .exit)) ⌝ }
 {
     match table_read::node_span(table, number) {
@@ -38,41 +41,106 @@ pub fn write_good(
 }
 
 // One of the four calls on any bytes.
-fn write(table: &mut [u8], number: u64, kind: Kind, key: &[u8], value: &[u8], clock: u64) -> Answer
+fn call(table: &mut [u8], number: u64, kind: Kind, key: &[u8], value: &[u8], clock: u64) -> Answer
     ensures { λ r. ⌜ Tells answerTold (lentCall (callOf kind (now (value .entry)) clock) number (now (key .entry)) (now (table .entry)))
         r (now (table .exit)) ⌝ }
 {
     if table_check::check_table(table) {
-        return write_good(&mut table[..layout::AREA], number, kind, key, value, clock);
+        return call_good(&mut table[..layout::AREA], number, kind, key, value, clock);
     }
     Answer::Refused(Refusal::BadTable)
 }
 
-// Set: the key's record of the node takes this value, and stays as it is where it has it already.
-pub fn set(table: &mut [u8], number: u64, key: &[u8], value: &[u8]) -> Answer
-    ensures { λ r. ⌜ Tells answerTold (lentCall (Setting (now (value .entry))) number (now (key .entry)) (now (table .entry))) r (now (table .exit)) ⌝ }
-{
-    write(table, number, Kind::Setting, key, value, 0)
+// ---- the write
+
+// Which of the four calls a wanted status asks for.
+enum Asked {
+    Call(Kind),
+    Nothing,
 }
 
-// Set with TTL: likewise, and a changed record is scheduled from this time on.
-pub fn set_with_ttl(table: &mut [u8], number: u64, key: &[u8], value: &[u8], clock: u64) -> Answer
-    ensures { λ r. ⌜ Tells answerTold (lentCall (SettingTtl (now (value .entry)) clock) number (now (key .entry)) (now (table .entry)))
+fn asked_call(wanted: Status) -> Asked
+    ensures { λ r. ⌜ r ≡ askedBy wanted ⌝ }
+{
+    match wanted {
+        Status::Set => Asked::Call(Kind::Setting),
+        Status::Delete => Asked::Nothing,
+        Status::Ttl => Asked::Call(Kind::SettingTtl),
+    }
+}
+
+// The status that a number from outside wants: 0 Set, 1 Delete, 2 TTL. Any other is taken for Delete, which a write does not take either.
+pub fn wanted(n: u64) -> Status
+    ensures { λ r. ⌜ r ≡ wantedOf n ⌝ }
+{
+    if n == 0 {
+        return Status::Set;
+    }
+    if n == 2 {
+        return Status::Ttl;
+    }
+    Status::Delete
+}
+
+// The write on a good table: 10, then as the call that it asks for.
+pub fn write_good(
+    table: &mut [u8],
+    number: u64,
+    key: &[u8],
+    value: &[u8],
+    wanted: Status,
+    clock: u64,
+) -> Answer
+    requires { ⌜ valid (now table) ≡ true ⌝ }
+    ensures { λ r. ⌜ Gives
+        (stored (rule.write (statusByte wanted) (now (value .entry)) clock number (now (key .entry)) (decode (now (table .entry)))))
         r (now (table .exit)) ⌝ }
 {
-    write(table, number, Kind::SettingTtl, key, value, clock)
+    match asked_call(wanted) {
+        Asked::Call(kind) => call_good(table, number, kind, key, value, clock),
+        Asked::Nothing => Answer::Refused(Refusal::BadTag),
+    }
 }
+
+// The write: the key's record of the node takes this value and the wanted status, Set or TTL, and stays as it is where it has both already. Under TTL a changed
+// record is scheduled from this time on; under Set the time is not looked at.
+pub fn write(
+    table: &mut [u8],
+    number: u64,
+    key: &[u8],
+    value: &[u8],
+    wanted: Status,
+    clock: u64,
+) -> Answer
+    ensures { λ r. ⌜ Tells answerTold
+        (lentWrite (statusByte wanted) (now (value .entry)) clock number (now (key .entry)) (now (table .entry)))
+        r (now (table .exit)) ⌝ }
+{
+    if table_check::check_table(table) {
+        return write_good(
+            &mut table[..layout::AREA],
+            number,
+            key,
+            value,
+            wanted,
+            clock,
+        );
+    }
+    Answer::Refused(Refusal::BadTable)
+}
+
+// ---- the deletes
 
 // Delete: the key's record is emptied and hidden, and scheduled from this time on.
 pub fn delete(table: &mut [u8], number: u64, key: &[u8], clock: u64) -> Answer
     ensures { λ r. ⌜ Tells answerTold (lentCall (Deleting clock) number (now (key .entry)) (now (table .entry))) r (now (table .exit)) ⌝ }
 {
-    write(table, number, Kind::Deleting, key, b"", clock)
+    call(table, number, Kind::Deleting, key, b"", clock)
 }
 
 // Delete after TTL: the key's record keeps its value, and is scheduled from this time on.
 pub fn delete_after_ttl(table: &mut [u8], number: u64, key: &[u8], clock: u64) -> Answer
     ensures { λ r. ⌜ Tells answerTold (lentCall (DeletingAfterTtl clock) number (now (key .entry)) (now (table .entry))) r (now (table .exit)) ⌝ }
 {
-    write(table, number, Kind::DeletingAfterTtl, key, b"", clock)
+    call(table, number, Kind::DeletingAfterTtl, key, b"", clock)
 }

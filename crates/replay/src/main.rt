@@ -99,7 +99,7 @@ fn call(
     let verb = verbs::asked(line);
     let at = desk.out;
     match verb {
-        verbs::SET..=verbs::LIST => {
+        verbs::WRITE..=verbs::LIST => {
             let table = read::front_mut(room, desk.lent());
             desk.with_out(replay_local::key_call(table, verb, line, out, at))
         }

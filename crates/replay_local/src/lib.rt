@@ -89,39 +89,28 @@ fn list(table: &[u8], number: u64, prefix: &[u8], word: &[u8], out: &mut [u8], a
     tell_hits(listed, &hits, out, at)
 }
 
-fn set(table: &mut [u8], number: u64, key: &[u8], word: &[u8], out: &mut [u8], at: usize) -> usize {
-    let mut value = [0u8; TEXT];
-    let Count::Is(n) = read::bytes(word, &mut value) else {
-        return at;
-    };
-    replay_tell::answer(
-        out,
-        at,
-        local::set(table, number, key, read::front(&value, n)),
-    )
-}
-
-fn set_ttl(
+// The write: behind the key come the value, the wanted status as any number, and the time.
+fn write(
     table: &mut [u8],
     number: u64,
     key: &[u8],
-    word: &[u8],
-    last: &[u8],
+    line: &[u8],
     out: &mut [u8],
     at: usize,
 ) -> usize {
-    let Numeral::Is(clock) = read::number(last) else {
+    let Numeral::Is(status) = read::number(read::word(line, 4)) else {
+        return at;
+    };
+    let Numeral::Is(clock) = read::number(read::word(line, 5)) else {
         return at;
     };
     let mut value = [0u8; TEXT];
-    let Count::Is(n) = read::bytes(word, &mut value) else {
+    let Count::Is(n) = read::bytes(read::word(line, 3), &mut value) else {
         return at;
     };
-    replay_tell::answer(
-        out,
-        at,
-        local::set_with_ttl(table, number, key, read::front(&value, n), clock),
-    )
+    let wanted = local::wanted(status);
+    let answer = local::write(table, number, key, read::front(&value, n), wanted, clock);
+    replay_tell::answer(out, at, answer)
 }
 
 // The deletes.
@@ -156,8 +145,7 @@ fn at_key(
     match verb {
         verbs::GET => look_up(table, number, key, out, at),
         verbs::LIST => list(table, number, key, word, out, at),
-        verbs::SET => set(table, number, key, word, out, at),
-        verbs::SET_TTL => set_ttl(table, number, key, word, read::word(line, 4), out, at),
+        verbs::WRITE => write(table, number, key, line, out, at),
         _ => delete(table, verb, number, key, word, out, at),
     }
 }

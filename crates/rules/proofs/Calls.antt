@@ -18,10 +18,11 @@ use Rattle.rules.proofs.Keeps.{ClockFits, offer-fits, ok-act, ok-fresh,
 use Rattle.rules.proofs.Obeys.{Ascending, OkEntry, OkNode, OkTable, facts-table, number-in, table-facts}
 use Rattle.rules.proofs.Received.{OkDelta, parts-ok}
 use Rattle.rules.proofs.Tables.{applied-table, numbers-remove, numbers-set}
+use Rattle.rules.proofs.Writing.{write-is}
 use Rattle.rules.specs.Apply.{Lawful, Ways, apply, applyEach, applyNode, onNode}
 use Rattle.rules.specs.Delta.{Part, nothingRead, partsOf}
-use Rattle.rules.specs.Local.{add, beatOn, call, callOn, gc, gives, localBeat, offer, offerOn, removeNode}
-use Rattle.rules.specs.Node.{Call, Node, Rec, act, beats, decide, due, fresh, offerOf, remove, withHeartbeat}
+use Rattle.rules.specs.Local.{add, beatOn, call, callOn, gc, gives, localBeat, offer, offerOn, removeNode, write}
+use Rattle.rules.specs.Node.{Call, Node, Rec, Setting, SettingTtl, act, beats, decide, due, fresh, offerOf, remove, withHeartbeat}
 use Rattle.rules.specs.Sizes.{maxNodes, numbers, top}
 use Rattle.rules.specs.Table.{Entry, Table, addNode, among, dropNode, nodeOf, numbersOf, obeys, removeAll, rising, setNode}
 use Rattle.rules.specs.declared.Heartbeat.{Heartbeat}
@@ -287,6 +288,10 @@ call-keeps c i k t h e = go (nodeOf i t) refl
     go (some n) q =
         let ok = table-facts t e in
         facts-table (setNode i (act k (decide c k n) n) t) (ok-set i (act k (decide c k n) n) t ok (ok-act c k n (node-ok-in i t ok q) h))
+
+pub write-keeps : (wanted : ℕ) (v : List ℕ) (now i : ℕ) (k : List ℕ) (t : Table) → now < numbers → obeys t ≡ true → obeys (write wanted v now i k t .table) ≡ true
+write-keeps wanted v now i k t h e =
+    write-is wanted v now i k t (λ o. obeys (o .table) ≡ true) (call-keeps (Setting v) i k t tt e) (call-keeps (SettingTtl v now) i k t h e) e
 
 -- any removal of scheduled records, by node number and record
 pub remove-keeps : (due : ℕ → Rec → Bool) (t : Table) → obeys t ≡ true → obeys (removeAll due t) ≡ true

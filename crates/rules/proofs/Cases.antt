@@ -4,20 +4,23 @@
 -- Assumes nothing.
 use Prim.Native.Nat.{ℕ}
 use mathlib.Core.Bool.{Bool, true, false}
-use mathlib.Core.List.{List, [], _∷_}
+use mathlib.Core.List.{List, [], _∷_, _++_}
 use mathlib.Core.Path.{_≡_, refl}
 use lib.ListN.{length, replicate}
 use Rattle.fields.specs.Choice.{all, keep, pick}
 use Rattle.fields.specs.Order.{sameBytes, lessBytes}
 use Rattle.fields.specs.Numbers.{bytesOf}
 use Rattle.rules.specs.Sizes.{maxDelta}
-use Rattle.rules.specs.Answers.{codeOf}
-use Rattle.rules.specs.Node.{KeyValue, Rec, Node, remove, due, beats, offerOf, lastGc, store}
-use Rattle.rules.specs.Table.{Entry, Table, versions, among}
+use Rattle.rules.specs.Answers.{answerTold, codeOf}
+use Rattle.rules.specs.Node.{KeyValue, Rec, Node, act, beats, decide, due, find, lastGc, offerOf, remove, store, wish}
+use Rattle.rules.specs.Node as one
+use Rattle.rules.specs.Table.{Entry, Table, versions, among, nodeOf, setNode}
+use Rattle.rules.specs.Local.{Outcome, call, write}
 use Rattle.rules.specs.Digest.{NodeDigest}
-use Rattle.rules.specs.Delta.{Op, sizeOf, NodeDelta, Part, partsOf, maxOf, opBytes, recsOf, textBytes}
+use Rattle.rules.specs.Delta.{Op, sizeOf, statusByte, NodeDelta, Part, partsOf, maxOf, opBytes, recsOf, textBytes}
 use Rattle.rules.specs.Compute.{fromOf, deltaFor, allOps, byVersion, cut, keyValueOps, ordered, queue, sooner, stale, staleNodes, toldOf}
 use Rattle.rules.specs.Apply.{Taken, applyNode, deltaStatus, fencedWays, newerOf, outcome, plainWays, statusOf, takeAll, takes}
+use Rattle.rules.specs.declared.Answer.{Answer}
 use Rattle.rules.specs.declared.Beat.{Beat}
 use Rattle.rules.specs.declared.Status.{Status}
 use Rattle.rules.specs.declared.Status.the-variants.{Set, Delete, Ttl}
@@ -121,6 +124,22 @@ sizes mtu t = sizesIn (deltaFor [] (replicate (length t) 0) mtu [] t)
 abbrev largest : Rec
 largest = record { kv = record { key = replicate 32 107; value = replicate 64 118; version = 1; status = Set }; start = 0 }
 
+-- of each record version, status and start
+unfoldable pub stamps : List Rec → List ℕ
+stamps [] = []
+stamps (r ∷ rs) = r .kv .version ∷ statusByte (r .kv .status) ∷ r .start ∷ stamps rs
+
+unfoldable pub allStamps : Table → List ℕ
+allStamps [] = []
+allStamps (e ∷ t) = stamps (e .node .recs) ++ allStamps t
+
+-- A write at time 9 with this wanted status and value, at key 1 of node i; node 7 has that key, without a value, under Set. The number of the answer, and
+-- what is held afterwards.
+abbrev wrote : ℕ → List ℕ → ℕ → List ℕ
+wrote wanted v i =
+    let o : Outcome Answer = write wanted v 9 i (1 ∷ []) (entry 7 1 (live 1 ∷ []) ∷ []) in
+    answerTold (o .answer) .number ∷ allStamps (o .table)
+
 -- news of three offers to one who holds 0
 abbrev yes : Bool → ℕ
 yes true = 1
@@ -188,10 +207,19 @@ cases =
     ∷ case (fenced (node 10 3 (live 2 ∷ [])) (delta 11 0 (kv 1 5 Set ∷ []) 5)) (2 ∷ 0 ∷ 11 ∷ 5 ∷ 5 ∷ [])
     ∷ case (fenced (node 10 12 []) (delta 0 12 (kv 1 13 Set ∷ []) 13)) (1 ∷ 7 ∷ 10 ∷ 13 ∷ 13 ∷ [])
     ∷ case (fenced (node 10 10 []) (delta 0 10 (kv 1 13 Set ∷ []) 13)) (1 ∷ 7 ∷ 10 ∷ 13 ∷ 13 ∷ [])
+    -- the one write: the same under Set; a new value under Set starts at no time; under TTL it starts at the time, the same value too
+    ∷ case (wrote 0 [] 7) (0 ∷ 1 ∷ 0 ∷ 0 ∷ [])
+    ∷ case (wrote 0 (5 ∷ []) 7) (0 ∷ 2 ∷ 0 ∷ 0 ∷ [])
+    ∷ case (wrote 2 [] 7) (0 ∷ 2 ∷ 2 ∷ 9 ∷ [])
+    -- Delete and any other number are 10, before there is no such node (2)
+    ∷ case (wrote 1 [] 7) (10 ∷ 1 ∷ 0 ∷ 0 ∷ [])
+    ∷ case (wrote 3 [] 7) (10 ∷ 1 ∷ 0 ∷ 0 ∷ [])
+    ∷ case (wrote 1 [] 8) (10 ∷ 1 ∷ 0 ∷ 0 ∷ [])
+    ∷ case (wrote 2 [] 8) (2 ∷ 1 ∷ 0 ∷ 0 ∷ [])
     ∷ []
 
 pub all-hold : all holds cases ≡ true
-unfolding all holds cases sameBytes lessBytes numbersIn fromsIn sizesIn applyNode deltaStatus statusOf newerOf outcome takeAll takes store versions remove lastGc keep fromOf deltaFor cut allOps ordered queue sooner staleNodes toldOf among stale byVersion keyValueOps sizeOf opBytes textBytes bytesOf partsOf recsOf maxOf offerOf
+unfolding all holds cases answerTold sameBytes lessBytes numbersIn fromsIn sizesIn stamps allStamps write call decide wish find act one.write nodeOf setNode applyNode deltaStatus statusOf newerOf outcome takeAll takes store versions remove lastGc keep fromOf deltaFor cut allOps ordered queue sooner staleNodes toldOf among stale byVersion keyValueOps sizeOf opBytes textBytes bytesOf partsOf recsOf maxOf offerOf
 all-hold = refl
 
 -- the paper stars seven lines, and they have fifteen cases

@@ -21,6 +21,7 @@ pub mod Needed
 pub mod Tables
 pub mod OneNode
 pub mod Accepted
+pub mod Writing
 pub mod Calls
 pub mod Unique
 pub mod Told

@@ -12,6 +12,7 @@ use Rattle.fields.proofs.Ordered.{same-true}
 use Rattle.fields.specs.Choice.{pick}
 use Rattle.fields.specs.Order.{sameBytes}
 use Rattle.fields.specs.Parts.{put}
+use Rattle.rules.proofs.Writing.{write-is}
 use Rattle.rules.specs.Given.{Given, given}
 use Rattle.rules.specs.Apply.{ApplyOutcome, apply, applyEach, applyNode, applyOps, codes, Ways}
 use Rattle.rules.specs.Compute.{compute, onDigest, written}
@@ -19,8 +20,8 @@ use Rattle.rules.specs.Delta.{Faulty, Good, Ops, Part, partsOf}
 use Rattle.rules.specs.Digest.{DigestRead, Entries, Refused, digestBytes, digestOf, fitsAt, readDigest, writeDigest}
 use Rattle.rules.specs.Whole.{decodeWhole, encodeWhole, validWhole, withTable}
 use Rattle.rules.specs.Lent.{TableAndList, both, onTable, storedIn, storedApply, lentApplyAs}
-use Rattle.rules.specs.Local.{Outcome, add, answerOf, beatOn, call, callOn, gives, listInto, localBeat, offer, offerOn, prefixOn, prefixed, removeNode, yesNo}
-use Rattle.rules.specs.Node.{Call, Decision, Give, Leave, Node, Refuse, act, beats, decide, hitsFrom, offerOf, withHeartbeat}
+use Rattle.rules.specs.Local.{Outcome, add, answerOf, beatOn, call, callOn, gives, listInto, localBeat, offer, offerOn, prefixOn, prefixed, removeNode, write, yesNo}
+use Rattle.rules.specs.Node.{Call, Decision, Give, Leave, Node, Refuse, Setting, SettingTtl, act, beats, decide, hitsFrom, offerOf, withHeartbeat}
 use Rattle.rules.specs.Sizes.{leastMtu, maxDelta, maxKey, maxNodes, top}
 use Rattle.rules.specs.Table.{Table, addNode, among, dropNode, nodeOf, numbersOf, obeys, setNode}
 use Rattle.rules.specs.declared.Answer.{Answer}
@@ -88,6 +89,10 @@ call-refused c i k t r = go (nodeOf i t) refl
     go : (o : Option Node) → nodeOf i t ≡ o → callOn c i k o t .answer ≡ plain.Refused r → callOn c i k o t .table ≡ t
     go none q e = refl
     go (some n) q e = at n q (decide c k n) e
+
+pub write-refused : (wanted : ℕ) (v : List ℕ) (now i : ℕ) (k : List ℕ) (t : Table) (r : Refusal) → write wanted v now i k t .answer ≡ plain.Refused r → write wanted v now i k t .table ≡ t
+write-refused wanted v now i k t r =
+    write-is wanted v now i k t (λ o. o .answer ≡ plain.Refused r → o .table ≡ t) (call-refused (Setting v) i k t r) (call-refused (SettingTtl v now) i k t r) (λ e. refl)
 
 pub beat-refused : (i : ℕ) (t : Table) (r : Refusal) → localBeat i t .answer ≡ plain.Refused r → localBeat i t .table ≡ t
 unfolding localBeat

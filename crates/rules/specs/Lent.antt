@@ -7,7 +7,7 @@ use Rattle.fields.specs.Choice.{pick}
 use Rattle.rules.specs.Given.{Given, given}
 use Rattle.rules.specs.Node.{Call}
 use Rattle.rules.specs.Table.{Table}
-use Rattle.rules.specs.Local.{Outcome, Found, NotFound, add, removeNode, call, gc, offer, localBeat, lookup, prefixed}
+use Rattle.rules.specs.Local.{Outcome, Found, NotFound, add, removeNode, call, write, gc, offer, localBeat, lookup, prefixed}
 use Rattle.rules.specs.Digest.{writeDigest}
 use Rattle.rules.specs.Compute.{compute}
 use Rattle.rules.specs.Apply.{Ways, waysOf, ApplyOutcome, apply}
@@ -55,6 +55,9 @@ lentRemoveNode number table = onTable (plain.Refused BadTable) (removeNode numbe
 
 abbrev pub lentCall : (call : Call) (number : ℕ) (key table : Bytes) → Given Answer Bytes
 lentCall c number k table = onTable (plain.Refused BadTable) (call c number k) table
+
+abbrev pub lentWrite : (wanted : ℕ) (value : Bytes) (now number : ℕ) (key table : Bytes) → Given Answer Bytes
+lentWrite wanted v now number k table = onTable (plain.Refused BadTable) (write wanted v now number k) table
 
 abbrev pub lentGc : (now grace : ℕ) (table : Bytes) → Given Answer Bytes
 lentGc now grace table = onTable (plain.Refused BadTable) (gc now grace) table

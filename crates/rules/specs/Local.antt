@@ -6,17 +6,19 @@ use mathlib.Core.Bool.{Bool, true, false}
 use mathlib.Core.List.{List}
 use mathlib.Core.Option.{Option, none, some}
 use lib.ListN.{length}
-use lib.Dec.{leb, ltb}
+use lib.Dec.{leb, ltb, eqb}
 use Rattle.fields.specs.Numbers.{Bytes}
 use Rattle.fields.specs.Choice.{pick}
 use Rattle.fields.specs.Parts.{put}
 use Rattle.rules.specs.Sizes.{maxNodes, maxKey, top}
 use Rattle.rules.specs.Given.{Given, given}
-use Rattle.rules.specs.Node.{Node, Call, Decision, Refuse, Leave, Give, decide, act, find, shown, hitsFrom, due, offerOf, beats, withHeartbeat}
+use Rattle.rules.specs.Node.{Node, Call, Setting, SettingTtl, Decision, Refuse, Leave, Give, decide, act, find, shown, hitsFrom, due, offerOf, beats, withHeartbeat}
 use Rattle.rules.specs.Table.{Table, nodeOf, setNode, addNode, dropNode, removeAll, numbersOf, among}
+use Rattle.rules.specs.Delta.{statusByte}
+use Rattle.rules.specs.declared.Status.the-variants.{Set, Ttl}
 use Rattle.rules.specs.declared.Heartbeat.{Heartbeat}
 use Rattle.rules.specs.declared.Refusal.{Refusal}
-use Rattle.rules.specs.declared.Refusal.the-variants.{TooLong, NoNode, NinthNode, Exhausted, NoPlace}
+use Rattle.rules.specs.declared.Refusal.the-variants.{TooLong, NoNode, NinthNode, Exhausted, NoPlace, BadTag}
 use Rattle.rules.specs.declared.Answer.{Answer}
 use Rattle.rules.specs.declared.Answer.the-variants.{Done, Refused}
 use Rattle.rules.specs.declared.Offered.{Offered}
@@ -58,6 +60,13 @@ callOn c i k (some n) t = gives (answerOf (decide c k n)) (setNode i (act k (dec
 -- set, set with TTL, delete, delete after TTL
 unfoldable pub call : (call : Call) (number : ℕ) (key : Bytes) (table : Table) → Outcome Answer
 call c i k t = callOn c i k (nodeOf i t) t
+
+-- The one write (ticket 6), by the number of the wanted status: a set or a set with TTL, and 10 for any other number, before all that the node says. Under
+-- Set the time is not looked at.
+unfoldable pub write : (wanted : ℕ) (value : Bytes) (now number : ℕ) (key : Bytes) (table : Table) → Outcome Answer
+write wanted v now i k t =
+    pick (eqb wanted (statusByte Set)) (call (Setting v) i k t)
+    (pick (eqb wanted (statusByte Ttl)) (call (SettingTtl v now) i k t) (gives (Refused BadTag) t))
 
 -- removal over all nodes by the clock
 unfoldable pub gc : (now grace : ℕ) (table : Table) → Outcome Answer

@@ -276,7 +276,7 @@ pub enum Refusal {
     NoPlace,
     // The bytes end inside a field.
     Cut,
-    // A tag or a status above 2.
+    // A tag or a status above 2, or a wanted status that a write does not take.
     BadTag,
     // A record or SetMaxVersion before any Node, a version not above the running max, a SetMaxVersion below it.
     OutOfOrder,

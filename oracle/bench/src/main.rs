@@ -201,7 +201,7 @@ fn sets(rows: &mut Rows, name: &'static str, good: bool, aim: Aim, turns: usize)
             other = (other + 1) % turns;
             over(&keys, |asked| {
                 let value = black_box(&asked.values[other]);
-                black_box(port::set(&mut table, asked.number, black_box(&asked.key), value, good));
+                black_box(port::write(&mut table, asked.number, black_box(&asked.key), value, good));
             })
         },
     );
@@ -228,7 +228,7 @@ fn new_keys(rows: &mut Rows, name: &'static str, good: bool, aim: Aim) {
             table.copy_from_slice(&before);
             over(&keys, |asked| {
                 let value = black_box(&asked.values[0]);
-                black_box(port::set(&mut table, asked.number, black_box(&asked.key), value, good));
+                black_box(port::write(&mut table, asked.number, black_box(&asked.key), value, good));
             })
         },
     );

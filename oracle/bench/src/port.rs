@@ -8,7 +8,7 @@ mod c {
         pub fn kev_check(table: *const u8, len: usize) -> bool;
         pub fn kev_find(table: *const u8, len: usize, number: u64, key: *const u8, keylen: usize) -> usize;
         pub fn kev_find_good(table: *const u8, len: usize, number: u64, key: *const u8, keylen: usize) -> usize;
-        pub fn kev_set(
+        pub fn kev_write(
             table: *mut u8,
             len: usize,
             number: u64,
@@ -16,8 +16,10 @@ mod c {
             keylen: usize,
             value: *const u8,
             valuelen: usize,
+            wanted: u64,
+            time: u64,
         ) -> u64;
-        pub fn kev_set_good(
+        pub fn kev_write_good(
             table: *mut u8,
             len: usize,
             number: u64,
@@ -25,6 +27,8 @@ mod c {
             keylen: usize,
             value: *const u8,
             valuelen: usize,
+            wanted: u64,
+            time: u64,
         ) -> u64;
         pub fn kev_delete(table: *mut u8, len: usize, number: u64, key: *const u8, keylen: usize, time: u64) -> u64;
         pub fn kev_delete_good(
@@ -113,9 +117,11 @@ pub fn find(table: &[u8], number: u64, key: &str, good: bool) -> usize {
     unsafe { f(table.as_ptr(), lent(table, good), number, key.as_ptr(), key.len()) }
 }
 
-pub fn set(table: &mut [u8], number: u64, key: &str, value: &str, good: bool) -> u64 {
-    let f = if good { c::kev_set_good } else { c::kev_set };
-    unsafe { f(table.as_mut_ptr(), lent(table, good), number, key.as_ptr(), key.len(), value.as_ptr(), value.len()) }
+/// A write under Set.
+pub fn write(table: &mut [u8], number: u64, key: &str, value: &str, good: bool) -> u64 {
+    const SET: u64 = 0;
+    let f = if good { c::kev_write_good } else { c::kev_write };
+    unsafe { f(table.as_mut_ptr(), lent(table, good), number, key.as_ptr(), key.len(), value.as_ptr(), value.len(), SET, 0) }
 }
 
 pub fn delete(table: &mut [u8], number: u64, key: &str, time: u64, good: bool) -> u64 {

@@ -13,12 +13,23 @@ pub struct Counts {
 impl Counts {
     pub fn add(&mut self, calls: &[String], answers: &[String]) {
         for (call, answer) in calls.iter().zip(answers) {
-            let verb = call.split(' ').next().unwrap_or("");
-            *self.calls.entry(verb.to_string()).or_default() += 1;
+            *self.calls.entry(asked(call)).or_default() += 1;
             for kind in kinds(answer) {
                 *self.answers.entry(kind).or_default() += 1;
             }
         }
+    }
+}
+
+/// A write counts by its wanted status, another call by its name.
+fn asked(call: &str) -> String {
+    let words: Vec<&str> = call.split(' ').collect();
+    match words[..] {
+        ["write", _, _, _, "0", _] => "write-set".into(),
+        ["write", _, _, _, "2", _] => "write-ttl".into(),
+        ["write", ..] => "write-other".into(),
+        [verb, ..] => verb.into(),
+        [] => String::new(),
     }
 }
 

@@ -104,13 +104,22 @@ impl Maker {
         self.line(format!("remove {node}"));
     }
 
+    /// The wanted status of a write: seldom neither Set nor TTL, and then often one that has their byte in it.
+    fn wanted(&mut self) -> u64 {
+        const OTHERS: [u64; 10] = [1, 1, 3, 4, 255, 256, 258, 1 << 32, (1 << 63) + 2, u64::MAX];
+        match self.random.below(8) {
+            _ if self.random.once_in(30) => *self.random.pick(&OTHERS),
+            0..=4 => table::SET.into(),
+            _ => table::TTL.into(),
+        }
+    }
+
     /// Any call on one node: a write, a read, a heartbeat.
     pub fn local(&mut self) {
         let (node, key) = (self.node(), self.key());
         let key = hex(&key);
         let line = match self.random.below(20) {
-            0..=4 => format!("set {node} {key} {}", hex(&self.value())),
-            5..=7 => format!("setttl {node} {key} {} {}", hex(&self.value()), self.now()),
+            0..=7 => format!("write {node} {key} {} {} {}", hex(&self.value()), self.wanted(), self.now()),
             8..=10 => format!("delete {node} {key} {}", self.now()),
             11 | 12 => format!("deletettl {node} {key} {}", self.now()),
             13 => format!("offer {node} {}", pieces::version(&mut self.random)),

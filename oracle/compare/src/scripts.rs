@@ -152,7 +152,7 @@ fn full_node(random: Random) -> Vec<String> {
     for number in 0..count {
         let key = format!("k{number}").into_bytes();
         let value = hex(&m.value());
-        m.line(format!("set {node} {} {value}", hex(&key)));
+        m.line(format!("write {node} {} {value} 0 9", hex(&key)));
         if m.random.once_in(3) {
             m.keys.push(key);
         }
@@ -188,8 +188,8 @@ fn crowded(random: Random) -> Vec<String> {
     let held = m.random.within(28, 32);
     for number in 0..held {
         let line = match m.random.below(3) {
-            0 => format!("setttl {} {} x {}", nodes[0], hex(format!("k{number}").as_bytes()), m.now()),
-            _ => format!("set {} {} x", nodes[0], hex(format!("k{number}").as_bytes())),
+            0 => format!("write {} {} x 2 {}", nodes[0], hex(format!("k{number}").as_bytes()), m.now()),
+            _ => format!("write {} {} x 0 9", nodes[0], hex(format!("k{number}").as_bytes())),
         };
         m.line(line);
     }

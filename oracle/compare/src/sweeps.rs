@@ -6,9 +6,10 @@ use script::table::{self, Node, RECORDS, Record, SET};
 use crate::damage::texts_are_utf8;
 use crate::pieces::{Op, delta, digest};
 
-const SWEEPS: [(&str, fn() -> Vec<String>); 15] = [
+const SWEEPS: [(&str, fn() -> Vec<String>); 16] = [
     ("bench", bench),
     ("writes", writes),
+    ("wanted", wanted),
     ("verdicts", verdicts),
     ("fence", fence),
     ("taking", taking),
@@ -59,7 +60,7 @@ fn bench() -> Vec<String> {
     let more = [
         "new",
         "add 1",
-        "set 1 x61 x31",
+        "write 1 x61 x31 0 9",
         "delete 1 x61 100",
         "gc 149 50",
         "gc 150 50",
@@ -75,7 +76,7 @@ fn bench() -> Vec<String> {
         lines.push(format!("compute {} 100 - 0 0 100", hex(&digest(&[[1, 0, last_gc, max]]))));
     }
     lines.extend(["new".to_string(), "add 1".to_string()]);
-    lines.push(format!("set 1 {} {}", hex(&[b'k'; 32]), hex(&[b'v'; 64])));
+    lines.push(format!("write 1 {} {} 0 9", hex(&[b'k'; 32]), hex(&[b'v'; 64])));
     for mtu in [134, 135] {
         lines.push(format!("compute x0000 {mtu} - 0 0 {mtu}"));
     }
@@ -89,7 +90,7 @@ fn priorities() -> Vec<String> {
     for (number, writes) in [(1, 9), (2, 4), (3, 3 + 1), (4, 5 + 1)] {
         lines.push(format!("add {number}"));
         for write in 0..writes {
-            lines.push(format!("set {number} {} x", hex(&[b'a' + write])));
+            lines.push(format!("write {number} {} x 0 9", hex(&[b'a' + write])));
         }
     }
     let digest = hex(&digest(&[[3, 0, 0, 1], [4, 0, 0, 1]]));
@@ -100,10 +101,10 @@ fn priorities() -> Vec<String> {
 /// All runs of four local calls on one key, with a look after each.
 fn writes() -> Vec<String> {
     const CALLS: [&str; 8] = [
-        "set 1 x61 x31",
-        "set 1 x61 x",
-        "setttl 1 x61 x31 3",
-        "setttl 1 x61 x 4",
+        "write 1 x61 x31 0 9",
+        "write 1 x61 x 0 9",
+        "write 1 x61 x31 2 3",
+        "write 1 x61 x 2 4",
         "delete 1 x61 2",
         "deletettl 1 x61 6",
         "gc 5 1",
@@ -121,6 +122,29 @@ fn writes() -> Vec<String> {
             rest /= calls.len();
         }
         lines.push("get 1 x61".to_string());
+    }
+    lines
+}
+
+/// Each wanted status, and numbers that have its byte in them, at each thing that a write can meet: a table that breaks a rule, no node, a key or a value
+/// that is too long, a record of each status with this value and with another, a 33rd key, the last version. The time is small, and large.
+fn wanted() -> Vec<String> {
+    let mut statuses: Vec<u64> = (0..=258).collect();
+    statuses.extend((9..64).flat_map(|bit| [0, 1, 2].map(|low| (1u64 << bit) + low)));
+    statuses.push(u64::MAX);
+    let long = |len| hex(&vec![b'k'; len]);
+    let full: Vec<Op> = (1..=RECORDS as u64).map(|version| record(&format!("k{version}"), version, (version % 3) as u8)).collect();
+    let fill = |max: u64| apply(&[&[node(0, 0)][..], &full, &[Op::SetMax { max }]].concat());
+    let mut lines = Vec::new();
+    for status in statuses {
+        let write = |key: &str, value: &str, now: u64| format!("write 1 {key} {value} {status} {now}");
+        lines.extend(["table x".to_string(), write("x61", "x31", 7), "new".into(), write(&long(33), &long(65), 7)]);
+        lines.extend(["add 1".into(), write(&long(33), "x", 7), write("x61", &long(65), 7)]);
+        lines.extend([write("x61", "x31", u64::MAX), write("x61", "x31", 0), fill(40), write("x61", "x", 7), fill(u64::MAX - 1)]);
+        for key in ["k1", "k2", "k3"] {
+            lines.extend(["x76", "x77", "x76"].map(|value| write(&hex(key.as_bytes()), value, 7)));
+        }
+        lines.push(write("x62", "x31", 7));
     }
     lines
 }
@@ -204,7 +228,7 @@ fn from() -> Vec<String> {
     let mut lines = Vec::new();
     for own in 0..16 {
         lines.extend(node_at(own / 4, own % 4));
-        lines.push("set 1 x61 x31".to_string());
+        lines.push("write 1 x61 x31 0 9".to_string());
         for pair in 0..36 {
             let digest = hex(&digest(&[[1, 0, pair / 6, pair % 6]]));
             lines.push(format!("compute {digest} 100 - 0 0 100"));
@@ -217,8 +241,8 @@ fn from() -> Vec<String> {
 fn late() -> Vec<String> {
     let mut lines = Vec::new();
     for start in (0..64).map(|bit| 1u64 << bit) {
-        lines.extend(["new".into(), "add 1".into(), "set 1 x61 x76".into(), "set 1 x62 x77".into()]);
-        lines.extend([format!("setttl 1 x63 x78 {start}"), format!("delete 1 x62 {start}")]);
+        lines.extend(["new".into(), "add 1".into(), "write 1 x61 x76 0 9".into(), "write 1 x62 x77 0 9".into()]);
+        lines.extend([format!("write 1 x63 x78 2 {start}"), format!("delete 1 x62 {start}")]);
         lines.extend([format!("gc {} 0", start - 1), format!("gc {start} 0")]);
     }
     lines
@@ -230,7 +254,7 @@ fn cuts() -> Vec<String> {
     for number in 1..=6u64 {
         lines.push(format!("add {number}"));
         for write in 0..number - 1 {
-            lines.push(format!("set {number} {} {}", hex(&[b'a' + write as u8]), hex(&vec![b'v'; 7 * write as usize])));
+            lines.push(format!("write {number} {} {} 0 9", hex(&[b'a' + write as u8]), hex(&vec![b'v'; 7 * write as usize])));
         }
     }
     for number in [1, 3, 5] {
@@ -278,12 +302,12 @@ fn brim() -> Vec<String> {
 /// All runs of four steps of a publisher and a follower with one node.
 fn exchanges() -> Vec<String> {
     const STEPS: [&[&str]; 6] = [
-        &["set 1 x61 x31"],
-        &["setttl 1 x62 x32 3"],
+        &["write 1 x61 x31 0 9"],
+        &["write 1 x62 x32 2 3"],
         &["delete 1 x61 4"],
         &["gc 5 1"],
         &["hub 1", "digest - 0 34", "hub 0", "compute @digest 100 - 0 0 100", "hub 1", "apply @delta 4 1", "hub 0"],
-        &["hub 1", "gc 5 1", "set 1 x63 x", "hub 0"],
+        &["hub 1", "gc 5 1", "write 1 x63 x 0 9", "hub 0"],
     ];
     let mut lines = Vec::new();
     for run in 0..STEPS.len().pow(4) {

@@ -47,6 +47,15 @@ fn within(len: usize, most: usize) -> Outcome<()> {
     if len > most { Err(Answer::Refused(1)) } else { Ok(()) }
 }
 
+/// Layer: number 10 for a write, whose wanted status is Set or TTL.
+fn with_ttl(wanted: u64) -> Outcome<bool> {
+    match u8::try_from(wanted) {
+        Ok(table::SET) => Ok(false),
+        Ok(table::TTL) => Ok(true),
+        _ => Err(Answer::Refused(10)),
+    }
+}
+
 /// Layer: number 8. `need` bytes must be free from `place`.
 fn free(place: u64, len: usize, need: usize) -> Outcome<usize> {
     match usize::try_from(place) {
@@ -380,16 +389,12 @@ impl Hub {
         match call {
             Call::Add { node } => self.add(*node),
             Call::Remove { node } => self.remove(*node),
-            Call::Set { node, key, value } => {
-                self.may_set(*node, key, value)?;
-                let (key, value) = (text(key)?, text(value)?);
-                self.write(*node, |state| state.set(key, value))
-            }
-            Call::SetTtl { node, key, value, now } => {
+            Call::Write { node, key, value, status, now } => {
+                let ttl = with_ttl(*status)?;
                 self.may_set(*node, key, value)?;
                 let (key, value) = (text(key)?, text(value)?);
                 set_clock(*now);
-                self.write(*node, |state| state.set_with_ttl(key, value))
+                self.write(*node, |state| if ttl { state.set_with_ttl(key, value) } else { state.set(key, value) })
             }
             Call::Delete { node, key, now } => {
                 let key = self.may_delete(*node, key)?;

@@ -44,15 +44,16 @@ impl Table {
         self.nodes.remove(&number).map(|_| ()).ok_or(2)
     }
 
-    /// Set, or Set with TTL where `ttl` is now.
-    pub fn set(&mut self, number: u64, key: &[u8], value: &[u8], ttl: Option<u64>) -> Result<(), Refused> {
+    /// The one write (document 02, ticket 6): the wanted status by its number, Set or TTL.
+    pub fn write(&mut self, number: u64, key: &[u8], value: &[u8], wanted: u64, now: u64) -> Result<(), Refused> {
+        let (status, start) = match wanted {
+            0 => (Status::Set, 0),
+            2 => (Status::Ttl, now),
+            _ => return Err(10),
+        };
         let node = self.node_mut(number)?;
         check_text(key.len(), MOST_KEY)?;
         check_text(value.len(), MOST_VALUE)?;
-        let (status, start) = match ttl {
-            None => (Status::Set, 0),
-            Some(now) => (Status::Ttl, now),
-        };
         let held = node.records.get(key);
         if held.is_some_and(|record| record.value == value && record.status == status) {
             return Ok(());

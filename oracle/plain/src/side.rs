@@ -87,8 +87,7 @@ fn answer_good(table: &mut Table, call: &Call) -> Result<Answer, Answer> {
     match call {
         Call::Add { node } => done(table.add(*node)),
         Call::Remove { node } => done(table.remove(*node)),
-        Call::Set { node, key, value } => done(table.set(*node, key, value, None)),
-        Call::SetTtl { node, key, value, now } => done(table.set(*node, key, value, Some(*now))),
+        Call::Write { node, key, value, status, now } => done(table.write(*node, key, value, *status, *now)),
         Call::Delete { node, key, now } => done(table.delete(*node, key, *now, Scheduled::Delete)),
         Call::DeleteTtl { node, key, now } => done(table.delete(*node, key, *now, Scheduled::AfterTtl)),
         Call::Beat { node } => done(table.beat(*node)),

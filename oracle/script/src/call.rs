@@ -15,8 +15,7 @@ pub enum Call {
     Hub(usize),
     Add { node: u64 },
     Remove { node: u64 },
-    Set { node: u64, key: Vec<u8>, value: Vec<u8> },
-    SetTtl { node: u64, key: Vec<u8>, value: Vec<u8>, now: u64 },
+    Write { node: u64, key: Vec<u8>, value: Vec<u8>, status: u64, now: u64 },
     Delete { node: u64, key: Vec<u8>, now: u64 },
     DeleteTtl { node: u64, key: Vec<u8>, now: u64 },
     Offer { node: u64, heartbeat: u64 },
@@ -101,8 +100,13 @@ impl Call {
             "hub" => Call::Hub(w.size().filter(|&hub| hub < 2)?),
             "add" => Call::Add { node: w.number()? },
             "remove" => Call::Remove { node: w.number()? },
-            "set" => Call::Set { node: w.number()?, key: w.text()?, value: w.text()? },
-            "setttl" => Call::SetTtl { node: w.number()?, key: w.text()?, value: w.text()?, now: w.number()? },
+            "write" => Call::Write {
+                node: w.number()?,
+                key: w.text()?,
+                value: w.text()?,
+                status: w.number()?,
+                now: w.number()?,
+            },
             "delete" => Call::Delete { node: w.number()?, key: w.text()?, now: w.number()? },
             "deletettl" => Call::DeleteTtl { node: w.number()?, key: w.text()?, now: w.number()? },
             "offer" => Call::Offer { node: w.number()?, heartbeat: w.number()? },
@@ -148,10 +152,10 @@ mod tests {
             })
         );
         assert_eq!(
-            Call::parse("set 18446744073709551615 x x00ff"),
-            Some(Call::Set { node: u64::MAX, key: vec![], value: vec![0, 255] })
+            Call::parse("write 18446744073709551615 x x00ff 3 7"),
+            Some(Call::Write { node: u64::MAX, key: vec![], value: vec![0, 255], status: 3, now: 7 })
         );
-        for wrong in ["", "set 1 x", "set 1 x x x", "add -1", "get 1 xA0", "get 1 x0", "add  1", "hub 2"] {
+        for wrong in ["", "write 1 x x 0", "write 1 x x x 0 0", "write 1 x x -1 0", "add -1", "get 1 xA0", "get 1 x0", "add  1", "hub 2"] {
             assert_eq!(Call::parse(wrong), None, "{wrong:?}");
         }
     }

@@ -5,11 +5,11 @@ use borrow.Author.Needs.{needs}
 use Rattle.exports.proofs.kev_delete_good.Statement.{statement}
 use Rattle.exports.proofs.kev_delete_good.Tie as tie
 
-slice-aggregate-write-good : tie.Need-slice-aggregate-write-good
-slice-aggregate-write-good c = search needs
+slice-aggregate-call-good : tie.Need-slice-aggregate-call-good
+slice-aggregate-call-good c = search needs
 
-write-good-requires : tie.Need-write-good-requires
-write-good-requires c κs = search needs
+call-good-requires : tie.Need-call-good-requires
+call-good-requires c κs = search needs
 
 number-of-requires : tie.Need-number-of-requires
 number-of-requires c κs = search needs
@@ -19,15 +19,15 @@ same-length c = search needs
 
 returns : tie.Need-returns
 returns c =
-    let e = c .before .before .before .write-good .ensures in
+    let e = c .before .before .before .call-good .ensures in
     (c .number-of .ensures ∙ ap answerNumber (e .0), e .1)
 
 pub kev-delete-good-spec : {M : Type 1} → statement M
 kev-delete-good-spec =
     tie.close
     (tie.spec
-    slice-aggregate-write-good
-    write-good-requires
+    slice-aggregate-call-good
+    call-good-requires
     number-of-requires
     same-length
     returns)

@@ -1,12 +1,12 @@
--- `local::write` meets its contract: 14, or the call on a good table. Assumes nothing.
+-- `local::write` meets its contract: 14, or the write on a good table. Assumes nothing.
 use mathlib.Core.Path.{sym, _∙_}
 use Rattle.rules.specs.Answers.{answerTold}
-use Rattle.rules.specs.Local.{call}
+use Rattle.rules.specs.Local.{write}
+use Rattle.rules.specs.Delta.{statusByte}
 use Rattle.rules.specs.declared.Answer.the-variants.{Refused}
 use Rattle.rules.specs.declared.Refusal.the-variants.{BadTable}
 use Rattle.rules.proofs.Unique.{tells}
 use Rattle.table_check.proofs.Entry.{area-good, area-within, area-long, bad-table, good-table}
-use Rattle.local_node.specs.Writes.{callOf}
 use borrow.Author.Needs.{needs}
 use Rattle.local.proofs.write.Statement.{statement}
 use Rattle.local.proofs.write.Tie as tie
@@ -30,7 +30,8 @@ returns : tie.Need-returns
 returns c =
     let a = (c .before .before .before .before .before .before .before .before .before .before) .args in
     let w = (c .before .before) .write-good in
-    tells answerTold (good-table (Refused BadTable) (call (callOf (a .kind) (a .value .now) (a .clock)) (a .number) (a .key .now)) (a .table .now)
+    tells answerTold
+    (good-table (Refused BadTable) (write (statusByte (a .wanted)) (a .value .now) (a .clock) (a .number) (a .key .now)) (a .table .now)
     (sym ((c .before .before .before .before .before) .check-table .ensures) ∙ (c .before .before .before .before) .if1 .taken) (w .result) (w .last .0) (w .ensures))
 
 same-length-2 : tie.Need-same-length-2
@@ -39,7 +40,7 @@ same-length-2 c = search needs
 returns-2 : tie.Need-returns-2
 returns-2 c =
     let a = (c .before .before .before .before .before .before) .args in
-    tells answerTold (bad-table (Refused BadTable) (call (callOf (a .kind) (a .value .now) (a .clock)) (a .number) (a .key .now)) (a .table .now) (sym (c .before .check-table .ensures) ∙ c .if1 .left))
+    tells answerTold (bad-table (Refused BadTable) (write (statusByte (a .wanted)) (a .value .now) (a .clock) (a .number) (a .key .now)) (a .table .now) (sym (c .before .check-table .ensures) ∙ c .if1 .left))
 
 pub write-spec : {M : Type 1} → statement M
 write-spec =
