@@ -4,8 +4,8 @@
     python3 crates/listing_samples/make.py
 
 writes, beside this file, a file for each sample into data/, their names into args, and into stdout for each the name and its listing. The
-listings come from `listing` below, which was written from document 01 ("Bytes", "Numbers given on refusal", "The listing") and shares nothing
-with the Rattle code or its definitions.
+listings come from `listing` below, which was written from document 01 ("Bytes", "Numbers given on refusal", "The listing") and from ticket 1 of the
+change requests, and shares nothing with the Rattle code or its definitions.
 """
 import os, shutil, struct
 
@@ -58,7 +58,8 @@ def operation(b, at):
 
 
 def shown(s):
-    return ''.join(chr(c) if 33 <= c <= 126 else '?' for c in s)
+    """Ticket 1 of the change requests: bytes outside 33 to 126, and % and =, print as % with two capital hexadecimal digits."""
+    return ''.join('%%%02X' % c if c < 33 or c > 126 or chr(c) in '%=' else chr(c) for c in s)
 
 
 def listing(b):
@@ -126,6 +127,38 @@ def long_delta(size):
     return b
 
 
+def each_byte():
+    """For every byte value a record with it as key and one with it as value."""
+    b = node(1)
+    for c in range(256):
+        b += kv(bytes([c]), b'k', 2 * c + 1) + kv(b'v', bytes([c]), 2 * c + 2)
+    return b
+
+
+def old_shown(s):
+    """As listings were before ticket 1."""
+    return ''.join(chr(c) if 33 <= c <= 126 else '?' for c in s)
+
+
+def differ(one, other):
+    """Two deltas that only differ where the old listing did not show it."""
+    assert one != other and len(one) == len(other) and old_shown(one) == old_shown(other)
+    yield node(1) + kv(one, b'x', 1)
+    yield node(1) + kv(other, b'x', 1)
+
+
+def odd_delta():
+    """A good delta of 16,384 bytes whose records are as long as they can be, of bytes that are all escaped."""
+    b, version = node(1), 1
+    while len(b) + 110 <= 16384:
+        b += kv(b'\xff' * 32, b'\0' * 64, version)
+        version += 1
+    rest = 16384 - len(b) - 14
+    b += kv(b'=' * min(32, rest), b'%' * (rest - min(32, rest)), version)
+    assert len(b) == 16384
+    return b
+
+
 def samples():
     yield 'example', EXAMPLE
     for n in range(len(EXAMPLE)):
@@ -135,6 +168,15 @@ def samples():
     yield 'powers of ten', b''.join(node(10 ** i, 10 ** i - 1, 10 ** (19 - i)) for i in range(0, 16, 2))
     yield 'nineteen and twenty digits', node(10 ** 19 - 1, 10 ** 19, 9) + most(10)
     yield 'unprintable bytes', node(2) + kv(bytes([0, 32, 33, 126, 127, 255]), b' ~!\n\xc3\xa9', 5)
+    yield 'every byte as key and value', each_byte()
+    yield 'longest key and value of 255', node(1) + kv(b'\xff' * 32, b'\xff' * 64, 1, DELETE)
+    yield 'longest key and value of 0', node(TOP, TOP, TOP) + kv(bytes(32), bytes(64), TOP, DELETE)
+    yield 'longest key and value of percent and equals', node(1) + kv(b'%=' * 16, b'=%' * 32, 1, TTL)
+    yield '16384 bytes of longest records of odd bytes', odd_delta()
+    for place, (one, other) in enumerate([(b'a\0', b'a\1'), (b'\x7f', b'?'), (b'a b', b'a\tb'), (b'\x80' * 31 + b'\xfe', b'\x80' * 31 + b'\xff')]):
+        for name, delta in zip(('first', 'second'), differ(one, other)):
+            yield 'once alike %d %s' % (place + 1, name), delta
+    yield 'escapes as text', node(1) + kv(b'%41', b'%25', 1) + kv(b'A', b'%', 2) + kv(b'key= value=', b'\nend=ok ops=0 bytes=0\n', 3)
     yield 'max starts at 0 with each node', node(1) + kv(b'a', b'', 9) + node(2) + kv(b'a', b'', 1)
     yield 'max not lowered', node(1) + kv(b'a', b'', 4) + most(4) + kv(b'b', b'', 5)
     yield 'node alone', node(3, 4, 5)

@@ -3,19 +3,19 @@
 use Prim.Native.Nat.{ℕ, zero, suc, _+_, _-_, _*_, _≤_, _<_}
 use mathlib.Core.Path.{_≡_, refl, ap, sym, _∙_, subst}
 use mathlib.Core.Logic.{inl, inr}
-use mathlib.Core.List.{List, [], _++_}
+use mathlib.Core.List.{List, [], _++_, append-assoc}
 use native.Mathlib.Omega.{arith}
 use lib.ListN.{length, length-append}
 use borrow.Author.Tests.{le-leb, lt-leb}
 use Rattle.fields.specs.Blocks.{flat}
-use Rattle.fields.specs.Parts.{put}
+use Rattle.fields.specs.Parts.{part, put}
 use Rattle.fields.proofs.Parts.{length-part}
 use Rattle.rules.specs.Answers.{numberOf}
-use Rattle.rules.specs.Sizes.{maxDelta, maxKey, maxValue}
+use Rattle.rules.specs.Sizes.{maxDelta}
 use Rattle.rules.specs.Given.{Gives}
 use Rattle.rules.specs.Delta as rule
 use Rattle.rules.specs.Digest.{writeBytes}
-use Rattle.rules.specs.Listing.{decimal, statusText, opLine, listingOf, listing, listDelta}
+use Rattle.rules.specs.Listing.{ascii, decimal, listDelta, listing, listingOf, opLine, shownBytes, statusText}
 use Rattle.rules.specs.declared.Status.{Status}
 use Rattle.rules.specs.declared.Status.the-variants.{Set, Delete, Ttl}
 use Rattle.rules.specs.declared.Refusal.{Refusal}
@@ -31,7 +31,7 @@ use Rattle.delta_op.specs.Places.{opOf, opAt, Inside, widthOf}
 use Rattle.delta_op.proofs.Reading.{Within, op-within, le-or-lt}
 use Rattle.delta_op.proofs.Plain.{plain-end, plain-bad, plain-next, good-plain}
 use Rattle.listing_text.proofs.Texts.{decimal-long, shown-long}
-use Rattle.listing.specs.Shapes.{goodText, lineLength, linesFrom, longestListing, refusedText}
+use Rattle.listing.specs.Shapes.{goodText, linesFrom, longestListing, recordLine, refusedText, textsText}
 
 -- ---- one line
 
@@ -40,19 +40,42 @@ status-long Set = omega arith
 status-long Delete = omega arith
 status-long Ttl = omega arith
 
-pub line-long : (l : List ℕ) (o : Op) → Inside (length l) o → length (opLine (opOf l o)) ≡ lineLength o
+pub node-long : (n g f : ℕ) → length (opLine (rule.NodeOp n g f)) ≡ 22 + length (decimal n) + length (decimal g) + length (decimal f)
 unfolding opLine
-line-long l (Node n g f) i =
-    simp length-append (omega arith)
-line-long l (KeyValue k n v m ver st) i =
-    simp (length-append, shown-long, length-part k n l (i .0), length-part v m l (i .1)) (omega arith)
-line-long l (SetMaxVersion m) i = simp length-append (omega arith)
+node-long n g f = simp length-append (omega arith)
+
+pub max-long : (m : ℕ) → length (opLine (rule.SetMaxVersionOp m)) ≡ 16 + length (decimal m)
+unfolding opLine
+max-long m = simp length-append (omega arith)
+
+pub record-long : (ver : ℕ) (st : Status) (key value : List ℕ)
+    → length (recordLine ver st key value) ≡ 35 + length (decimal ver) + length (statusText st) + length (shownBytes key) + length (shownBytes value)
+record-long ver st key value = simp length-append (omega arith)
+
+-- a record's line, of its key and value as they are lent
+pub record-line : (l : List ℕ) (k n v m ver : ℕ) (st : Status) (o : Op) (key value : List ℕ) → o ≡ KeyValue k n v m ver st → key ≡ part k n l
+    → value ≡ part v m l → recordLine ver st key value ≡ opLine (opOf l o)
+unfolding opLine
+record-line l k n v m ver st o key value e p q =
+    rw (e, p, q)
+    (ap (λ (r : List ℕ). ascii "op=kv version=" ++ r) (append-assoc (decimal ver) (ascii " status=" ++ statusText st) (textsText (part k n l) (part v m l))))
+
+-- what is known of a record's places
+pub inside : (len : ℕ) (o : Op) (k n v m ver : ℕ) (st : Status) → o ≡ KeyValue k n v m ver st → Inside len o → Inside len (KeyValue k n v m ver st)
+inside len o k n v m ver st e h = rw e at h
 
 -- at most five times as long as the operation's bytes
-pub line-short : (o : Op) → lineLength o ≤ 5 * widthOf o
-line-short (Node n g f) = omega (arith, decimal-long n, decimal-long g, decimal-long f)
-line-short (KeyValue k n v m ver st) = omega (arith, decimal-long ver, status-long st)
-line-short (SetMaxVersion m) = omega (arith, decimal-long m)
+pub line-short : (l : List ℕ) (o : Op) → Inside (length l) o → length (opLine (opOf l o)) ≤ 5 * widthOf o
+line-short l (Node n g f) i = omega (arith, node-long n g f, decimal-long n, decimal-long g, decimal-long f)
+line-short l (KeyValue k n v m ver st) i =
+    let key : List ℕ = part k n l in
+    let value : List ℕ = part v m l in
+    let line = ap length (record-line l k n v m ver st (KeyValue k n v m ver st) key value refl refl refl) in
+    let k-long : length key ≡ n = length-part k n l (i .0) in
+    let v-long : length value ≡ m = length-part v m l (i .1) in
+    omega
+    (arith, line, record-long ver st key value, decimal-long ver, status-long st, shown-long key, shown-long value, k-long, v-long)
+line-short l (SetMaxVersion m) i = omega (arith, max-long m, decimal-long m)
 
 -- ---- the lines
 
@@ -122,13 +145,6 @@ pub good-long : (l : List ℕ) (ops : ℕ) → length (goodText l ops) ≡ lengt
 unfolding goodText
 good-long l ops = simp length-append (omega arith)
 
--- ---- how many bytes an operation takes at most
-
-pub width-most : (len : ℕ) (o : Op) → Inside len o → widthOf o ≤ rule.besideTexts + maxKey + maxValue
-width-most len (Node n g f) i = omega arith
-width-most len (KeyValue k n v m ver st) i = omega arith
-width-most len (SetMaxVersion m) i = omega arith
-
 -- ---- how long a listing is at most
 
 -- the lines are at most five times as long as the bytes
@@ -146,7 +162,7 @@ lines-most (suc k) at l h = elim (le-or-lt (length l) at) [
     go (Got o next) e w g ih =
         let d : length (linesFrom l at) ≡ length (opLine (opOf l o)) + length (linesFrom l next) =
         ap length (lines-next l at g o next e) ∙ length-append (opLine (opOf l o)) (linesFrom l next) in
-        omega (arith, d, line-long l o (w .2), line-short o, ih next (omega arith), w .0, w .1, w .3)
+        omega (arith, d, line-short l o (w .2), ih next (omega arith), w .0, w .1, w .3)
 
 pub listing-most : (l : List ℕ) → length (listing l) ≤ longestListing
 listing-most l = go (rule.deltaRead l) refl

@@ -6,10 +6,8 @@ use lib.ListN.{length}
 use Rattle.fields.specs.Numbers.{Bytes}
 use Rattle.fields.specs.Blocks.{flat}
 use Rattle.rules.specs.Sizes.{maxDelta}
-use Rattle.rules.specs.Listing.{ascii, decimal, lineFeed, opLine, statusText}
+use Rattle.rules.specs.Listing.{ascii, lineFeed, opLine, statusText}
 use Rattle.rules.specs.declared.Status.{Status}
-use Rattle.delta_op.specs.declared.Op.{Op}
-use Rattle.delta_op.specs.declared.Op.the-variants.{Node, KeyValue, SetMaxVersion}
 use Rattle.delta_op.specs.Plain.{opsFrom}
 use Rattle.listing_text.specs.Texts.{named, numbered}
 
@@ -43,14 +41,6 @@ goodText l ops = linesFrom l 0 ++ twoNumbers (ascii "end=ok ops=") ops (ascii " 
 unfoldable pub refusedText : (code at : ℕ) → Bytes
 refusedText code at = twoNumbers (ascii "end=refused code=") code (ascii " at=") at
 
--- ---- how long it is
-
--- the line of an operation
-abbrev pub lineLength : (op : Op) → ℕ
-lineLength (Node n g f) = 22 + length (decimal n) + length (decimal g) + length (decimal f)
-lineLength (KeyValue k n v m ver st) = 35 + length (decimal ver) + length (statusText st) + n + m
-lineLength (SetMaxVersion m) = 16 + length (decimal m)
-
--- any listing, at most
+-- how long it is at most
 abbrev pub longestListing : ℕ
 longestListing = 5 * maxDelta + 59

@@ -2,17 +2,17 @@
 // verdict and the length of the whole are known before the first byte is written.
 use rules::sizes;
 ghost use mathlib.Core.Path.{_≡_};
-ghost use Prim.Native.Nat.{_+_, _*_, _≤_};
+ghost use Prim.Native.Nat.{_*_, _≤_};
 ghost use lib.ListN.{length};
 ghost use Rattle.rules.specs.Answers.{writtenTold};
 ghost use Rattle.rules.specs.Given.{Gives, Tells};
 ghost use Rattle.rules.specs.Sizes.{maxDelta, maxKey, maxValue};
-ghost use Rattle.rules.specs.Delta.{NodeOp, SetMaxVersionOp, besideTexts};
+ghost use Rattle.rules.specs.Delta.{NodeOp, SetMaxVersionOp};
 ghost use Rattle.rules.specs.Digest.{writeBytes};
 ghost use Rattle.rules.specs.Listing.{listDelta, opLine, statusText};
-ghost use Rattle.delta_op.specs.Places.{Inside, opOf, widthOf};
+ghost use Rattle.delta_op.specs.Places.{Inside, opOf};
 ghost use Rattle.listing_text.specs.Texts.{TextFits, putText};
-ghost use Rattle.listing.specs.Shapes.{goodText, lineLength, linesFrom, recordLine, refusedText, textsText, twoNumbers, versionText};
+ghost use Rattle.listing.specs.Shapes.{goodText, linesFrom, recordLine, refusedText, textsText, twoNumbers, versionText};
 use delta_op::Op;
 use delta_op::OpRead;
 use rules::DeltaRead;
@@ -47,10 +47,22 @@ fn status_len(status: Status) -> usize
     }
 }
 
-// The length of the line of an operation, which takes no more bytes than one with the longest key and value.
-fn line_len(op: Op) -> usize
-    requires { ⌜ widthOf op ≤ besideTexts + maxKey + maxValue ⌝ }
-    ensures { λ r. ⌜ r ≡ lineLength op ⌝ }
+// The length of the line of a record.
+fn record_len(version: u64, status: Status, key: &[u8], value: &[u8]) -> usize
+    requires { ⌜ (length (now key) ≤ maxKey) × (length (now value) ≤ maxValue) ⌝ }
+    ensures { λ r. ⌜ r ≡ length (recordLine version status (now (key .entry)) (now (value .entry))) ⌝ }
+{
+    RECORD
+        + listing_text::decimal_len(version)
+        + status_len(status)
+        + listing_text::shown_len(key)
+        + listing_text::shown_len(value)
+}
+
+// The length of the line of an operation of the delta.
+fn line_len(delta: &[u8], op: Op) -> usize
+    requires { ⌜ Inside (length (now delta)) op ⌝ }
+    ensures { λ r. ⌜ r ≡ length (opLine (opOf (now (delta .entry)) op)) ⌝ }
 {
     match op {
         Op::Node {
@@ -64,13 +76,17 @@ fn line_len(op: Op) -> usize
                 + listing_text::decimal_len(from)
         }
         Op::KeyValue {
-            keyat: _,
+            keyat,
             keylen,
-            valueat: _,
+            valueat,
             valuelen,
             version,
             status,
-        } => RECORD + listing_text::decimal_len(version) + status_len(status) + keylen + valuelen,
+        } => {
+            let key = &delta[keyat..keyat + keylen];
+            let value = &delta[valueat..valueat + valuelen];
+            record_len(version, status, key, value)
+        }
         Op::SetMaxVersion { max } => SET_MAX_VERSION + listing_text::decimal_len(max),
     }
 }
@@ -89,7 +105,7 @@ fn lines_len(delta: &[u8]) -> usize
                 return n;
             }
             OpRead::Got { op, next } => {
-                n += line_len(op);
+                n += line_len(delta, op);
                 at = next;
             }
         }

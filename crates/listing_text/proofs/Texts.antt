@@ -1,19 +1,23 @@
 -- Laws of texts in a buffer and of decimal digits: one text behind another is the two joined; a number's digits are those of its tenth and one
 -- more, and at most twenty. Assumes nothing.
-use Prim.Native.Nat.{ℕ, zero, suc, _+_, _/_, _%_, _^_, _≤_, _<_}
+use Prim.Native.Nat.{ℕ, zero, suc, _+_, _*_, _/_, _%_, _^_, _≤_, _<_}
 use mathlib.Core.Path.{_≡_, refl, ap, sym, _∙_, subst}
 use native.Mathlib.Decide.{decLe}
+use mathlib.Core.Bool.{Bool, true, false}
 use mathlib.Core.List.{List, [], _∷_, _++_, append-assoc}
 use native.Mathlib.Omega.{arith}
 use native.Mathlib.Nat.{div-lt-iff-lt-mul, pow-suc}
-use lib.ListN.{length, length-append}
+use native.Mathlib.Numerals.{add-one}
+use lib.ListN.{length, getD, drop, length-append}
+use lib.Seq.{drop-cons}
 use lib.Dec.{lit<}
 use borrow.Author.Tests.{lt-ltb, le-ltb}
+use Rattle.fields.specs.Choice.{pick}
 use Rattle.fields.specs.Numbers.{Bytes}
 use Rattle.fields.specs.Parts.{put}
 use Rattle.fields.proofs.Parts.{put-behind, length-put}
 use Rattle.rules.specs.Given.{Gives}
-use Rattle.rules.specs.Listing.{digits, decimal, shownBytes}
+use Rattle.rules.specs.Listing.{digits, decimal, hexDigit, plain, shownByte, shownBytes}
 use Rattle.listing_text.specs.Texts.{TextFits, putText}
 
 -- ---- one text behind another
@@ -123,7 +127,20 @@ decimal-some n = digits-some 19 n []
 
 -- ---- bytes as they are shown
 
-pub shown-long : (l : List ℕ) → length (shownBytes l) ≡ length l
+-- of the bytes that are left, the first one, then the others
+pub shown-next : (l : List ℕ) (i : ℕ) → i < length l → shownBytes (drop i l) ≡ shownByte (getD l i 0) ++ shownBytes (drop (i + 1) l)
 unfolding shownBytes
-shown-long [] = refl
-shown-long (b ∷ l) = ap suc (shown-long l)
+shown-next l i h = ap shownBytes (drop-cons l i 0 h) ∙ ap (λ (k : ℕ). shownByte (getD l i 0) ++ shownBytes (drop k l)) (sym (add-one i))
+
+-- at most three for each
+byte-long : (b : ℕ) → length (shownByte b) ≤ 3
+byte-long b = go (plain b)
+  where
+    go : (t : Bool) → length (pick t (b ∷ []) (37 ∷ hexDigit (b / 16) ∷ hexDigit (b % 16) ∷ [])) ≤ 3
+    go true = omega arith
+    go false = omega arith
+
+pub shown-long : (l : List ℕ) → length (shownBytes l) ≤ 3 * length l
+unfolding shownBytes
+shown-long [] = omega arith
+shown-long (b ∷ l) = omega (arith, length-append (shownByte b) (shownBytes l), byte-long b, shown-long l)

@@ -62,7 +62,8 @@ fn move_line(chunk: &[u8], source: Source, line: &mut [u8]) -> Source {
     }
 }
 
-// The next line: closed by a line feed or by the input's end. It is the last where it is not closed, and none where it is empty too.
+// The next line: closed by a line feed or by the input's end. It is the last where it is not closed, and none where it is empty too, or where the
+// input cannot be read.
 pub fn next(chunk: &mut [u8; CHUNK], before: Source, line: &mut [u8; LINE]) -> Source {
     let mut source = Source {
         at: before.at,
@@ -78,6 +79,11 @@ pub fn next(chunk: &mut [u8; CHUNK], before: Source, line: &mut [u8; LINE]) -> S
         }
         let got = libc::read(STDIN_FILENO, chunk);
         let n = io::count(got, chunk);
+        if got < 0 {
+            streams::unreadable();
+            source.len = 0;
+            return source;
+        }
         if n == 0 {
             return source;
         }

@@ -2,7 +2,6 @@
 // none of the language is answered by `malformed`, without a checksum.
 mod lines;
 
-use libc::STDOUT_FILENO;
 use lines::Source;
 use replay_desk::Desk;
 use replay_peers::Kept;
@@ -133,10 +132,12 @@ fn closed(before: Desk, after: Desk, room: &[u8], out: &mut [u8]) -> Desk {
     after.with_out(checksum::checksum(out, after.out, table))
 }
 
-// Writes the output so far.
+// Writes the output so far. Where it cannot be written, it stays.
 fn write_out(desk: Desk, out: &[u8; OUT]) -> Desk {
-    io::write_all(STDOUT_FILENO, read::front(out, desk.out));
-    desk.with_out(0)
+    if streams::put(read::front(out, desk.out)) {
+        return desk.with_out(0);
+    }
+    desk
 }
 
 // Writes the output once there is enough of it.
@@ -188,6 +189,9 @@ fn main() {
         }
         let line = taken(&room, source.len);
         desk = on_line(desk, &mut tables, &mut digest, &mut delta, line, &mut out);
+        if ENOUGH <= desk.out {
+            return;
+        }
         left -= 1;
     }
     write_out(desk, &out);

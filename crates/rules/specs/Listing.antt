@@ -3,10 +3,10 @@ use Prim.Native.Nat.{ℕ, zero, suc, _+_, _/_, _%_}
 use Prim.Native.Char.{code}
 use Prim.Native.String.{String}
 use Prim.Native.String as str
-use mathlib.Core.Bool.{_&&_}
+use mathlib.Core.Bool.{Bool, _&&_, not}
 use mathlib.Core.List.{[], _∷_, _++_}
 use lib.ListN.{length}
-use lib.Dec.{leb, ltb}
+use lib.Dec.{eqb, leb, ltb}
 use Rattle.fields.specs.Numbers.{Bytes}
 use Rattle.fields.specs.Choice.{pick}
 use Rattle.fields.specs.Blocks.{flat}
@@ -31,13 +31,21 @@ digits (suc most) n behind = pick (ltb n 10) ((48 + n) ∷ behind) (digits most 
 unfoldable pub decimal : (n : ℕ) → Bytes
 decimal n = digits 20 n []
 
--- a byte outside 33 to 126 prints as `?`
-abbrev pub shownByte : (b : ℕ) → ℕ
-shownByte b = pick (leb 33 b && leb b 126) b 63
+-- a byte that prints as itself: 33 to 126, but neither `%` nor `=`
+unfoldable pub plain : (b : ℕ) → Bool
+plain b = leb 33 b && (leb b 126 && (not (eqb b 37) && not (eqb b 61)))
+
+-- of a number below 16
+unfoldable pub hexDigit : (n : ℕ) → ℕ
+hexDigit n = pick (ltb n 10) (48 + n) (55 + n)
+
+-- any other byte prints as `%` and two capital hexadecimal digits
+abbrev pub shownByte : (b : ℕ) → Bytes
+shownByte b = pick (plain b) (b ∷ []) (37 ∷ hexDigit (b / 16) ∷ hexDigit (b % 16) ∷ [])
 
 unfoldable pub shownBytes : (text : Bytes) → Bytes
 shownBytes [] = []
-shownBytes (b ∷ l) = shownByte b ∷ shownBytes l
+shownBytes (b ∷ l) = shownByte b ++ shownBytes l
 
 abbrev pub statusText : (status : Status) → Bytes
 statusText Set = ascii "set"
@@ -57,9 +65,13 @@ opLine (KeyValueOp r) =
     ++ (ascii " key=" ++ (shownBytes (r .key) ++ (ascii " value=" ++ (shownBytes (r .value) ++ lineFeed)))))))
 opLine (SetMaxVersionOp m) = ascii "op=max version=" ++ (decimal m ++ lineFeed)
 
+-- the last line of an accepted delta: how many operations and bytes it has
+abbrev pub endLine : (ops bytes : ℕ) → Bytes
+endLine ops bytes = ascii "end=ok ops=" ++ (decimal ops ++ (ascii " bytes=" ++ (decimal bytes ++ lineFeed)))
+
 -- a refused delta prints one line; `n` is the length of the delta's bytes
 unfoldable pub listingOf : (read : Ops) (n : ℕ) → Bytes
-listingOf (Good ops) n = flat opLine ops ++ (ascii "end=ok ops=" ++ (decimal (length ops) ++ (ascii " bytes=" ++ (decimal n ++ lineFeed))))
+listingOf (Good ops) n = flat opLine ops ++ endLine (length ops) n
 listingOf (Faulty r at) n = ascii "end=refused code=" ++ (decimal (numberOf r) ++ (ascii " at=" ++ (decimal at ++ lineFeed)))
 
 unfoldable pub listing : (delta : Bytes) → Bytes

@@ -5,5 +5,8 @@ use rules::sizes;
 fn main() {
     let mut input = [0u8; sizes::LONGEST_DELTA + 1];
     let n = io::read_full(STDIN_FILENO, &mut input);
+    if n <= sizes::LONGEST_DELTA && !streams::ended(STDIN_FILENO) {
+        return;
+    }
     listing_show::show(&input[..n]);
 }

@@ -5,26 +5,25 @@ use mathlib.Core.List.{List, []}
 use native.Mathlib.Omega.{arith}
 use lib.ListN.{length, length-append}
 use Rattle.delta_op.specs.declared.Op.{Op}
-use Rattle.delta_op.specs.Places.{opOf, opAt, widthOf}
+use Rattle.delta_op.specs.Places.{opOf, opAt}
 use Rattle.delta_op.specs.declared.OpRead.the-variants.{Got}
 use Rattle.delta_op.proofs.Reading.{Within}
 use Rattle.rules.specs.Sizes.{maxDelta}
 use Rattle.rules.specs.Listing.{opLine}
-use Rattle.listing.specs.Shapes.{lineLength, linesFrom}
-use Rattle.listing.proofs.Lines.{line-long, line-short, lines-end, lines-bad, lines-next, width-most, within}
+use Rattle.listing.specs.Shapes.{linesFrom}
+use Rattle.listing.proofs.Lines.{line-short, lines-end, lines-bad, lines-next, within}
 use borrow.Author.Needs.{needs}
 use Rattle.listing.proofs.lines_len.Statement.{statement}
 use Rattle.listing.proofs.lines_len.Tie as tie
 
 -- one turn
-turn : (l : List ℕ) (at : ℕ) (o : Op) (next n : ℕ) → opAt l at ≡ Got o next → at < length l → n ≤ 5 * at
-    → (next ≤ length l) × (n + lineLength o ≤ 5 * next) × (length (linesFrom l at) ≡ lineLength o + length (linesFrom l next))
-turn l at o next n e h g =
+turn : (l : List ℕ) (at : ℕ) (o : Op) (next n k : ℕ) → opAt l at ≡ Got o next → at < length l → n ≤ 5 * at → k ≡ length (opLine (opOf l o))
+    → (next ≤ length l) × (n + k ≤ 5 * next) × (length (linesFrom l at) ≡ k + length (linesFrom l next))
+turn l at o next n k e h g q =
     let w : Within (length l) at (Got o next) = within l at o next e in
-    let s : lineLength o ≤ 5 * widthOf o = line-short o in
     let d : length (linesFrom l at) ≡ length (opLine (opOf l o)) + length (linesFrom l next) =
     ap length (lines-next l at h o next e) ∙ length-append (opLine (opOf l o)) (linesFrom l next) in
-    (w .1, omega (arith, w .3, s), omega (arith, d, line-long l o (w .2)))
+    (w .1, omega (arith, w .3, line-short l o (w .2)), omega (arith, d))
 
 abbrev most : ℕ
 most = 5 * maxDelta
@@ -61,16 +60,16 @@ enum-known-read c = search needs
 line-len-requires : tie.Need-line-len-requires Inv-loop μ-loop
 line-len-requires c κs =
     let got = c .before in
-    let l = got .before .before .before .before .before .before .args .delta .now in
-    width-most (length l) (got .read .given .0 .0) (within _ _ _ _ (sym (got .before .before .read-op .ensures) ∙ got .read .given .1) .2)
+    within _ _ _ _ (sym (got .before .before .read-op .ensures) ∙ got .read .given .1) .2
 
 add-n : tie.Need-add-n Inv-loop μ-loop
 add-n c =
     let got = c .before .before in
     let test = got .before .before .before in
     let at-loop = test .before in
-    let t = turn _ _ _ _ _ (sym (got .before .before .read-op .ensures) ∙ got .read .given .1) (test .loop-test .taken) (at-loop .loop .inv .1) in
-    omega (arith, t .1, t .0, c .line-len .ensures, at-loop .before .before .pre)
+    let e = sym (got .before .before .read-op .ensures) ∙ got .read .given .1 in
+    let t = turn _ _ _ _ _ _ e (test .loop-test .taken) (at-loop .loop .inv .1) (c .line-len .ensures) in
+    omega (arith, t .1, t .0, at-loop .before .before .pre)
 
 loop-less : tie.Need-loop-less Inv-loop μ-loop
 loop-less c =
@@ -82,8 +81,9 @@ loop-again c =
     let got = c .before .before in
     let test = got .before .before .before in
     let at-loop = test .before in
-    let t = turn _ _ _ _ _ (sym (got .before .before .read-op .ensures) ∙ got .read .given .1) (test .loop-test .taken) (at-loop .loop .inv .1) in
-    (t .0, omega (arith, t .1, c .line-len .ensures), omega (arith, t .2, c .line-len .ensures, at-loop .loop .inv .2))
+    let e = sym (got .before .before .read-op .ensures) ∙ got .read .given .1 in
+    let t = turn _ _ _ _ _ _ e (test .loop-test .taken) (at-loop .loop .inv .1) (c .line-len .ensures) in
+    (t .0, t .1, omega (arith, t .2, at-loop .loop .inv .2))
 
 returns-2 : tie.Need-returns-2 Inv-loop μ-loop
 returns-2 c =

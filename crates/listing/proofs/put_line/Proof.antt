@@ -1,43 +1,34 @@
 -- `listing::put_line` meets its contract: by the kind of operation. Assumes nothing.
 use Prim.Native.Nat.{ℕ}
-use mathlib.Core.Path.{_≡_, ap, sym, subst}
-use mathlib.Core.List.{List, _++_, append-assoc}
+use mathlib.Core.Path.{_≡_, sym, subst}
+use mathlib.Core.List.{List}
 use native.Mathlib.Omega.{arith}
 use Rattle.fields.specs.Parts.{part}
 use Rattle.fields.proofs.Lent.{seen}
 use Rattle.rules.specs.declared.Status.{Status}
 use Rattle.delta_op.specs.declared.Op.{Op}
 use Rattle.delta_op.specs.declared.Op.the-variants.{KeyValue}
-use Rattle.delta_op.specs.Places.{opOf, Inside}
-use Rattle.rules.specs.Listing.{ascii, decimal, statusText, opLine}
+use Rattle.delta_op.specs.Places.{opOf}
+use Rattle.rules.specs.Listing.{opLine}
 use Rattle.listing_text.specs.Texts.{TextFits}
 use Rattle.listing_text.proofs.Texts.{Put}
-use Rattle.listing.specs.Shapes.{textsText, recordLine}
+use Rattle.listing.specs.Shapes.{recordLine}
+use Rattle.listing.proofs.Lines.{inside, record-line}
 use borrow.Author.Needs.{needs}
 use Rattle.listing.proofs.put_line.Statement.{statement}
 use Rattle.listing.proofs.put_line.Tie as tie
 
-inside : (len : ℕ) (o : Op) (k n v m ver : ℕ) (st : Status) → o ≡ KeyValue k n v m ver st → Inside len o → Inside len (KeyValue k n v m ver st)
-inside len o k n v m ver st e h = rw e at h
-
--- a record's line, of its key and value as they are lent
+-- a record's line has room, and was put
 module _ (l : List ℕ) where
-  line : (k n v m ver : ℕ) (st : Status) (o : Op) (key value : List ℕ) → o ≡ KeyValue k n v m ver st → key ≡ part k n l → value ≡ part v m l
-      → recordLine ver st key value ≡ opLine (opOf l o)
-  unfolding opLine
-  line k n v m ver st o key value e p q =
-      rw (e, p, q)
-      (ap (λ (r : List ℕ). ascii "op=kv version=" ++ r) (append-assoc (decimal ver) (ascii " status=" ++ statusText st) (textsText (part k n l) (part v m l))))
-
   record-room : (out : List ℕ) (at k n v m ver : ℕ) (st : Status) (o : Op) (key value : List ℕ) → o ≡ KeyValue k n v m ver st → key ≡ part k n l
       → value ≡ part v m l → TextFits at (opLine (opOf l o)) out → TextFits at (recordLine ver st key value) out
   record-room out at k n v m ver st o key value e p q h =
-      subst (λ (t : List ℕ). TextFits at t out) (sym (line k n v m ver st o key value e p q)) h
+      subst (λ (t : List ℕ). TextFits at t out) (sym (record-line l k n v m ver st o key value e p q)) h
 
   record-put : (out left : List ℕ) (at r k n v m ver : ℕ) (st : Status) (o : Op) (key value : List ℕ) → o ≡ KeyValue k n v m ver st → key ≡ part k n l
       → value ≡ part v m l → Put at (recordLine ver st key value) out left r → Put at (opLine (opOf l o)) out left r
   record-put out left at r k n v m ver st o key value e p q w =
-      subst (λ (t : List ℕ). Put at t out left r) (line k n v m ver st o key value e p q) w
+      subst (λ (t : List ℕ). Put at t out left r) (record-line l k n v m ver st o key value e p q) w
 
 -- the line of an operation: there is room for it, and it was put
 abbrev Fits : tie.Start → Op → Type 0

@@ -39,13 +39,13 @@ array-share-prefix-output c =
     let call = c .before .before .before .before .list-delta in
     within _ (call .last .1 .0) _ (call .kept .1 .0) (sym (same-written _ _ (call .ensures .0)) ∙ c .before .listed .given .1)
 
-slice-aggregate-write-all : tie.Need-slice-aggregate-write-all
-slice-aggregate-write-all c =
+slice-aggregate-put : tie.Need-slice-aggregate-put
+slice-aggregate-put c =
     let call = c .before .before .before .before .before .list-delta in
     sym (length-take-le _ _ (within _ (call .last .1 .0) _ (call .kept .1 .0) (sym (same-written _ _ (call .ensures .0)) ∙ c .before .before .listed .given .1)))
 
-write-all-requires : tie.Need-write-all-requires
-write-all-requires c κs = search needs
+put-requires : tie.Need-put-requires
+put-requires c κs = search needs
 
 enum-told : tie.Need-enum-told
 enum-told c = search needs
@@ -67,8 +67,8 @@ show-spec =
     list-delta-requires
     enum-known-listed
     array-share-prefix-output
-    slice-aggregate-write-all
-    write-all-requires
+    slice-aggregate-put
+    put-requires
     enum-told
     expect-requires
     returns

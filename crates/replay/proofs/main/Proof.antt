@@ -34,6 +34,9 @@ slice-aggregate-on-line c = search needs
 on-line-requires : tie.Need-on-line-requires Inv-loop μ-loop
 on-line-requires c κs = search needs
 
+returns : tie.Need-returns Inv-loop μ-loop
+returns c = search needs
+
 sub-left : tie.Need-sub-left Inv-loop μ-loop
 sub-left c = search needs
 
@@ -46,8 +49,8 @@ loop-again c = search needs
 write-out-requires : tie.Need-write-out-requires Inv-loop μ-loop
 write-out-requires c κs = search needs
 
-returns : tie.Need-returns Inv-loop μ-loop
-returns c = search needs
+returns-2 : tie.Need-returns-2 Inv-loop μ-loop
+returns-2 c = search needs
 
 pub main-spec : {M : Type 1} → statement M
 main-spec =
@@ -62,8 +65,9 @@ main-spec =
     taken-requires
     slice-aggregate-on-line
     on-line-requires
+    returns
     sub-left
     loop-less
     loop-again
     write-out-requires
-    returns)
+    returns-2)
