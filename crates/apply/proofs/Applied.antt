@@ -12,11 +12,9 @@ use lib.Seq.{drop-cons}
 use lib.Dec.{leb}
 use borrow.Author.Tests.{le-leb, lt-leb}
 use Rattle.fields.specs.Choice.{pick, _∈_, here, later}
-use Rattle.fields.specs.Numbers.{natOf, bytesOf, AreBytes}
-use Rattle.fields.specs.Blocks.{zeros}
+use Rattle.fields.specs.Numbers.{natOf, AreBytes}
 use Rattle.fields.specs.Parts.{part, put}
 use Rattle.fields.proofs.Choice.{in-none, in-at}
-use Rattle.fields.proofs.Blocks.{length-zeros}
 use Rattle.fields.proofs.Parts.{put-nil, put-cons}
 use borrow.Rule.Slice.PartMut.{putMid}
 use Rattle.rules.specs.Sizes.{maxRecords, numbers}
@@ -53,7 +51,6 @@ use Rattle.table.specs.Fits.{FitsEntry, LaidNode}
 use Rattle.table.specs.Changes.{withNode, withMax, withGc, withRecs, freshEntry}
 use Rattle.table.specs.Tests.{countOf, recsIn}
 use Rattle.table.proofs.Nodes.{laid-node, decode-encode-node}
-use Rattle.table.proofs.Changed.{fresh-bytes}
 use Rattle.table.proofs.Places.{length-recs}
 use Rattle.table_read.specs.Find.{spanIn, headerOf}
 use Rattle.table_read.specs.declared.Span.the-variants.{Held, Missing}
@@ -74,15 +71,15 @@ pub put-all : (vs l : List ℕ) → length l ≤ length vs → put 0 vs l ≡ vs
 unfolding put
 put-all vs l h = ap (λ (r : List ℕ). vs ++ r) (drop-of-length-le l {i = 0 + length vs} (omega arith)) ∙ append-nil vs
 
--- a reset: zeros, the node's number, the delta's last_gc
-module _ (b : List ℕ) (o : LaidNode b) (n : ℕ) (x c₁ : List ℕ) (p : n ≡ natOf (part 0 8 b)) (z : x ≡ put 0 (zeros nodeWidth) b) (q : c₁ ≡ put 0 (bytesOf 8 n) x) where
+-- a reset: a fresh node under the node's number, with the delta's last_gc
+module _ (b : List ℕ) (o : LaidNode b) (n : ℕ) (c₁ : List ℕ) (p : n ≡ natOf (part 0 8 b)) (q : c₁ ≡ encodeNode (freshEntry n)) where
   fits-fresh : FitsEntry (freshEntry (decodeNode b .number))
   fits-fresh =
       record { number-high = o .fits .number-high; beat-high = omega arith; max-high = omega arith; gc-high = omega arith; few = omega arith; each = λ r m. absurd (in-none m) }
 
   fresh-is : c₁ ≡ encodeNode (freshEntry (decodeNode b .number))
   unfolding decodeNode
-  fresh-is = q ∙ ap (put 0 (bytesOf 8 n)) (z ∙ put-all (zeros nodeWidth) b (omega (arith, length-zeros nodeWidth, o .long))) ∙ fresh-bytes n ∙ ap (λ (k : ℕ). encodeNode (freshEntry k)) p
+  fresh-is = q ∙ ap (λ (k : ℕ). encodeNode (freshEntry k)) p
 
   pub laid-fresh : LaidNode c₁
   laid-fresh = subst LaidNode (sym fresh-is) (laid-node (freshEntry (decodeNode b .number)) fits-fresh)

@@ -35,8 +35,7 @@ fn reset(node: &mut [u8], last_gc: u64)
     ensures { λ _. ⌜ now (node .exit) ≡ encodeNode (emptied «last_gc» (decodeNode (now (node .entry)))) ⌝ }
 {
     let number = fields::read_u64(node, layout::NUMBER);
-    fields::clear(node, 0, layout::NODE);
-    fields::write_u64(node, layout::NUMBER, number);
+    table_write::write_fresh(node, number);
     table_write::set_last_gc(node, last_gc);
 }
 

@@ -14,7 +14,6 @@ use Rattle.rules.specs.declared.Status.{Status}
 use Rattle.rules.specs.declared.Status.the-variants.{Set, Delete, Ttl}
 use Rattle.rules.specs.declared.Heartbeat.{Heartbeat}
 use Rattle.rules.specs.declared.Header.{Header}
-use Rattle.rules.specs.declared.Record.{Record}
 use Rattle.rules.specs.declared.Beat.{Beat}
 use Rattle.rules.specs.declared.Refusal.{Refusal}
 use Rattle.rules.specs.declared.Refusal.the-variants.{TooLong, NoKey, NodeFull, Exhausted}
@@ -70,9 +69,6 @@ fresh = record { heartbeat = beats 0; max = 0; last-gc = 0; recs = [] }
 
 abbrev pub freshHeader : Header
 freshHeader = record { heartbeat = beats 0; max = 0; «last_gc» = 0 }
-
-abbrev pub emptyRecord : Record
-emptyRecord = record { keylen = 0; valuelen = 0; version = 0; status = Set; start = 0 }
 
 -- the record of a key
 unfoldable pub find : (key : Bytes) (recs : List Rec) → Option Rec

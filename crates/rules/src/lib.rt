@@ -2,7 +2,7 @@
 ghost use Prim.Native.Nat.{ℕ};
 ghost use mathlib.Core.Path.{_≡_};
 ghost use Rattle.rules.specs.Answers.{numberOf, codeOf, modeOf};
-ghost use Rattle.rules.specs.Node.{freshHeader, offerOf, emptyRecord};
+ghost use Rattle.rules.specs.Node.{freshHeader, offerOf};
 ghost use Rattle.rules.specs.Apply.{statusOf, newerOf, waysOf};
 ghost use Rattle.rules.specs.Delta.{statusByte};
 ghost use Rattle.rules.specs.Layout.{statusOfByte};
@@ -63,18 +63,6 @@ impl Record {
     pub const KEY: usize = 32;
 
     pub const VALUE: usize = 64;
-
-    pub fn new() -> Self
-        ensures { λ r. ⌜ r ≡ emptyRecord ⌝ }
-    {
-        Record {
-            keylen: 0,
-            valuelen: 0,
-            version: 0,
-            status: Status::Set,
-            start: 0,
-        }
-    }
 }
 
 // What a node has beside its records.

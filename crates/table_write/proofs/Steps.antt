@@ -12,12 +12,13 @@ use Rattle.fields.specs.Parts.{part, put}
 use Rattle.fields.specs.Blocks.{zeros, fit, insertAt, removeAt}
 use Rattle.fields.specs.Widths.{joined, offset}
 use Rattle.fields.proofs.Numbers.{length-bytesOf}
-use Rattle.fields.proofs.Parts.{put-put, put-behind, length-put, length-part}
+use Rattle.fields.proofs.Parts.{put-put, put-behind, length-put}
 use Rattle.fields.proofs.Blocks.{length-zeros, zeros-add, length-fit, fit-pad}
 use Rattle.rules.specs.Sizes.{maxNodes, maxRecords, maxKey, maxValue}
-use Rattle.rules.specs.Node.{Rec}
+use Rattle.rules.specs.Node.{Rec, freshHeader}
 use Rattle.rules.specs.Delta.{statusByte}
-use Rattle.rules.specs.Layout.{recPlace, nodePlace, recWidths, recWidth, nodeWidths, nodeWidth, tableWidths, tableWidth, encodeRec, encodeNode, decodeNode, decodeRec, encode, decode}
+use Rattle.rules.specs.Layout.{recPlace, nodePlace, recWidths, recWidth, nodeWidths, nodeWidth, tableWidths, encodeRec, encodeNode, decodeNode, decodeRec, encode, decode}
+use Rattle.rules.specs.declared.Header.{Header}
 use Rattle.rules.specs.declared.Status.{Status}
 use Rattle.table.specs.Tests.{countOf, nodesOf, recsIn}
 use Rattle.table.specs.Fits.{LaidNode, LaidTable}
@@ -25,7 +26,7 @@ use Rattle.table.specs.Changes.{withRecAt, withNewRec, withoutRec, freshEntry, 
 use Rattle.table.proofs.Tables.{length-decode}
 use Rattle.table.proofs.Places.{length-recs}
 use Rattle.table_write.specs.Rows.{blocksIn, blockPlace, behindBlock, lessBlock, withoutBlock}
-use Rattle.table.proofs.Changed.{node-rec-set, node-rec-insert, node-rec-remove, table-insert, table-remove, fresh-bytes}
+use Rattle.table.proofs.Changed.{node-rec-set, node-rec-insert, node-rec-remove, table-insert, table-remove, fresh-bytes, put-beat, put-max, put-gc}
 
 -- ---- a text in its room
 
@@ -149,24 +150,37 @@ record-gone b o j h =
     ∙ less-suc (offset nodeWidths 4) recWidth j (length (recsIn b)) (encodeNode (decodeNode b))
     ∙ node-rec-remove (decodeNode b) (o .fits .few) j (decodeRec []) (rw length-recs h)
 
+-- ---- a fresh node
+
+-- the three numbers of a header, stored in a node's bytes
+abbrev put-header : Header → List ℕ → List ℕ
+put-header h l =
+    put (offset nodeWidths 3) (bytesOf 8 (h .«last_gc»)) (put (offset nodeWidths 2) (bytesOf 8 (h .max)) (put (offset nodeWidths 1) (bytesOf 8 (h .heartbeat .0)) l))
+
+-- zeros, the number, and the header that `Header::new` gives
+pub fresh-steps : (b s1 s2 s3 s4 s5 : List ℕ) (k : ℕ) (h : Header) → h ≡ freshHeader → length b ≡ nodeWidth → s1 ≡ put 0 (zeros nodeWidth) b
+    → s2 ≡ put (offset nodeWidths 0) (bytesOf 8 k) s1 → s3 ≡ put (offset nodeWidths 1) (bytesOf 8 (h .heartbeat .0)) s2
+    → s4 ≡ put (offset nodeWidths 2) (bytesOf 8 (h .max)) s3 → s5 ≡ put (offset nodeWidths 3) (bytesOf 8 (h .«last_gc»)) s4 → s5 ≡ encodeNode (freshEntry k)
+fresh-steps b s1 s2 s3 s4 s5 k h new long e1 e2 e3 e4 e5 =
+    let cleared : s1 ≡ zeros nodeWidth = e1 ∙ put-whole (zeros nodeWidth) b (length-zeros nodeWidth ∙ sym long) in
+    let named : s2 ≡ encodeNode (freshEntry k) = e2 ∙ ap (put (offset nodeWidths 0) (bytesOf 8 k)) cleared ∙ fresh-bytes k in
+    e5
+    ∙ ap (put (offset nodeWidths 3) (bytesOf 8 (h .«last_gc»))) (e4 ∙ ap (put (offset nodeWidths 2) (bytesOf 8 (h .max))) e3)
+    ∙ ap₂ put-header new named
+    ∙ ap (λ (l : List ℕ). put (offset nodeWidths 3) (bytesOf 8 0) (put (offset nodeWidths 2) (bytesOf 8 0) l)) (put-beat (freshEntry k) 0)
+    ∙ ap (put (offset nodeWidths 3) (bytesOf 8 0)) (put-max (freshEntry k) 0)
+    ∙ put-gc (freshEntry k) 0
+
 -- ---- the nodes of a table
 
 module _ (l : List ℕ) (o : LaidTable l) (i : ℕ) where
-  pub add-steps : (s1 s2 s3 s4 : List ℕ) (n k : ℕ) → n ≡ nodesOf l → i ≤ nodesOf l → nodesOf l < maxNodes
-      → s1 ≡ put (nodePlace i + nodeWidth) (part (nodePlace i) ((n - i) * nodeWidth) l) l → s2 ≡ put (nodePlace i) (zeros nodeWidth) s1
-      → s3 ≡ put (nodePlace i) (bytesOf 8 k) s2 → s4 ≡ put (offset tableWidths 0) (bytesOf 1 (n + 1)) s3 → s4 ≡ encode (insertAt i (freshEntry k) (decode l))
-  add-steps s1 s2 s3 s4 n k en h g e1 e2 e3 e4 =
-      let e : length l ≡ tableWidth = o .long in
-      let ml : length (part (nodePlace i) ((n - i) * nodeWidth) l) ≡ (n - i) * nodeWidth = length-part (nodePlace i) ((n - i) * nodeWidth) l (omega arith) in
-      let q : length s1 ≡ tableWidth = ap length e1 ∙ length-put (nodePlace i + nodeWidth) (part (nodePlace i) ((n - i) * nodeWidth) l) l (rw ml (omega arith)) ∙ e in
+  pub add-steps : (s1 s2 s3 : List ℕ) (n k : ℕ) → n ≡ nodesOf l → i ≤ nodesOf l → nodesOf l < maxNodes
+      → s1 ≡ put (nodePlace i + nodeWidth) (part (nodePlace i) ((n - i) * nodeWidth) l) l → s2 ≡ put (nodePlace i) (encodeNode (freshEntry k)) s1
+      → s3 ≡ put (offset tableWidths 0) (bytesOf 1 (n + 1)) s2 → s3 ≡ encode (insertAt i (freshEntry k) (decode l))
+  add-steps s1 s2 s3 n k en h g e1 e2 e3 =
       let a : ℕ = nodePlace i in
-      let node : s3 ≡ put a (encodeNode (freshEntry k)) s1 =
-      e3
-      ∙ ap (put a (bytesOf 8 k)) e2
-      ∙ put-put a (bytesOf 8 k) (zeros nodeWidth) s1 (rw (length-bytesOf, length-zeros) (omega arith)) (rw length-zeros (omega arith))
-      ∙ ap (λ (v : List ℕ). put a v s1) (fresh-bytes k) in
       let f : ℕ → List ℕ → List ℕ = λ m x. put (offset tableWidths 0) (bytesOf 1 (m + 1)) (put a (encodeNode (freshEntry k)) (put (a + nodeWidth) (part a ((m - i) * nodeWidth) x) x)) in
-      let all : s4 ≡ f n l = e4 ∙ ap (put (offset tableWidths 0) (bytesOf 1 (n + 1))) (node ∙ ap (put a (encodeNode (freshEntry k))) e1) in
+      let all : s3 ≡ f n l = e3 ∙ ap (put (offset tableWidths 0) (bytesOf 1 (n + 1))) (e2 ∙ ap (put a (encodeNode (freshEntry k))) e1) in
       all
       ∙ ap₂ f (en ∙ sym (length-decode l)) (sym (o .is))
       ∙ table-insert (decode l) (o .fits .few) i (freshEntry k) (rw length-decode h) (rw length-decode g)

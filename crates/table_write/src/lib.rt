@@ -1,5 +1,6 @@
 // Writing on a good table: a number of a node's header, a record, a node. Each function leaves exactly the bytes of the changed node or table; room
 // that falls free is cleared, so that what is removed leaves no byte behind.
+use rules::Header;
 use rules::Heartbeat;
 use rules::Record;
 use rules::Status;
@@ -12,7 +13,7 @@ ghost use Rattle.fields.specs.Numbers.{bytesOf};
 ghost use Rattle.fields.specs.Parts.{put};
 ghost use Rattle.fields.specs.Blocks.{fit, insertAt, removeAt};
 ghost use Rattle.rules.specs.Sizes.{maxNodes, maxRecords, maxKey, maxValue};
-ghost use Rattle.rules.specs.Layout.{recWidth, encodeRec, encodeNode, decodeNode, encode, decode};
+ghost use Rattle.rules.specs.Layout.{recWidth, nodeWidth, encodeRec, encodeNode, decodeNode, encode, decode};
 ghost use Rattle.table.specs.Tests.{countOf, nodesOf};
 ghost use Rattle.table.specs.Fits.{LaidNode, LaidTable};
 ghost use Rattle.table.specs.Changes.{withBeat, withMax, withGc, withRecAt, withNewRec, withoutRec, freshEntry, recOf};
@@ -135,6 +136,20 @@ pub fn set_last_gc(node: &mut [u8], last_gc: u64)
     fields::write_u64(node, layout::LAST_GC, last_gc);
 }
 
+// A fresh node with this number, whatever stood in the node's bytes.
+pub fn write_fresh(node: &mut [u8], number: u64)
+    requires { ⌜ length (now node) ≡ nodeWidth ⌝ }
+    ensures { λ _. ⌜ now (node .exit) ≡ encodeNode (freshEntry number) ⌝ }
+{
+    let header = Header::new();
+    let beat = header.heartbeat;
+    fields::clear(node, 0, layout::NODE);
+    fields::write_u64(node, layout::NUMBER, number);
+    fields::write_u64(node, layout::HEARTBEAT, beat.0);
+    fields::write_u64(node, layout::MAX, header.max);
+    fields::write_u64(node, layout::LAST_GC, header.last_gc);
+}
+
 // A fresh node comes before node `i` of a table that has room.
 pub fn insert_node(table: &mut [u8], i: usize, number: u64)
     requires { ⌜ LaidTable (now table) × (i ≤ nodesOf (now table)) × (nodesOf (now table) < maxNodes) ⌝ }
@@ -142,14 +157,9 @@ pub fn insert_node(table: &mut [u8], i: usize, number: u64)
 {
     let n = fields::byte_at(table, layout::NODE_COUNT);
     let a = table::node_place(i);
-    fields::move_up(
-        table,
-        a,
-        a + layout::NODE,
-        fields::times(n - i, layout::NODE),
-    );
-    fields::clear(table, a, layout::NODE);
-    fields::write_u64(table, a, number);
+    let e = a + layout::NODE;
+    fields::move_up(table, a, e, fields::times(n - i, layout::NODE));
+    write_fresh(&mut table[a..e], number);
     fields::write_byte(table, layout::NODE_COUNT, n + 1);
 }
 
