@@ -58,6 +58,10 @@ def table(*slots, mode=0):
     return ((bytes([len(slots)]) + b"".join(slots)).ljust(AREA, b"\0") + bytes([mode])).ljust(TABLE, b"\0")
 
 
+def put(data, place, byte):
+    return data[:place] + bytes([byte]) + data[place + 1:]
+
+
 def apply(*ops, now=5, places=8):
     return f"apply {x(b''.join(ops))} {now} {places}"
 
@@ -221,6 +225,15 @@ def reading():
         yield f"list 1 x6d {places}"
     for places in (29, 30, 31, 32, 33):
         yield f"list 1 x {places}"
+
+
+def keys():
+    """Keys are ordered by their first difference, whatever stands behind it: at each of the first 16 places, which are two words of eight."""
+    yield "add 1"
+    for place in range(16):
+        for byte, behind in ((b"a", b"z"), (b"b", b"a")):
+            yield f"write 1 {x(b'm' * place + byte + behind * (19 - place))} x 0 9"
+    yield "list 1 x6d 32"
 
 
 def removal():
@@ -507,6 +520,16 @@ def room():
     yield "digest - 0 66"
 
 
+def fence():
+    """A fenced table: own (10,3) against a last_gc below, at and above 10, step 1 before the fence; own (10,10) and (3,10), where it is down."""
+    for last_gc, most in ((10, 3), (10, 10), (3, 10)):
+        for told, start in ((9, 0), (10, 0), (11, 0), (9, most + 1)):
+            yield "make 1"
+            yield "add 1"
+            yield apply(node(1, last_gc), kv(b"a", b"1", most))
+            yield apply(node(1, told, start), kv(b"b", b"2", most + 2))
+
+
 def exchange():
     """Two hubs: digest, delta, applied, until the follower has all; late and repeated deltas; a reset after removal."""
     def round_trip(mtu, ties, now=9):
@@ -579,13 +602,35 @@ def bad_tables():
     for data in broken:
         yield f"table {x(data)}"
         yield from CALLS
+    # The first record begins behind a byte of the table and 33 of its node; its value's length is 33 bytes on.
+    hidden = (put(good, 34 + 2, 1), put(table(slot(7, [record(b"a", b"", 1)], 1)), 34 + 33, 65), table(slot(7, [one, record(b"b", b"2", 2, 3, 9)], 2)),
+              table(slot(7, [one, record(b"a", b"2", 2)], 2)), good[:-2] + b"\1\1")
+    for data in hidden:
+        yield f"table {x(data)}"
+        yield "beat 7"
+
+
+def malformed():
+    """Lines that are not of the language, each beside one that is. The tables and the hub stay."""
+    yield "add 1"
+    for number in (":", "1:", "/", "", "+1", "-1", "a", "1,2", str(TOP + 1), str(10 * TOP)):
+        yield f"add {number}"
+    for key in ("", "61", "X61", "x6", "x6g", "x6:", "x6/", "x6`", "x6A", "@digest"):
+        yield f"get 1 {key}"
+    for numbers in ("", ",", "1,", ",1", "1,,2", "1,:", "--"):
+        yield f"digest {numbers} 0 34"
+    yield from ("", " ", "add", "add 1 ", "add  1", " add 1", "add 1 2", "Add 1", "adds 1", "ad 1", "new 0", "make", "hub", "hub 2", "hub :", "dump 0",
+                "readdelta", "readdelta @delt", "table @", "gc 1")
+    yield "add 2"
 
 
 SCRIPTS = {
-    "nodes": nodes, "beats": beats, "sizes": sizes, "versions": versions, "statuses": statuses, "wanted": wanted, "reading": reading, "removal": removal,
+    "nodes": nodes, "beats": beats, "sizes": sizes, "versions": versions, "statuses": statuses, "wanted": wanted, "reading": reading, "keys": keys,
+    "removal": removal,
     "digests": digests, "digest-reading": digest_reading, "delta-reading": delta_reading, "delta-lengths": delta_lengths, "asking": asking,
     "from": from_where, "in-line": in_line,
-    "cuts": cuts, "longest-record": longest_record, "verdicts": verdicts, "taking": taking, "room-counts": room, "exchange": exchange, "bad-tables": bad_tables,
+    "cuts": cuts, "longest-record": longest_record, "verdicts": verdicts, "taking": taking, "room-counts": room, "fence": fence, "exchange": exchange,
+    "bad-tables": bad_tables, "malformed": malformed,
 }
 
 if __name__ == "__main__":

@@ -72,7 +72,7 @@ pub fn empty() -> Vec<u8> {
 /// The same table where removals have gone up to this version in each node.
 pub fn with_last_gc(table: &[u8], last_gc: u64) -> Vec<u8> {
     let mut table = table.to_vec();
-    for node in table[1..].chunks_mut(table::NODE_BYTES) {
+    for node in table[1..table::AREA_BYTES].chunks_mut(table::NODE_BYTES) {
         node[24..32].copy_from_slice(&last_gc.to_le_bytes());
     }
     table

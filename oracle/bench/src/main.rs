@@ -17,6 +17,7 @@ use std::hint::black_box;
 use std::time::Instant;
 
 use judge::timed::{self, Timed};
+use script::table::AREA_BYTES;
 
 use crate::inputs::{NODES, RECORDS};
 
@@ -523,6 +524,9 @@ fn main() {
         true,
         Aim::None,
     );
+    let mut fenced = fresh.clone();
+    fenced[AREA_BYTES] = 1;
+    applying(&mut rows, "apply 16,384 bytes to a fresh table, fenced", &fenced, &delta, APPLY, false, Aim::Times(0.2));
     applying(&mut rows, "apply 16,384 bytes, all rejected", &full, &delta, REJECT, false, Aim::Times(0.2));
     let (mixed, _) = delta_of(&scattered);
     applying(

@@ -120,13 +120,11 @@ fn tell(sides: &Sides, count: u64, seed: u64) -> ExitCode {
 /// How many of the scripts show a difference. Each begins with both tables empty; only `@digest` and `@delta` reach from one
 /// into the next.
 fn differing_of(sides: &Sides, batch: &[Vec<String>]) -> usize {
-    let between: Vec<String> = BETWEEN.iter().map(|line| line.to_string()).collect();
-    let whole: Vec<String> = batch.iter().flat_map(|script| between.iter().chain(script)).cloned().collect();
-    let (judge, other) = sides.answers(&whole);
+    let (judge, other) = sides.answers(&joined(batch));
     let mut at = 0;
     let mut differing = 0;
     for script in batch {
-        let end = at + between.len() + script.len();
+        let end = at + BETWEEN.len() + script.len();
         if judge.get(at..end) != other.get(at..end) || judge.len() < end {
             differing += 1;
         }
@@ -138,10 +136,22 @@ fn differing_of(sides: &Sides, batch: &[Vec<String>]) -> usize {
 /// Lines that bring both tables back to empty, between two scripts that are answered by one start.
 const BETWEEN: [&str; 4] = ["hub 1", "new", "hub 0", "new"];
 
+/// The scripts behind one another. A made line is a call: one that is none would be `malformed` on both sides and show nothing.
+fn joined(batch: &[Vec<String>]) -> Vec<String> {
+    let mut whole = Vec::new();
+    for script in batch {
+        whole.extend(BETWEEN.map(String::from));
+        whole.extend_from_slice(script);
+    }
+    for line in &whole {
+        assert!(script::Call::parse(line).is_some(), "not a call: {line}");
+    }
+    whole
+}
+
 /// Answers the scripts and counts. The error is the first script that shows a difference alone, else all of them.
 fn answer(sides: &Sides, batch: &[Vec<String>], counts: &mut Counts, what: &str) -> Result<(), Vec<String>> {
-    let between: Vec<String> = BETWEEN.iter().map(|line| line.to_string()).collect();
-    let whole: Vec<String> = batch.iter().flat_map(|script| between.iter().chain(script)).cloned().collect();
+    let whole = joined(batch);
     let (judge, other) = sides.answers(&whole);
     if judge == other && judge.len() == whole.len() {
         counts.scripts += batch.len();

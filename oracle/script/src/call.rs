@@ -57,11 +57,16 @@ pub fn parse_hex(word: &str) -> Option<Vec<u8>> {
     digits.chunks(2).map(|pair| Some(digit(pair[0])? << 4 | digit(pair[1])?)).collect()
 }
 
+/// Decimal digits alone: the standard reader takes a `+` before them.
+fn parse_number(word: &str) -> Option<u64> {
+    word.bytes().all(|byte| byte.is_ascii_digit()).then(|| word.parse().ok())?
+}
+
 struct Words<'a>(std::str::Split<'a, char>);
 
 impl Words<'_> {
     fn number(&mut self) -> Option<u64> {
-        self.0.next()?.parse().ok()
+        parse_number(self.0.next()?)
     }
 
     fn size(&mut self) -> Option<usize> {
@@ -71,7 +76,7 @@ impl Words<'_> {
     fn numbers(&mut self) -> Option<Vec<u64>> {
         match self.0.next()? {
             "-" => Some(Vec::new()),
-            list => list.split(',').map(|number| number.parse().ok()).collect(),
+            list => list.split(',').map(parse_number).collect(),
         }
     }
 
@@ -155,7 +160,9 @@ mod tests {
             Call::parse("write 18446744073709551615 x x00ff 3 7"),
             Some(Call::Write { node: u64::MAX, key: vec![], value: vec![0, 255], status: 3, now: 7 })
         );
-        for wrong in ["", "write 1 x x 0", "write 1 x x x 0 0", "write 1 x x -1 0", "add -1", "get 1 xA0", "get 1 x0", "add  1", "hub 2"] {
+        let calls = ["", "write 1 x x 0", "write 1 x x x 0 0", "write 1 x x -1 0", "get 1 xA0", "get 1 x0", "hub 2"];
+        let numbers = ["add -1", "add +1", "add :", "add  1", "digest +1 0 2"];
+        for wrong in calls.into_iter().chain(numbers) {
             assert_eq!(Call::parse(wrong), None, "{wrong:?}");
         }
     }

@@ -68,13 +68,15 @@ impl<S: Side> Desk<S> {
     }
 }
 
-/// Answers each line of the script by one line: the answer and the checksum of the current table.
+/// Answers each line of the script by one line: the answer and the checksum of the current table; `malformed` alone where the
+/// line is not of the language.
 pub fn answer_script<S: Side>(input: impl BufRead, output: &mut impl Write) -> std::io::Result<()> {
     let mut desk = Desk::<S>::new();
     for line in input.lines() {
         let line = line?;
         let Some(call) = Call::parse(&line) else {
-            return Err(std::io::Error::other(format!("not a call: {line}")));
+            writeln!(output, "malformed")?;
+            continue;
         };
         let answer = desk.answer(call);
         let table = desk.hubs[desk.current].table_bytes();
