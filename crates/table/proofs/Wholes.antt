@@ -15,7 +15,7 @@ use Rattle.fields.specs.Numbers.{AreBytes, natOf, bytesOf}
 use Rattle.fields.specs.Order.{sameBytes}
 use Rattle.fields.specs.Parts.{part, put}
 use Rattle.fields.specs.Blocks.{zeros, allZero, flat, blocks, unblock}
-use Rattle.fields.specs.Widths.{Widths, joined}
+use Rattle.fields.specs.Widths.{Widths, joined, offset}
 use Rattle.fields.proofs.Choice.{every-at, same-test, and-left, and-right, and-intro, all-in, at-in}
 use Rattle.fields.proofs.Numbers.{length-bytesOf, nat-bytes, nat-part, part-back, bytes-part, bytes-drop}
 use Rattle.fields.proofs.Parts.{length-part, part-drop}
@@ -244,7 +244,7 @@ module _ (held b : List ℕ) (h : AreBytes b) (e : length b ≡ tailWidth) (g : 
   few-in : removedIn b ≤ maxRemoved
   few-in = leb-true _ _ (at 2)
 
-  room : List ℕ
+  abbrev room : List ℕ
   room = drop (removedPlace 0) b
 
   room-long : length room ≡ maxRemoved * removedWidth
