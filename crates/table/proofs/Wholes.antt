@@ -39,7 +39,7 @@ use Rattle.table.proofs.Tables.{length-table, decode-encode, valid-enco
 
 -- ---- the rules of the memory
 
-memory-apart : (held : List ℕ) (mem : Memory) → memoryObeys held mem ≡ true → apart held (removedNumbers mem) ≡ true
+pub memory-apart : (held : List ℕ) (mem : Memory) → memoryObeys held mem ≡ true → apart held (removedNumbers mem) ≡ true
 unfolding memoryObeys
 memory-apart held mem e =
     every-at (leb (length mem) maxRemoved ∷ differ (removedNumbers mem) ∷ apart held (removedNumbers mem) ∷ all removedObeys mem ∷ []) e 2
@@ -102,7 +102,7 @@ module _ (m : Mode) (mem : Memory) where
       small Plain = omega arith
       small Fenced = omega arith
 
-  tail-mode : decodeTail (encodeTail m mem) ≡ m
+  pub tail-mode : decodeTail (encodeTail m mem) ≡ m
   tail-mode = ap modeOfByte mode-in ∙ back m
     where
       back : (m : Mode) → modeOfByte (modeOf m) ≡ m
