@@ -60,9 +60,3 @@ differ-rest (suc i) zero vs h g e = absurd (omega arith)
 differ-rest (suc i) (suc n) [] h g e = absurd (omega arith)
 differ-rest (suc i) (suc n) (x ∷ vs) h g e =
     rw (differ-rest i n vs (omega arith) (omega arith) (sym (rw (suc-sub-suc n i) refl) ∙ e)) (false-not (not (among x (take n vs))))
-
--- what is left with one number more
-pub rest-next : (vs : List ℕ) (i n : ℕ) → i < n → n ≤ length vs → take (n - i) (drop i vs) ≡ getD vs i 0 ∷ take (n - (i + 1)) (drop (i + 1) vs)
-rest-next vs i n h g =
-    let p : n - i ≡ suc (n - (i + 1)) = omega arith in
-    rw (p, add-one i, drop-cons vs i 0 (omega arith))
