@@ -266,10 +266,7 @@ pub fn check_table(table: &[u8]) -> bool
         return false;
     }
     if check_area(&table[..layout::AREA]) {
-        return tail_check::check_tail(
-            &table[..layout::AREA],
-            &table[layout::AREA..layout::TABLE],
-        );
+        return tail_check::check_tail(&table[..layout::AREA], &table[layout::AREA..layout::TABLE]);
     }
     false
 }
