@@ -133,9 +133,9 @@ removed i l =
     go t true = refl
     go t false = refl
 
-asked : (i : ℕ) (l : Bytes) → Of calls.LastHeartbeat (rememberedTold (lentRemoved i l))
+asked-for : (i : ℕ) (l : Bytes) → Of calls.LastHeartbeat (rememberedTold (lentRemoved i l))
 unfolding lentRemoved rememberedTold among calls.refusals
-asked i l = go (validWhole l) (heartbeatOf i (decodeWhole l .memory))
+asked-for i l = go (validWhole l) (heartbeatOf i (decodeWhole l .memory))
   where
     go : (b : Bool) (h : Option Heartbeat) → Of calls.LastHeartbeat (rememberedTold (pick b (rememberedAs h) (remembered.Refused BadTable)))
     go true none = refl
@@ -500,7 +500,7 @@ unfolding calls.leaves
 no-other (calls.new-table t m) = made m t
 no-other (calls.add-node t i) = added (i .value) t
 no-other (calls.remove-node t i) = removed (i .value) t
-no-other (calls.last-heartbeat t i) = asked (i .value) t
+no-other (calls.last-heartbeat t i) = asked-for (i .value) t
 no-other (calls.write t k v i wanted now) = wrote (wanted .value) v (now .value) (i .value) k t
 no-other (calls.delete t k i now) = deleted (now .value) (i .value) k t
 no-other (calls.delete-after-ttl t k i now) = deleted-ttl (now .value) (i .value) k t
