@@ -156,7 +156,7 @@ def bad_memories():
     seven = slot(7, [], 0)
     pairs = tuple((number, 5) for number in range(20, 36))
     broken = (put(table(seven, removed=pairs), AREA + 2, 17), put(table(seven), AREA + 2, 255), table(seven, removed=((7, 5),)),
-              table(seven, removed=pairs[:15] + ((7, 5),)), table(seven, removed=pairs[:3] + ((21, 6),)), table(seven, removed=pairs[:15] + ((20, 5),)),
+              table(seven, removed=pairs[:15] + ((7, 5),)), table(seven, removed=pairs[:2] + ((21, 6),)), table(seven, removed=pairs[:15] + ((20, 5),)),
               put(table(seven, removed=pairs[:1]), AREA + 3 + 16, 1), put(table(seven, removed=pairs[:15]), TABLE - 1, 1),
               put(table(seven, removed=pairs), AREA + 2, 15), put(table(seven, removed=pairs), AREA + 1, 1))
     for data in broken:

@@ -1,7 +1,7 @@
 -- No call but the making of a table, adding and removing changes what a table remembers, or its order. Assumes nothing.
 use Prim.Native.Nat.{ℕ}
 use mathlib.Core.Bool.{Bool, true, false, true≢false}
-use mathlib.Core.List.{List, [], _∷_}
+use mathlib.Core.List.{[], _∷_}
 use mathlib.Core.Path.{_≡_, _∙_, ap, refl, sym}
 use lib.ListN.{take}
 use Rattle.fields.specs.Choice.{pick}
@@ -12,7 +12,7 @@ use Rattle.rules.specs.Local.{Outcome, call, gc, localBeat, offer, write}
 use Rattle.rules.specs.Memory.{Memory}
 use Rattle.rules.specs.Node.{Deleting, DeletingAfterTtl, beats}
 use Rattle.rules.specs.Table.{Table}
-use Rattle.rules.specs.Whole.{Whole, decodeMemory, decodeWhole, encodeWhole, tailOf, validWhole, withTable}
+use Rattle.rules.specs.Whole.{decodeMemory, decodeWhole, encodeWhole, tailOf, validWhole, withTable}
 use Rattle.rules.specs.Lent.{both, lentApply, lentApplyAs, onTable, storedApply, storedIn}
 use Rattle.rules.specs.declared.Answer.the-variants as plain
 use Rattle.rules.specs.declared.Applied.the-variants as applied

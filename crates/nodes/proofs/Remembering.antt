@@ -1,23 +1,21 @@
 -- A node that comes or goes, with the memory behind the area: what the area came back as, and then the tail. Assumes nothing.
-use Prim.Native.Nat.{ℕ, _-_, _≤_}
-use mathlib.Core.Path.{_≡_, refl, ap, ap₂, sym, subst, _∙_}
+use Prim.Native.Nat.{ℕ, _-_}
+use mathlib.Core.Path.{_≡_, refl, ap, sym, subst, _∙_}
 use mathlib.Core.Bool.{Bool, true, false}
 use mathlib.Core.List.{List, _++_}
 use mathlib.Core.Option.{Option, none, some}
 use native.Mathlib.Omega.{arith}
 use lib.ListN.{length, take, drop}
 use Rattle.fields.specs.Choice.{pick}
-use Rattle.fields.specs.Numbers.{natOf}
-use Rattle.fields.specs.Parts.{part, put}
+use Rattle.fields.specs.Parts.{put}
 use Rattle.fields.proofs.Choice.{pick-true}
-use Rattle.fields.proofs.Lent.{lent, seen}
-use Rattle.fields.proofs.Parts.{length-part}
+use Rattle.fields.proofs.Lent.{seen}
 use Rattle.rules.specs.Given.{Gives}
-use Rattle.rules.specs.Node.{Node, beats}
+use Rattle.rules.specs.Node.{Node}
 use Rattle.rules.specs.Table.{Table, among, dropNode, nodeOf, numbersOf}
 use Rattle.rules.specs.Local.{Outcome, add, gives, removeNode}
 use Rattle.rules.specs.Memory.{Memory, forget, heartbeatOf, remember}
-use Rattle.rules.specs.Layout.{nodeWidths, tableWidth, decode, decodeNode, encode, valid}
+use Rattle.rules.specs.Layout.{tableWidth, decode, encode}
 use Rattle.rules.specs.Whole.{Whole, areaOf, decodeMemory, decodeTail, decodeWhole, encodeTail, encodeWhole, tailOf, tailWidth, validWhole, wholeWidth, withMemory, withTable}
 use Rattle.rules.specs.Lent.{addWhole, forgetOn, lentRemoved, rememberOn, rememberedAs, removeWhole, stored}
 use Rattle.rules.specs.declared.Answer.{Answer}
@@ -28,7 +26,7 @@ use Rattle.rules.specs.declared.Refusal.{Refusal}
 use Rattle.rules.specs.declared.Refusal.the-variants.{BadTable, NoNode}
 use Rattle.rules.specs.declared.Remembered.{Remembered}
 use Rattle.rules.specs.declared.Remembered.the-variants as remembered
-use Rattle.rules.proofs.Memories.{OkMemory, add-whole-refused, not-found, remove-whole-refused, whole-memory}
+use Rattle.rules.proofs.Memories.{OkMemory, add-whole-refused, remove-whole-refused, whole-memory}
 use Rattle.rules.proofs.Obeys.{among-in}
 use Rattle.rules.proofs.Refusing.{add-refused, remove-node-refused}
 use Rattle.rules.proofs.Tables.{node-there}

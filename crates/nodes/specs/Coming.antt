@@ -1,5 +1,4 @@
 -- What a rule on the whole table leaves in its bytes, and the heartbeat of a node that may be held.
-use Prim.Native.Nat.{ℕ}
 use mathlib.Core.Option.{Option, none, some}
 use Rattle.fields.specs.Numbers.{Bytes}
 use Rattle.rules.specs.Given.{Given, given}

@@ -1,5 +1,5 @@
 -- What the code leaves in a tail's bytes: one less, one more. Assumes nothing.
-use Prim.Native.Nat.{ℕ, _+_, _*_, _≤_, _<_}
+use Prim.Native.Nat.{ℕ, _+_, _≤_, _<_}
 use mathlib.Core.Path.{_≡_, refl, sym, ap, ap₂, subst, _∙_}
 use mathlib.Core.Bool.{Bool, true, false}
 use mathlib.Core.List.{List, [], _∷_, _++_, append-nil}
@@ -15,10 +15,9 @@ use Rattle.fields.specs.Widths.{joined, offset}
 use Rattle.fields.proofs.Choice.{in-drop}
 use Rattle.fields.proofs.Numbers.{length-bytesOf}
 use Rattle.fields.proofs.Parts.{put-behind}
-use Rattle.rules.specs.Node.{beats}
 use Rattle.rules.specs.Sizes.{maxRemoved}
 use Rattle.rules.specs.Memory.{Memory, Removed, forget, makeRoom, remember, removed, removedObeys}
-use Rattle.rules.specs.Whole.{decodeMemory, decodeRemoved, decodeTail, encodeRemoved, encodeTail, removedPlace, removedWidth, tailWidth, tailWidths}
+use Rattle.rules.specs.Whole.{decodeMemory, decodeRemoved, decodeTail, encodeRemoved, encodeTail, removedPlace, removedWidth, tailWidths}
 use Rattle.rules.specs.declared.Heartbeat.{Heartbeat}
 use Rattle.table.specs.Fits.{LaidTail}
 use Rattle.table.specs.Tests.{removedIn}

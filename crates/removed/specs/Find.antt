@@ -1,5 +1,5 @@
 -- Where a node stands in the memory.
-use Prim.Native.Nat.{ℕ, zero, suc}
+use Prim.Native.Nat.{ℕ, suc}
 use mathlib.Core.List.{[], _∷_}
 use lib.Dec.{eqb}
 use Rattle.fields.specs.Choice.{pick}

@@ -8,7 +8,7 @@ ghost use mathlib.Core.Path.{_≡_};
 ghost use mathlib.Core.List.{[], _∷_, _++_};
 ghost use Prim.Native.Nat.{_≤_, _<_};
 ghost use lib.ListN.{length};
-ghost use Rattle.rules.specs.Sizes.{maxRemoved, numbers};
+ghost use Rattle.rules.specs.Sizes.{maxRemoved};
 ghost use Rattle.rules.specs.Memory as memory;
 ghost use Rattle.rules.specs.Lent.{rememberedAs};
 ghost use Rattle.rules.specs.Whole.{tailWidth, encodeTail, decodeTail, decodeMemory};
@@ -70,7 +70,8 @@ fn make_room(tail: &mut [u8])
 // One more, behind the last.
 fn append(tail: &mut [u8], number: u64, heartbeat: Heartbeat)
     requires { ⌜ LaidTail (now tail) × (removedIn (now tail) < maxRemoved) ⌝ }
-    ensures { λ _. ⌜ now (tail .exit) ≡ encodeTail (decodeTail (now (tail .entry))) (decodeMemory (now (tail .entry)) ++ (memory.removed number heartbeat ∷ [])) ⌝ }
+    ensures { λ _. ⌜ now (tail .exit) ≡ encodeTail (decodeTail (now (tail .entry)))
+        (decodeMemory (now (tail .entry)) ++ (memory.removed number heartbeat ∷ [])) ⌝ }
 {
     let n = fields::byte_at(tail, layout::REMOVED_COUNT);
     let a = table::removed_place(n);

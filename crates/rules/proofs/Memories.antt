@@ -1,6 +1,6 @@
 -- The memory of removed nodes: adding and removing keep its rules, a refused call leaves it, and adding a node that is held forgets nothing. Assumes nothing.
-use Prim.Native.Nat.{ℕ, suc, _+_, _≤_, _<_}
-use mathlib.Core.Bool.{Bool, true, false, not, _&&_, true≢false}
+use Prim.Native.Nat.{ℕ, suc, _≤_, _<_}
+use mathlib.Core.Bool.{Bool, true, false, not}
 use mathlib.Core.List.{List, [], _∷_, _++_}
 use mathlib.Core.Logic.{_⊎_, inl, inr}
 use mathlib.Core.Option.{Option, none, some}
@@ -8,9 +8,9 @@ use mathlib.Core.Path.{_≡_, _∙_, ap, ap₂, refl, subst, sym}
 use native.Mathlib.Omega.{arith}
 use lib.Dec.{eqb, leb, ltb}
 use lib.ListN.{length, drop, getD, length-append, length-drop}
-use borrow.Author.Tests.{eq-eqb, eqb-true, eqb-false, le-leb, leb-true, lt-ltb, ltb-true, ltb-false, not-true}
-use Rattle.fields.specs.Choice.{pick, all, every, _∈_, here, later}
-use Rattle.fields.proofs.Choice.{every-at, and-left, and-right, and-intro, all-from, all-in, in-none, in-cons, in-append, in-right, in-drop}
+use borrow.Author.Tests.{eqb-true, eqb-false, le-leb, leb-true, lt-ltb, ltb-true, ltb-false, not-true}
+use Rattle.fields.specs.Choice.{pick, all, _∈_, here, later}
+use Rattle.fields.proofs.Choice.{every-at, and-left, and-right, and-intro, all-from, all-in, in-none, in-cons, in-append}
 use Rattle.rules.specs.Given.{Given, given}
 use Rattle.rules.specs.Sizes.{maxNodes, maxRemoved, numbers}
 use Rattle.rules.specs.Node.{Node, fresh}
@@ -24,7 +24,7 @@ use Rattle.rules.specs.declared.Answer.{Answer}
 use Rattle.rules.specs.declared.Answer.the-variants as plain
 use Rattle.rules.specs.declared.Refusal.{Refusal}
 use Rattle.rules.specs.declared.Refusal.the-variants.{NinthNode, NoNode}
-use Rattle.rules.proofs.Obeys.{Ascending, OkEntry, among-in, among-not, facts-table, in-among, not-among, number-in, table-facts}
+use Rattle.rules.proofs.Obeys.{Ascending, among-in, among-not, in-among, not-among, number-in, table-facts}
 use Rattle.rules.proofs.Calls.{add-from, add-keeps, drop-from, node-in, number-from, remove-node-keeps}
 use Rattle.rules.proofs.Refusing.{add-refused, remove-node-refused, whole-bytes}
 

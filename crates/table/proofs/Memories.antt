@@ -3,10 +3,10 @@
 use Prim.Native.Nat.{ℕ, suc, _+_, _*_, _-_, _≤_, _<_}
 use mathlib.Core.Path.{_≡_, refl, ap, sym, _∙_, subst}
 use mathlib.Core.Bool.{true}
-use mathlib.Core.List.{List, [], _∷_, _++_, append-nil}
+use mathlib.Core.List.{List, [], _∷_, _++_}
 use native.Mathlib.Omega.{arith}
-use native.Mathlib.Nat.{add-zero, sub-self}
-use lib.ListN.{length, take, drop, drop-of-length-le}
+use native.Mathlib.Nat.{sub-self}
+use lib.ListN.{length, drop, drop-of-length-le}
 use lib.Seq.{take-all}
 use Rattle.fields.specs.Choice.{_∈_}
 use Rattle.fields.specs.Numbers.{Bytes, natOf, bytesOf}
@@ -17,7 +17,7 @@ use Rattle.fields.proofs.Parts.{part-part, part-drop, put-nil}
 use Rattle.fields.proofs.Blocks.{unblock-drop, length-unblock}
 use Rattle.rules.specs.Sizes.{maxRemoved}
 use Rattle.rules.specs.Memory.{Memory, Removed, removedObeys}
-use Rattle.rules.specs.Whole.{decodeMemory, decodeRemoved, decodeTail, decodeWhole, encodeRemoved, encodeTail, removedPlace, removedWidth, removedWidths, tailFields, tailOf, tailWidth, tailWidths, validWhole}
+use Rattle.rules.specs.Whole.{decodeMemory, decodeRemoved, decodeWhole, encodeRemoved, encodeTail, removedPlace, removedWidth, removedWidths, tailFields, tailOf, tailWidth, tailWidths, validWhole}
 use Rattle.rules.specs.declared.Mode.{Mode}
 use Rattle.rules.proofs.Refusing.{whole-bytes}
 use Rattle.rules.proofs.Memories.{whole-memory}

@@ -12,7 +12,7 @@ use Rattle.fields.specs.Numbers.{natOf}
 use Rattle.fields.specs.Parts.{part}
 use Rattle.rules.specs.Sizes.{maxNodes}
 use Rattle.rules.specs.Table.{Table, among, differ, numbersOf}
-use Rattle.rules.specs.Memory.{Memory, apart, memoryObeys, removedNumbers}
+use Rattle.rules.specs.Memory.{Memory, apart, removedNumbers}
 use Rattle.rules.specs.Layout.{nodePlace, tableWidth, decode}
 use Rattle.rules.proofs.Memories.{no-memory}
 use Rattle.table.specs.Tests.{nodesOf}

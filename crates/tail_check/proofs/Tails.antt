@@ -1,6 +1,6 @@
 -- The tests of a tail, one after the other: one that fails is one of them, and past the first four the numbers decide. Assumes nothing.
 use Prim.Native.Nat.{ℕ, _*_, _-_, _≤_, _<_}
-use mathlib.Core.Path.{_≡_, refl, sym, ap, _∙_}
+use mathlib.Core.Path.{_≡_, sym, ap, _∙_}
 use mathlib.Core.Bool.{Bool, true, false, _&&_}
 use mathlib.Core.List.{List}
 use native.Mathlib.Omega.{arith}

@@ -1,5 +1,5 @@
 -- `tail_check::check_numbers` meets its contract. Assumes nothing.
-use mathlib.Core.Path.{_≡_, sym, _∙_}
+use mathlib.Core.Path.{_∙_}
 use native.Mathlib.Omega.{arith}
 use lib.ListN.{take}
 use Rattle.rules.specs.Table.{numbersOf}
