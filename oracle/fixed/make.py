@@ -12,7 +12,7 @@ from pathlib import Path
 HERE = Path(__file__).resolve().parent
 TOP = 2**64 - 1
 NODE, AREA, TABLE = 3713, 29705, 29964
-CALLS = ("add 7", "remove 7", "write 7 x61 x31 0 9", "write 7 x61 x31 2 5", "write 7 x61 x31 1 5", "delete 7 x61 5", "deletettl 7 x61 5",
+CALLS = ("add 7", "remove 7", "removed 7", "write 7 x61 x31 0 9", "write 7 x61 x31 2 5", "write 7 x61 x31 1 5", "delete 7 x61 5", "deletettl 7 x61 5",
          "offer 7 3", "beat 7", "get 7 x61", "list 7 x 32", "gc 9 1", "digest - 0 258", "compute x0000 100 - 0 0 100", "apply x 5 8")
 
 
@@ -54,8 +54,10 @@ def slot(number, records, max_version, heartbeat=0, last_gc=0):
     return (u64(number, heartbeat, max_version, last_gc) + bytes([len(records)]) + b"".join(records)).ljust(NODE, b"\0")
 
 
-def table(*slots, mode=0):
-    return ((bytes([len(slots)]) + b"".join(slots)).ljust(AREA, b"\0") + bytes([mode])).ljust(TABLE, b"\0")
+def table(*slots, mode=0, removed=()):
+    """The removed nodes with their heartbeats, the longest remembered first."""
+    tail = bytes([mode, 0, len(removed)]) + b"".join(u64(*pair) for pair in removed)
+    return ((bytes([len(slots)]) + b"".join(slots)).ljust(AREA, b"\0") + tail).ljust(TABLE, b"\0")
 
 
 def put(data, place, byte):
@@ -83,6 +85,87 @@ def nodes():
     yield "get 255 x61"
     yield "new"
     yield "remove 5"
+
+
+def removed():
+    """Removed nodes are remembered with their last heartbeats, sixteen of them; adding forgets one, and asking changes nothing."""
+    yield "removed 1"
+    yield "remove 1"
+    yield "removed 1"
+    yield "add 1"
+    yield "removed 1"
+    yield "remove 1"
+    yield "removed 1"
+    yield "add 1"
+    yield "removed 1"
+    for number in range(2, 19):
+        yield f"add {number}"
+        yield f"offer {number} {100 + number}"
+        yield f"remove {number}"
+        yield f"remove {number}"
+    # 2 went by the seventeenth; 3 is the longest remembered now, and asking for it does not make it younger.
+    for number in (2, 3, 18, 3):
+        yield f"removed {number}"
+    yield "add 19"
+    yield f"offer 19 {TOP}"
+    yield "remove 19"
+    for number in (3, 4, 19):
+        yield f"removed {number}"
+    # One in the middle is forgotten; the others keep their order, so that the next two removals need no room.
+    yield "add 10"
+    yield "removed 10"
+    yield "add 10"
+    for number in (4, 9, 11, 18):
+        yield f"removed {number}"
+    yield "remove 10"
+    yield "removed 10"
+    yield "removed 4"
+    yield "remove 1"
+    yield "removed 1"
+    yield "removed 4"
+    yield "removed 5"
+    # A ninth node is refused and forgets nothing; a node that is held is added again and forgets nothing.
+    for number in range(20, 28):
+        yield f"add {number}"
+    yield "add 5"
+    yield "removed 5"
+    yield "add 20"
+    yield "removed 6"
+    yield "dump"
+    # A reset is no removal, and a removal by the clock takes records alone.
+    yield "offer 20 7"
+    yield apply(node(20, 3), top(3))
+    yield "removed 20"
+    yield "gc 9 1"
+    yield "remove 20"
+    yield "removed 20"
+    yield "make 1"
+    yield "removed 5"
+    # Tables with a memory of their own: full, and with the largest numbers.
+    full = tuple((number, number + 100) for number in range(30, 46))
+    yield f"table {x(table(slot(7, [], 0, heartbeat=9), removed=full, mode=1))}"
+    for call in ("removed 30", "removed 45", "removed 7", "removed 0", "remove 7", "removed 30", "removed 31", "removed 7", "add 40", "dump"):
+        yield call
+    yield f"table {x(table(slot(0, [], 0), removed=((TOP, TOP), (1, 0))))}"
+    for call in (f"removed {TOP}", "removed 1", "removed 0", f"add {TOP}", f"removed {TOP}", "remove 0", "removed 0", "dump"):
+        yield call
+
+
+def bad_memories():
+    """14 for a memory of more than 16, with a node twice, with one that is held, or with a free place that is not zero."""
+    seven = slot(7, [], 0)
+    pairs = tuple((number, 5) for number in range(20, 36))
+    broken = (put(table(seven, removed=pairs), AREA + 2, 17), put(table(seven), AREA + 2, 255), table(seven, removed=((7, 5),)),
+              table(seven, removed=pairs[:15] + ((7, 5),)), table(seven, removed=pairs[:2] + ((21, 6),)), table(seven, removed=pairs[:15] + ((20, 5),)),
+              put(table(seven, removed=pairs[:1]), AREA + 3 + 16, 1), put(table(seven, removed=pairs[:15]), TABLE - 1, 1),
+              put(table(seven, removed=pairs), AREA + 2, 15), put(table(seven, removed=pairs), AREA + 1, 1))
+    for data in broken:
+        yield f"table {x(data)}"
+        yield from ("removed 7", "removed 20", "add 7", "remove 7", "beat 7")
+    yield f"table {x(table(seven, removed=pairs))}"
+    yield from ("removed 7", "removed 20", "add 7", "remove 7", "beat 7")
+    yield f"table {x(put(table(seven), AREA + 2, 1))}"
+    yield from ("removed 0", "add 0", "removed 0")
 
 
 def beats():
@@ -626,7 +709,7 @@ def malformed():
 
 SCRIPTS = {
     "nodes": nodes, "beats": beats, "sizes": sizes, "versions": versions, "statuses": statuses, "wanted": wanted, "reading": reading, "keys": keys,
-    "removal": removal,
+    "removal": removal, "removed": removed, "bad-memories": bad_memories,
     "digests": digests, "digest-reading": digest_reading, "delta-reading": delta_reading, "delta-lengths": delta_lengths, "asking": asking,
     "from": from_where, "in-line": in_line,
     "cuts": cuts, "longest-record": longest_record, "verdicts": verdicts, "taking": taking, "room-counts": room, "fence": fence, "exchange": exchange,

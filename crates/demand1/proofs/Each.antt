@@ -15,21 +15,23 @@ use Rattle.fields.specs.Parts.{part}
 use Rattle.fields.specs.Widths.{joined}
 use Rattle.fields.proofs.Choice.{all-from}
 use Rattle.rules.specs.Sizes.{numbers, top}
-use Rattle.rules.specs.Answers.{Told, answerTold, appliedTold, computedTold, listedTold, offeredTold, readTold, writtenTold}
+use Rattle.rules.specs.Answers.{Told, answerTold, appliedTold, computedTold, listedTold, offeredTold, readTold, rememberedTold, writtenTold}
 use Rattle.rules.specs.Apply.{apply, plainWays, waysOf}
 use Rattle.rules.specs.Compute as computing
 use Rattle.rules.specs.Delta.{NodeOp, Op, deltaBytes, deltaRead, follow, opBytes, partsOf, readDelta, readKeyValue, readNode, readOp, readOps, readSetMaxVersion}
 use Rattle.rules.specs.Digest.{digestBytes, digestOf, readDigest, readEntries, tellAll, writeDigest}
 use Rattle.rules.specs.Given.{Given, given}
 use Rattle.rules.specs.Layout.{decode, encode}
-use Rattle.rules.specs.Whole.{Whole, decodeWhole, encodeWhole, validWhole, wholeWidth}
+use Rattle.rules.specs.Memory.{apart, heartbeatOf, memoryObeys, removedNumbers}
+use Rattle.rules.specs.Whole.{Whole, decodeMemory, decodeWhole, encodeWhole, obeysWhole, validWhole, wholeWidth}
 use Rattle.rules.specs.declared.Mode.the-variants as mode
-use Rattle.rules.specs.Lent.{TableAndList, both, fromTable, lentApply, lentApplyAs, lentNew, onTable, storedIn, storedApply}
+use Rattle.rules.specs.Lent.{TableAndList, addWhole, both, fromTable, lentApply, lentApplyAs, lentNew, lentRemoved, onTable, onWhole, rememberedAs, removeWhole, storedIn, storedApply}
 use Rattle.rules.specs.Listing.{decimal, digits, listing, listingOf}
 use Rattle.rules.specs.Local.{Outcome, add, call, gc, localBeat, offer, prefixed, removeNode, write}
 use Rattle.rules.specs.Node.{Deleting, DeletingAfterTtl, Node, Rec, act, beats, decide, find, fresh, hitsFrom, offerOf, wish}
 use Rattle.rules.specs.Table.{Table, among, differ, entryObeys, keysRise, nodeObeys, nodeOf, numbersOf, obeys, recObeys, rising, setNode, versions}
 use Rattle.rules.specs.declared.Answer.the-variants as plain
+use Rattle.rules.specs.declared.Remembered.the-variants as remembered
 use Rattle.rules.specs.declared.Applied.{Applied}
 use Rattle.rules.specs.declared.Applied.the-variants as applied
 use Rattle.rules.specs.declared.Computed.{Computed}
@@ -42,7 +44,7 @@ use Rattle.rules.specs.declared.Status.the-variants as status
 use Rattle.rules.specs.declared.Written.{Written}
 use Rattle.rules.specs.declared.Written.the-variants as written
 use Rattle.rules.proofs.Calls.{none-obeys}
-use Rattle.table.proofs.Wholes.{decode-encode-whole, length-whole, valid-encode-whole}
+use Rattle.table.proofs.Wholes.{decode-encode-whole, length-whole, valid-encode-whole, without-memory}
 use Rattle.nodes.specs.New.{lentMade}
 use Rattle.lookup.specs.Lookup.{findRec, foundIn}
 use Rattle.lookup.specs.Told.{foundTold}
@@ -64,7 +66,7 @@ use Rattle.exchange.specs.declared.Step.the-variants.{Delta, Digest}
 use Rattle.exchange.specs.declared.Ready.{Ready}
 use Rattle.exchange.specs.declared.Ready.the-variants as ready
 use Rattle.exchange.specs.LentWorld.{inMode}
-use Rattle.exchange.proofs.LentWorld.{apply-encoded, from-encoded, on-encoded}
+use Rattle.exchange.proofs.LentWorld.{apply-encoded, from-encoded, on-encoded, whole-encoded}
 use Rattle.exchange.proofs.Refusing.{is-ready, ready-done}
 use Rattle.demand1.specs.Calls as calls
 
@@ -170,7 +172,7 @@ lent t = inMode mode.Plain t
 
 -- no bytes are no table
 none-valid : validWhole [] ≡ false
-unfolding validWhole obeys decode part rising numbersOf all encodeWhole encode joined natOf bytesOf sameBytes unblock
+unfolding validWhole obeysWhole memoryObeys apart removedNumbers differ decodeMemory obeys decode part rising numbersOf all encodeWhole encode joined natOf bytesOf sameBytes unblock
 none-valid = refl
 
 -- ---- a call on a table that obeys, and on no table
@@ -182,6 +184,15 @@ on-good {A} told bad rule t o n e = ap (λ (x : Given A Bytes). told (x .answer)
 on-bad : {A : Type 0} (told : A → Told) (bad : A) (rule : Table → Outcome A) (n : ℕ) → told bad .number ≡ n → told (onTable bad rule [] .answer) .number ≡ n
 unfolding onTable
 on-bad told bad rule n e = ap (λ (b : Bool). told (pick b (storedIn (decodeWhole []) (rule (decodeWhole [] .table))) (given bad []) .answer) .number) none-valid ∙ e
+
+whole-good : {A : Type 0} (told : A → Told) (bad : A) (rule : Whole → Given A Whole) (t : Table) → obeys t ≡ true → (n : ℕ)
+    → told (rule (record { mode = mode.Plain; memory = []; table = t }) .answer) .number ≡ n → told (onWhole bad rule (lent t) .answer) .number ≡ n
+whole-good {A} told bad rule t o n e = ap (λ (x : Given A Bytes). told (x .answer) .number) (whole-encoded mode.Plain t o bad rule) ∙ e
+
+whole-bad : {A : Type 0} (told : A → Told) (bad : A) (rule : Whole → Given A Whole) (n : ℕ) → told bad .number ≡ n → told (onWhole bad rule [] .answer) .number ≡ n
+unfolding onWhole
+whole-bad told bad rule n e =
+    ap (λ (b : Bool). told (pick b (given (rule (decodeWhole []) .answer) (encodeWhole (rule (decodeWhole []) .lent))) (given bad []) .answer) .number) none-valid ∙ e
 
 from-good : {A : Type 0} (number : A → ℕ) (bad : A) (rule : Table → A) (t : Table) → obeys t ≡ true → (n : ℕ) → number (rule t) ≡ n
     → number (fromTable bad rule (lent t)) ≡ n
@@ -198,25 +209,41 @@ unfolding calls.leaves calls.refusals lentMade answerTold
 new-tables = (
   calls.new-table (lent []) mode.Plain,
   ap (λ (b : Bool). answerTold (pick b (given plain.Done (lentNew mode.Plain)) (given (plain.Refused BadTable) (lent [])) .answer) .number)
-      (eq-eqb (length (lent [])) wholeWidth (length-whole (record { mode = mode.Plain; table = [] }))),
+      (eq-eqb (length (lent [])) wholeWidth (length-whole (record { mode = mode.Plain; memory = []; table = [] }))),
 )
     and (calls.new-table [] mode.Plain, refl)
     and no-more
 
 added : AllShown calls.AddNode (calls.possible calls.AddNode)
-unfolding calls.leaves calls.refusals answerTold add among numbersOf nodes
+unfolding calls.leaves calls.refusals answerTold addWhole add among numbersOf nodes
 added =
-    (calls.add-node (lent []) seven, on-good answerTold (plain.Refused BadTable) (add 7) [] none-obeys 0 refl)
-    and (calls.add-node [] seven, on-bad answerTold (plain.Refused BadTable) (add 7) 14 refl)
-    and (calls.add-node (lent crowded) nine, on-good answerTold (plain.Refused BadTable) (add 9) crowded crowded-obeys 4 refl)
+    (calls.add-node (lent []) seven, whole-good answerTold (plain.Refused BadTable) (addWhole 7) [] none-obeys 0 refl)
+    and (calls.add-node [] seven, whole-bad answerTold (plain.Refused BadTable) (addWhole 7) 14 refl)
+    and (calls.add-node (lent crowded) nine, whole-good answerTold (plain.Refused BadTable) (addWhole 9) crowded crowded-obeys 4 refl)
     and no-more
 
 removed : AllShown calls.RemoveNode (calls.possible calls.RemoveNode)
-unfolding calls.leaves calls.refusals answerTold removeNode among numbersOf
+unfolding calls.leaves calls.refusals answerTold removeWhole removeNode among numbersOf
 removed =
-    (calls.remove-node (lent newly) seven, on-good answerTold (plain.Refused BadTable) (removeNode 7) newly newly-obeys 0 refl)
-    and (calls.remove-node [] seven, on-bad answerTold (plain.Refused BadTable) (removeNode 7) 14 refl)
-    and (calls.remove-node (lent []) seven, on-good answerTold (plain.Refused BadTable) (removeNode 7) [] none-obeys 2 refl)
+    (calls.remove-node (lent newly) seven, whole-good answerTold (plain.Refused BadTable) (removeWhole 7) newly newly-obeys 0 refl)
+    and (calls.remove-node [] seven, whole-bad answerTold (plain.Refused BadTable) (removeWhole 7) 14 refl)
+    and (calls.remove-node (lent []) seven, whole-good answerTold (plain.Refused BadTable) (removeWhole 7) [] none-obeys 2 refl)
+    and no-more
+
+-- nothing is remembered in a new table
+asked : AllShown calls.LastHeartbeat (calls.possible calls.LastHeartbeat)
+unfolding calls.leaves calls.refusals rememberedTold lentRemoved heartbeatOf
+asked = (
+  calls.last-heartbeat (lent []) seven,
+  let w : Whole = record { mode = mode.Plain; memory = []; table = [] } in
+      let o = without-memory mode.Plain [] none-obeys in
+      ap (λ (b : Bool). rememberedTold (pick b (rememberedAs (heartbeatOf 7 (decodeWhole (lent []) .memory))) (remembered.Refused BadTable)) .number) (valid-encode-whole w o)
+      ∙ ap (λ (u : Whole). rememberedTold (rememberedAs (heartbeatOf 7 (u .memory))) .number) (decode-encode-whole w o),
+)
+    and (
+      calls.last-heartbeat [] seven,
+      ap (λ (b : Bool). rememberedTold (pick b (rememberedAs (heartbeatOf 7 (decodeWhole [] .memory))) (remembered.Refused BadTable)) .number) none-valid,
+    )
     and no-more
 
 -- ---- records
@@ -447,10 +474,10 @@ asking mtu ties digest delta = lending [] [] ties mtu 7 digest delta []
 asked-for : (g : Lending) → readyFor (g .unasked) (roomsOf g) (lent []) (lent []) ≡ readyOn (g .unasked) (roomsOf g) [] []
 unfolding readyFor
 asked-for g =
-    let w : Whole = record { mode = mode.Plain; table = [] } in
+    let w : Whole = record { mode = mode.Plain; memory = []; table = [] } in
     let t : Table = decodeWhole (lent []) .table in
-    ap (λ (b : Bool). pick b (pick b (readyOn (g .unasked) (roomsOf g) t t) (ready.No Delta BadTable)) (ready.No Digest BadTable)) (valid-encode-whole w none-obeys)
-    ∙ ap (λ (u : Whole). readyOn (g .unasked) (roomsOf g) (u .table) (u .table)) (decode-encode-whole w none-obeys)
+    ap (λ (b : Bool). pick b (pick b (readyOn (g .unasked) (roomsOf g) t t) (ready.No Delta BadTable)) (ready.No Digest BadTable)) (valid-encode-whole w (without-memory mode.Plain [] none-obeys))
+    ∙ ap (λ (u : Whole). readyOn (g .unasked) (roomsOf g) (u .table) (u .table)) (decode-encode-whole w (without-memory mode.Plain [] none-obeys))
 
 refused-as : (g : Lending) (n : ℕ) → exchangedTold (afterAsking g (lent []) (lent []) (readyOn (g .unasked) (roomsOf g) [] []) .answer) .number ≡ n
     → exchangedTold (lentExchange g (lent []) (lent []) .answer) .number ≡ n
@@ -485,6 +512,7 @@ all-shown : (k : calls.Kind) → AllShown k (calls.possible k)
 all-shown calls.NewTable = new-tables
 all-shown calls.AddNode = added
 all-shown calls.RemoveNode = removed
+all-shown calls.LastHeartbeat = asked
 all-shown calls.Write = writes
 all-shown calls.Delete = deletes
 all-shown calls.DeleteAfterTtl = deletes-ttl

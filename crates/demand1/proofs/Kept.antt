@@ -8,15 +8,15 @@ use lib.ListN.{length, take}
 use Rattle.fields.specs.Choice.{all, pick, _∈_}
 use Rattle.fields.specs.Numbers.{Bytes}
 use Rattle.fields.proofs.Choice.{and-intro, and-left, and-right}
-use Rattle.rules.specs.Apply.{apply, waysOf}
+use Rattle.rules.specs.Apply.{Ways, apply, applyNode, waysOf}
 use Rattle.rules.specs.Delta.{Good, Op, Part, nothingRead, partsOf, readDelta}
 use Rattle.rules.specs.Given.{Given, given}
-use Rattle.rules.specs.Whole.{areaOf, decodeWhole, validWhole, wholeWidth, withTable}
-use Rattle.rules.specs.Lent.{both, lentApply, lentApplyAs, lentNew, onTable, storedIn, storedApply}
-use Rattle.rules.specs.Local.{Outcome, add, call, gc, localBeat, offer, removeNode, write}
-use Rattle.rules.specs.Node.{Deleting, DeletingAfterTtl, beats}
+use Rattle.rules.specs.Whole.{Whole, areaOf, decodeWhole, encodeWhole, obeysWhole, validWhole, wholeWidth, withTable}
+use Rattle.rules.specs.Lent.{addWhole, both, lentApply, lentApplyAs, lentNew, onTable, onWhole, removeWhole, storedIn, storedApply}
+use Rattle.rules.specs.Local.{Outcome, call, gc, localBeat, offer, write}
+use Rattle.rules.specs.Node.{Deleting, DeletingAfterTtl, Setting, SettingTtl, beats, due}
 use Rattle.rules.specs.Sizes.{numbers}
-use Rattle.rules.specs.Table.{Table, obeys}
+use Rattle.rules.specs.Table.{Table, numbersOf, obeys}
 use Rattle.rules.specs.declared.Answer.the-variants as plain
 use Rattle.rules.specs.declared.Mode.{Mode}
 use Rattle.rules.specs.declared.Applied.the-variants as applied
@@ -25,13 +25,17 @@ use Rattle.rules.specs.declared.Offered.the-variants as offered
 use Rattle.rules.specs.declared.Refusal.the-variants.{BadTable}
 use Rattle.rules.specs.declared.Written.{Written}
 use Rattle.rules.proofs.Accepted.{computed-chain, computed-small}
-use Rattle.rules.proofs.Calls.{add-keeps, apply-keeps, beat-keeps, call-keeps, gc-keeps, none-obeys, offer-keeps, ok-each, remove-node-keeps, write-keeps}
+use Rattle.rules.proofs.Calls.{apply-keeps, beat-keeps, call-keeps, gc-keeps, none-obeys, offer-keeps, ok-each, write-keeps}
 use Rattle.rules.proofs.Keeps.{mode-lawful}
 use Rattle.rules.proofs.Obeys.{facts-table, table-facts}
 use Rattle.rules.proofs.Received.{OkDelta, parts-ok}
-use Rattle.rules.proofs.Tables.{applied-table}
+use Rattle.rules.proofs.Memories.{add-keeps-whole, remove-keeps-whole, same-nodes}
+use Rattle.rules.proofs.Moments.{numbers-beat, numbers-call, numbers-offer}
+use Rattle.rules.proofs.Tables.{applied-table, numbers-each, numbers-remove}
+use Rattle.rules.proofs.Writing.{write-is}
 use Rattle.table.proofs.Tables.{valid-obeys}
-use Rattle.table.proofs.Wholes.{area-valid, valid-encode-whole}
+use Rattle.table.proofs.Wholes.{area-valid, valid-encode-whole, without-memory}
+use Rattle.table.proofs.Wholes as valid
 use Rattle.apply.proofs.Applied.{reads-is}
 use Rattle.nodes.specs.New.{lentMade}
 use Rattle.exchange.specs.Exchanging.{Lending, afterAsking, afterComputing, afterDigesting, lentAnswer, lentExchange, readyFor, roomsOf, threeCalls, lending}
@@ -44,22 +48,49 @@ use Rattle.demand1.specs.Calls as calls
 whole-obeys : (l : Bytes) → validWhole l ≡ true → obeys (decodeWhole l .table) ≡ true
 whole-obeys l v = valid-obeys (areaOf l) (area-valid l v)
 
+-- and so does one with the same nodes
+stays : (l : Bytes) → validWhole l ≡ true → (t : Table) → obeys t ≡ true → numbersOf t ≡ numbersOf (decodeWhole l .table)
+    → validWhole (encodeWhole (withTable t (decodeWhole l))) ≡ true
+stays l v t o e = valid-encode-whole (withTable t (decodeWhole l)) (same-nodes (decodeWhole l) (valid.whole-obeys l v) t o e)
+
 -- ---- calls that change the table
 
 kept : {A : Type 0} (bad : A) (rule : Table → Outcome A) → ((t : Table) → obeys t ≡ true → obeys (rule t .table) ≡ true)
+    → ((t : Table) → numbersOf (rule t .table) ≡ numbersOf t)
     → (l : Bytes) → validWhole l ≡ true → validWhole (onTable bad rule l .lent) ≡ true
 unfolding onTable
-kept {A} bad rule f l v =
+kept {A} bad rule f same l v =
     ap (λ (b : Bool). validWhole (pick b (storedIn (decodeWhole l) (rule (decodeWhole l .table))) (given bad l) .lent)) v
-    ∙ valid-encode-whole (withTable (rule (decodeWhole l .table) .table) (decodeWhole l)) (f (decodeWhole l .table) (whole-obeys l v))
+    ∙ stays l v (rule (decodeWhole l .table) .table) (f (decodeWhole l .table) (whole-obeys l v)) (same (decodeWhole l .table))
+
+-- with the memory too
+kept-whole : {A : Type 0} (bad : A) (rule : Whole → Given A Whole) → ((w : Whole) → obeysWhole w ≡ true → obeysWhole (rule w .lent) ≡ true)
+    → (l : Bytes) → validWhole l ≡ true → validWhole (onWhole bad rule l .lent) ≡ true
+unfolding onWhole
+kept-whole {A} bad rule f l v =
+    ap (λ (b : Bool). validWhole (pick b (given (rule (decodeWhole l) .answer) (encodeWhole (rule (decodeWhole l) .lent))) (given bad l) .lent)) v
+    ∙ valid-encode-whole (rule (decodeWhole l) .lent) (f (decodeWhole l) (valid.whole-obeys l v))
 
 made : (m : Mode) (l : Bytes) → validWhole l ≡ true → validWhole (lentMade m l .lent) ≡ true
 unfolding lentMade lentNew
 made m l v = go (eqb (length l) wholeWidth)
   where
     go : (b : Bool) → validWhole (pick b (given plain.Done (lentNew m)) (given (plain.Refused BadTable) l) .lent) ≡ true
-    go true = valid-encode-whole (record { mode = m; table = [] }) none-obeys
+    go true = valid-encode-whole (record { mode = m; memory = []; table = [] }) (without-memory m [] none-obeys)
     go false = v
+
+-- no node comes or goes by a write, a removal of records or a delta
+numbers-write : (wanted : ℕ) (v : Bytes) (now i : ℕ) (k : Bytes) (t : Table) → numbersOf (write wanted v now i k t .table) ≡ numbersOf t
+numbers-write wanted v now i k t =
+    write-is wanted v now i k t (λ o. numbersOf (o .table) ≡ numbersOf t) (numbers-call (Setting v) i k t) (numbers-call (SettingTtl v now) i k t) refl
+
+numbers-gc : (now grace : ℕ) (t : Table) → numbersOf (gc now grace t .table) ≡ numbersOf t
+unfolding gc
+numbers-gc now grace t = numbers-remove (λ i. due now grace) t
+
+numbers-apply : (ways : Ways) (delta : Bytes) (now : ℕ) (t : Table) (answers : Bytes) → numbersOf (apply ways delta now t answers .table) ≡ numbersOf t
+numbers-apply ways delta now t answers =
+    applied-table ways delta now t answers (λ u. numbersOf u ≡ numbersOf t) refl (λ ops q. numbers-each (applyNode ways now) (partsOf ops) t)
 
 -- applying a delta of which it is known that the table is kept
 applying : (delta : Bytes) (now : ℕ) (answers l : Bytes) → validWhole l ≡ true
@@ -69,7 +100,7 @@ unfolding lentApplyAs
 applying delta now answers l v f =
     let o = apply (waysOf (decodeWhole l .mode)) delta now (decodeWhole l .table) answers in
     ap (λ (b : Bool). validWhole (pick b (storedApply (decodeWhole l) o) (given (applied.Refused BadTable 0) (both l answers)) .lent .table)) v
-    ∙ valid-encode-whole (withTable (o .table) (decodeWhole l)) (f (whole-obeys l v))
+    ∙ stays l v (o .table) (f (whole-obeys l v)) (numbers-apply (waysOf (decodeWhole l .mode)) delta now (decodeWhole l .table) answers)
 
 -- ---- an exchange
 
@@ -123,21 +154,22 @@ pub obeying : {k : calls.Kind} (c : calls.Call k)
     → all validWhole (take (calls.tables k) (calls.leaves c .lent)) ≡ true
 unfolding calls.leaves calls.lentTo
 obeying (calls.new-table t m) = one t _ (made m t)
-obeying (calls.add-node t i) = one t _ (kept (plain.Refused BadTable) (add (i .value)) (λ t. add-keeps (i .value) t (i .fits)) t)
-obeying (calls.remove-node t i) = one t _ (kept (plain.Refused BadTable) (removeNode (i .value)) (remove-node-keeps (i .value)) t)
+obeying (calls.add-node t i) = one t _ (kept-whole (plain.Refused BadTable) (addWhole (i .value)) (λ w o. add-keeps-whole w o (i .value) (i .fits)) t)
+obeying (calls.remove-node t i) = one t _ (kept-whole (plain.Refused BadTable) (removeWhole (i .value)) (λ w o. remove-keeps-whole w o (i .value)) t)
+obeying (calls.last-heartbeat t i) = λ e. e
 obeying (calls.write t k v i wanted now) =
-    one t _ (kept (plain.Refused BadTable) (write (wanted .value) v (now .value) (i .value) k) (λ t. write-keeps (wanted .value) v (now .value) (i .value) k t (now .fits)) t)
+    one t _ (kept (plain.Refused BadTable) (write (wanted .value) v (now .value) (i .value) k) (λ t. write-keeps (wanted .value) v (now .value) (i .value) k t (now .fits)) (numbers-write (wanted .value) v (now .value) (i .value) k) t)
 obeying (calls.delete t k i now) =
     let c = Deleting (now .value) in
-    one t _ (kept (plain.Refused BadTable) (call c (i .value) k) (λ t. call-keeps c (i .value) k t (now .fits)) t)
+    one t _ (kept (plain.Refused BadTable) (call c (i .value) k) (λ t. call-keeps c (i .value) k t (now .fits)) (numbers-call c (i .value) k) t)
 obeying (calls.delete-after-ttl t k i now) =
     let c = DeletingAfterTtl (now .value) in
-    one t _ (kept (plain.Refused BadTable) (call c (i .value) k) (λ t. call-keeps c (i .value) k t (now .fits)) t)
+    one t _ (kept (plain.Refused BadTable) (call c (i .value) k) (λ t. call-keeps c (i .value) k t (now .fits)) (numbers-call c (i .value) k) t)
 obeying (calls.remove-scheduled t now grace) =
-    one t _ (kept (plain.Refused BadTable) (gc (now .value) (grace .value)) (gc-keeps (now .value) (grace .value)) t)
+    one t _ (kept (plain.Refused BadTable) (gc (now .value) (grace .value)) (gc-keeps (now .value) (grace .value)) (numbers-gc (now .value) (grace .value)) t)
 obeying (calls.offer-heartbeat t i h) =
-    one t _ (kept (offered.Refused BadTable) (offer (i .value) (beats (h .value))) (λ t. offer-keeps (i .value) (beats (h .value)) t (h .fits)) t)
-obeying (calls.local-beat t i) = one t _ (kept (plain.Refused BadTable) (localBeat (i .value)) (beat-keeps (i .value)) t)
+    one t _ (kept (offered.Refused BadTable) (offer (i .value) (beats (h .value))) (λ t. offer-keeps (i .value) (beats (h .value)) t (h .fits)) (numbers-offer (i .value) (beats (h .value))) t)
+obeying (calls.local-beat t i) = one t _ (kept (plain.Refused BadTable) (localBeat (i .value)) (beat-keeps (i .value)) (numbers-beat (i .value)) t)
 obeying (calls.find t k i) = λ e. e
 obeying (calls.list-prefix t k out i) = λ e. e
 obeying (calls.node-count t) = λ e. e

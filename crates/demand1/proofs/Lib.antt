@@ -4,3 +4,4 @@ pub mod Deltas
 pub mod Others
 pub mod Each
 pub mod Demand1
+pub mod Memories

@@ -15,9 +15,9 @@ use Rattle.rules.specs.Digest.{fitsAt, writeBytes, writeDigest}
 use Rattle.rules.specs.Given.{Given, given}
 use Rattle.rules.specs.Whole.{decodeWhole, validWhole, wholeWidth}
 use Rattle.rules.specs.declared.Mode.{Mode}
-use Rattle.rules.specs.Lent.{fromTable, lentNew, onTable}
+use Rattle.rules.specs.Lent.{addWhole, fromTable, lentNew, onTable, removeWhole}
 use Rattle.rules.specs.Listing.{listing}
-use Rattle.rules.specs.Local.{Outcome, add, call, gc, localBeat, offer, prefixed, removeNode, write}
+use Rattle.rules.specs.Local.{Outcome, call, gc, localBeat, offer, prefixed, write}
 use Rattle.rules.specs.Node.{Deleting, DeletingAfterTtl, beats}
 use Rattle.rules.specs.Table.{Table}
 use Rattle.rules.specs.declared.Answer.{Answer}
@@ -34,7 +34,8 @@ use Rattle.rules.specs.declared.Refusal.{Refusal}
 use Rattle.rules.specs.declared.Refusal.the-variants.{BadTable, NoPlace}
 use Rattle.rules.specs.declared.Written.{Written}
 use Rattle.rules.specs.declared.Written.the-variants as written
-use Rattle.rules.proofs.Refusing.{add-refused, beat-refused, call-refused, compute-refused, digest-refused, lent-apply-refused, lent-refused, offer-refused, prefixed-refused, remove-node-refused, write-refused}
+use Rattle.rules.proofs.Refusing.{beat-refused, call-refused, compute-refused, digest-refused, lent-apply-refused, lent-refused, offer-refused, prefixed-refused, write-refused}
+use Rattle.rules.proofs.Memories.{add-whole-refused, remove-whole-refused, whole-refused}
 use Rattle.nodes.specs.New.{lentMade}
 use Rattle.exchange.specs.Exchanging.{ExchangeLent, Lending, afterAsking, allFour, exchangedTold, lending, lentExchange, readyFor, roomsOf}
 use Rattle.exchange.specs.declared.Exchanged.{Exchanged}
@@ -150,10 +151,11 @@ unfolding calls.leaves calls.lentTo
 nothing (calls.new-table t m) h = ap (λ (u : Bytes). u ∷ []) (made m t h)
 nothing (calls.add-node t i) h =
     ap (λ (u : Bytes). u ∷ [])
-    (on-table answerTold (plain.Refused BadTable) (add (i .value)) (λ t g. let x = by-answer _ g in add-refused (i .value) t (x .0) (x .1)) t h)
+    (whole-refused (plain.Refused BadTable) (addWhole (i .value)) (λ a. Refuses (answerTold a)) (λ w g. let x = by-answer _ g in add-whole-refused (i .value) w (x .0) (x .1)) t h)
 nothing (calls.remove-node t i) h =
     ap (λ (u : Bytes). u ∷ [])
-    (on-table answerTold (plain.Refused BadTable) (removeNode (i .value)) (λ t g. let x = by-answer _ g in remove-node-refused (i .value) t (x .0) (x .1)) t h)
+    (whole-refused (plain.Refused BadTable) (removeWhole (i .value)) (λ a. Refuses (answerTold a)) (λ w g. let x = by-answer _ g in remove-whole-refused (i .value) w (x .0) (x .1)) t h)
+nothing (calls.last-heartbeat t i) h = refl
 nothing (calls.write t k v i wanted now) h =
     let rule = write (wanted .value) v (now .value) (i .value) k in
     ap (λ (u : Bytes). u ∷ k ∷ v ∷ [])

@@ -12,20 +12,23 @@ use Rattle.fields.specs.Numbers.{Bytes}
 use Rattle.fields.specs.Order.{sameBytes}
 use Rattle.fields.specs.Parts.{put}
 use Rattle.rules.specs.Sizes.{leastMtu, maxDelta, maxKey, maxNodes, maxValue, top}
-use Rattle.rules.specs.Answers.{Told, numberOf, answerTold, appliedTold, computedTold, listedTold, offeredTold, readTold, writtenTold}
+use Rattle.rules.specs.Answers.{Told, numberOf, answerTold, appliedTold, computedTold, listedTold, offeredTold, readTold, rememberedTold, writtenTold}
 use Rattle.rules.specs.Apply.{ApplyOutcome, apply, applyNode, applyOps, waysOf}
 use Rattle.rules.specs.Compute as computing
 use Rattle.rules.specs.Delta.{Faulty, Good, Op, Ops, deltaRead, partsOf, readAnswer, readDelta}
 use Rattle.rules.specs.Digest as digest
 use Rattle.rules.specs.Given.{Given, given}
-use Rattle.rules.specs.Whole.{decodeWhole, validWhole, wholeWidth}
+use Rattle.rules.specs.Memory.{heartbeatOf}
+use Rattle.rules.specs.Whole.{Whole, decodeWhole, encodeWhole, validWhole, wholeWidth}
 use Rattle.rules.specs.declared.Mode.{Mode}
-use Rattle.rules.specs.Lent.{both, fromTable, lentApply, lentApplyAs, lentNew, onTable, storedIn, storedApply}
+use Rattle.rules.specs.Lent.{addWhole, both, fromTable, lentApply, lentApplyAs, lentNew, lentRemoved, onTable, onWhole, rememberedAs, removeWhole, storedIn, storedApply}
 use Rattle.rules.specs.Listing.{listing}
 use Rattle.rules.specs.Local.{Outcome, add, answerOf, beatOn, call, callOn, gc, gives, listInto, localBeat, offer, offerOn, prefixOn, prefixed, removeNode, write, yesNo}
 use Rattle.rules.specs.Node.{Call, Change, Deleting, DeletingAfterTtl, Give, Leave, Node, Rec, Refuse, Setting, SettingTtl, allowed, beats, brought, decide, find, fullFor, hidden, hitsFrom, offerOf, sameStatus, unlessSame, wish}
 use Rattle.rules.specs.Table.{Entry, Table, addNode, among, dropNode, nodeOf, numbersOf}
 use Rattle.rules.specs.declared.Answer.the-variants as plain
+use Rattle.rules.specs.declared.Heartbeat.{Heartbeat}
+use Rattle.rules.specs.declared.Remembered.the-variants as remembered
 use Rattle.rules.specs.declared.Applied.the-variants as applied
 use Rattle.rules.specs.declared.Computed.{Computed}
 use Rattle.rules.specs.declared.Computed.the-variants as computed
@@ -83,6 +86,15 @@ on-table P bad rule b f l = go (validWhole l)
     go true = f (decodeWhole l .table)
     go false = b
 
+on-whole : {A : Type 0} (P : A → Type 0) (bad : A) (rule : Whole → Given A Whole) → P bad → ((w : Whole) → P (rule w .answer)) → (l : Bytes)
+    → P (onWhole bad rule l .answer)
+unfolding onWhole
+on-whole P bad rule b f l = go (validWhole l)
+  where
+    go : (v : Bool) → P (pick v (given (rule (decodeWhole l) .answer) (encodeWhole (rule (decodeWhole l) .lent))) (given bad l) .answer)
+    go true = f (decodeWhole l)
+    go false = b
+
 from-table : {A : Type 0} (P : A → Type 0) (bad : A) (rule : Table → A) → P bad → ((t : Table) → P (rule t)) → (l : Bytes) → P (fromTable bad rule l)
 unfolding fromTable
 from-table P bad rule b f l = go (validWhole l)
@@ -101,22 +113,34 @@ made m l = go (eqb (length l) wholeWidth)
     go true = refl
     go false = refl
 
-added : (i : ℕ) (l : Bytes) → Of calls.AddNode (answerTold (onTable (plain.Refused BadTable) (add i) l .answer))
-unfolding add answerTold among calls.refusals
-added i l = on-table (λ a. Of calls.AddNode (answerTold a)) (plain.Refused BadTable) (add i) refl (λ t. go t (among i (numbersOf t)) (ltb (length t) maxNodes)) l
+added : (i : ℕ) (l : Bytes) → Of calls.AddNode (answerTold (onWhole (plain.Refused BadTable) (addWhole i) l .answer))
+unfolding addWhole add answerTold among calls.refusals
+added i l =
+    on-whole (λ a. Of calls.AddNode (answerTold a)) (plain.Refused BadTable) (addWhole i) refl
+    (λ w. go (w .table) (among i (numbersOf (w .table))) (ltb (length (w .table)) maxNodes)) l
   where
     go : (t : Table) (a b : Bool) → Of calls.AddNode (answerTold (pick a (gives plain.Done t) (pick b (gives plain.Done (addNode i t)) (gives (plain.Refused NinthNode) t)) .answer))
     go t true b = refl
     go t false true = refl
     go t false false = refl
 
-removed : (i : ℕ) (l : Bytes) → Of calls.RemoveNode (answerTold (onTable (plain.Refused BadTable) (removeNode i) l .answer))
-unfolding removeNode answerTold among calls.refusals
-removed i l = on-table (λ a. Of calls.RemoveNode (answerTold a)) (plain.Refused BadTable) (removeNode i) refl (λ t. go t (among i (numbersOf t))) l
+removed : (i : ℕ) (l : Bytes) → Of calls.RemoveNode (answerTold (onWhole (plain.Refused BadTable) (removeWhole i) l .answer))
+unfolding removeWhole removeNode answerTold among calls.refusals
+removed i l =
+    on-whole (λ a. Of calls.RemoveNode (answerTold a)) (plain.Refused BadTable) (removeWhole i) refl (λ w. go (w .table) (among i (numbersOf (w .table)))) l
   where
     go : (t : Table) (a : Bool) → Of calls.RemoveNode (answerTold (pick a (gives plain.Done (dropNode i t)) (gives (plain.Refused NoNode) t) .answer))
     go t true = refl
     go t false = refl
+
+asked-for : (i : ℕ) (l : Bytes) → Of calls.LastHeartbeat (rememberedTold (lentRemoved i l))
+unfolding lentRemoved rememberedTold among calls.refusals
+asked-for i l = go (validWhole l) (heartbeatOf i (decodeWhole l .memory))
+  where
+    go : (b : Bool) (h : Option Heartbeat) → Of calls.LastHeartbeat (rememberedTold (pick b (rememberedAs h) (remembered.Refused BadTable)))
+    go true none = refl
+    go true (some h) = refl
+    go false h = refl
 
 collected : (now grace : ℕ) (l : Bytes) → Of calls.RemoveScheduled (answerTold (onTable (plain.Refused BadTable) (gc now grace) l .answer))
 unfolding gc answerTold among calls.refusals
@@ -476,6 +500,7 @@ unfolding calls.leaves
 no-other (calls.new-table t m) = made m t
 no-other (calls.add-node t i) = added (i .value) t
 no-other (calls.remove-node t i) = removed (i .value) t
+no-other (calls.last-heartbeat t i) = asked-for (i .value) t
 no-other (calls.write t k v i wanted now) = wrote (wanted .value) v (now .value) (i .value) k t
 no-other (calls.delete t k i now) = deleted (now .value) (i .value) k t
 no-other (calls.delete-after-ttl t k i now) = deleted-ttl (now .value) (i .value) k t

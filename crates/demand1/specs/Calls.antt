@@ -1,15 +1,16 @@
 -- Every call that a hub makes on lent memory: its arguments and everything lent to it (`Call`), what it tells and what it leaves (`leaves`), and the
 -- numbers that it can refuse with (`refusals`). What a call leaves is what its entry point promises, and nothing else.
 use Prim.Native.Nat.{ℕ, _<_}
+use mathlib.Core.Bool.{Bool, true, false}
 use mathlib.Core.List.{List, [], _∷_}
 use Rattle.fields.specs.Numbers.{Bytes, AreBytes}
 use Rattle.rules.specs.Sizes.{numbers}
-use Rattle.rules.specs.Answers.{Told, answerTold, offeredTold, listedTold, writtenTold, computedTold, readTold, appliedTold}
+use Rattle.rules.specs.Answers.{Told, answerTold, offeredTold, rememberedTold, listedTold, writtenTold, computedTold, readTold, appliedTold}
 use Rattle.rules.specs.Given.{Given, given}
 use Rattle.rules.specs.Node.{Deleting, DeletingAfterTtl, beats}
 use Rattle.rules.specs.Delta.{deltaRead}
 use Rattle.rules.specs.Listing.{listDelta}
-use Rattle.rules.specs.Lent.{lentAdd, lentRemoveNode, lentCall, lentWrite, lentGc, lentOffer, lentBeat, lentPrefixed, lentDigest, lentCompute, lentApply}
+use Rattle.rules.specs.Lent.{lentAdd, lentRemoveNode, lentRemoved, lentCall, lentWrite, lentGc, lentOffer, lentBeat, lentPrefixed, lentDigest, lentCompute, lentApply}
 use Rattle.rules.specs.declared.Mode.{Mode}
 use Rattle.nodes.specs.New.{lentMade}
 use Rattle.lookup.specs.Lookup.{lentFind}
@@ -39,6 +40,7 @@ pub data Kind : Type 0 where
   NewTable : Kind
   AddNode : Kind
   RemoveNode : Kind
+  LastHeartbeat : Kind
   Write : Kind
   Delete : Kind
   DeleteAfterTtl : Kind
@@ -67,6 +69,7 @@ pub data Call : Kind → Type 0 where
   new-table : (table : Bytes) (mode : Mode) → Call NewTable
   add-node : (table : Bytes) (number : U64) → Call AddNode
   remove-node : (table : Bytes) (number : U64) → Call RemoveNode
+  last-heartbeat : (table : Bytes) (number : U64) → Call LastHeartbeat
   -- the wanted status by its number, which may be any
   write : (table key value : Bytes) (number wanted clock : U64) → Call Write
   delete : (table key : Bytes) (number clock : U64) → Call Delete
@@ -96,6 +99,7 @@ unfoldable pub lentTo : {k : Kind} (call : Call k) → List Bytes
 lentTo (new-table t m) = t ∷ []
 lentTo (add-node t i) = t ∷ []
 lentTo (remove-node t i) = t ∷ []
+lentTo (last-heartbeat t i) = t ∷ []
 lentTo (write t k v i wanted now) = t ∷ k ∷ v ∷ []
 lentTo (delete t k i now) = t ∷ k ∷ []
 lentTo (delete-after-ttl t k i now) = t ∷ k ∷ []
@@ -128,6 +132,7 @@ tables ListDelta = 0
 tables NewTable = 1
 tables AddNode = 1
 tables RemoveNode = 1
+tables LastHeartbeat = 1
 tables Write = 1
 tables Delete = 1
 tables DeleteAfterTtl = 1
@@ -159,6 +164,7 @@ unfoldable pub leaves : {k : Kind} (call : Call k) → Given Told (List Bytes)
 leaves (new-table t m) = asTold answerTold (λ u. u ∷ []) (lentMade m t)
 leaves (add-node t i) = asTold answerTold (λ u. u ∷ []) (lentAdd (i .value) t)
 leaves (remove-node t i) = asTold answerTold (λ u. u ∷ []) (lentRemoveNode (i .value) t)
+leaves (last-heartbeat t i) = given (rememberedTold (lentRemoved (i .value) t)) (t ∷ [])
 leaves (write t k v i wanted now) = asTold answerTold (λ u. u ∷ k ∷ v ∷ []) (lentWrite (wanted .value) v (now .value) (i .value) k t)
 leaves (delete t k i now) = asTold answerTold (λ u. u ∷ k ∷ []) (lentCall (Deleting (now .value)) (i .value) k t)
 leaves (delete-after-ttl t k i now) = asTold answerTold (λ u. u ∷ k ∷ []) (lentCall (DeletingAfterTtl (now .value)) (i .value) k t)
@@ -191,6 +197,7 @@ unfoldable pub refusals : (kind : Kind) → List ℕ
 refusals NewTable = 14 ∷ []
 refusals AddNode = 14 ∷ 4 ∷ []
 refusals RemoveNode = 14 ∷ 2 ∷ []
+refusals LastHeartbeat = 14 ∷ []
 refusals Write = 14 ∷ 10 ∷ 2 ∷ 1 ∷ 5 ∷ 6 ∷ []
 refusals Delete = 14 ∷ 2 ∷ 1 ∷ 3 ∷ 6 ∷ []
 refusals DeleteAfterTtl = 14 ∷ 2 ∷ 1 ∷ 3 ∷ 6 ∷ []
@@ -213,6 +220,36 @@ refusals ReadDelta = 13 ∷ 9 ∷ 1 ∷ 10 ∷ 11 ∷ 12 ∷ []
 refusals Apply = 14 ∷ 13 ∷ 9 ∷ 1 ∷ 10 ∷ 11 ∷ 12 ∷ 8 ∷ []
 refusals ListDelta = 8 ∷ []
 refusals Exchange = 14 ∷ 8 ∷ 7 ∷ 15 ∷ []
+
+-- ---- the calls that may change what is remembered
+
+abbrev pub remembers : (kind : Kind) → Bool
+remembers NewTable = true
+remembers AddNode = true
+remembers RemoveNode = true
+remembers LastHeartbeat = false
+remembers Write = false
+remembers Delete = false
+remembers DeleteAfterTtl = false
+remembers RemoveScheduled = false
+remembers OfferHeartbeat = false
+remembers LocalBeat = false
+remembers Find = false
+remembers ListPrefix = false
+remembers NodeCount = false
+remembers NodeNumber = false
+remembers NodeHeader = false
+remembers RecordCount = false
+remembers RecordAt = false
+remembers RecordByKey = false
+remembers FindText = false
+remembers WriteDigest = false
+remembers ReadDigest = false
+remembers Compute = false
+remembers ReadDelta = false
+remembers Apply = false
+remembers ListDelta = false
+remembers Exchange = false
 
 -- 0 where the call is accepted
 abbrev pub possible : (kind : Kind) → List ℕ

@@ -32,7 +32,7 @@ use Rattle.rules.proofs.Demand3.{never-falls, sound}
 use Rattle.rules.proofs.Keeps.{mode-lawful}
 use Rattle.rules.proofs.Moments.{InOrder, moment, moments, next-event}
 use Rattle.rules.proofs.Obeys.{facts-table}
-use Rattle.table.proofs.Wholes.{decode-encode-whole, valid-encode-whole}
+use Rattle.table.proofs.Wholes.{decode-encode-whole, valid-encode-whole, without-memory}
 use Rattle.exchange.specs.LentWorld.{LentWorld, inMode, lentAfter, lentHappen, lentStart, tableIn}
 use Rattle.exchange.specs.LentDemand3.{LentDemand3, LentSound, lentGranted, lentIsApplied, lentIsComputed, lentWholes}
 use Rattle.exchange.proofs.LentWorld.{after-lent, apply-encoded, from-encoded, happen-lent, lent, lent-run, ways}
@@ -80,13 +80,13 @@ wholes-lent pm fm is (e ∷ es) st w o =
 
 -- the table that stands in the bytes
 table-back : (m : Mode) (t : Table) → obeys t ≡ true → tableIn (inMode m t) ≡ t
-table-back m t o = ap (λ (u : Whole). u .table) (decode-encode-whole (record { mode = m; table = t }) o)
+table-back m t o = ap (λ (u : Whole). u .table) (decode-encode-whole (record { mode = m; memory = []; table = t }) (without-memory m t o))
 
 sound-lent : (pm fm : Mode) (is : List ℕ) (w : World) → Sound is w → LentSound is (lent pm fm w)
 sound-lent pm fm is w s =
     record {
-      publisher-valid = valid-encode-whole (record { mode = pm; table = w .publisher }) (s .publisher-obeys);
-      follower-valid = valid-encode-whole (record { mode = fm; table = w .follower }) (s .follower-obeys);
+      publisher-valid = valid-encode-whole (record { mode = pm; memory = []; table = w .publisher }) (without-memory pm (w .publisher) (s .publisher-obeys));
+      follower-valid = valid-encode-whole (record { mode = fm; memory = []; table = w .follower }) (without-memory fm (w .follower) (s .follower-obeys));
       publisher-nodes = ap numbersOf p ∙ s .publisher-nodes;
       follower-nodes = ap numbersOf f ∙ s .follower-nodes;
       claims = λ i a b x y. s .claims i a b (ap (nodeOf i) (sym p) ∙ x) (ap (nodeOf i) (sym f) ∙ y);

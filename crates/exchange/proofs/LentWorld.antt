@@ -12,8 +12,8 @@ use Rattle.rules.specs.Local.{Outcome, call, gc, localBeat, offer}
 use Rattle.rules.specs.Digest.{writeDigest}
 use Rattle.rules.specs.Compute.{compute}
 use Rattle.rules.specs.Apply.{Ways, apply, waysOf}
-use Rattle.rules.specs.Whole.{Whole, decodeWhole}
-use Rattle.rules.specs.Lent.{TableAndList, both, fromTable, lentApply, lentApplyAs, lentCompute, onTable, storedApply, storedIn}
+use Rattle.rules.specs.Whole.{Whole, decodeWhole, encodeWhole, obeysWhole}
+use Rattle.rules.specs.Lent.{TableAndList, both, fromTable, lentApply, lentApplyAs, lentCompute, onTable, onWhole, storedApply, storedIn}
 use Rattle.rules.specs.World.{Applying, Arriving, Beating, Computing, DeltaSent, DigestSent, Digesting, Event, Exchange, Followers, Idle, Offering, Publishers, Removing, Sending, Side, World, Writing, after, afterDelta, afterDigest, calls, computedFor, appliedTo, freshTable, givenIn, happen, nthSent, onExchange, onSent, onSide, possible, sentAfter, sentOn, start}
 use Rattle.rules.specs.declared.Answer.{Answer}
 use Rattle.rules.specs.declared.Answer.the-variants as plain
@@ -29,31 +29,40 @@ use Rattle.rules.specs.declared.Refusal.the-variants.{BadTable}
 use Rattle.rules.proofs.Keeps.{mode-lawful}
 use Rattle.rules.proofs.Moments.{InOrder, moment-start, next-event}
 use Rattle.rules.proofs.Obeys.{facts-table}
-use Rattle.table.proofs.Wholes.{decode-encode-whole, valid-encode-whole}
+use Rattle.table.proofs.Wholes.{decode-encode-whole, valid-encode-whole, without-memory}
 use Rattle.exchange.specs.LentWorld.{LentWorld, inMode, lentAfter, lentApplied, lentCalls, lentComputed, lentHappen, lentSentOn, lentStart, onLent, onWay, tableIn, waysIn}
 
 -- ---- a call on the bytes of a table that obeys, in any mode
 
 module _ (m : Mode) (t : Table) (o : obeys t ≡ true) where
   abbrev whole : Whole
-  whole = record { mode = m; table = t }
+  whole = record { mode = m; memory = []; table = t }
+
+  whole-is : obeysWhole whole ≡ true
+  whole-is = without-memory m t o
 
   pub on-encoded : {A : Type 0} (bad : A) (rule : Table → Outcome A) → onTable bad rule (inMode m t) ≡ storedIn whole (rule t)
   unfolding onTable
   on-encoded {A} bad rule =
-      ap (λ (b : Bool). pick b (storedIn (decodeWhole (inMode m t)) (rule (tableIn (inMode m t)))) (given bad (inMode m t))) (valid-encode-whole whole o)
-      ∙ ap (λ (u : Whole). storedIn u (rule (u .table))) (decode-encode-whole whole o)
+      ap (λ (b : Bool). pick b (storedIn (decodeWhole (inMode m t)) (rule (tableIn (inMode m t)))) (given bad (inMode m t))) (valid-encode-whole whole whole-is)
+      ∙ ap (λ (u : Whole). storedIn u (rule (u .table))) (decode-encode-whole whole whole-is)
 
   pub from-encoded : {A : Type 0} (bad : A) (rule : Table → A) → fromTable bad rule (inMode m t) ≡ rule t
   unfolding fromTable
-  from-encoded bad rule = ap (λ (b : Bool). pick b (rule (tableIn (inMode m t))) bad) (valid-encode-whole whole o) ∙ ap (λ (u : Whole). rule (u .table)) (decode-encode-whole whole o)
+  from-encoded bad rule = ap (λ (b : Bool). pick b (rule (tableIn (inMode m t))) bad) (valid-encode-whole whole whole-is) ∙ ap (λ (u : Whole). rule (u .table)) (decode-encode-whole whole whole-is)
+
+  pub whole-encoded : {A : Type 0} (bad : A) (rule : Whole → Given A Whole) → onWhole bad rule (inMode m t) ≡ given (rule whole .answer) (encodeWhole (rule whole .lent))
+  unfolding onWhole
+  whole-encoded {A} bad rule =
+      ap (λ (b : Bool). pick b (given (rule (decodeWhole (inMode m t)) .answer) (encodeWhole (rule (decodeWhole (inMode m t)) .lent))) (given bad (inMode m t))) (valid-encode-whole whole whole-is)
+      ∙ ap (λ (u : Whole). given (rule u .answer) (encodeWhole (rule u .lent))) (decode-encode-whole whole whole-is)
 
   pub apply-encoded : (delta : List ℕ) (now : ℕ) (list : List ℕ) → lentApply delta now list (inMode m t) ≡ storedApply whole (apply (waysOf m) delta now t list)
   unfolding lentApplyAs
   apply-encoded delta now list =
       ap (λ (b : Bool). pick b (storedApply (decodeWhole (inMode m t)) (apply (waysIn (inMode m t)) delta now (tableIn (inMode m t)) list)) (given (applied.Refused BadTable 0) (both (inMode m t) list)))
-      (valid-encode-whole whole o)
-      ∙ ap (λ (u : Whole). storedApply u (apply (waysOf (u .mode)) delta now (u .table) list)) (decode-encode-whole whole o)
+      (valid-encode-whole whole whole-is)
+      ∙ ap (λ (u : Whole). storedApply u (apply (waysOf (u .mode)) delta now (u .table) list)) (decode-encode-whole whole whole-is)
 
 -- ---- the bytes of a world of tables, the publisher's in mode pm and the follower's in mode fm
 
@@ -81,7 +90,7 @@ module _ (pm fm : Mode) where
     calls-lent : (e : Event) → lentCalls e (lent w) ≡ lent (calls ways e w)
     calls-lent (Writing i k c) =
         let b = ap (λ (o : Given Answer (List ℕ)). o .lent) (on-encoded pm (w .publisher) p (plain.Refused BadTable) (call c i k)) in
-        let d = ap (λ (u : Whole). u .table) (decode-encode-whole (record { mode = pm; table = w .publisher }) p) in
+        let d = ap (λ (u : Whole). u .table) (decode-encode-whole (record { mode = pm; memory = []; table = w .publisher }) (without-memory pm (w .publisher) p)) in
         λ z. record {
           publisher = b z;
           follower = inMode fm (w .follower);
@@ -110,7 +119,7 @@ module _ (pm fm : Mode) where
 
     -- the follower's ways are those of its mode
     pub ways-lent : waysIn (lent w .follower) ≡ ways
-    ways-lent = ap (λ (u : Whole). waysOf (u .mode)) (decode-encode-whole (record { mode = fm; table = w .follower }) f)
+    ways-lent = ap (λ (u : Whole). waysOf (u .mode)) (decode-encode-whole (record { mode = fm; memory = []; table = w .follower }) (without-memory fm (w .follower) f))
 
     pub happen-lent : (e : Event) → lentHappen e (lent w) ≡ lent (happen ways e w)
     unfolding lentHappen happen

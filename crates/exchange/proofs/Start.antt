@@ -15,7 +15,9 @@ use Rattle.rules.specs.Sizes.{maxNodes, numbers}
 use Rattle.rules.specs.Node.{fresh}
 use Rattle.rules.specs.Table.{Entry, Table, addNode, among, numbersOf, obeys}
 use Rattle.rules.specs.Local.{add}
-use Rattle.rules.specs.Lent.{lentNew}
+use Rattle.rules.specs.Memory.{forget}
+use Rattle.rules.specs.Whole.{encodeWhole}
+use Rattle.rules.specs.Lent.{addWhole, forgetOn, lentNew}
 use Rattle.rules.specs.World.{freshTable}
 use Rattle.rules.specs.declared.Mode.{Mode}
 use Rattle.rules.specs.declared.Answer.{Answer}
@@ -24,7 +26,7 @@ use Rattle.rules.specs.declared.Refusal.the-variants.{BadTable}
 use Rattle.rules.proofs.Calls.{add-keeps, none-obeys}
 use Rattle.rules.proofs.Obeys.{Ascending, number-in, table-facts}
 use Rattle.exchange.specs.LentWorld.{inMode, lentAdds, lentStart}
-use Rattle.exchange.proofs.LentWorld.{on-encoded}
+use Rattle.exchange.proofs.LentWorld.{whole-encoded}
 
 -- ---- a node whose number is above all others comes last
 
@@ -59,13 +61,23 @@ module _ (i : ℕ) (t rest : Table) (ok : obeys (t ++ (made i ∷ rest)) ≡ tru
       let x = last-added i t rest (table-facts _ ok .ascending) in
       rw (x .1, lt-ltb (length t) maxNodes few, x .0)
 
+-- where nothing is remembered, nothing is forgotten
+forgets : (m : Mode) (i : ℕ) (t : Table) → encodeWhole (addWhole i (record { mode = m; memory = []; table = t }) .lent) ≡ inMode m (add i t .table)
+unfolding addWhole forget
+forgets m i t = go (add i t .answer)
+  where
+    go : (a : Answer) → encodeWhole (record { mode = m; memory = forgetOn a i []; table = add i t .table }) ≡ inMode m (add i t .table)
+    go plain.Done = refl
+    go (plain.Refused r) = refl
+
 adds : (m : Mode) (is : List ℕ) (t : Table) → obeys t ≡ true → obeys (t ++ freshTable is) ≡ true → lentAdds is (inMode m t) ≡ inMode m (t ++ freshTable is)
 unfolding lentAdds freshTable
 adds m [] t o ok = ap (inMode m) (sym (append-nil t))
 adds m (i ∷ is) t o ok =
     let e = add-last i t (freshTable is) ok in
     let u = append-assoc t (made i ∷ []) (freshTable is) in
-    ap (λ (x : Given Answer (List ℕ)). lentAdds is (x .lent)) (on-encoded m t o (plain.Refused BadTable) (add i))
+    ap (λ (x : Given Answer (List ℕ)). lentAdds is (x .lent)) (whole-encoded m t o (plain.Refused BadTable) (addWhole i))
+    ∙ ap (lentAdds is) (forgets m i t)
     ∙ ap (λ (x : Table). lentAdds is (inMode m x)) e
     ∙ adds m is (t ++ (made i ∷ [])) (subst (λ (x : Table). obeys x ≡ true) e (add-keeps i t (number-fits i t (freshTable is) ok) o)) (ap obeys u ∙ ok)
     ∙ ap (inMode m) u

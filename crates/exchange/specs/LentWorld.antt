@@ -33,9 +33,9 @@ tableIn l = decodeWhole l .table
 abbrev pub waysIn : (table : Bytes) → Ways
 waysIn l = waysOf (decodeWhole l .mode)
 
--- the bytes of a table in a mode
+-- the bytes of a table in a mode, which remembers nothing: no node comes or goes here
 abbrev pub inMode : (mode : Mode) (table : Table) → Bytes
-inMode m t = encodeWhole (record { mode = m; table = t })
+inMode m t = encodeWhole (record { mode = m; memory = []; table = t })
 
 -- both tables fresh with the same nodes, each in its mode, and nothing given yet
 unfoldable pub lentStart : (publishers followers : Mode) (numbers : List ℕ) → LentWorld

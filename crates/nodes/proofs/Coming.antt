@@ -49,7 +49,7 @@ zero-table : encode [] ≡ zeros tableWidth
 unfolding encode joined
 zero-table = rw (encode, joined, no-nodes, bytes-zero 1, append-nil) (simp zeros-add)
 
-zero-whole : encodeWhole (record { mode = Plain; table = [] }) ≡ zeros wholeWidth
+zero-whole : encodeWhole (record { mode = Plain; memory = []; table = [] }) ≡ zeros wholeWidth
 unfolding encodeWhole joined
 zero-whole = rw (encodeWhole, joined, zero-table, plain-tail, append-nil) (simp zeros-add)
 
@@ -63,11 +63,11 @@ module _ (m : Mode) (l : List ℕ) where
   made e s t p q =
       let o : lentMade m l ≡ given Done (lentNew m) =
       pick-true (eqb (length l) wholeWidth) (given Done (lentNew m)) (given (Refused BadTable) l) (eq-eqb (length l) wholeWidth e) in
-      let empty : s ≡ encodeWhole (record { mode = Plain; table = [] }) = p ∙ put-whole (zeros wholeWidth) l (length-zeros wholeWidth ∙ sym e) ∙ sym zero-whole in (
+      let empty : s ≡ encodeWhole (record { mode = Plain; memory = []; table = [] }) = p ∙ put-whole (zeros wholeWidth) l (length-zeros wholeWidth ∙ sym e) ∙ sym zero-whole in (
         ap (λ (x : Given Answer (List ℕ)). x .answer) (sym o),
         q
             ∙ ap (put tableWidth (bytesOf 1 (modeOf m))) empty
-            ∙ mode-put m (record { mode = Plain; table = [] })
+            ∙ mode-put m (record { mode = Plain; memory = []; table = [] })
             ∙ ap (λ (x : Given Answer (List ℕ)). x .lent) (sym o),
       )
 

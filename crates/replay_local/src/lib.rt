@@ -42,6 +42,7 @@ pub fn plain_call(table: &mut [u8], verb: usize, line: &[u8], out: &mut [u8], at
     match verb {
         verbs::ADD => replay_tell::answer(out, at, nodes::add_node(table, number)),
         verbs::REMOVE => replay_tell::answer(out, at, nodes::remove_node(table, number)),
+        verbs::REMOVED => replay_tell::remembered(out, at, nodes::last_heartbeat(table, number)),
         verbs::BEAT => replay_tell::answer(out, at, heartbeat::local_beat(table, number)),
         _ => two_call(table, verb, number, read::word(line, 2), out, at),
     }

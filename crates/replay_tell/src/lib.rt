@@ -8,6 +8,7 @@ use replay_words::read;
 use rules::Answer;
 use rules::Offered;
 use rules::Refusal;
+use rules::Remembered;
 
 // No other side says this: a call wrote where it may not.
 pub fn touched(out: &mut [u8], at: usize) -> usize {
@@ -36,6 +37,17 @@ pub fn offered(out: &mut [u8], at: usize, offered: Offered) -> usize {
         Offered::Yes => print::text(out, at, b"yes"),
         Offered::No => print::text(out, at, b"no"),
         Offered::Refused(refusal) => refused(out, at, refusal),
+    }
+}
+
+pub fn remembered(out: &mut [u8], at: usize, remembered: Remembered) -> usize {
+    match remembered {
+        Remembered::With(heartbeat) => {
+            let next = print::text(out, at, b"heartbeat ");
+            print::decimal(out, next, heartbeat.0)
+        }
+        Remembered::Not => print::text(out, at, b"none"),
+        Remembered::Refused(refusal) => refused(out, at, refusal),
     }
 }
 

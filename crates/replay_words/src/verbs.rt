@@ -15,41 +15,65 @@ pub const ADD: usize = 5;
 
 pub const REMOVE: usize = 6;
 
-pub const BEAT: usize = 7;
+pub const REMOVED: usize = 7;
 
-pub const OFFER: usize = 8;
+pub const BEAT: usize = 8;
 
-pub const GC: usize = 9;
+pub const OFFER: usize = 9;
 
-pub const NEW: usize = 10;
+pub const GC: usize = 10;
 
-pub const MAKE: usize = 11;
+pub const NEW: usize = 11;
 
-pub const HUB: usize = 12;
+pub const MAKE: usize = 12;
 
-pub const TABLE: usize = 13;
+pub const HUB: usize = 13;
 
-pub const DUMP: usize = 14;
+pub const TABLE: usize = 14;
 
-pub const DIGEST: usize = 15;
+pub const DUMP: usize = 15;
 
-pub const READ_DIGEST: usize = 16;
+pub const DIGEST: usize = 16;
 
-pub const READ_DELTA: usize = 17;
+pub const READ_DIGEST: usize = 17;
 
-pub const COMPUTE: usize = 18;
+pub const READ_DELTA: usize = 18;
 
-pub const APPLY: usize = 19;
+pub const COMPUTE: usize = 19;
 
-pub const NOTHING: usize = 20;
+pub const APPLY: usize = 20;
+
+pub const NOTHING: usize = 21;
 
 // How many words a line of each call has.
-const WORDS: [usize; 20] = [6, 4, 4, 3, 4, 2, 2, 2, 3, 3, 1, 2, 2, 2, 1, 4, 2, 2, 7, 4];
+const WORDS: [usize; 21] = [
+    6,
+    4,
+    4,
+    3,
+    4,
+    2,
+    2,
+    2,
+    2,
+    3,
+    3,
+    1,
+    2,
+    2,
+    2,
+    1,
+    4,
+    2,
+    2,
+    7,
+    4,
+];
 
 // The call of the line. One with another count of words than its call has asks for none.
 pub fn asked(line: &[u8]) -> usize {
     let names =
-        b"write delete deletettl get list add remove beat offer gc new make hub table dump digest readdigest readdelta compute apply";
+        b"write delete deletettl get list add remove removed beat offer gc new make hub table dump digest readdigest readdelta compute apply";
     let verb = read::place_of(names, read::word(line, 0));
     if NOTHING <= verb {
         return NOTHING;

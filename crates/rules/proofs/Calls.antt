@@ -98,7 +98,7 @@ ok-set i n t ok on =
 
 -- ---- nodes come and go
 
-add-from : (i : ℕ) (t : Table) {e : Entry} → e ∈ addNode i t → (e ≡ record { number = i; node = fresh }) ⊎ (e ∈ t)
+pub add-from : (i : ℕ) (t : Table) {e : Entry} → e ∈ addNode i t → (e ≡ record { number = i; node = fresh }) ⊎ (e ∈ t)
 unfolding addNode
 add-from i [] m = in-cons m
 add-from i (a ∷ t) {e} m = go (eqb i (a .number)) (ltb i (a .number)) m (add-from i t)
@@ -116,7 +116,7 @@ add-from i (a ∷ t) {e} m = go (eqb i (a .number)) (ltb i (a .number)) m (add-f
         at (inl q) = inr (here q)
         at (inr n) = up (ih n)
 
-number-from : (t : Table) {x : ℕ} → x ∈ numbersOf t → (e : Entry) × (e ∈ t) × (x ≡ e .number)
+pub number-from : (t : Table) {x : ℕ} → x ∈ numbersOf t → (e : Entry) × (e ∈ t) × (x ≡ e .number)
 unfolding numbersOf
 number-from [] m = absurd (in-none m)
 number-from (a ∷ t) {x} m = go (in-cons m) (number-from t)
@@ -179,7 +179,7 @@ ok-add i t ok h room =
     at e (inl q) = subst OkEntry (sym q) (record { number-fits = h; node-ok = ok-fresh })
     at e (inr m) = ok .each e m
 
-drop-from : (i : ℕ) (t : Table) {e : Entry} → e ∈ dropNode i t → e ∈ t
+pub drop-from : (i : ℕ) (t : Table) {e : Entry} → e ∈ dropNode i t → e ∈ t
 unfolding dropNode
 drop-from i [] m = m
 drop-from i (a ∷ t) {e} m = go (eqb i (a .number)) m (drop-from i t)

@@ -14,8 +14,14 @@ use Rattle.rules.specs.Sizes.{maxDelta}
 use Rattle.rules.specs.Answers.{answerTold, codeOf}
 use Rattle.rules.specs.Node.{KeyValue, Rec, Node, act, beats, decide, due, find, lastGc, offerOf, remove, store, wish}
 use Rattle.rules.specs.Node as one
-use Rattle.rules.specs.Table.{Entry, Table, versions, among, nodeOf, setNode}
-use Rattle.rules.specs.Local.{Outcome, call, write}
+use Rattle.rules.specs.Given.{Given}
+use Rattle.rules.specs.Table.{Entry, Table, addNode, dropNode, numbersOf, versions, among, nodeOf, setNode}
+use Rattle.rules.specs.Memory.{Memory, forget, makeRoom, remember}
+use Rattle.rules.specs.Memory.{removed as gone}
+use Rattle.rules.specs.Local.{Outcome, add, call, removeNode, write}
+use Rattle.rules.specs.Whole.{Whole}
+use Rattle.rules.specs.Lent.{addWhole, removeWhole}
+use Rattle.rules.specs.declared.Mode.the-variants.{Plain}
 use Rattle.rules.specs.Digest.{NodeDigest}
 use Rattle.rules.specs.Delta.{Op, sizeOf, statusByte, NodeDelta, Part, partsOf, maxOf, opBytes, recsOf, textBytes}
 use Rattle.rules.specs.Compute.{fromOf, deltaFor, allOps, byVersion, cut, keyValueOps, ordered, queue, sooner, stale, staleNodes, toldOf}
@@ -140,6 +146,28 @@ wrote wanted v i =
     let o : Outcome Answer = write wanted v 9 i (1 ∷ []) (entry 7 1 (live 1 ∷ []) ∷ []) in
     answerTold (o .answer) .number ∷ allStamps (o .table)
 
+-- removed nodes with heartbeat 0
+unfoldable pub plainly : List ℕ → Memory
+plainly [] = []
+plainly (i ∷ is) = gone i (beats 0) ∷ plainly is
+
+-- number and heartbeat of each removed node
+unfoldable pub memoryOf : Memory → List ℕ
+memoryOf [] = []
+memoryOf (r ∷ m) = r .number ∷ r .heartbeat .0 ∷ memoryOf m
+
+-- A removal from a table of node 7, whose heartbeat is 7, and an addition to a table, beside these removed nodes: the number of the answer, and the memory
+-- afterwards.
+abbrev removing : ℕ → List ℕ → List ℕ
+removing i is =
+    let o : Given Answer Whole = removeWhole i (record { mode = Plain; memory = plainly is; table = entry 7 1 [] ∷ [] }) in
+    answerTold (o .answer) .number ∷ memoryOf (o .lent .memory)
+
+abbrev adding : ℕ → Table → List ℕ → List ℕ
+adding i t is =
+    let o : Given Answer Whole = addWhole i (record { mode = Plain; memory = plainly is; table = t }) in
+    answerTold (o .answer) .number ∷ memoryOf (o .lent .memory)
+
 -- news of three offers to one who holds 0
 abbrev yes : Bool → ℕ
 yes true = 1
@@ -216,10 +244,20 @@ cases =
     ∷ case (wrote 3 [] 7) (10 ∷ 1 ∷ 0 ∷ 0 ∷ [])
     ∷ case (wrote 1 [] 8) (10 ∷ 1 ∷ 0 ∷ 0 ∷ [])
     ∷ case (wrote 2 [] 8) (2 ∷ 1 ∷ 0 ∷ 0 ∷ [])
+    -- removed nodes: the last heartbeat is remembered, behind those remembered longer; a node that is not held is not (2)
+    ∷ case (removing 7 (9 ∷ 8 ∷ [])) (0 ∷ 9 ∷ 0 ∷ 8 ∷ 0 ∷ 7 ∷ 7 ∷ [])
+    ∷ case (removing 6 (9 ∷ 8 ∷ [])) (2 ∷ 9 ∷ 0 ∷ 8 ∷ 0 ∷ [])
+    -- the longest remembered goes when a seventeenth comes
+    ∷ case (memoryOf (remember 7 (beats 3) (plainly (replicate 16 1)))) (memoryOf (plainly (replicate 15 1)) ++ (7 ∷ 3 ∷ []))
+    ∷ case (memoryOf (remember 7 (beats 3) (plainly (1 ∷ replicate 15 2)))) (memoryOf (plainly (replicate 15 2)) ++ (7 ∷ 3 ∷ []))
+    ∷ case (memoryOf (remember 7 (beats 3) (plainly (replicate 15 1)))) (memoryOf (plainly (replicate 15 1)) ++ (7 ∷ 3 ∷ []))
+    -- adding forgets the node, and the others keep their order; a ninth node is refused (4) and forgets nothing
+    ∷ case (adding 5 (entry 7 1 [] ∷ []) (9 ∷ 5 ∷ 8 ∷ [])) (0 ∷ 9 ∷ 0 ∷ 8 ∷ 0 ∷ [])
+    ∷ case (adding 5 (replicate 8 (entry 7 1 [])) (9 ∷ 5 ∷ 8 ∷ [])) (4 ∷ 9 ∷ 0 ∷ 5 ∷ 0 ∷ 8 ∷ 0 ∷ [])
     ∷ []
 
 pub all-hold : all holds cases ≡ true
-unfolding all holds cases answerTold sameBytes lessBytes numbersIn fromsIn sizesIn stamps allStamps write call decide wish find act one.write nodeOf setNode applyNode deltaStatus statusOf newerOf outcome takeAll takes store versions remove lastGc keep fromOf deltaFor cut allOps ordered queue sooner staleNodes toldOf among stale byVersion keyValueOps sizeOf opBytes textBytes bytesOf partsOf recsOf maxOf offerOf
+unfolding plainly memoryOf removeWhole addWhole removeNode add addNode dropNode numbersOf remember makeRoom forget all holds cases answerTold sameBytes lessBytes numbersIn fromsIn sizesIn stamps allStamps write call decide wish find act one.write nodeOf setNode applyNode deltaStatus statusOf newerOf outcome takeAll takes store versions remove lastGc keep fromOf deltaFor cut allOps ordered queue sooner staleNodes toldOf among stale byVersion keyValueOps sizeOf opBytes textBytes bytesOf partsOf recsOf maxOf offerOf
 all-hold = refl
 
 -- the paper stars seven lines, and they have fifteen cases

@@ -27,6 +27,7 @@ pub mod Unique
 pub mod Told
 pub mod Numbers
 pub mod Refusing
+pub mod Memories
 pub mod EachNode
 pub mod Nearer
 pub mod OnTheWay

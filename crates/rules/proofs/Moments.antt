@@ -65,7 +65,7 @@ pub record Next (ways : Ways) (is : List ℕ) (w x : World) : Type 0 where
 
 -- ---- no node comes or goes
 
-numbers-call : (c : Call) (i : ℕ) (k : List ℕ) (t : Table) → numbersOf (call c i k t .table) ≡ numbersOf t
+pub numbers-call : (c : Call) (i : ℕ) (k : List ℕ) (t : Table) → numbersOf (call c i k t .table) ≡ numbersOf t
 unfolding call
 numbers-call c i k t = go (nodeOf i t)
   where
@@ -73,7 +73,7 @@ numbers-call c i k t = go (nodeOf i t)
     go none = refl
     go (some n) = numbers-set i _ t
 
-numbers-beat : (i : ℕ) (t : Table) → numbersOf (localBeat i t .table) ≡ numbersOf t
+pub numbers-beat : (i : ℕ) (t : Table) → numbersOf (localBeat i t .table) ≡ numbersOf t
 unfolding localBeat
 numbers-beat i t = go (nodeOf i t)
   where
@@ -88,7 +88,7 @@ numbers-beat i t = go (nodeOf i t)
         room true = numbers-set i next t
         room false = refl
 
-numbers-offer : (i : ℕ) (h : Heartbeat) (t : Table) → numbersOf (offer i h t .table) ≡ numbersOf t
+pub numbers-offer : (i : ℕ) (h : Heartbeat) (t : Table) → numbersOf (offer i h t .table) ≡ numbersOf t
 unfolding offer
 numbers-offer i h t = go (nodeOf i t)
   where

@@ -15,12 +15,13 @@ use Rattle.rules.specs.Compute.{allOps, byVersion, compute, cut, deltaFo
 use Rattle.rules.specs.Delta.{NodeOp, deltaBytes, deltaRead, follow, opBytes, partsOf, readDelta, readNode, readOp, readOps, readSetMaxVersion, sizeOf}
 use Rattle.rules.specs.Digest.{digestBytes, digestOf, entryBytes, readDigest, readEntries, tell, tellAll, writeDigest}
 use Rattle.rules.specs.Layout.{decode, encode}
-use Rattle.rules.specs.Whole.{encodeWhole, validWhole}
-use Rattle.rules.specs.Lent.{lentAdd, onTable}
+use Rattle.rules.specs.Memory.{apart, memoryObeys, removedNumbers}
+use Rattle.rules.specs.Whole.{decodeMemory, encodeWhole, obeysWhole, validWhole}
+use Rattle.rules.specs.Lent.{lentAdd, onWhole}
 use Rattle.rules.specs.Local.{add, call, localBeat, offer, prefixed, removeNode}
 use Rattle.rules.specs.Node.{Deleting, Node, Rec, Setting, act, beats, decide, find, fresh, hitsFrom, offerOf, wish}
 use Rattle.rules.specs.Sizes.{top}
-use Rattle.rules.specs.Table.{Table, addNode, among, dropNode, nodeOf, numbersOf, obeys, rising, setNode}
+use Rattle.rules.specs.Table.{Table, addNode, among, differ, dropNode, nodeOf, numbersOf, obeys, rising, setNode}
 use Rattle.rules.specs.declared.NodeAnswer.the-variants as node
 use Rattle.rules.specs.declared.Status.the-variants.{Set}
 
@@ -112,7 +113,7 @@ rows =
     ∷ []
 
 pub as-the-paper : inCalls rows ≡ inPaper rows
-unfolding inCalls inPaper rows zeros records nodes answerTold computedTold writtenTold readTold appliedTold offeredTold listedTold call removeNode add localBeat compute writeDigest deltaRead apply offer prefixed decide act find wish among numbersOf nodeOf setNode addNode dropNode readDelta readOps readOp readNode readSetMaxVersion follow deltaBytes opBytes bytesOf flat partsOf applyEach codes readDigest readEntries tell tellAll digestOf digestBytes entryBytes offerOf hitsFrom sameBytes allOps byVersion cut deltaFor fromOf keyValueOps ordered queue sooner stale staleNodes toldOf sizeOf natOf startsWith unblock onTable validWhole obeys decode part rising all encode encodeWhole joined
+unfolding inCalls inPaper rows zeros records nodes answerTold computedTold writtenTold readTold appliedTold offeredTold listedTold call removeNode add localBeat compute writeDigest deltaRead apply offer prefixed decide act find wish among numbersOf nodeOf setNode addNode dropNode readDelta readOps readOp readNode readSetMaxVersion follow deltaBytes opBytes bytesOf flat partsOf applyEach codes readDigest readEntries tell tellAll digestOf digestBytes entryBytes offerOf hitsFrom sameBytes allOps byVersion cut deltaFor fromOf keyValueOps ordered queue sooner stale staleNodes toldOf sizeOf natOf startsWith unblock onWhole validWhole obeysWhole memoryObeys removedNumbers differ apart obeys decode part rising all encode encodeWhole decodeMemory joined
 as-the-paper = refl
 
 -- the answers of nodes in a lent list

@@ -18,12 +18,12 @@ use Rattle.rules.specs.Apply.{ApplyOutcome, apply, applyEach, applyNode,
 use Rattle.rules.specs.Compute.{compute, onDigest, written}
 use Rattle.rules.specs.Delta.{Faulty, Good, Ops, Part, partsOf}
 use Rattle.rules.specs.Digest.{DigestRead, Entries, Refused, digestBytes, digestOf, fitsAt, readDigest, writeDigest}
-use Rattle.rules.specs.Whole.{decodeWhole, encodeWhole, validWhole, withTable}
+use Rattle.rules.specs.Whole.{decodeWhole, encodeWhole, obeysWhole, validWhole, withTable}
 use Rattle.rules.specs.Lent.{TableAndList, both, onTable, storedIn, storedApply, lentApplyAs}
 use Rattle.rules.specs.Local.{Outcome, add, answerOf, beatOn, call, callOn, gives, listInto, localBeat, offer, offerOn, prefixOn, prefixed, removeNode, write, yesNo}
 use Rattle.rules.specs.Node.{Call, Decision, Give, Leave, Node, Refuse, Setting, SettingTtl, act, beats, decide, hitsFrom, offerOf, withHeartbeat}
 use Rattle.rules.specs.Sizes.{leastMtu, maxDelta, maxKey, maxNodes, top}
-use Rattle.rules.specs.Table.{Table, addNode, among, dropNode, nodeOf, numbersOf, obeys, setNode}
+use Rattle.rules.specs.Table.{Table, addNode, among, dropNode, nodeOf, numbersOf, setNode}
 use Rattle.rules.specs.declared.Answer.{Answer}
 use Rattle.rules.specs.declared.Computed.{Computed}
 use Rattle.rules.specs.declared.Heartbeat.{Heartbeat}
@@ -192,7 +192,7 @@ apply-refused ways bytes now t l r at = go (ways .reads bytes)
 -- valid bytes are those of the table that is read in them
 pub whole-bytes : (l : List ℕ) → validWhole l ≡ true → encodeWhole (decodeWhole l) ≡ l
 unfolding validWhole
-whole-bytes l e = same-true _ _ (and-right (obeys (decodeWhole l .table)) (sameBytes (encodeWhole (decodeWhole l)) l) e)
+whole-bytes l e = same-true _ _ (and-right (obeysWhole (decodeWhole l)) (sameBytes (encodeWhole (decodeWhole l)) l) e)
 
 -- and stay those of a table that becomes what it is
 same-whole : (l : List ℕ) → validWhole l ≡ true → (t : Table) → t ≡ decodeWhole l .table → encodeWhole (withTable t (decodeWhole l)) ≡ l

@@ -6,7 +6,8 @@ use native.Mathlib.Omega.{arith}
 use lib.Dec.{eqb}
 use lib.ListN.{length, getD}
 use Rattle.fields.specs.Choice.{pick}
-use Rattle.rules.specs.Answers.{Told, numberOf, codeOf, answerTold, offeredTold, listedTold, writtenTold, computedTold, readTold, appliedTold}
+use Rattle.rules.specs.Node.{beats}
+use Rattle.rules.specs.Answers.{Told, numberOf, codeOf, answerTold, offeredTold, rememberedTold, listedTold, writtenTold, computedTold, readTold, appliedTold}
 use Rattle.rules.specs.declared.Refusal.{Refusal}
 use Rattle.rules.specs.declared.Refusal.the-variants.{TooLong, NoNode, NoKey, NinthNode, NodeFull, Exhausted, BadMtu, NoPlace, Cut, BadTag, OutOfOrder, NodeTwice, TooMany, BadTable, BadTies}
 use Rattle.rules.specs.declared.NodeAnswer.{NodeAnswer}
@@ -15,6 +16,9 @@ use Rattle.rules.specs.declared.Answer.{Answer}
 use Rattle.rules.specs.declared.Answer.the-variants as plain
 use Rattle.rules.specs.declared.Offered.{Offered}
 use Rattle.rules.specs.declared.Offered.the-variants as offered
+use Rattle.rules.specs.declared.Heartbeat.{Heartbeat}
+use Rattle.rules.specs.declared.Remembered.{Remembered}
+use Rattle.rules.specs.declared.Remembered.the-variants as remembered
 use Rattle.rules.specs.declared.Listed.{Listed}
 use Rattle.rules.specs.declared.Listed.the-variants as listed
 use Rattle.rules.specs.declared.Written.{Written}
@@ -133,6 +137,22 @@ same-offered offered.No (offered.Refused r) e = not-refused r (number-is e)
 same-offered (offered.Refused r) offered.Yes e = not-refused r (sym (number-is e))
 same-offered (offered.Refused r) offered.No e = not-refused r (sym (number-is e))
 same-offered (offered.Refused r) (offered.Refused s) e = ap offered.Refused (same-number r s (number-is e))
+
+-- a heartbeat is its number
+beat-is : (h k : Heartbeat) → h .0 ≡ k .0 → h ≡ k
+beat-is h k e = ap beats e
+
+pub same-remembered : (a b : Remembered) → rememberedTold a ≡ rememberedTold b → a ≡ b
+unfolding rememberedTold
+same-remembered (remembered.With h) (remembered.With k) e = ap remembered.With (beat-is h k (value-is e 0))
+same-remembered (remembered.With h) remembered.Not e = absurd (omega (arith, values-long e))
+same-remembered (remembered.With h) (remembered.Refused r) e = not-refused r (number-is e)
+same-remembered remembered.Not (remembered.With h) e = absurd (omega (arith, values-long e))
+same-remembered remembered.Not remembered.Not e = refl
+same-remembered remembered.Not (remembered.Refused r) e = not-refused r (number-is e)
+same-remembered (remembered.Refused r) (remembered.With h) e = not-refused r (sym (number-is e))
+same-remembered (remembered.Refused r) remembered.Not e = not-refused r (sym (number-is e))
+same-remembered (remembered.Refused r) (remembered.Refused s) e = ap remembered.Refused (same-number r s (number-is e))
 
 pub same-listed : (a b : Listed) → listedTold a ≡ listedTold b → a ≡ b
 unfolding listedTold

@@ -12,6 +12,8 @@ use Rattle.rules.specs.declared.Answer.{Answer}
 use Rattle.rules.specs.declared.Answer.the-variants as plain
 use Rattle.rules.specs.declared.Offered.{Offered}
 use Rattle.rules.specs.declared.Offered.the-variants as offered
+use Rattle.rules.specs.declared.Remembered.{Remembered}
+use Rattle.rules.specs.declared.Remembered.the-variants as remembered
 use Rattle.rules.specs.declared.Listed.{Listed}
 use Rattle.rules.specs.declared.Listed.the-variants as listed
 use Rattle.rules.specs.declared.Written.{Written}
@@ -75,6 +77,12 @@ unfoldable pub offeredTold : Offered → Told
 offeredTold offered.Yes = accepted (1 ∷ [])
 offeredTold offered.No = accepted (0 ∷ [])
 offeredTold (offered.Refused r) = refused r []
+
+-- the heartbeat, or nothing
+unfoldable pub rememberedTold : Remembered → Told
+rememberedTold (remembered.With h) = accepted (h .0 ∷ [])
+rememberedTold remembered.Not = accepted []
+rememberedTold (remembered.Refused r) = refused r []
 
 unfoldable pub listedTold : Listed → Told
 listedTold (listed.Hits n) = accepted (n ∷ [])

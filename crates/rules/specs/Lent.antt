@@ -2,11 +2,13 @@
 -- everywhere. These are what the entry points promise.
 use Prim.Native.Nat.{ℕ}
 use mathlib.Core.List.{List, []}
+use mathlib.Core.Option.{Option, none, some}
 use Rattle.fields.specs.Numbers.{Bytes}
 use Rattle.fields.specs.Choice.{pick}
 use Rattle.rules.specs.Given.{Given, given}
-use Rattle.rules.specs.Node.{Call}
-use Rattle.rules.specs.Table.{Table}
+use Rattle.rules.specs.Node.{Node, Call}
+use Rattle.rules.specs.Table.{Table, nodeOf}
+use Rattle.rules.specs.Memory.{Memory, heartbeatOf, forget, remember}
 use Rattle.rules.specs.Local.{Outcome, Found, NotFound, add, removeNode, call, write, gc, offer, localBeat, lookup, prefixed}
 use Rattle.rules.specs.Digest.{writeDigest}
 use Rattle.rules.specs.Compute.{compute}
@@ -18,6 +20,8 @@ use Rattle.rules.specs.declared.Mode.{Mode}
 use Rattle.rules.specs.declared.Refusal.the-variants.{BadTable}
 use Rattle.rules.specs.declared.Answer.{Answer}
 use Rattle.rules.specs.declared.Answer.the-variants as plain
+use Rattle.rules.specs.declared.Remembered.{Remembered}
+use Rattle.rules.specs.declared.Remembered.the-variants as remembered
 use Rattle.rules.specs.declared.Offered.{Offered}
 use Rattle.rules.specs.declared.Offered.the-variants as offered
 use Rattle.rules.specs.declared.Listed.{Listed}
@@ -45,13 +49,47 @@ onTable bad rule table = pick (validWhole table) (storedIn (decodeWhole table) (
 unfoldable pub fromTable : {A : Type 0} (bad : A) (rule : Table → A) (table : Bytes) → A
 fromTable bad rule table = pick (validWhole table) (rule (decodeWhole table .table)) bad
 
--- ---- calls that change the table
+-- ---- nodes that come and go, and the memory with them
+
+-- 14, or the rule on the whole that the bytes are
+unfoldable pub onWhole : {A : Type 0} (bad : A) (rule : Whole → Given A Whole) (table : Bytes) → Given A Bytes
+onWhole bad rule table = pick (validWhole table) (given (rule (decodeWhole table) .answer) (encodeWhole (rule (decodeWhole table) .lent))) (given bad table)
+
+-- Adding forgets the node, unless it is refused. A node that is held is not remembered, so that adding it forgets nothing (proofs/Memories).
+abbrev pub forgetOn : (answer : Answer) (number : ℕ) (memory : Memory) → Memory
+forgetOn plain.Done i m = forget i m
+forgetOn (plain.Refused r) i m = m
+
+unfoldable pub addWhole : (number : ℕ) (whole : Whole) → Given Answer Whole
+addWhole i w =
+    given (add i (w .table) .answer)
+    (record { mode = w .mode; memory = forgetOn (add i (w .table) .answer) i (w .memory); table = add i (w .table) .table })
+
+-- Removing remembers the node with the heartbeat that it had, if it was held.
+abbrev pub rememberOn : (held : Option Node) (number : ℕ) (memory : Memory) → Memory
+rememberOn none i m = m
+rememberOn (some n) i m = remember i (n .heartbeat) m
+
+unfoldable pub removeWhole : (number : ℕ) (whole : Whole) → Given Answer Whole
+removeWhole i w =
+    given (removeNode i (w .table) .answer)
+    (record { mode = w .mode; memory = rememberOn (nodeOf i (w .table)) i (w .memory); table = removeNode i (w .table) .table })
 
 abbrev pub lentAdd : (number : ℕ) (table : Bytes) → Given Answer Bytes
-lentAdd number table = onTable (plain.Refused BadTable) (add number) table
+lentAdd number table = onWhole (plain.Refused BadTable) (addWhole number) table
 
 abbrev pub lentRemoveNode : (number : ℕ) (table : Bytes) → Given Answer Bytes
-lentRemoveNode number table = onTable (plain.Refused BadTable) (removeNode number) table
+lentRemoveNode number table = onWhole (plain.Refused BadTable) (removeWhole number) table
+
+-- asking for a removed node: 14 alone
+abbrev pub rememberedAs : (heartbeat : Option Heartbeat) → Remembered
+rememberedAs none = remembered.Not
+rememberedAs (some h) = remembered.With h
+
+unfoldable pub lentRemoved : (number : ℕ) (table : Bytes) → Remembered
+lentRemoved number table = pick (validWhole table) (rememberedAs (heartbeatOf number (decodeWhole table .memory))) (remembered.Refused BadTable)
+
+-- ---- calls that change the table
 
 abbrev pub lentCall : (call : Call) (number : ℕ) (key table : Bytes) → Given Answer Bytes
 lentCall c number k table = onTable (plain.Refused BadTable) (call c number k) table
@@ -106,6 +144,6 @@ lentApplyAs ways delta now list table =
 abbrev pub lentApply : (delta : Bytes) (now : ℕ) (list table : Bytes) → Given Applied TableAndList
 lentApply delta now list table = lentApplyAs (waysOf (decodeWhole table .mode)) delta now list table
 
--- an empty table in a mode
+-- an empty table in a mode, which remembers nothing
 unfoldable pub lentNew : (mode : Mode) → Bytes
-lentNew m = encodeWhole (record { mode = m; table = [] })
+lentNew m = encodeWhole (record { mode = m; memory = []; table = [] })

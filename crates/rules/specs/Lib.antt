@@ -4,6 +4,7 @@ pub mod Answers
 pub mod Given
 pub mod Node
 pub mod Table
+pub mod Memory
 pub mod Local
 pub mod Digest
 pub mod Delta

@@ -1,29 +1,40 @@
--- The whole of a lent table: its area, in which the nodes stand (Layout), and behind the area a tail, which tells what kind of table it is. Of the
--- tail only the mode has a meaning so far. The other bytes have their places and are zero.
-use Prim.Native.Nat.{ℕ, zero, suc, _*_}
+-- The whole of a lent table: its area, in which the nodes stand (Layout), and behind the area a tail: what kind of table it is, and the nodes that were
+-- removed from it (Memory). Of the tail the profile has no meaning so far: it has its place and is zero.
+use Prim.Native.Nat.{ℕ, zero, suc, _+_, _*_}
 use mathlib.Core.Bool.{Bool, _&&_}
 use mathlib.Core.List.{List, [], _∷_}
-use lib.ListN.{take}
+use lib.ListN.{length, take, drop}
 use Rattle.fields.specs.Numbers.{Bytes, natOf, bytesOf}
 use Rattle.fields.specs.Parts.{part}
-use Rattle.fields.specs.Blocks.{zeros}
+use Rattle.fields.specs.Blocks.{zeros, blocks, unblock}
 use Rattle.fields.specs.Widths.{joined, offset, total}
 use Rattle.fields.specs.Order.{sameBytes}
 use Rattle.rules.specs.Sizes.{maxRemoved}
 use Rattle.rules.specs.Answers.{modeOf}
-use Rattle.rules.specs.Table.{Table, obeys}
+use Rattle.rules.specs.Node.{beats}
+use Rattle.rules.specs.Table.{Table, numbersOf, obeys}
+use Rattle.rules.specs.Memory.{Removed, Memory, memoryObeys}
 use Rattle.rules.specs.Layout.{tableWidth, encode, decode}
 use Rattle.rules.specs.declared.Mode.{Mode}
 use Rattle.rules.specs.declared.Mode.the-variants.{Plain, Fenced}
 
--- a table with its mode
+-- a table with its mode and its memory
 pub record Whole : Type 0 where
   pub mode : Mode
+  pub memory : Memory
   pub table : Table
 
 -- with other nodes, and all else as it is
 abbrev pub withTable : (table : Table) (whole : Whole) → Whole
-withTable t w = record { mode = w .mode; table = t }
+withTable t w = record { mode = w .mode; memory = w .memory; table = t }
+
+-- with another memory
+abbrev pub withMemory : (memory : Memory) (whole : Whole) → Whole
+withMemory m w = record { mode = w .mode; memory = m; table = w .table }
+
+-- the table rules of 14
+unfoldable pub obeysWhole : (whole : Whole) → Bool
+obeysWhole w = obeys (w .table) && memoryObeys (numbersOf (w .table)) (w .memory)
 
 -- ---- the tail: mode, profile, count of removed nodes, room for 16 of them
 
@@ -36,20 +47,41 @@ modeOfByte (suc n) = Fenced
 abbrev pub removedWidths : List ℕ
 removedWidths = 8 ∷ 8 ∷ []
 
+abbrev pub removedWidth : ℕ
+removedWidth = total removedWidths
+
+abbrev pub removedFields : (removed : Removed) → List (List ℕ)
+removedFields r = bytesOf 8 (r .number) ∷ bytesOf 8 (r .heartbeat .0) ∷ []
+
+unfoldable pub encodeRemoved : (removed : Removed) → Bytes
+encodeRemoved r = joined (removedFields r)
+
+unfoldable pub decodeRemoved : (bytes : Bytes) → Removed
+decodeRemoved b =
+    record { number = natOf (part (offset removedWidths 0) 8 b); heartbeat = beats (natOf (part (offset removedWidths 1) 8 b)) }
+
 abbrev pub tailWidths : List ℕ
-tailWidths = 1 ∷ 1 ∷ 1 ∷ maxRemoved * total removedWidths ∷ []
+tailWidths = 1 ∷ 1 ∷ 1 ∷ maxRemoved * removedWidth ∷ []
 
 abbrev pub tailWidth : ℕ
 tailWidth = total tailWidths
 
-abbrev pub tailFields : (mode : Mode) → List (List ℕ)
-tailFields m = bytesOf 1 (modeOf m) ∷ zeros 1 ∷ zeros 1 ∷ zeros (maxRemoved * total removedWidths) ∷ []
+-- where removed node i begins in a tail's bytes
+abbrev pub removedPlace : (i : ℕ) → ℕ
+removedPlace i = offset tailWidths 3 + i * removedWidth
 
-unfoldable pub encodeTail : (mode : Mode) → Bytes
-encodeTail m = joined (tailFields m)
+-- the removed nodes stand one behind the other, the longest remembered first
+abbrev pub tailFields : (mode : Mode) (memory : Memory) → List (List ℕ)
+tailFields m mem = bytesOf 1 (modeOf m) ∷ zeros 1 ∷ bytesOf 1 (length mem) ∷ blocks maxRemoved removedWidth encodeRemoved mem ∷ []
+
+unfoldable pub encodeTail : (mode : Mode) (memory : Memory) → Bytes
+encodeTail m mem = joined (tailFields m mem)
 
 abbrev pub decodeTail : (tail : Bytes) → Mode
 decodeTail b = modeOfByte (natOf (part (offset tailWidths 0) 1 b))
+
+unfoldable pub decodeMemory : (tail : Bytes) → Memory
+decodeMemory b = unblock removedWidth decodeRemoved (natOf (part (offset tailWidths 2) 1 b)) (drop (offset tailWidths 3) b)
 
 -- ---- the whole: the area, the tail
 
@@ -67,14 +99,14 @@ abbrev pub tailOf : (bytes : Bytes) → Bytes
 tailOf l = part (offset wholeWidths 1) tailWidth l
 
 abbrev pub wholeFields : (whole : Whole) → List (List ℕ)
-wholeFields w = encode (w .table) ∷ encodeTail (w .mode) ∷ []
+wholeFields w = encode (w .table) ∷ encodeTail (w .mode) (w .memory) ∷ []
 
 unfoldable pub encodeWhole : (whole : Whole) → Bytes
 encodeWhole w = joined (wholeFields w)
 
 abbrev pub decodeWhole : (bytes : Bytes) → Whole
-decodeWhole l = record { mode = decodeTail (tailOf l); table = decode (areaOf l) }
+decodeWhole l = record { mode = decodeTail (tailOf l); memory = decodeMemory (tailOf l); table = decode (areaOf l) }
 
 -- number 14 is refused exactly where this is false: the bytes are those of a table that obeys the rules, in one of the modes
 unfoldable pub validWhole : (bytes : Bytes) → Bool
-validWhole l = obeys (decodeWhole l .table) && sameBytes (encodeWhole (decodeWhole l)) l
+validWhole l = obeysWhole (decodeWhole l) && sameBytes (encodeWhole (decodeWhole l)) l

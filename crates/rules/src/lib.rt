@@ -316,6 +316,13 @@ pub enum Offered {
     Refused(Refusal),
 }
 
+// The answer to asking for a removed node: it is remembered with its last heartbeat, or it is not.
+pub enum Remembered {
+    With(Heartbeat),
+    Not,
+    Refused(Refusal),
+}
+
 // The answer of a prefix listing: how many records it found.
 pub enum Listed {
     Hits(usize),

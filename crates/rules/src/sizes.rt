@@ -3,7 +3,7 @@
 // The most nodes in a table, and in a digest or a delta.
 pub const NODES: usize = 8;
 
-// The removed nodes that a table has room to remember.
+// The removed nodes that a table remembers.
 pub const REMOVED: usize = 16;
 
 // The least MTU. The largest is the longest delta.

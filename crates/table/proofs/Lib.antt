@@ -8,3 +8,4 @@ pub mod Areas
 pub mod Rows
 pub mod Changed
 pub mod Laid
+pub mod Memories

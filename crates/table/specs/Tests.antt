@@ -10,11 +10,12 @@ use Rattle.fields.specs.Numbers.{Bytes, natOf}
 use Rattle.fields.specs.Parts.{part}
 use Rattle.fields.specs.Blocks.{allZero, allBlocks}
 use Rattle.fields.specs.Widths.{offset}
-use Rattle.rules.specs.Sizes.{maxNodes, maxRecords, maxKey, maxValue}
+use Rattle.rules.specs.Sizes.{maxNodes, maxRecords, maxKey, maxValue, maxRemoved}
 use Rattle.rules.specs.Node.{Rec}
 use Rattle.rules.specs.Table.{keysRise, versions, differ, rising, numbersOf}
 use Rattle.rules.specs.Layout.{recWidths, recWidth, nodeWidths, nodeWidth, tableWidths, tableWidth, decodeNode, decode, valid}
-use Rattle.rules.specs.Whole.{tailWidths, tailWidth, wholeWidth, areaOf, tailOf}
+use Rattle.rules.specs.Memory.{removedNumbers, apart}
+use Rattle.rules.specs.Whole.{tailWidths, removedWidth, removedPlace, wholeWidth, areaOf, tailOf, decodeMemory}
 
 -- ---- a record's bytes, in a node with this max
 
@@ -93,12 +94,23 @@ tableGood l = eqb (length l) tableWidth && every (tableTests l)
 abbrev pub modeIn : (tail : Bytes) → ℕ
 modeIn b = natOf (part (offset tailWidths 0) 1 b)
 
--- a mode of the two, zeros behind it
-abbrev pub tailTests : (tail : Bytes) → List Bool
-tailTests b = leb (modeIn b) 1 ∷ allZero (part (offset tailWidths 1) (tailWidth - offset tailWidths 1) b) ∷ []
+-- how many removed nodes the tail says that there are
+abbrev pub removedIn : (tail : Bytes) → ℕ
+removedIn b = natOf (part (offset tailWidths 2) 1 b)
 
-unfoldable pub tailGood : (tail : Bytes) → Bool
-tailGood b = every (tailTests b)
+-- a mode of the two, no profile, at most 16 removed nodes, zeros behind them, no node twice, none that is held
+abbrev pub tailTests : (held : List ℕ) (tail : Bytes) → List Bool
+tailTests held b =
+    leb (modeIn b) 1
+    ∷ allZero (part (offset tailWidths 1) 1 b)
+    ∷ leb (removedIn b) maxRemoved
+    ∷ allZero (part (removedPlace (removedIn b)) ((maxRemoved - removedIn b) * removedWidth) b)
+    ∷ differ (removedNumbers (decodeMemory b))
+    ∷ apart held (removedNumbers (decodeMemory b))
+    ∷ []
+
+unfoldable pub tailGood : (held : List ℕ) (tail : Bytes) → Bool
+tailGood held b = every (tailTests held b)
 
 unfoldable pub wholeGood : (bytes : Bytes) → Bool
-wholeGood l = eqb (length l) wholeWidth && (valid (areaOf l) && tailGood (tailOf l))
+wholeGood l = eqb (length l) wholeWidth && (valid (areaOf l) && tailGood (numbersOf (decode (areaOf l))) (tailOf l))

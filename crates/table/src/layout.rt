@@ -42,7 +42,7 @@ pub const NODES: usize = NODE_COUNT + 1;
 
 pub const AREA: usize = NODES + sizes::NODES * NODE;
 
-// The tail behind the area, from its own first byte: mode, profile, count of removed nodes, room for 16 of them. All but the mode are zero.
+// The tail behind the area, from its own first byte: mode, profile, count of removed nodes, room for 16 of them. The profile is zero.
 pub const MODE: usize = 0;
 
 pub const PROFILE: usize = MODE + 1;
@@ -51,7 +51,14 @@ pub const REMOVED_COUNT: usize = PROFILE + 1;
 
 pub const REMOVED_NODES: usize = REMOVED_COUNT + 1;
 
-pub const TAIL: usize = REMOVED_NODES + sizes::REMOVED * 16;
+// A removed node, from its first byte: number, heartbeat.
+pub const REMOVED_NUMBER: usize = 0;
+
+pub const REMOVED_HEARTBEAT: usize = REMOVED_NUMBER + 8;
+
+pub const REMOVED: usize = REMOVED_HEARTBEAT + 8;
+
+pub const TAIL: usize = REMOVED_NODES + sizes::REMOVED * REMOVED;
 
 // A table: the area and the tail.
 pub const TABLE: usize = AREA + TAIL;

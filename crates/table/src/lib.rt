@@ -3,8 +3,9 @@ ghost use mathlib.Core.Path.{_≡_};
 ghost use Prim.Native.Nat.{_≤_, _<_};
 ghost use lib.ListN.{length};
 ghost use Rattle.fields.specs.Parts.{part};
-ghost use Rattle.rules.specs.Sizes.{maxNodes, maxRecords, maxKey, maxValue};
+ghost use Rattle.rules.specs.Sizes.{maxNodes, maxRecords, maxKey, maxValue, maxRemoved};
 ghost use Rattle.rules.specs.Layout.{recPlace, nodePlace, recWidth, nodeWidth, tableWidth, decodeRec};
+ghost use Rattle.rules.specs.Whole.{removedPlace};
 ghost use Rattle.table.specs.Tests.{keyLength, valueLength};
 
 pub mod layout;
@@ -23,6 +24,14 @@ pub fn record_place(j: usize) -> usize
     ensures { λ r. ⌜ r ≡ recPlace j ⌝ }
 {
     layout::RECORDS + fields::times(j, layout::RECORD)
+}
+
+// Where removed node `i` begins in a tail's bytes; behind the last one, where they end.
+pub fn removed_place(i: usize) -> usize
+    requires { ⌜ i ≤ maxRemoved ⌝ }
+    ensures { λ r. ⌜ r ≡ removedPlace i ⌝ }
+{
+    layout::REMOVED_NODES + i * layout::REMOVED
 }
 
 // Node `i` of a table's bytes.

@@ -14,8 +14,8 @@ use Rattle.rules.specs.Given.{Given, given, Gives}
 use Rattle.rules.specs.Table.{Table}
 use Rattle.rules.specs.Local.{Outcome}
 use Rattle.rules.specs.Layout.{tableWidth, encode, valid}
-use Rattle.rules.specs.Whole.{withTable, encodeWhole, decodeWhole, validWhole}
-use Rattle.rules.specs.Lent.{stored, storedIn, onTable}
+use Rattle.rules.specs.Whole.{Whole, withTable, encodeWhole, decodeWhole, validWhole}
+use Rattle.rules.specs.Lent.{stored, storedIn, onTable, onWhole}
 use Rattle.table.proofs.Tables.{length-table}
 use Rattle.table.proofs.Wholes.{area-valid, area-changed, whole-long}
 
@@ -66,3 +66,20 @@ module _ {A : Type 0} (bad : A) (rule : Table → Outcome A) (l : List ℕ) wher
         h .0 ∙ ap (λ (o : Given A (List ℕ)). o .answer) (sym e),
         area-back l v (outcome .table) s (h .1) ∙ ap (λ (o : Given A (List ℕ)). o .lent) (sym e),
       )
+
+-- ---- calls that change the memory too
+
+module _ {A : Type 0} (bad : A) (rule : Whole → Given A Whole) (l : List ℕ) where
+  pub bad-whole : validWhole l ≡ false → Gives (onWhole bad rule l) bad l
+  unfolding onWhole
+  bad-whole v =
+      let e : onWhole bad rule l ≡ given bad l =
+      pick-false (validWhole l) (given (rule (decodeWhole l) .answer) (encodeWhole (rule (decodeWhole l) .lent))) (given bad l) v in
+      (ap (λ (o : Given A (List ℕ)). o .answer) (sym e), ap (λ (o : Given A (List ℕ)). o .lent) (sym e))
+
+  pub good-whole : validWhole l ≡ true → (r : A) (s : List ℕ) → r ≡ rule (decodeWhole l) .answer → s ≡ encodeWhole (rule (decodeWhole l) .lent) → Gives (onWhole bad rule l) r s
+  unfolding onWhole
+  good-whole v r s p q =
+      let e : onWhole bad rule l ≡ given (rule (decodeWhole l) .answer) (encodeWhole (rule (decodeWhole l) .lent)) =
+      pick-true (validWhole l) (given (rule (decodeWhole l) .answer) (encodeWhole (rule (decodeWhole l) .lent))) (given bad l) v in
+      (p ∙ ap (λ (o : Given A (List ℕ)). o .answer) (sym e), q ∙ ap (λ (o : Given A (List ℕ)). o .lent) (sym e))

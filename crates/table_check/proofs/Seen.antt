@@ -1,13 +1,12 @@
 -- Numbers that were seen by their low bits: the marks of `all_differ`. A number whose mark is not set is not among those seen. Assumes nothing.
-use Prim.Native.Nat.{ℕ, zero, suc, _+_, _-_, _%_, _≤_, _<_}
+use Prim.Native.Nat.{ℕ, zero, suc, _-_, _%_, _≤_}
 use mathlib.Core.Path.{_≡_, refl, sym, ap, _∙_}
 use mathlib.Core.Bool.{Bool, true, false, not, _&&_, true≢false}
 use mathlib.Core.List.{List, [], _∷_}
 use native.Mathlib.Omega.{arith}
 use native.Mathlib.Nat.{sub-zero, suc-sub-suc}
-use native.Mathlib.Numerals.{add-one}
 use lib.ListN.{length, getD, set, take, drop}
-use lib.Seq.{drop-cons, getD-set-same, getD-set-other}
+use lib.Seq.{getD-set-same, getD-set-other}
 use lib.Dec.{eqb}
 use borrow.Author.Tests.{eqb-true, eqb-false, ne-eqb}
 use Rattle.rules.specs.Table.{among, differ}
@@ -60,9 +59,3 @@ differ-rest (suc i) zero vs h g e = absurd (omega arith)
 differ-rest (suc i) (suc n) [] h g e = absurd (omega arith)
 differ-rest (suc i) (suc n) (x ∷ vs) h g e =
     rw (differ-rest i n vs (omega arith) (omega arith) (sym (rw (suc-sub-suc n i) refl) ∙ e)) (false-not (not (among x (take n vs))))
-
--- what is left with one number more
-pub rest-next : (vs : List ℕ) (i n : ℕ) → i < n → n ≤ length vs → take (n - i) (drop i vs) ≡ getD vs i 0 ∷ take (n - (i + 1)) (drop (i + 1) vs)
-rest-next vs i n h g =
-    let p : n - i ≡ suc (n - (i + 1)) = omega arith in
-    rw (p, add-one i, drop-cons vs i 0 (omega arith))

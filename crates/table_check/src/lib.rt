@@ -1,7 +1,6 @@
 // The check behind number 14: whether lent bytes are a table that obeys the rules. It makes one pass over them and takes no way out of its long
 // loops, so that these run many bytes at a time.
 use rules::Header;
-use rules::Mode;
 use rules::Record;
 use rules::sizes;
 use table::layout;
@@ -14,9 +13,9 @@ ghost use Rattle.fields.specs.Order.{lessBytes};
 ghost use Rattle.rules.specs.Sizes.{maxNodes, maxRecords, maxKey, maxValue};
 ghost use Rattle.rules.specs.Table.{keysRise, versions, among, differ, rising, numbersOf};
 ghost use Rattle.rules.specs.Layout.{recPlace, nodePlace, recWidth, nodeWidth, tableWidth, decodeRec, decode, valid};
-ghost use Rattle.rules.specs.Whole.{tailWidth, validWhole};
+ghost use Rattle.rules.specs.Whole.{validWhole};
 ghost use Rattle.table_check.specs.Mask.{maskBytes};
-ghost use Rattle.table.specs.Tests.{keyLength, clean, recGood, nodeGood, countOf, recsIn, nodesOf, tailGood};
+ghost use Rattle.table.specs.Tests.{keyLength, clean, recGood, nodeGood, countOf, recsIn, nodesOf};
 
 // The bytes of the mask.
 const MASK: usize = 2 * Record::VALUE;
@@ -259,17 +258,6 @@ fn check_area(area: &[u8]) -> bool
     false
 }
 
-// Whether the bytes are those of a tail: a mode, and zeros behind it.
-fn check_tail(tail: &[u8]) -> bool
-    requires { ⌜ length (now tail) ≡ tailWidth ⌝ }
-    ensures { λ r. ⌜ r ≡ tailGood (now (tail .entry)) ⌝ }
-{
-    if Mode::LAST < fields::byte_at(tail, layout::MODE) {
-        return false;
-    }
-    fields::is_zero(&tail[layout::PROFILE..layout::TAIL])
-}
-
 // Whether the bytes are those of a table that obeys the rules: number 14 is refused exactly where they are not.
 pub fn check_table(table: &[u8]) -> bool
     ensures { λ r. ⌜ r ≡ validWhole (now (table .entry)) ⌝ }
@@ -278,7 +266,7 @@ pub fn check_table(table: &[u8]) -> bool
         return false;
     }
     if check_area(&table[..layout::AREA]) {
-        return check_tail(&table[layout::AREA..layout::TABLE]);
+        return tail_check::check_tail(&table[..layout::AREA], &table[layout::AREA..layout::TABLE]);
     }
     false
 }

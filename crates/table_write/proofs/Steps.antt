@@ -119,7 +119,7 @@ gone-steps l s1 s2 s3 at w i n en e1 e2 e3 =
     ∙ ap (λ (k : ℕ). lessBlock at w i k l) en
 
 -- as the laws of a node and of a table have it
-less-suc : (at w i n : ℕ) (l : List ℕ)
+pub less-suc : (at w i n : ℕ) (l : List ℕ)
     → let a : ℕ = blockPlace at w i in
     let m : ℕ = (n - suc i) * w in
     lessBlock at w i n l ≡ put at (bytesOf 1 (n - 1)) (put (a + m) (zeros w) (put a (part (a + w) m l) l))

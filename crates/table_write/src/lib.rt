@@ -92,7 +92,7 @@ pub fn insert_record(
 }
 
 // Block `i` goes from a row of blocks with its count at `at`: those behind it move down, and the place that falls free is cleared.
-fn remove_block(row: &mut [u8], at: usize, width: usize, i: usize)
+pub fn remove_block(row: &mut [u8], at: usize, width: usize, i: usize)
     requires { ⌜ (i < blocksIn at (now row)) × (blockPlace at width (blocksIn at (now row)) ≤ length (now row)) × (width < 65536) ⌝ }
     ensures { λ _. ⌜ now (row .exit) ≡ withoutBlock at width i (now (row .entry)) ⌝ }
 {

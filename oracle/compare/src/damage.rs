@@ -1,6 +1,8 @@
 //! Damaged copies of good bytes. Texts stay valid UTF-8, because the original can be asked about nothing else; beyond it they need not.
 
-use script::table::{self, AREA_BYTES, KEY, NODE_BYTES, NODE_HEAD_BYTES, Node, RECORD_BYTES, TABLE_BYTES, VALUE};
+use script::table::{
+    self, AREA_BYTES, KEY, NODE_BYTES, NODE_HEAD_BYTES, Node, RECORD_BYTES, REMOVED, REMOVED_BYTES, Removed, TABLE_BYTES, VALUE,
+};
 
 use crate::random::Random;
 
@@ -89,7 +91,7 @@ fn break_table(random: &mut Random, nodes: &[Node]) -> Option<Vec<u8>> {
         bytes[place] = byte;
         bytes
     };
-    match random.below(18) {
+    match random.below(23) {
         0 => Some(set(&nodes, 0, over(random, 9))),
         1 => nodes.get(at).map(|_| set(&nodes, node_start + NODE_HEAD_BYTES - 1, over(random, 33))),
         2 => has_record(&nodes, at).then(|| set(&nodes, record_start, over(random, 33))),
@@ -155,7 +157,29 @@ fn break_table(random: &mut Random, nodes: &[Node]) -> Option<Vec<u8>> {
         15 => Some(set(&nodes, AREA_BYTES, over(random, 2))),
         16 => {
             let mut bytes = table::encode(&nodes, mode);
-            soil(random, &mut bytes[AREA_BYTES + 1..])?;
+            bytes[AREA_BYTES + 1] = random.below(2) as u8;
+            soil(random, &mut bytes[AREA_BYTES + 3..])?;
+            Some(bytes)
+        }
+        17 => Some(set(&nodes, AREA_BYTES + 1, over(random, 1))),
+        18 => Some(set(&nodes, AREA_BYTES + 2, over(random, REMOVED as u64 + 1))),
+        19 => {
+            let mut removed = removed(random, &nodes);
+            let (one, other) = (random.place(removed.len().max(1)), random.place(removed.len().max(1)));
+            let number = removed.get(one)?.0;
+            removed[other].0 = number;
+            (one != other).then(|| table::encode_with(&nodes, mode, &removed))
+        }
+        20 => {
+            let mut removed = removed(random, &nodes);
+            let place = random.place(removed.len().max(1));
+            removed.get_mut(place)?.0 = nodes.get(at)?.number;
+            Some(table::encode_with(&nodes, mode, &removed))
+        }
+        21 => {
+            let removed = removed(random, &nodes);
+            let mut bytes = table::encode_with(&nodes, mode, &removed);
+            soil(random, &mut bytes[AREA_BYTES + 3 + removed.len() * REMOVED_BYTES..])?;
             Some(bytes)
         }
         _ => {
@@ -164,6 +188,13 @@ fn break_table(random: &mut Random, nodes: &[Node]) -> Option<Vec<u8>> {
             Some(bytes)
         }
     }
+}
+
+/// Some removed nodes beside these, all different.
+pub fn removed(random: &mut Random, nodes: &[Node]) -> Vec<Removed> {
+    let most = *random.pick(&[1, 2, 3, REMOVED]);
+    let free = (1..).filter(|number| nodes.iter().all(|node| node.number != *number));
+    free.take(most).map(|number| (number, random.below(9))).collect()
 }
 
 /// A byte that is too large: often by one.

@@ -6,6 +6,7 @@ use std::collections::BTreeSet;
 use script::hex;
 use script::table::{self, NODES, Node, RECORDS, Record};
 
+use crate::damage;
 use crate::pieces::{self, Op};
 use crate::random::Random;
 
@@ -102,6 +103,10 @@ impl Maker {
     pub fn remove(&mut self, node: u64) {
         self.held[self.hub].remove(&node);
         self.line(format!("remove {node}"));
+    }
+
+    pub fn removed(&mut self, node: u64) {
+        self.line(format!("removed {node}"));
     }
 
     /// The wanted status of a write: seldom neither Set nor TTL, and then often one that has their byte in it.
@@ -339,7 +344,8 @@ impl Maker {
 
     pub fn give(&mut self, nodes: &[Node]) {
         self.held[self.hub] = nodes.iter().map(|node| node.number).collect();
-        let bytes = table::encode(nodes, self.mode);
+        let removed = if self.random.once_in(2) { damage::removed(&mut self.random, nodes) } else { Vec::new() };
+        let bytes = table::encode_with(nodes, self.mode, &removed);
         self.line(format!("table {}", hex(&bytes)));
     }
 

@@ -18,7 +18,7 @@ pub fn beyond(seed: u64, index: u64) -> Vec<String> {
 }
 
 fn any(mut random: Random) -> Vec<String> {
-    match random.below(20) {
+    match random.below(21) {
         0..=2 => local(random),
         3 => sizes(random),
         4 => full_node(random),
@@ -28,6 +28,7 @@ fn any(mut random: Random) -> Vec<String> {
         14 | 15 => hand_digests(random),
         16 | 17 => given(random),
         18 => broken(random),
+        19 => coming(random),
         _ => brim(random),
     }
 }
@@ -109,6 +110,10 @@ fn anything_local(m: &mut Maker) {
             m.remove(node);
         }
         2 => m.digest(),
+        6 | 7 => {
+            let node = m.node();
+            m.removed(node);
+        }
         3 => {
             let mtu = pieces::mtu(&mut m.random);
             m.compute("x0000", mtu);
@@ -117,6 +122,26 @@ fn anything_local(m: &mut Maker) {
         5 if m.random.once_in(10) => m.line("dump"),
         _ => m.local(),
     }
+}
+
+/// Nodes that come and go, often more than sixteen, and are asked for once they are gone.
+fn coming(mut random: Random) -> Vec<String> {
+    let nodes = random.within(4, 28);
+    let mut m = Maker::new(random, nodes, 2);
+    for _ in 0..m.random.within(30, 120) {
+        let node = m.node();
+        match m.random.below(8) {
+            0..=2 => m.add(node),
+            3 | 4 => m.remove(node),
+            5 => m.removed(node),
+            6 if m.random.once_in(12) => m.line("dump"),
+            _ => m.local(),
+        }
+    }
+    for node in m.nodes.clone() {
+        m.removed(node);
+    }
+    m.finish()
 }
 
 /// Keys and values around their sizes, nodes around eight.

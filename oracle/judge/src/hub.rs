@@ -8,7 +8,7 @@ use std::collections::HashSet;
 use std::panic::{AssertUnwindSafe, catch_unwind};
 use std::time::Duration;
 
-use script::table::{self, KEY, NODES, RECORDS, VALUE};
+use script::table::{self, KEY, NODES, RECORDS, REMOVED, VALUE};
 use script::{Answer, Bytes, Call, DigestEntry, Side, Verdict};
 use tokio::sync::watch;
 use tokio::time::{Instant, set_clock};
@@ -33,6 +33,10 @@ pub struct Hub {
     bad: Option<Vec<u8>>,
     /// The table's mode, of which the original knows nothing.
     mode: u8,
+    /// The removed nodes in the order of their removal, the last 16; the heartbeats are the original's. And those that went by a seventeenth: the
+    /// original has room for more and remembers them still.
+    removed: Vec<u64>,
+    gone: HashSet<u64>,
 }
 
 /// A call ends early with a refusal, or with something that document 01 does not foresee.
@@ -255,13 +259,34 @@ impl Hub {
             return Err(Answer::Refused(4));
         }
         self.cluster.node_state_mut_or_init(&id);
+        self.removed.retain(|&other| other != number);
+        self.gone.remove(&number);
         Ok(Answer::Done)
     }
 
     fn remove(&mut self, number: u64) -> Outcome<Answer> {
         self.node(number)?;
         self.cluster.remove_node(&wire::chitchat_id(number));
+        if self.removed.len() == REMOVED {
+            self.gone.insert(self.removed.remove(0));
+        }
+        self.removed.push(number);
         Ok(Answer::Done)
+    }
+
+    /// What the original remembers of a removed node.
+    fn originals(&self, number: u64) -> Option<u64> {
+        self.cluster.last_heartbeat_if_deleted(&wire::chitchat_id(number)).map(u64::from)
+    }
+
+    /// Layer: which node went by a seventeenth. Original: all else.
+    fn last_heartbeat(&mut self, number: u64) -> Outcome<Answer> {
+        match (self.originals(number), self.removed.contains(&number)) {
+            (Some(heartbeat), true) => Ok(Answer::Heartbeat(heartbeat)),
+            (None, false) => Ok(Answer::None),
+            (Some(_), false) if self.gone.contains(&number) => Ok(Answer::None),
+            (original, _) => Err(Answer::Broken(format!("the original remembers {original:?} of {number}"))),
+        }
     }
 
     fn get(&mut self, number: u64, key: &[u8]) -> Outcome<Answer> {
@@ -389,6 +414,7 @@ impl Hub {
         match call {
             Call::Add { node } => self.add(*node),
             Call::Remove { node } => self.remove(*node),
+            Call::Removed { node } => self.last_heartbeat(*node),
             Call::Write { node, key, value, status, now } => {
                 let ttl = with_ttl(*status)?;
                 self.may_set(*node, key, value)?;
@@ -427,13 +453,17 @@ impl Hub {
         }
     }
 
-    /// The nodes and the mode of the table that these bytes are, if they are one that obeys the rules. Layer: number 14.
-    fn load(bytes: &[u8]) -> Option<(Vec<table::Node>, u8)> {
+    /// The nodes, the mode and the removed nodes of the table that these bytes are, if they are one that obeys the rules. Layer: number 14.
+    fn load(bytes: &[u8]) -> Option<(Vec<table::Node>, u8, Vec<table::Removed>)> {
         let nodes = decode(bytes)?;
+        let removed = decode_removed(&bytes[table::AREA_BYTES..])?;
         let mode = bytes[table::AREA_BYTES];
         let ascending = nodes.windows(2).all(|pair| pair[0].number < pair[1].number);
-        let good = ascending && nodes.iter().all(obeys) && mode <= table::FENCED;
-        (good && table::encode(&nodes, mode) == bytes).then_some((nodes, mode))
+        let all: HashSet<u64> =
+            nodes.iter().map(|node| node.number).chain(removed.iter().map(|&(number, _)| number)).collect();
+        let apart = all.len() == nodes.len() + removed.len();
+        let good = ascending && apart && nodes.iter().all(obeys) && mode <= table::FENCED;
+        (good && table::encode_with(&nodes, mode, &removed) == bytes).then_some((nodes, mode, removed))
     }
 }
 
@@ -467,6 +497,14 @@ fn decode(bytes: &[u8]) -> Option<Vec<table::Node>> {
     (nodes.len() == usize::from(bytes[0])).then_some(nodes)
 }
 
+/// The removed nodes that a tail says that it has.
+fn decode_removed(tail: &[u8]) -> Option<Vec<table::Removed>> {
+    let count = usize::from(tail[2]);
+    let number = |part: &[u8]| u64::from_le_bytes(part.try_into().unwrap());
+    let removed = |part: &[u8]| (number(&part[..8]), number(&part[8..]));
+    (count <= REMOVED).then(|| tail[3..].chunks(table::REMOVED_BYTES).take(count).map(removed).collect())
+}
+
 /// Document 01's rules for one node of a table.
 fn obeys(node: &table::Node) -> bool {
     let versions: HashSet<u64> = node.records.iter().map(|record| record.version).collect();
@@ -478,7 +516,13 @@ fn obeys(node: &table::Node) -> bool {
 
 impl Side for Hub {
     fn new(mode: u8) -> Hub {
-        Hub { cluster: ClusterState::with_seed_addrs(watch::Receiver::holding(HashSet::new())), bad: None, mode }
+        Hub {
+            cluster: ClusterState::with_seed_addrs(watch::Receiver::holding(HashSet::new())),
+            bad: None,
+            mode,
+            removed: Vec::new(),
+            gone: HashSet::new(),
+        }
     }
 
     fn answer(&mut self, call: &Call) -> Answer {
@@ -511,11 +555,17 @@ impl Side for Hub {
     /// Builds the table with the original's own setters.
     fn take_table(&mut self, bytes: &[u8]) -> Answer {
         *self = Hub::new(table::PLAIN);
-        let Some((nodes, mode)) = Hub::load(bytes) else {
+        let Some((nodes, mode, removed)) = Hub::load(bytes) else {
             self.bad = Some(bytes.to_vec());
             return Answer::Done;
         };
         self.mode = mode;
+        for (number, heartbeat) in removed {
+            let id = wire::chitchat_id(number);
+            self.cluster.node_state_mut_or_init(&id).with_numbers(Heartbeat(heartbeat), 0, 0);
+            self.cluster.remove_node(&id);
+            self.removed.push(number);
+        }
         for node in nodes {
             let state = self.cluster.node_state_mut_or_init(&wire::chitchat_id(node.number));
             for record in node.records {
@@ -566,6 +616,8 @@ impl Side for Hub {
                 records: state.key_values_including_deleted().map(record).collect(),
             })
             .collect();
-        table::encode(&nodes, self.mode)
+        let removed: Vec<table::Removed> =
+            self.removed.iter().map(|&number| (number, self.originals(number).expect("a removed node"))).collect();
+        table::encode_with(&nodes, self.mode, &removed)
     }
 }

@@ -1,6 +1,6 @@
 //! The node rules: document 01, "Node rules" and the local part of "Order".
 
-use crate::table::{MOST_KEY, MOST_NODES, MOST_RECORDS, MOST_VALUE, Node, Record, Status, Table};
+use crate::table::{MOST_KEY, MOST_NODES, MOST_RECORDS, MOST_REMOVED, MOST_VALUE, Node, Record, Status, Table};
 
 /// A refusal's number.
 pub type Refused = u8;
@@ -37,11 +37,22 @@ impl Table {
             return Err(4);
         }
         self.nodes.insert(number, Node::default());
+        self.removed.retain(|&(other, _)| other != number);
         Ok(())
     }
 
     pub fn remove(&mut self, number: u64) -> Result<(), Refused> {
-        self.nodes.remove(&number).map(|_| ()).ok_or(2)
+        let node = self.nodes.remove(&number).ok_or(2)?;
+        if self.removed.len() == MOST_REMOVED {
+            self.removed.remove(0);
+        }
+        self.removed.push((number, node.heartbeat));
+        Ok(())
+    }
+
+    /// The last heartbeat of a removed node (document 02, ticket 2).
+    pub fn last_heartbeat(&self, number: u64) -> Option<u64> {
+        self.removed.iter().find(|&&(other, _)| other == number).map(|&(_, heartbeat)| heartbeat)
     }
 
     /// The one write (document 02, ticket 6): the wanted status by its number, Set or TTL.

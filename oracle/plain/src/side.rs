@@ -87,6 +87,7 @@ fn answer_good(table: &mut Table, call: &Call) -> Result<Answer, Answer> {
     match call {
         Call::Add { node } => done(table.add(*node)),
         Call::Remove { node } => done(table.remove(*node)),
+        Call::Removed { node } => Ok(table.last_heartbeat(*node).map_or(Answer::None, Answer::Heartbeat)),
         Call::Write { node, key, value, status, now } => done(table.write(*node, key, value, *status, *now)),
         Call::Delete { node, key, now } => done(table.delete(*node, key, *now, Scheduled::Delete)),
         Call::DeleteTtl { node, key, now } => done(table.delete(*node, key, *now, Scheduled::AfterTtl)),

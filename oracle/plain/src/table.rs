@@ -8,6 +8,7 @@ pub const MOST_NODES: usize = 8;
 pub const MOST_RECORDS: usize = 32;
 pub const MOST_KEY: usize = 32;
 pub const MOST_VALUE: usize = 64;
+pub const MOST_REMOVED: usize = 16;
 
 #[derive(Clone, Copy, PartialEq, Eq)]
 pub enum Status {
@@ -62,6 +63,8 @@ pub struct Table {
     pub nodes: BTreeMap<u64, Node>,
     /// Ticket 3's mode; else document 01's.
     pub fenced: bool,
+    /// Ticket 2's removed nodes with their last heartbeats, the longest remembered first.
+    pub removed: Vec<(u64, u64)>,
 }
 
 impl Table {
@@ -85,7 +88,7 @@ impl Table {
             records: node.records.iter().map(record).collect(),
         };
         let mode = if self.fenced { layout::FENCED } else { layout::PLAIN };
-        layout::encode(&self.nodes.iter().map(node).collect::<Vec<_>>(), mode)
+        layout::encode_with(&self.nodes.iter().map(node).collect::<Vec<_>>(), mode, &self.removed)
     }
 
     /// None: number 14.
@@ -106,7 +109,16 @@ impl Table {
             layout::FENCED => true,
             _ => return None,
         };
-        walk.zeros(layout::TAIL_BYTES - 1)?;
+        walk.zeros(1)?;
+        let count = walk.count(MOST_REMOVED)?;
+        for _ in 0..count {
+            let (number, heartbeat) = (walk.number()?, walk.number()?);
+            if table.nodes.contains_key(&number) || table.removed.iter().any(|&(other, _)| other == number) {
+                return None;
+            }
+            table.removed.push((number, heartbeat));
+        }
+        walk.zeros((MOST_REMOVED - count) * layout::REMOVED_BYTES)?;
         walk.0.is_empty().then_some(table)
     }
 }

@@ -34,6 +34,8 @@ pub enum Answer {
     /// A refusal of a delta stream, with the place of the faulty operation's tag.
     RefusedAt(u8, usize),
     Value(Vec<u8>),
+    /// The last heartbeat of a removed node.
+    Heartbeat(u64),
     /// Places of the hits among all records of the node in key order, hidden ones counted.
     Ranks(Vec<usize>),
     Digest {
@@ -96,6 +98,7 @@ impl Display for Answer {
             Answer::None => f.write_str("none"),
             Answer::Yes => f.write_str("yes"),
             Answer::No => f.write_str("no"),
+            Answer::Heartbeat(heartbeat) => write!(f, "heartbeat {heartbeat}"),
             Answer::Refused(number) => write!(f, "refused {number}"),
             Answer::RefusedAt(number, at) => write!(f, "refused {number} at={at}"),
             Answer::Value(value) => write!(f, "value {}", hex(value)),

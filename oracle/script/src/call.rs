@@ -15,6 +15,8 @@ pub enum Call {
     Hub(usize),
     Add { node: u64 },
     Remove { node: u64 },
+    /// Asks for a removed node.
+    Removed { node: u64 },
     Write { node: u64, key: Vec<u8>, value: Vec<u8>, status: u64, now: u64 },
     Delete { node: u64, key: Vec<u8>, now: u64 },
     DeleteTtl { node: u64, key: Vec<u8>, now: u64 },
@@ -105,6 +107,7 @@ impl Call {
             "hub" => Call::Hub(w.size().filter(|&hub| hub < 2)?),
             "add" => Call::Add { node: w.number()? },
             "remove" => Call::Remove { node: w.number()? },
+            "removed" => Call::Removed { node: w.number()? },
             "write" => Call::Write {
                 node: w.number()?,
                 key: w.text()?,

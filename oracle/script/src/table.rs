@@ -13,8 +13,10 @@ pub const NODE_HEAD_BYTES: usize = 8 + 8 + 8 + 8 + 1;
 pub const NODE_BYTES: usize = NODE_HEAD_BYTES + RECORDS * RECORD_BYTES;
 /// A table's area: count of nodes, nodes.
 pub const AREA_BYTES: usize = 1 + NODES * NODE_BYTES;
-/// The tail behind it: mode, profile, count of removed nodes, room for 16 of them (number, heartbeat). All but the mode are zero.
-pub const TAIL_BYTES: usize = 1 + 1 + 1 + 16 * (8 + 8);
+/// The tail behind it: mode, profile (zero), count of removed nodes, room for them (number, heartbeat), the longest remembered first.
+pub const REMOVED: usize = 16;
+pub const REMOVED_BYTES: usize = 8 + 8;
+pub const TAIL_BYTES: usize = 1 + 1 + 1 + REMOVED * REMOVED_BYTES;
 pub const TABLE_BYTES: usize = AREA_BYTES + TAIL_BYTES;
 
 /// The modes of a table.
@@ -44,16 +46,28 @@ pub struct Node {
     pub records: Vec<Record>,
 }
 
-/// The bytes of a table that is within the sizes. Nodes and records stand in the order given.
+/// A removed node and its last heartbeat.
+pub type Removed = (u64, u64);
+
+/// The bytes of a table that is within the sizes and remembers nothing.
 pub fn encode(nodes: &[Node], mode: u8) -> Vec<u8> {
-    assert!(nodes.len() <= NODES);
+    encode_with(nodes, mode, &[])
+}
+
+/// Nodes, records and removed nodes stand in the order given.
+pub fn encode_with(nodes: &[Node], mode: u8, removed: &[Removed]) -> Vec<u8> {
+    assert!(nodes.len() <= NODES && removed.len() <= REMOVED);
     let mut bytes = Vec::with_capacity(TABLE_BYTES);
     bytes.push(nodes.len() as u8);
     for node in nodes {
         encode_node(node, &mut bytes);
     }
     bytes.resize(AREA_BYTES, 0);
-    bytes.push(mode);
+    bytes.extend([mode, 0, removed.len() as u8]);
+    for (number, heartbeat) in removed {
+        bytes.extend(number.to_le_bytes());
+        bytes.extend(heartbeat.to_le_bytes());
+    }
     bytes.resize(TABLE_BYTES, 0);
     bytes
 }

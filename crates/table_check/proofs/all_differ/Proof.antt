@@ -8,7 +8,8 @@ use native.Mathlib.Omega.{arith}
 use native.Mathlib.Nat.{sub-zero}
 use lib.ListN.{length, getD, set, take, drop, length-set}
 use Rattle.rules.specs.Table.{among, differ}
-use Rattle.table_check.proofs.Seen.{Marked, none-among, unmarked, marked, differ-cons, twice-cons, differ-rest, rest-next}
+use Rattle.table_check.proofs.Seen.{Marked, none-among, unmarked, marked, differ-cons, twice-cons, differ-rest}
+use Rattle.tail_check.proofs.Numbers.{rest-next}
 use borrow.Author.Needs.{needs}
 use Rattle.table_check.proofs.all_differ.Statement.{statement}
 use Rattle.table_check.proofs.all_differ.Tie as tie

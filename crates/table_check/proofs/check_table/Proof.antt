@@ -1,14 +1,20 @@
 -- `table_check::check_table` meets its contract: the length, the area, then the tail. Assumes nothing.
-use mathlib.Core.Path.{ap, sym, _∙_}
+use Prim.Native.Nat.{ℕ, _-_}
+use mathlib.Core.Path.{_≡_, ap, sym, _∙_}
+use mathlib.Core.List.{List}
 use native.Mathlib.Omega.{arith}
+use lib.ListN.{length, take, drop}
 use lib.Seq.{length-take-le}
 use borrow.Author.Needs.{needs}
 use Rattle.fields.specs.Numbers.{AreBytes}
 use Rattle.fields.proofs.Numbers.{at-bytes}
 use Rattle.fields.proofs.Lent.{seen}
-use Rattle.rules.specs.Layout.{tableWidth}
-use Rattle.rules.specs.Whole.{tailWidth}
+use Rattle.fields.proofs.Parts.{length-part}
+use Rattle.rules.specs.Table.{numbersOf}
+use Rattle.rules.specs.Layout.{tableWidth, decode}
+use Rattle.rules.specs.Whole.{areaOf, tailWidth, wholeWidth}
 use Rattle.table.specs.Tests.{tailGood}
+use Rattle.table.proofs.Tables.{valid-long, valid-few}
 use Rattle.table.proofs.Wholes.{other-length, area-stop, tail-decides}
 use Rattle.table_check.proofs.check_table.Statement.{statement}
 use Rattle.table_check.proofs.check_table.Tie as tie
@@ -16,6 +22,10 @@ use Rattle.table_check.proofs.check_table.Tie as tie
 -- what is known of a slice
 bytes : (c : tie.After-shared-slice-known) → AreBytes (c .before .args .table .now)
 bytes c = at-bytes (c .before .args .table .now) (λ i. c .shared-slice-known .given i .fits)
+
+-- the tail as it is lent
+behind : (l : List ℕ) → length l ≡ wholeWidth → length (take (wholeWidth - tableWidth) (drop tableWidth l)) ≡ tailWidth
+behind l e = ap length (seen tableWidth tailWidth l) ∙ length-part tableWidth tailWidth l (omega (arith, e))
 
 returns : tie.Need-returns
 returns c = other-length (c .before .before .args .table .now) (c .if1 .taken)
@@ -25,6 +35,9 @@ slice-aggregate-check-area c = sym (length-take-le tableWidth (c .before .before
 
 check-area-requires : tie.Need-check-area-requires
 check-area-requires c κs = search needs
+
+slice-aggregate-check-tail : tie.Need-slice-aggregate-check-tail
+slice-aggregate-check-tail c = sym (length-take-le tableWidth (c .before .before .before .before .before .before .args .table .now) (omega arith))
 
 sub-check-tail : tie.Need-sub-check-tail
 sub-check-tail c = search needs
@@ -36,15 +49,20 @@ part-check-tail-end : tie.Need-part-check-tail-end
 part-check-tail-end c = search needs
 
 check-tail-requires : tie.Need-check-tail-requires
-check-tail-requires c κs = search needs
-
-returns-2 : tie.Need-returns-2
-returns-2 c =
+check-tail-requires c κs =
     let t = c .before .before in
     let e = t .before .before .before in
     let l = e .before .before .args .table .now in
+    let v = sym (t .before .check-area .ensures) ∙ t .if2 .taken in
+    (valid-long (areaOf l) v, valid-few (areaOf l) v, behind l (e .if1 .left))
+
+returns-2 : tie.Need-returns-2
+returns-2 c =
+    let t = c .before .before .before in
+    let e = t .before .before .before in
+    let l = e .before .before .args .table .now in
     tail-decides l (bytes (e .before)) (e .if1 .left) (sym (t .before .check-area .ensures) ∙ t .if2 .taken) _
-    (c .check-tail .ensures ∙ ap tailGood (seen tableWidth tailWidth l))
+    (c .check-tail .ensures ∙ ap (tailGood (numbersOf (decode (areaOf l)))) (seen tableWidth tailWidth l))
 
 returns-3 : tie.Need-returns-3
 returns-3 c =
@@ -58,6 +76,7 @@ check-table-spec =
     returns
     slice-aggregate-check-area
     check-area-requires
+    slice-aggregate-check-tail
     sub-check-tail
     part-check-tail-start
     part-check-tail-end

@@ -1,0 +1,115 @@
+-- No call but the making of a table, adding and removing changes what a table remembers, or its order. Assumes nothing.
+use Prim.Native.Nat.{ℕ}
+use mathlib.Core.Bool.{Bool, true, false, true≢false}
+use mathlib.Core.List.{[], _∷_}
+use mathlib.Core.Path.{_≡_, _∙_, ap, refl, sym}
+use lib.ListN.{take}
+use Rattle.fields.specs.Choice.{pick}
+use Rattle.fields.specs.Numbers.{Bytes}
+use Rattle.rules.specs.Apply.{apply, waysOf}
+use Rattle.rules.specs.Given.{Given, given}
+use Rattle.rules.specs.Local.{Outcome, call, gc, localBeat, offer, write}
+use Rattle.rules.specs.Memory.{Memory}
+use Rattle.rules.specs.Node.{Deleting, DeletingAfterTtl, beats}
+use Rattle.rules.specs.Table.{Table}
+use Rattle.rules.specs.Whole.{decodeMemory, decodeWhole, encodeWhole, tailOf, validWhole, withTable}
+use Rattle.rules.specs.Lent.{both, lentApply, lentApplyAs, onTable, storedApply, storedIn}
+use Rattle.rules.specs.declared.Answer.the-variants as plain
+use Rattle.rules.specs.declared.Applied.the-variants as applied
+use Rattle.rules.specs.declared.Computed.{Computed}
+use Rattle.rules.specs.declared.Offered.the-variants as offered
+use Rattle.rules.specs.declared.Refusal.the-variants.{BadTable}
+use Rattle.rules.specs.declared.Written.{Written}
+use Rattle.rules.proofs.Refusing.{whole-bytes}
+use Rattle.table.proofs.Wholes.{whole-tail}
+use Rattle.exchange.specs.Exchanging.{Lending, afterAsking, afterComputing, afterDigesting, lentAnswer, lentExchange, lending, readyFor, roomsOf, threeCalls}
+use Rattle.exchange.specs.declared.Ready.{Ready}
+use Rattle.exchange.specs.declared.Ready.the-variants as ready
+use Rattle.exchange.proofs.Refusing.{IsReady, delta-made, digest-told, is-ready}
+use Rattle.demand1.specs.Calls as calls
+use Rattle.demand1.specs.Demand1.{memoriesIn}
+
+-- ---- calls on a table
+
+abbrev memoryIn : Bytes → Memory
+memoryIn l = decodeWhole l .memory
+
+-- other nodes leave the tail
+tail-stays : (l : Bytes) → validWhole l ≡ true → (t : Table) → memoryIn (encodeWhole (withTable t (decodeWhole l))) ≡ memoryIn l
+tail-stays l v t =
+    ap decodeMemory (whole-tail (withTable t (decodeWhole l)) ∙ sym (whole-tail (decodeWhole l)))
+    ∙ ap (λ (x : Bytes). decodeMemory (tailOf x)) (whole-bytes l v)
+
+on-table : {A : Type 0} (bad : A) (rule : Table → Outcome A) (l : Bytes) → memoryIn (onTable bad rule l .lent) ≡ memoryIn l
+unfolding onTable
+on-table {A} bad rule l = go (validWhole l) refl
+  where
+    go : (b : Bool) → validWhole l ≡ b → memoryIn (pick b (storedIn (decodeWhole l) (rule (decodeWhole l .table))) (given bad l) .lent) ≡ memoryIn l
+    go true v = tail-stays l v (rule (decodeWhole l .table) .table)
+    go false v = refl
+
+applying : (delta : Bytes) (now : ℕ) (answers l : Bytes) → memoryIn (lentApply delta now answers l .lent .table) ≡ memoryIn l
+unfolding lentApplyAs
+applying delta now answers l = go (validWhole l) refl
+  where
+    go : (b : Bool) → validWhole l ≡ b
+        → memoryIn (pick b (storedApply (decodeWhole l) (apply (waysOf (decodeWhole l .mode)) delta now (decodeWhole l .table) answers)) (given (applied.Refused BadTable 0) (both l answers)) .lent .table) ≡ memoryIn l
+    go true v = tail-stays l v _
+    go false v = refl
+
+module _ (g : Lending) (publisher follower : Bytes) where
+  ready-stays : IsReady g publisher follower → memoryIn (threeCalls g publisher follower .lent .follower) ≡ memoryIn follower
+  unfolding threeCalls lentAnswer
+  ready-stays r =
+      ap (λ (o : Given Written Bytes). memoryIn (afterDigesting g publisher follower (o .lent) (o .answer) .lent .follower)) (digest-told g publisher follower r)
+      ∙ ap (λ (o : Given Computed Bytes). memoryIn (afterComputing (g .clock) (g .answers) follower (o .lent) (o .answer) .lent .follower)) (delta-made g publisher follower r)
+      ∙ applying _ (g .clock) (g .answers) follower
+
+  exchanged : memoryIn (lentExchange g publisher follower .lent .follower) ≡ memoryIn follower
+  unfolding lentExchange
+  exchanged = go (readyFor (g .unasked) (roomsOf g) publisher follower) refl
+    where
+      go : (x : Ready) → readyFor (g .unasked) (roomsOf g) publisher follower ≡ x → memoryIn (afterAsking g publisher follower x .lent .follower) ≡ memoryIn follower
+      go ready.Yes e = ready-stays (is-ready g publisher follower e)
+      go (ready.No s r) e = refl
+
+-- ---- all calls
+
+one : (a b : Bytes) → memoryIn b ≡ memoryIn a → memoriesIn (b ∷ []) ≡ memoriesIn (a ∷ [])
+unfolding memoriesIn
+one a b e = ap (λ (m : Memory). m ∷ []) e
+
+two : (p a b : Bytes) → memoryIn b ≡ memoryIn a → memoriesIn (p ∷ b ∷ []) ≡ memoriesIn (p ∷ a ∷ [])
+unfolding memoriesIn
+two p a b e = ap (λ (m : Memory). memoryIn p ∷ m ∷ []) e
+
+pub remembered : {k : calls.Kind} (c : calls.Call k) → calls.remembers k ≡ false
+    → memoriesIn (take (calls.tables k) (calls.leaves c .lent)) ≡ memoriesIn (take (calls.tables k) (calls.lentTo c))
+unfolding calls.leaves calls.lentTo
+remembered (calls.new-table t m) e = absurd (true≢false e)
+remembered (calls.add-node t i) e = absurd (true≢false e)
+remembered (calls.remove-node t i) e = absurd (true≢false e)
+remembered (calls.last-heartbeat t i) e = refl
+remembered (calls.write t k v i wanted now) e = one t _ (on-table (plain.Refused BadTable) (write (wanted .value) v (now .value) (i .value) k) t)
+remembered (calls.delete t k i now) e = one t _ (on-table (plain.Refused BadTable) (call (Deleting (now .value)) (i .value) k) t)
+remembered (calls.delete-after-ttl t k i now) e = one t _ (on-table (plain.Refused BadTable) (call (DeletingAfterTtl (now .value)) (i .value) k) t)
+remembered (calls.remove-scheduled t now grace) e = one t _ (on-table (plain.Refused BadTable) (gc (now .value) (grace .value)) t)
+remembered (calls.offer-heartbeat t i h) e = one t _ (on-table (offered.Refused BadTable) (offer (i .value) (beats (h .value))) t)
+remembered (calls.local-beat t i) e = one t _ (on-table (plain.Refused BadTable) (localBeat (i .value)) t)
+remembered (calls.find t k i) e = refl
+remembered (calls.list-prefix t k out i) e = refl
+remembered (calls.node-count t) e = refl
+remembered (calls.node-number t i) e = refl
+remembered (calls.node-header t i) e = refl
+remembered (calls.record-count t i) e = refl
+remembered (calls.record-at t i j) e = refl
+remembered (calls.record-by-key t k i) e = refl
+remembered (calls.find-text t i j x) e = refl
+remembered (calls.write-digest t excluded datagram place) e = refl
+remembered (calls.read-digest digest) e = refl
+remembered (calls.compute t digest excluded ties datagram mtu place) e = refl
+remembered (calls.read-delta delta) e = refl
+remembered (calls.apply t delta answers now) e = one t _ (applying (delta .bytes) (now .value) answers t)
+remembered (calls.list-delta delta out) e = refl
+remembered (calls.exchange publisher follower unasked unsent ties digest delta answers mtu now) e =
+    two publisher follower _ (exchanged (lending unasked unsent ties mtu (now .value) digest delta answers) publisher follower)
