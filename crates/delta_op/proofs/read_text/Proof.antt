@@ -15,7 +15,7 @@ use Rattle.delta_op.proofs.read_text.Statement.{statement}
 use Rattle.delta_op.proofs.read_text.Tie as tie
 
 module _ (most : ℕ) (l : Bytes) (at : ℕ) (in-l : at ≤ length l) where
-  no-length : length l - at < lengthWidth → text.Bad Cut ≡ textAt most l at
+  no-length : length l - at < lengthWidth → text.Bad (Cut (lengthWidth - (length l - at))) ≡ textAt most l at
   unfolding textAt
   no-length h = rw (lt-leb (at + lengthWidth) (length l) (omega arith))
 
@@ -24,7 +24,7 @@ module _ (most : ℕ) (l : Bytes) (at : ℕ) (in-l : at ≤ length l) where
     unfolding textAt
     long g = rw (le-leb (at + lengthWidth) (length l) (omega arith), ← e, lt-leb n most g)
 
-    short : n ≤ most → length l - (at + lengthWidth) < n → text.Bad Cut ≡ textAt most l at
+    short : n ≤ most → length l - (at + lengthWidth) < n → text.Bad (Cut (n - (length l - (at + lengthWidth)))) ≡ textAt most l at
     unfolding textAt
     short g k =
         rw (le-leb (at + lengthWidth) (length l) (omega arith), ← e, le-leb n most g, lt-leb (at + lengthWidth + n) (length l) (omega arith))
@@ -34,8 +34,11 @@ module _ (most : ℕ) (l : Bytes) (at : ℕ) (in-l : at ≤ length l) where
     held g k =
         rw (le-leb (at + lengthWidth) (length l) (omega arith), ← e, le-leb n most g, le-leb (at + lengthWidth + n) (length l) (omega arith))
 
-sub-if1 : tie.Need-sub-if1
-sub-if1 c = search needs
+sub-present : tie.Need-sub-present
+sub-present c = search needs
+
+sub-t10 : tie.Need-sub-t10
+sub-t10 c = search needs
 
 returns : tie.Need-returns
 returns c = no-length _ _ _ (omega arith) (c .if1 .taken)
@@ -49,8 +52,11 @@ returns-2 c = long _ _ _ (omega arith) (c .before .before .if1 .left) _ (c .befo
 add-start : tie.Need-add-start
 add-start c = search needs
 
-sub-if3 : tie.Need-sub-if3
-sub-if3 c = search needs
+sub-behind : tie.Need-sub-behind
+sub-behind c = search needs
+
+sub-t13 : tie.Need-sub-t13
+sub-t13 c = search needs
 
 returns-3 : tie.Need-returns-3
 returns-3 c =
@@ -65,4 +71,4 @@ returns-4 c =
 pub read-text-spec : {M : Type 1} → statement M
 read-text-spec =
     tie.close
-    (tie.spec sub-if1 returns read-u16-requires returns-2 add-start sub-if3 returns-3 returns-4)
+    (tie.spec sub-present sub-t10 returns read-u16-requires returns-2 add-start sub-behind sub-t13 returns-3 returns-4)
