@@ -217,7 +217,8 @@ Within len at (Bad r) = Unit {0}
 
 abbrev pub TextWithin : (most n at : ℕ) (read : TextRead) → Type 0
 TextWithin most len at (text.Held k n) = (k ≡ at + lengthWidth) × (k + n ≤ len) × (n ≤ most)
-TextWithin most len at (text.Bad r) = Unit {0}
+TextWithin most len at text.Long = Unit {0}
+TextWithin most len at (text.Cut n) = Unit {0}
 
 module _ (l : Bytes) where
   pub text-within : (most at : ℕ) → TextWithin most (length l) at (textAt most l at)
@@ -256,7 +257,8 @@ module _ (l : Bytes) where
     where
       go : (t : TextRead) → TextWithin maxValue (length l) (k + n) t → Within (length l) at (onText (λ v m. versionAt l k n v m) t)
       go (text.Held v m) w = version-within at k n v m (omega arith) kn nk (w .2)
-      go (text.Bad r) w = tt
+      go text.Long w = tt
+      go (text.Cut i) w = tt
 
   key-value-within : (at : ℕ) → Within (length l) at (keyValueAt l at)
   unfolding keyValueAt
@@ -264,7 +266,8 @@ module _ (l : Bytes) where
     where
       go : (t : TextRead) → TextWithin maxKey (length l) (at + byteWidth) t → Within (length l) at (onText (λ k n. valueAt l k n) t)
       go (text.Held k n) w = value-within at k n (omega arith) (w .1) (w .2)
-      go (text.Bad r) w = tt
+      go text.Long w = tt
+      go (text.Cut i) w = tt
 
   node-within : (at : ℕ) → Within (length l) at (nodeAt l at)
   unfolding nodeAt

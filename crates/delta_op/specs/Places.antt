@@ -40,12 +40,13 @@ textAt most l at =
     let n : ℕ = natOf (part at lengthWidth l) in
     let start : ℕ = at + lengthWidth in
     pick (leb start (length l))
-    (pick (leb n most) (pick (leb (start + n) (length l)) (text.Held start n) (text.Bad (Cut (n - (length l - start))))) (text.Bad TooLong))
-    (text.Bad (Cut (lengthWidth - (length l - at))))
+    (pick (leb n most) (pick (leb (start + n) (length l)) (text.Held start n) (text.Cut (n - (length l - start)))) text.Long)
+    (text.Cut (lengthWidth - (length l - at)))
 
 abbrev pub onText : (next : ℕ → ℕ → OpRead) (read : TextRead) → OpRead
 onText next (text.Held start len) = next start len
-onText next (text.Bad r) = Bad r
+onText next text.Long = Bad TooLong
+onText next (text.Cut n) = Bad (Cut n)
 
 -- what is lacking of version and status, where n bytes of them are there
 abbrev pub versionLacks : (n : ℕ) → ℕ

@@ -38,10 +38,12 @@ pub enum OpRead {
     Bad(Refusal),
 }
 
-// A text behind its length: where it stands and how long it is, or why there is none.
+// A text behind its length: where it stands and how long it is; or its length is too long, or the bytes end and so many are lacking. It holds no refusal,
+// which would be copied on the way of a text that is there too.
 pub enum TextRead {
     Held { start: usize, len: usize },
-    Bad(Refusal),
+    Long,
+    Cut(usize),
 }
 
 // The text whose length stands at `at`. An overlong length is refused before its bytes are looked at.
@@ -51,16 +53,16 @@ fn read_text(delta: &[u8], at: usize, most: usize) -> TextRead
 {
     let present = delta.len() - at;
     if present < wire::LENGTH {
-        return TextRead::Bad(Refusal::Cut(wire::LENGTH - present));
+        return TextRead::Cut(wire::LENGTH - present);
     }
     let len = fields::read_u16(delta, at);
     if most < len {
-        return TextRead::Bad(Refusal::TooLong);
+        return TextRead::Long;
     }
     let start = at + wire::LENGTH;
     let behind = delta.len() - start;
     if behind < len {
-        return TextRead::Bad(Refusal::Cut(len - behind));
+        return TextRead::Cut(len - behind);
     }
     TextRead::Held { start, len }
 }
@@ -136,7 +138,8 @@ fn read_value(delta: &[u8], keyat: usize, keylen: usize) -> OpRead
     let value = read_text(delta, keyat + keylen, Record::VALUE);
     match value {
         TextRead::Held { start, len } => read_version(delta, keyat, keylen, start, len),
-        TextRead::Bad(why) => OpRead::Bad(why),
+        TextRead::Long => OpRead::Bad(Refusal::TooLong),
+        TextRead::Cut(need) => OpRead::Bad(Refusal::Cut(need)),
     }
 }
 
@@ -148,7 +151,8 @@ fn read_key_value(delta: &[u8], at: usize) -> OpRead
     let key = read_text(delta, at + wire::KEY_LENGTH, Record::KEY);
     match key {
         TextRead::Held { start, len } => read_value(delta, start, len),
-        TextRead::Bad(why) => OpRead::Bad(why),
+        TextRead::Long => OpRead::Bad(Refusal::TooLong),
+        TextRead::Cut(need) => OpRead::Bad(Refusal::Cut(need)),
     }
 }
 
