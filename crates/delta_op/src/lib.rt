@@ -53,7 +53,8 @@ fn read_text(delta: &[u8], at: usize, most: usize) -> TextRead
 {
     let present = delta.len() - at;
     if present < wire::LENGTH {
-        return TextRead::Cut(wire::LENGTH - present);
+        let need = wire::LENGTH - present;
+        return TextRead::Cut(need);
     }
     let len = fields::read_u16(delta, at);
     if most < len {
@@ -62,7 +63,8 @@ fn read_text(delta: &[u8], at: usize, most: usize) -> TextRead
     let start = at + wire::LENGTH;
     let behind = delta.len() - start;
     if behind < len {
-        return TextRead::Cut(len - behind);
+        let need = len - behind;
+        return TextRead::Cut(need);
     }
     TextRead::Held { start, len }
 }

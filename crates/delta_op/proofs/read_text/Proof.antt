@@ -36,8 +36,8 @@ module _ (most : ℕ) (l : Bytes) (at : ℕ) (in-l : at ≤ length l) where
 sub-present : tie.Need-sub-present
 sub-present c = search needs
 
-sub-t10 : tie.Need-sub-t10
-sub-t10 c = search needs
+sub-need : tie.Need-sub-need
+sub-need c = search needs
 
 returns : tie.Need-returns
 returns c = no-length _ _ _ (omega arith) (c .if1 .taken)
@@ -54,8 +54,8 @@ add-start c = search needs
 sub-behind : tie.Need-sub-behind
 sub-behind c = search needs
 
-sub-t11 : tie.Need-sub-t11
-sub-t11 c = search needs
+sub-need-2 : tie.Need-sub-need-2
+sub-need-2 c = search needs
 
 returns-3 : tie.Need-returns-3
 returns-3 c =
@@ -70,4 +70,4 @@ returns-4 c =
 pub read-text-spec : {M : Type 1} → statement M
 read-text-spec =
     tie.close
-    (tie.spec sub-present sub-t10 returns read-u16-requires returns-2 add-start sub-behind sub-t11 returns-3 returns-4)
+    (tie.spec sub-present sub-need returns read-u16-requires returns-2 add-start sub-behind sub-need-2 returns-3 returns-4)
