@@ -4,8 +4,8 @@
     python3 crates/listing_samples/make.py
 
 writes, beside this file, a file for each sample into data/, their names into args, and into stdout for each the name and its listing. The
-listings come from `listing` below, which was written from document 01 ("Bytes", "Numbers given on refusal", "The listing") and from ticket 1 of the
-change requests, and shares nothing with the Rattle code or its definitions.
+listings come from `listing` below, which was written from document 01 ("Bytes", "Numbers given on refusal", "The listing") and from tickets 1 and 5 of
+the change requests, and shares nothing with the Rattle code or its definitions.
 """
 import os, shutil, struct
 
@@ -13,14 +13,14 @@ SET, DELETE, TTL = 0, 1, 2
 
 
 class Refused(Exception):
-    pass
+    """The number, and with 9 how many bytes the field lacks (ticket 5)."""
 
 
 # ---- document 01's reading
 
 def take(b, at, n):
     if len(b) - at < n:
-        raise Refused(9)
+        raise Refused(9, n - (len(b) - at))
     return b[at:at + n], at + n
 
 
@@ -89,7 +89,7 @@ def listing(b):
                 most = op[1]
                 lines.append('op=max version=%d\n' % op[1])
         except Refused as r:
-            return 'end=refused code=%d at=%d\n' % (r.args[0], place)
+            return 'end=refused code=%d at=%d%s\n' % (r.args[0], place, ''.join(' need=%d' % n for n in r.args[1:]))
     return ''.join(lines) + 'end=ok ops=%d bytes=%d\n' % (len(lines), len(b))
 
 
@@ -199,6 +199,11 @@ def samples():
     yield '1 value before 9', node(1) + b'\1' + struct.pack('<H', 0) + struct.pack('<H', 65)
     yield '1 length of 65535', node(1) + b'\1\xff\xff'
     yield '9 before 10', node(1) + kv(b'a', b'', 1, 3)[:-1]
+    longest = kv(b'k' * 32, b'v' * 64, 1)
+    for n in (3, 4, 34, 35, 36, 37, 38, 100, 101, 102, 108, 109):
+        yield 'longest record cut at %d' % n, node(1) + longest[:n]
+    yield 'max cut at 1', node(1) + most(1)[:1]
+    yield 'max cut at 8', node(1) + most(1)[:8]
     yield '10 tag 3', node(1) + b'\3' + u64(1)
     yield '10 tag 255', b'\xff'
     yield '10 status 3', node(1) + kv(b'a', b'', 1, 3)

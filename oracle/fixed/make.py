@@ -449,6 +449,23 @@ def delta_reading():
     yield read(node(1), kv(b"a", b"1", 1), kv(b"a", b"2", 2), kv(b"a", b"3", 3, 1))
 
 
+def lacking():
+    """What the field lacks in which the bytes end: an operation and a digest, cut off anywhere."""
+    yield "add 7"
+    start, longest = node(7), kv(b"k" * 32, b"v" * 64, 9)
+    for op in (node(8, 9, 10), kv(b"ab", b"123", 4, 1), kv(b"", b"", 5), top(6)):
+        for size in range(1, len(op)):
+            yield f"readdelta {x(start + op[:size])}"
+    for size in (3, 4, 34, 35, 36, 37, 38, 100, 101, 108, 109):
+        yield f"readdelta {x(longest[:size])}"
+        yield apply(start, longest[:size], places=0)
+    two = digest((1, 2, 3, 4), (5, 6, 7, 8))
+    for size in range(len(two)):
+        yield f"readdigest {x(two[:size])}"
+    for size in (0, 1, 2, 3, 9, 10, 33, 34, 65):
+        yield f"compute {x(two[:size])} 100 - 0 0 100"
+
+
 def delta_lengths():
     """16,384 bytes are read and 16,385 are not, before anything else in them is looked at."""
     longest = b"".join(node(number) + top(9) * 257 for number in range(7)) + top(9) * 2
@@ -710,7 +727,7 @@ def malformed():
 SCRIPTS = {
     "nodes": nodes, "beats": beats, "sizes": sizes, "versions": versions, "statuses": statuses, "wanted": wanted, "reading": reading, "keys": keys,
     "removal": removal, "removed": removed, "bad-memories": bad_memories,
-    "digests": digests, "digest-reading": digest_reading, "delta-reading": delta_reading, "delta-lengths": delta_lengths, "asking": asking,
+    "digests": digests, "digest-reading": digest_reading, "delta-reading": delta_reading, "lacking": lacking, "delta-lengths": delta_lengths, "asking": asking,
     "from": from_where, "in-line": in_line,
     "cuts": cuts, "longest-record": longest_record, "verdicts": verdicts, "taking": taking, "room-counts": room, "fence": fence, "exchange": exchange,
     "bad-tables": bad_tables, "malformed": malformed,

@@ -36,7 +36,8 @@ module _ (s : List ℕ) (at : ℕ) where
 
   on-text : (next : ℕ → ℕ → OpRead) (t : TextRead) → ((k n : ℕ) → Told s at (next k n)) → Told s at (onText next t)
   on-text next (text.Held k n) h = h k n
-  on-text next (text.Bad r) h = tt
+  on-text next text.Long h = tt
+  on-text next (text.Cut n) h = tt
 
   node-told : Told s at (nodeAt s at)
   unfolding nodeAt

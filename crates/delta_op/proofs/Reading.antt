@@ -1,8 +1,8 @@
 -- Reading at a place is the rules' reading of what stands from there on: `read-at`, an equation, so that an operation is accepted exactly
 -- where the rules accept it and refused with exactly their number. An operation takes at least a byte and ends within the bytes (`op-next`).
 -- Assumes nothing.
-use Prim.Native.Nat.{ℕ, zero, suc, _+_, _≤_, _<_}
-use mathlib.Core.Path.{_≡_, refl, _∙_, subst}
+use Prim.Native.Nat.{ℕ, zero, suc, _+_, _-_, _≤_, _<_}
+use mathlib.Core.Path.{_≡_, refl, ap, _∙_, subst}
 use mathlib.Core.Logic.{_⊎_, inl, inr}
 use mathlib.Core.Bool.{true, false}
 use mathlib.Core.List.{List}
@@ -38,6 +38,10 @@ le-or-lt a b = elim (decLe a b) [
   | no p ↦ inr (omega arith)
 ]
 
+-- the same bytes lacking
+lacks : {a b : ℕ} → a ≡ b → rule.Bad (Cut a) ≡ rule.Bad (Cut b)
+lacks e = ap (λ (k : ℕ). rule.Bad (Cut k)) e
+
 -- a field of w bytes, of what stands from `at` on: it is read, or the bytes end inside it
 module _ (w : ℕ) (l : Bytes) (at : ℕ) where
   there : at + w ≤ length l → leb w (length (drop at l)) ≡ true
@@ -50,8 +54,9 @@ module _ (w : ℕ) (l : Bytes) (at : ℕ) where
   unfolding part
   number-there next h = rw (there h, drop-drop w at l)
 
-  number-cut : (next : ℕ → List ℕ → rule.OpRead) → at ≤ length l → length l < at + w → rule.number w next (drop at l) ≡ rule.Bad Cut
-  number-cut next k h = rw (cut k h)
+  number-cut : (next : ℕ → List ℕ → rule.OpRead) → at ≤ length l → length l < at + w
+      → rule.number w next (drop at l) ≡ rule.Bad (Cut (w - (length l - at)))
+  number-cut next k h = rw (cut k h) (lacks (ap (λ (n : ℕ). w - n) (length-drop at l)))
 
 -- ---- the kinds of operation
 
@@ -76,7 +81,7 @@ module _ (l : Bytes) (at : ℕ) (in-l : at + byteWidth ≤ length l) where
       let p : at + byteWidth + numberWidth ≡ at + maxOpWidth = omega arith in
       elim (le-or-lt (at + maxOpWidth) (length l)) [
         | inl h ↦ number-there numberWidth l (at + byteWidth) maxNext (omega arith) ∙ rw (p, le-leb (at + maxOpWidth) (length l) h)
-        | inr h ↦ number-cut numberWidth l (at + byteWidth) maxNext in-l (omega arith) ∙ rw (lt-leb (at + maxOpWidth) (length l) h)
+        | inr h ↦ number-cut numberWidth l (at + byteWidth) maxNext in-l (omega arith) ∙ rw (lt-leb (at + maxOpWidth) (length l) h) (lacks (omega arith))
       ]
 
   pub node-read : rule.readNode (drop (at + byteWidth) l) ≡ meant l (nodeAt l at)
@@ -91,13 +96,13 @@ module _ (l : Bytes) (at : ℕ) (in-l : at + byteWidth ≤ length l) where
       let one : ℕ = natOf (part first numberWidth l) in
       let two : ℕ = natOf (part second numberWidth l) in
       elim (le-or-lt second (length l)) [
-        | inr h ↦ number-cut numberWidth l first numberNext in-l (omega arith) ∙ rw (lt-leb (at + nodeOpWidth) (length l) (omega arith))
+        | inr h ↦ number-cut numberWidth l first numberNext in-l (omega arith) ∙ rw (lt-leb (at + nodeOpWidth) (length l) (omega arith)) (lacks (omega arith))
         | inl h ↦ number-there numberWidth l first numberNext (omega arith) ∙ rw p
             (elim (le-or-lt third (length l)) [
-              | inr g ↦ number-cut numberWidth l second (lastGcNext one) h (omega arith) ∙ rw (lt-leb (at + nodeOpWidth) (length l) (omega arith))
+              | inr g ↦ number-cut numberWidth l second (lastGcNext one) h (omega arith) ∙ rw (lt-leb (at + nodeOpWidth) (length l) (omega arith)) (lacks (omega arith))
               | inl g ↦ number-there numberWidth l second (lastGcNext one) (omega arith) ∙ rw q
                   (elim (le-or-lt (at + nodeOpWidth) (length l)) [
-                    | inr k ↦ number-cut numberWidth l third (fromNext one two) g (omega arith) ∙ rw (lt-leb (at + nodeOpWidth) (length l) k)
+                    | inr k ↦ number-cut numberWidth l third (fromNext one two) g (omega arith) ∙ rw (lt-leb (at + nodeOpWidth) (length l) k) (lacks (omega arith))
                     | inl k ↦ number-there numberWidth l third (fromNext one two) (omega arith) ∙ rw (r, le-leb (at + nodeOpWidth) (length l) k)
                   ])
             ])
@@ -112,13 +117,13 @@ text-read l at in-l most next next′ alike =
     let n : ℕ = natOf (part at lengthWidth l) in
     let start : ℕ = at + lengthWidth in
     elim (le-or-lt start (length l)) [
-      | inr h ↦ rw (cut lengthWidth l at in-l h, lt-leb start (length l) h)
+      | inr h ↦ rw (cut lengthWidth l at in-l h, lt-leb start (length l) h) (lacks (ap (λ (k : ℕ). lengthWidth - k) (length-drop at l)))
       | inl h ↦ elim (le-or-lt n most) [
         | inr g ↦ rw (there lengthWidth l at h, le-leb start (length l) h, lt-leb n most g)
         | inl g ↦ elim (le-or-lt (start + n) (length l)) [
           | inr k ↦
               rw (there lengthWidth l at h, le-leb start (length l) h, le-leb n most g, drop-drop lengthWidth at l)
-              (rw (cut n l start h k, lt-leb (start + n) (length l) k))
+              (rw (cut n l start h k, lt-leb (start + n) (length l) k) (lacks (ap (λ (i : ℕ). n - i) (length-drop start l))))
           | inl k ↦
               rw (there lengthWidth l at h, le-leb start (length l) h, le-leb n most g, drop-drop lengthWidth at l, there n l start k)
               (rw (le-leb (start + n) (length l) k, drop-drop n start l) (alike start n k))
@@ -168,9 +173,10 @@ module _ (l : Bytes) (k n v m : ℕ) (in-l : v + m ≤ length l) where
       let value : Bytes = part v m l in
       let ver : ℕ = natOf (part at numberWidth l) in
       elim (le-or-lt status (length l)) [
-        | inr h ↦ number-cut numberWidth l at (afterVersion key value) in-l h ∙ rw (lt-leb behind (length l) (omega arith))
+        | inr h ↦ number-cut numberWidth l at (afterVersion key value) in-l h ∙ rw (lt-leb behind (length l) (omega arith), lt-leb numberWidth (length l - at) (omega arith))
         | inl h ↦ number-there numberWidth l at (afterVersion key value) h ∙ elim (le-or-lt behind (length l)) [
-          | inr g ↦ number-cut byteWidth l status (statusNext key value ver) h (omega arith) ∙ rw (lt-leb behind (length l) g)
+          | inr g ↦ number-cut byteWidth l status (statusNext key value ver) h (omega arith)
+              ∙ rw (lt-leb behind (length l) g, le-leb numberWidth (length l - at) (omega arith)) (lacks (omega arith))
           | inl g ↦ number-there byteWidth l status (statusNext key value ver) (omega arith) ∙ rw (p, le-leb behind (length l) g)
               (elim (le-or-lt b (statusByte Ttl)) [
                 | inr i ↦ rw (lt-leb b (statusByte Ttl) i) (status-bad (recordNext key value ver (drop behind l)) b i)
@@ -196,7 +202,7 @@ module _ (l : Bytes) (at : ℕ) (in-l : at + byteWidth ≤ length l) where
 pub read-at : (l : Bytes) (at : ℕ) → at ≤ length l → rule.readOp (drop at l) ≡ meant l (opAt l at)
 unfolding rule.readOp opAt
 read-at l at in-l = elim (le-or-lt (at + byteWidth) (length l)) [
-  | inr h ↦ number-cut byteWidth l at (λ t. rule.readTagged t) in-l h ∙ rw (lt-leb (at + byteWidth) (length l) h)
+  | inr h ↦ number-cut byteWidth l at (λ t. rule.readTagged t) in-l h ∙ rw (lt-leb (at + byteWidth) (length l) h) (lacks (omega arith))
   | inl h ↦
       number-there byteWidth l at (λ t. rule.readTagged t) h
       ∙ rw (le-leb (at + byteWidth) (length l) h) (tagged-read l at h (natOf (part at byteWidth l)))
@@ -211,7 +217,8 @@ Within len at (Bad r) = Unit {0}
 
 abbrev pub TextWithin : (most n at : ℕ) (read : TextRead) → Type 0
 TextWithin most len at (text.Held k n) = (k ≡ at + lengthWidth) × (k + n ≤ len) × (n ≤ most)
-TextWithin most len at (text.Bad r) = Unit {0}
+TextWithin most len at text.Long = Unit {0}
+TextWithin most len at (text.Cut n) = Unit {0}
 
 module _ (l : Bytes) where
   pub text-within : (most at : ℕ) → TextWithin most (length l) at (textAt most l at)
@@ -250,7 +257,8 @@ module _ (l : Bytes) where
     where
       go : (t : TextRead) → TextWithin maxValue (length l) (k + n) t → Within (length l) at (onText (λ v m. versionAt l k n v m) t)
       go (text.Held v m) w = version-within at k n v m (omega arith) kn nk (w .2)
-      go (text.Bad r) w = tt
+      go text.Long w = tt
+      go (text.Cut i) w = tt
 
   key-value-within : (at : ℕ) → Within (length l) at (keyValueAt l at)
   unfolding keyValueAt
@@ -258,7 +266,8 @@ module _ (l : Bytes) where
     where
       go : (t : TextRead) → TextWithin maxKey (length l) (at + byteWidth) t → Within (length l) at (onText (λ k n. valueAt l k n) t)
       go (text.Held k n) w = value-within at k n (omega arith) (w .1) (w .2)
-      go (text.Bad r) w = tt
+      go text.Long w = tt
+      go (text.Cut i) w = tt
 
   node-within : (at : ℕ) → Within (length l) at (nodeAt l at)
   unfolding nodeAt

@@ -1,7 +1,7 @@
 -- An operation at a place of the lent bytes: its numbers, where its key and value stand, and the place behind it. `opOf` and `meant` say what
 -- such an operation means in the words of the rules; proofs/Reading.antt shows that `opAt` is the rules' reading, field by field and refusal by
 -- refusal.
-use Prim.Native.Nat.{ℕ, zero, suc, _+_, _≤_}
+use Prim.Native.Nat.{ℕ, zero, suc, _+_, _-_, _≤_}
 use lib.ListN.{length, drop}
 use lib.Dec.{leb}
 use Rattle.fields.specs.Choice.{pick}
@@ -10,7 +10,7 @@ use Rattle.fields.specs.Parts.{part}
 use Rattle.fields.specs.Widths.{offset, total}
 use Rattle.rules.specs.Sizes.{maxKey, maxValue}
 use Rattle.rules.specs.Delta as rule
-use Rattle.rules.specs.Delta.{besideTexts, byteWidth, lengthWidth, maxOpWidth, maxOpWidths, nodeOpWidth, nodeOpWidths, numberWidth, statusByte, versionWidths}
+use Rattle.rules.specs.Delta.{besideTexts, byteWidth, lengthWidth, maxOpWidth, maxOpWidths, nodeOpWidth, nodeOpWidths, numberLacks, numberWidth, statusByte, versionWidths}
 use Rattle.rules.specs.Layout.{statusOfByte}
 use Rattle.rules.specs.declared.Status.the-variants.{Ttl}
 use Rattle.rules.specs.declared.Refusal.the-variants.{TooLong, Cut, BadTag}
@@ -32,18 +32,25 @@ abbrev pub meant : (delta : Bytes) (read : OpRead) → rule.OpRead
 meant l (Got o next) = rule.Got (opOf l o) (drop next l)
 meant l (Bad r) = rule.Bad r
 
--- ---- reading at a place: fields from left to right
+-- ---- reading at a place: fields from left to right; 9 tells what the field lacks in which the bytes end
 
 -- a length, then so many bytes; an overlong length is 1 before its bytes are looked at
 unfoldable pub textAt : (most : ℕ) (delta : Bytes) (at : ℕ) → TextRead
 textAt most l at =
     let n : ℕ = natOf (part at lengthWidth l) in
     let start : ℕ = at + lengthWidth in
-    pick (leb start (length l)) (pick (leb n most) (pick (leb (start + n) (length l)) (text.Held start n) (text.Bad Cut)) (text.Bad TooLong)) (text.Bad Cut)
+    pick (leb start (length l))
+    (pick (leb n most) (pick (leb (start + n) (length l)) (text.Held start n) (text.Cut (n - (length l - start)))) text.Long)
+    (text.Cut (lengthWidth - (length l - at)))
 
 abbrev pub onText : (next : ℕ → ℕ → OpRead) (read : TextRead) → OpRead
 onText next (text.Held start len) = next start len
-onText next (text.Bad r) = Bad r
+onText next text.Long = Bad TooLong
+onText next (text.Cut n) = Bad (Cut n)
+
+-- what is lacking of version and status, where n bytes of them are there
+abbrev pub versionLacks : (n : ℕ) → ℕ
+versionLacks n = pick (leb numberWidth n) (total versionWidths - n) (numberWidth - n)
 
 -- version and status, behind the value; a status above 2 is 10
 unfoldable pub versionAt : (delta : Bytes) (keyat keylen valueat valuelen : ℕ) → OpRead
@@ -53,7 +60,7 @@ versionAt l k n v m =
     let next : ℕ = at + total versionWidths in
     pick (leb next (length l))
     (pick (leb st (statusByte Ttl)) (Got (KeyValue k n v m (natOf (part at numberWidth l)) (statusOfByte st)) next) (Bad BadTag))
-    (Bad Cut)
+    (Bad (Cut (versionLacks (length l - at))))
 
 -- behind the key
 unfoldable pub valueAt : (delta : Bytes) (keyat keylen : ℕ) → OpRead
@@ -63,7 +70,8 @@ valueAt l k n = onText (λ v m. versionAt l k n v m) (textAt maxValue l (k + n))
 unfoldable pub nodeAt : (delta : Bytes) (at : ℕ) → OpRead
 nodeAt l at =
     let number : ℕ → ℕ = λ k. natOf (part (at + offset nodeOpWidths k) numberWidth l) in
-    pick (leb (at + nodeOpWidth) (length l)) (Got (Node (number 1) (number 2) (number 3)) (at + nodeOpWidth)) (Bad Cut)
+    pick (leb (at + nodeOpWidth) (length l)) (Got (Node (number 1) (number 2) (number 3)) (at + nodeOpWidth))
+    (Bad (Cut (numberLacks (length l - at - byteWidth))))
 
 unfoldable pub keyValueAt : (delta : Bytes) (at : ℕ) → OpRead
 keyValueAt l at = onText (λ k n. valueAt l k n) (textAt maxKey l (at + byteWidth))
@@ -72,7 +80,7 @@ unfoldable pub setMaxVersionAt : (delta : Bytes) (at : ℕ) → OpRead
 setMaxVersionAt l at =
     pick (leb (at + maxOpWidth) (length l))
     (Got (SetMaxVersion (natOf (part (at + offset maxOpWidths 1) numberWidth l))) (at + maxOpWidth))
-    (Bad Cut)
+    (Bad (Cut (maxOpWidth - (length l - at))))
 
 -- a tag above 2 is 10
 abbrev pub taggedAt : (tag : ℕ) (delta : Bytes) (at : ℕ) → OpRead
@@ -82,7 +90,7 @@ taggedAt (suc (suc zero)) l at = setMaxVersionAt l at
 taggedAt (suc (suc (suc n))) l at = Bad BadTag
 
 unfoldable pub opAt : (delta : Bytes) (at : ℕ) → OpRead
-opAt l at = pick (leb (at + byteWidth) (length l)) (taggedAt (natOf (part at byteWidth l)) l at) (Bad Cut)
+opAt l at = pick (leb (at + byteWidth) (length l)) (taggedAt (natOf (part at byteWidth l)) l at) (Bad (Cut byteWidth))
 
 -- ---- where its key and value stand, and how many bytes it takes
 

@@ -1,5 +1,6 @@
 // Reading one operation of a delta at a place of the lent bytes. An operation holds its numbers, and where its key and value stand in the caller's
-// bytes; nothing is copied. What is read is what the definitions of `rules` say (specs/Places.antt). Whether it may follow those before it is the matter
+// bytes; nothing is copied. What is read is what the definitions of `rules` say (specs/Places.antt). Where the bytes end, 9 tells what the field still
+// lacks; it is counted on that way out alone. Whether it may follow those before it is the matter
 // of `delta_read`.
 use rules::Record;
 use rules::Refusal;
@@ -8,7 +9,9 @@ use rules::wire;
 ghost use mathlib.Core.Path.{_≡_};
 ghost use Prim.Native.Nat.{_+_, _≤_, _<_};
 ghost use lib.ListN.{length};
-ghost use Rattle.delta_op.specs.Places.{keyValueAt, nodeAt, opAt, setMaxVersionAt, textAt, valueAt, versionAt};
+ghost use Rattle.fields.specs.Widths.{total};
+ghost use Rattle.rules.specs.Delta.{versionWidths};
+ghost use Rattle.delta_op.specs.Places.{keyValueAt, nodeAt, opAt, setMaxVersionAt, textAt, valueAt, versionAt, versionLacks};
 
 pub enum Op {
     Node {
@@ -35,10 +38,12 @@ pub enum OpRead {
     Bad(Refusal),
 }
 
-// A text behind its length: where it stands and how long it is, or why there is none.
+// A text behind its length: where it stands and how long it is; or its length is too long, or the bytes end and so many are lacking. It holds no refusal,
+// which would be copied on the way of a text that is there too.
 pub enum TextRead {
     Held { start: usize, len: usize },
-    Bad(Refusal),
+    Long,
+    Cut(usize),
 }
 
 // The text whose length stands at `at`. An overlong length is refused before its bytes are looked at.
@@ -46,16 +51,20 @@ fn read_text(delta: &[u8], at: usize, most: usize) -> TextRead
     requires { ⌜ at ≤ length (now delta) ⌝ }
     ensures { λ r. ⌜ r ≡ textAt most (now (delta .entry)) at ⌝ }
 {
-    if delta.len() - at < wire::LENGTH {
-        return TextRead::Bad(Refusal::Cut);
+    let present = delta.len() - at;
+    if present < wire::LENGTH {
+        let need = wire::LENGTH - present;
+        return TextRead::Cut(need);
     }
     let len = fields::read_u16(delta, at);
     if most < len {
-        return TextRead::Bad(Refusal::TooLong);
+        return TextRead::Long;
     }
     let start = at + wire::LENGTH;
-    if delta.len() - start < len {
-        return TextRead::Bad(Refusal::Cut);
+    let behind = delta.len() - start;
+    if behind < len {
+        let need = len - behind;
+        return TextRead::Cut(need);
     }
     TextRead::Held { start, len }
 }
@@ -65,8 +74,9 @@ fn read_node(delta: &[u8], at: usize) -> OpRead
     requires { ⌜ at < length (now delta) ⌝ }
     ensures { λ r. ⌜ r ≡ nodeAt (now (delta .entry)) at ⌝ }
 {
-    if delta.len() - at < wire::NODE_WIDTH {
-        return OpRead::Bad(Refusal::Cut);
+    let present = delta.len() - at;
+    if present < wire::NODE_WIDTH {
+        return OpRead::Bad(Refusal::Cut(wire::number_lacks(present - wire::NODE_NUMBER)));
     }
     OpRead::Got {
         op: Op::Node {
@@ -76,6 +86,17 @@ fn read_node(delta: &[u8], at: usize) -> OpRead
         },
         next: at + wire::NODE_WIDTH,
     }
+}
+
+// What is lacking of version and status, of which so many bytes are there: of the one, or of the other.
+fn version_lacks(present: usize) -> usize
+    requires { ⌜ present < total versionWidths ⌝ }
+    ensures { λ r. ⌜ r ≡ versionLacks present ⌝ }
+{
+    if present < wire::NUMBER {
+        return wire::NUMBER - present;
+    }
+    wire::VERSION_WIDTH - present
 }
 
 // Version and status, behind the value.
@@ -90,8 +111,9 @@ fn read_version(
     ensures { λ r. ⌜ r ≡ versionAt (now (delta .entry)) keyat keylen valueat valuelen ⌝ }
 {
     let at = valueat + valuelen;
-    if delta.len() - at < wire::VERSION_WIDTH {
-        return OpRead::Bad(Refusal::Cut);
+    let present = delta.len() - at;
+    if present < wire::VERSION_WIDTH {
+        return OpRead::Bad(Refusal::Cut(version_lacks(present)));
     }
     let b = fields::byte_at(delta, at + wire::STATUS);
     if Status::LAST < b {
@@ -118,7 +140,8 @@ fn read_value(delta: &[u8], keyat: usize, keylen: usize) -> OpRead
     let value = read_text(delta, keyat + keylen, Record::VALUE);
     match value {
         TextRead::Held { start, len } => read_version(delta, keyat, keylen, start, len),
-        TextRead::Bad(why) => OpRead::Bad(why),
+        TextRead::Long => OpRead::Bad(Refusal::TooLong),
+        TextRead::Cut(need) => OpRead::Bad(Refusal::Cut(need)),
     }
 }
 
@@ -130,7 +153,8 @@ fn read_key_value(delta: &[u8], at: usize) -> OpRead
     let key = read_text(delta, at + wire::KEY_LENGTH, Record::KEY);
     match key {
         TextRead::Held { start, len } => read_value(delta, start, len),
-        TextRead::Bad(why) => OpRead::Bad(why),
+        TextRead::Long => OpRead::Bad(Refusal::TooLong),
+        TextRead::Cut(need) => OpRead::Bad(Refusal::Cut(need)),
     }
 }
 
@@ -139,8 +163,9 @@ fn read_set_max_version(delta: &[u8], at: usize) -> OpRead
     requires { ⌜ at < length (now delta) ⌝ }
     ensures { λ r. ⌜ r ≡ setMaxVersionAt (now (delta .entry)) at ⌝ }
 {
-    if delta.len() - at < wire::MAX_WIDTH {
-        return OpRead::Bad(Refusal::Cut);
+    let present = delta.len() - at;
+    if present < wire::MAX_WIDTH {
+        return OpRead::Bad(Refusal::Cut(wire::MAX_WIDTH - present));
     }
     OpRead::Got {
         op: Op::SetMaxVersion {
@@ -156,7 +181,7 @@ pub fn read_op(delta: &[u8], at: usize) -> OpRead
     ensures { λ r. ⌜ r ≡ opAt (now (delta .entry)) at ⌝ }
 {
     if at == delta.len() {
-        return OpRead::Bad(Refusal::Cut);
+        return OpRead::Bad(Refusal::Cut(wire::BYTE));
     }
     let tag = fields::byte_at(delta, at);
     match tag {

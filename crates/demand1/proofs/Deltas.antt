@@ -10,14 +10,14 @@ use Rattle.fields.specs.Blocks.{unblock}
 use Rattle.rules.specs.Sizes.{maxDelta, maxKey, maxNodes, maxValue}
 use Rattle.rules.specs.Table.{among}
 use Rattle.rules.specs.Digest as digest
-use Rattle.rules.specs.Delta.{Bad, Fault, Faulty, Followed, Good, Got, KeyValueOp, Next, NodeOp, Op, OpRead, Ops, Reading, SetMaxVersionOp, andThen, field, follow, lengthWidth, nothingRead, number, numberWidth, byteWidth, onFollowed, onRead, readDelta, readKeyValue, readNode, readOp, readOps, readSetMaxVersion, readTagged, statusOr, text, underNode, unlessEnd}
+use Rattle.rules.specs.Delta.{Bad, Fault, Faulty, Followed, Good, Got, KeyValueOp, Next, NodeOp, Op, OpRead, Ops, Reading, SetMaxVersionOp, andThen, field, follow, lengthWidth, nothingRead, number, numberLacks, numberWidth, byteWidth, onFollowed, onRead, readDelta, readKeyValue, readNode, readOp, readOps, readSetMaxVersion, readTagged, statusOr, text, underNode, unlessEnd}
 use Rattle.rules.specs.declared.Refusal.{Refusal}
 use Rattle.rules.specs.declared.Refusal.the-variants.{TooLong, Cut, BadTag, OutOfOrder, NodeTwice, TooMany}
 use Rattle.rules.specs.declared.Status.{Status}
 
 -- ---- a digest: 9, 13
 
-module _ (P : digest.DigestRead → Type 0) (cut : P (digest.Refused Cut)) (many : P (digest.Refused TooMany)) (read : (ds : List digest.NodeDigest) (rest : List ℕ) → P (digest.Entries ds rest)) where
+module _ (P : digest.DigestRead → Type 0) (cut : (n : ℕ) → P (digest.Refused (Cut n))) (many : P (digest.Refused TooMany)) (read : (ds : List digest.NodeDigest) (rest : List ℕ) → P (digest.Entries ds rest)) where
   pub digest-comes : (l : Bytes) → P (digest.readDigest l)
   unfolding digest.readDigest digest.readEntries
   digest-comes l = go (leb digest.countWidth (length l)) (leb n maxNodes) (leb (n * digest.entryWidth) (length rest))
@@ -28,15 +28,15 @@ module _ (P : digest.DigestRead → Type 0) (cut : P (digest.Refused Cut)) (many
       rest : Bytes
       rest = drop digest.countWidth l
 
-      go : (a b c : Bool) → P (digest.gathered (pick a (pick b (pick c (digest.Entries (unblock digest.entryWidth digest.entryOf n rest) (drop (n * digest.entryWidth) rest)) (digest.Refused Cut)) (digest.Refused TooMany)) (digest.Refused Cut)))
-      go false b c = cut
+      go : (a b c : Bool) → P (digest.gathered (pick a (pick b (pick c (digest.Entries (unblock digest.entryWidth digest.entryOf n rest) (drop (n * digest.entryWidth) rest)) (digest.Refused (Cut (numberLacks (length rest))))) (digest.Refused TooMany)) (digest.Refused (Cut (digest.countWidth - length l)))))
+      go false b c = cut _
       go true false c = many
-      go true true false = cut
+      go true true false = cut _
       go true true true = read _ _
 
 -- ---- a delta: 13, 9, 1, 10, 11, 12
 
-module _ (F : Refusal → Type 0) (long : F TooLong) (cut : F Cut) (tag : F BadTag) (order : F OutOfOrder) (twice : F NodeTwice) (many : F TooMany) where
+module _ (F : Refusal → Type 0) (long : F TooLong) (cut : (n : ℕ) → F (Cut n)) (tag : F BadTag) (order : F OutOfOrder) (twice : F NodeTwice) (many : F TooMany) where
   abbrev ReadSo : OpRead → Type 0
   ReadSo (Got o rest) = Unit {0}
   ReadSo (Bad r) = F r
@@ -52,9 +52,9 @@ module _ (F : Refusal → Type 0) (long : F TooLong) (cut : F Cut) (tag : F BadT
   field-so : (w : ℕ) (next : List ℕ → List ℕ → OpRead) (l : Bytes) → ((b rest : List ℕ) → ReadSo (next b rest)) → ReadSo (field w next l)
   field-so w next l f = go (leb w (length l))
     where
-      go : (a : Bool) → ReadSo (pick a (next (take w l) (drop w l)) (Bad Cut))
+      go : (a : Bool) → ReadSo (pick a (next (take w l) (drop w l)) (Bad (Cut (w - length l))))
       go true = f _ _
-      go false = cut
+      go false = cut _
 
   number-so : (w : ℕ) (next : ℕ → List ℕ → OpRead) (l : Bytes) → ((n : ℕ) (rest : List ℕ) → ReadSo (next n rest)) → ReadSo (number w next l)
   number-so w next l f = field-so w (λ b. next (natOf b)) l (λ b. f (natOf b))

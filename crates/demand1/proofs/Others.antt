@@ -385,7 +385,7 @@ digests excluded place d l =
 
 digest-reads : (l : Bytes) → Of calls.ReadDigest (digestTold (digestIn l))
 unfolding digestIn digestTold among calls.refusals
-digest-reads l = digest-comes (λ x. Of calls.ReadDigest (digestTold (heldOf (length l) x))) refl refl (λ ds rest. refl) l
+digest-reads l = digest-comes (λ x. Of calls.ReadDigest (digestTold (heldOf (length l) x))) (λ n. refl) refl (λ ds rest. refl) l
 
 -- ---- deltas
 
@@ -398,7 +398,7 @@ computes excluded ties mtu place told d l =
     (λ t. go t (leb leastMtu mtu && leb mtu maxDelta) (digest.fitsAt place mtu d) (eqb (length ties) (length t))) l
   where
     read : (t : Table) → Of calls.Compute (computedTold (computing.onDigest excluded ties mtu place (digest.readDigest told) t d .answer))
-    read t = digest-comes (λ x. Of calls.Compute (computedTold (computing.onDigest excluded ties mtu place x t d .answer))) refl refl (λ ds rest. refl) told
+    read t = digest-comes (λ x. Of calls.Compute (computedTold (computing.onDigest excluded ties mtu place x t d .answer))) (λ n. refl) refl (λ ds rest. refl) told
 
     go : (t : Table) (a b c : Bool)
         → Of calls.Compute (computedTold (pick a (pick b (pick c (computing.onDigest excluded ties mtu place (digest.readDigest told) t d) (given (computed.Refused BadTies) d)) (given (computed.Refused NoPlace) d)) (given (computed.Refused BadMtu) d) .answer))
@@ -409,12 +409,12 @@ computes excluded ties mtu place told d l =
 
 delta-reads : (l : Bytes) → Of calls.ReadDelta (readTold (deltaRead l))
 unfolding deltaRead readTold among calls.refusals
-delta-reads l = go (readDelta l) (delta-comes F refl refl refl refl refl refl l)
+delta-reads l = go (readDelta l) (delta-comes F refl (λ n. refl) refl refl refl refl l)
   where
     F : Refusal → Type 0
     F r = among (numberOf r) (calls.possible calls.ReadDelta) ≡ true
 
-    go : (x : Ops) → OpsSo F refl refl refl refl refl refl x → Of calls.ReadDelta (readTold (readAnswer x))
+    go : (x : Ops) → OpsSo F refl (λ n. refl) refl refl refl refl x → Of calls.ReadDelta (readTold (readAnswer x))
     go (Good ops) h = refl
     go (Faulty r at) h = h
 
@@ -430,14 +430,14 @@ applies delta now answers l = start (validWhole l)
     room ops u m true = refl
     room ops u m false = refl
 
-    go : (x : Ops) → OpsSo F refl refl refl refl refl refl x → Of calls.Apply (appliedTold (applyOps (applyNode (waysOf (decodeWhole l .mode)) now) x (decodeWhole l .table) answers .answer))
+    go : (x : Ops) → OpsSo F refl (λ n. refl) refl refl refl refl x → Of calls.Apply (appliedTold (applyOps (applyNode (waysOf (decodeWhole l .mode)) now) x (decodeWhole l .table) answers .answer))
     go (Good ops) h = room ops _ _ (leb (length (partsOf ops)) (length answers))
     go (Faulty r at) h = h
 
     start : (v : Bool) → Of calls.Apply (appliedTold (pick v (storedApply (decodeWhole l) (applyOps (applyNode (waysOf (decodeWhole l .mode)) now) (waysOf (decodeWhole l .mode) .reads delta) (decodeWhole l .table) answers)) (given (applied.Refused BadTable 0) (both l answers)) .answer))
     start true =
         go (waysOf (decodeWhole l .mode) .reads delta)
-        (subst (OpsSo F refl refl refl refl refl refl) (sym (reads-is (decodeWhole l .mode) delta)) (delta-comes F refl refl refl refl refl refl delta))
+        (subst (OpsSo F refl (λ n. refl) refl refl refl refl) (sym (reads-is (decodeWhole l .mode) delta)) (delta-comes F refl (λ n. refl) refl refl refl refl delta))
     start false = refl
 
 shows : (delta out : Bytes) → Of calls.ListDelta (writtenTold (digest.writeBytes (listing delta) 0 out .answer))

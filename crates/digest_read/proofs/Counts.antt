@@ -13,6 +13,7 @@ use Rattle.fields.specs.Choice.{pick}
 use Rattle.fields.specs.Numbers.{natOf}
 use Rattle.fields.specs.Parts.{part}
 use Rattle.rules.specs.Sizes.{maxNodes}
+use Rattle.rules.specs.Delta.{numberLacks}
 use Rattle.rules.specs.Digest as wire
 use Rattle.rules.specs.Digest.{DigestRead, Entries, Refused, countWidth, entryWidth, readDigest, readEntries, tellAll}
 use Rattle.rules.specs.declared.Refusal.{Refusal}
@@ -27,7 +28,7 @@ use Rattle.digest_read.specs.declared.Gathered.{Gathered}
 -- ---- each case; n is the count
 
 module _ (l : List ℕ) where
-  pub no-count : length l < countWidth → counted.Refused Cut ≡ countIn l
+  pub no-count : length l < countWidth → counted.Refused (Cut (countWidth - length l)) ≡ countIn l
   unfolding countIn
   no-count h = rw (lt-leb countWidth (length l) h)
 
@@ -36,9 +37,10 @@ module _ (l : List ℕ) where
     unfolding countIn
     too-many h = rw (le-leb countWidth (length l) there, ← is, lt-leb n maxNodes h)
 
-    pub entries-cut : n ≤ maxNodes → length l - countWidth < n * entryWidth → counted.Refused Cut ≡ countIn l
+    pub entries-cut : n ≤ maxNodes → length l - countWidth < n * entryWidth → (k : ℕ) → k ≡ numberLacks (length l - countWidth)
+        → counted.Refused (Cut k) ≡ countIn l
     unfolding countIn
-    entries-cut h g = rw (le-leb countWidth (length l) there, ← is, le-leb n maxNodes h, lt-leb (n * entryWidth) (length l - countWidth) g)
+    entries-cut h g k e = rw (e, le-leb countWidth (length l) there, ← is, le-leb n maxNodes h, lt-leb (n * entryWidth) (length l - countWidth) g)
 
     pub entries-there : n ≤ maxNodes → n * entryWidth ≤ length l - countWidth → counted.Entries n ≡ countIn l
     unfolding countIn
@@ -54,7 +56,7 @@ readBy l (counted.Refused r) = Refused r
 pub read-by : (l : List ℕ) → readEntries l ≡ readBy l (countIn l)
 unfolding readEntries countIn part
 read-by l =
-    ap (λ (k : ℕ). pick (leb countWidth (length l)) (pick (leb n maxNodes) (pick (leb (n * entryWidth) k) good (Refused Cut)) (Refused TooMany)) (Refused Cut))
+    ap (λ (k : ℕ). pick (leb countWidth (length l)) (pick (leb n maxNodes) (pick (leb (n * entryWidth) k) good (Refused (Cut (numberLacks k)))) (Refused TooMany)) (Refused (Cut (countWidth - length l))))
     (length-drop countWidth l)
     ∙ go (leb countWidth (length l)) (leb n maxNodes) (leb (n * entryWidth) (length l - countWidth))
   where
@@ -64,8 +66,14 @@ read-by l =
     good : DigestRead
     good = Entries (entriesAt n l) (drop (n * entryWidth) (drop countWidth l))
 
-    go : (a b c : Bool) → pick a (pick b (pick c good (Refused Cut)) (Refused TooMany)) (Refused Cut)
-        ≡ readBy l (pick a (pick b (pick c (counted.Entries n) (counted.Refused Cut)) (counted.Refused TooMany)) (counted.Refused Cut))
+    none : Refusal
+    none = Cut (countWidth - length l)
+
+    some : Refusal
+    some = Cut (numberLacks (length l - countWidth))
+
+    go : (a b c : Bool) → pick a (pick b (pick c good (Refused some)) (Refused TooMany)) (Refused none)
+        ≡ readBy l (pick a (pick b (pick c (counted.Entries n) (counted.Refused some)) (counted.Refused TooMany)) (counted.Refused none))
     go true true true = refl
     go true true false = refl
     go true false c = refl
@@ -86,8 +94,14 @@ announced l n e = go (leb countWidth (length l)) (leb m maxNodes) (leb (m * entr
     m : ℕ
     m = natOf (part 0 countWidth l)
 
+    none : Refusal
+    none = Cut (countWidth - length l)
+
+    some : Refusal
+    some = Cut (numberLacks (length l - countWidth))
+
     go : (a b c : Bool) → leb countWidth (length l) ≡ a → leb m maxNodes ≡ b → leb (m * entryWidth) (length l - countWidth) ≡ c
-        → pick a (pick b (pick c (counted.Entries m) (counted.Refused Cut)) (counted.Refused TooMany)) (counted.Refused Cut) ≡ counted.Entries n → Announced l n
+        → pick a (pick b (pick c (counted.Entries m) (counted.Refused some)) (counted.Refused TooMany)) (counted.Refused none) ≡ counted.Entries n → Announced l n
     go true true true p q r s =
         let same : m ≡ n = cc in
         let x = leb-true countWidth (length l) p in
@@ -98,9 +112,9 @@ announced l n e = go (leb countWidth (length l)) (leb m maxNodes) (leb (m * entr
           there = omega arith;
           read = read-by l ∙ ap (readBy l) e ∙ ap (Entries (entriesAt n l)) (drop-drop (n * entryWidth) countWidth l);
         }
-    go true true false p q r s = no-entries Cut n s
+    go true true false p q r s = no-entries some n s
     go true false c p q r s = no-entries TooMany n s
-    go false b c p q r s = no-entries Cut n s
+    go false b c p q r s = no-entries none n s
 
 pub refused : (l : List ℕ) (r : Refusal) → countIn l ≡ counted.Refused r → readEntries l ≡ Refused r
 refused l r e = read-by l ∙ ap (readBy l) e

@@ -6,7 +6,7 @@ use native.Mathlib.Omega.{arith}
 use lib.ListN.{length, drop, getD}
 use Rattle.rules.specs.Answers.{Told}
 use Rattle.rules.specs.Node.{beats}
-use Rattle.rules.proofs.Told.{number-is, value-is, not-refused, same-number}
+use Rattle.rules.proofs.Told.{number-is, value-is, need-is, not-refused, same-refusal}
 use Rattle.digest_read.specs.Told.{placeValues, answerTold, digestTold}
 use Rattle.digest_read.specs.declared.NodeDigest.{NodeDigest as Place}
 use Rattle.digest_read.specs.declared.DigestRead.{DigestRead as Answer}
@@ -35,7 +35,7 @@ same-told (answer.Nodes n k) (answer.Nodes m l) ps qs e =
 same-told (answer.Nodes n k) (answer.Refused r) ps qs e = not-refused r (number-is e)
 same-told (answer.Refused r) (answer.Nodes m l) ps qs e = not-refused r (sym (number-is e))
 same-told (answer.Refused r) (answer.Refused s) ps qs e =
-    (ap answer.Refused (same-number r s (number-is e)), same-places ps qs (ap (λ (t : Told). t .values) e))
+    (ap answer.Refused (same-refusal r s (number-is e) (need-is e)), same-places ps qs (ap (λ (t : Told). t .values) e))
 
 pub same-digest : (a b : Digest) → digestTold a ≡ digestTold b → a ≡ b
 unfolding digestTold

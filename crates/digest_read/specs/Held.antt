@@ -10,6 +10,7 @@ use Rattle.fields.specs.Parts.{part}
 use Rattle.fields.specs.Blocks.{unblock}
 use Rattle.rules.specs.Sizes.{maxNodes}
 use Rattle.rules.specs.Node.{beats}
+use Rattle.rules.specs.Delta.{numberLacks}
 use Rattle.rules.specs.Digest.{NodeDigest, DigestRead, Entries, Refused, countWidth, entryWidth, entryOf, readDigest}
 use Rattle.rules.specs.declared.Refusal.the-variants.{Cut, TooMany}
 use Rattle.digest_read.specs.declared.NodeDigest.{NodeDigest as Place}
@@ -60,14 +61,15 @@ entryPlace i = countWidth + i * entryWidth
 abbrev pub HasEntries : (n : ℕ) (digest : Bytes) → Type 0
 HasEntries n l = (n ≤ maxNodes) × (entryPlace n ≤ length l)
 
--- how many entries follow the count, or the refusal
+-- how many entries follow the count, or the refusal, with what the count lacks or the number in which the entries end
 unfoldable pub countIn : (digest : Bytes) → Counted
 countIn l =
     pick (leb countWidth (length l))
     (pick (leb (natOf (part 0 countWidth l)) maxNodes)
-    (pick (leb (natOf (part 0 countWidth l) * entryWidth) (length l - countWidth)) (counted.Entries (natOf (part 0 countWidth l))) (counted.Refused Cut))
+    (pick (leb (natOf (part 0 countWidth l) * entryWidth) (length l - countWidth)) (counted.Entries (natOf (part 0 countWidth l)))
+    (counted.Refused (Cut (numberLacks (length l - countWidth)))))
     (counted.Refused TooMany))
-    (counted.Refused Cut)
+    (counted.Refused (Cut (countWidth - length l)))
 
 -- the first n entries behind the count, as they stand
 abbrev pub entriesAt : (n : ℕ) (digest : Bytes) → List NodeDigest

@@ -2,7 +2,7 @@
 -- then the eight places, four numbers each.
 use Prim.Native.Nat.{ℕ}
 use mathlib.Core.List.{List, [], _∷_}
-use Rattle.rules.specs.Answers.{Told, numberOf}
+use Rattle.rules.specs.Answers.{Told, accepted, refused}
 use Rattle.digest_read.specs.declared.NodeDigest.{NodeDigest as Place}
 use Rattle.digest_read.specs.declared.DigestRead.{DigestRead as Answer}
 use Rattle.digest_read.specs.declared.DigestRead.the-variants as answer
@@ -14,8 +14,8 @@ placeValues [] = []
 placeValues (p ∷ ps) = p .number ∷ p .heartbeat .0 ∷ p .«last_gc» ∷ p .max ∷ placeValues ps
 
 abbrev pub answerTold : (answer : Answer) (places : List Place) → Told
-answerTold (answer.Nodes count rest) ps = record { number = 0; values = count ∷ rest ∷ placeValues ps }
-answerTold (answer.Refused r) ps = record { number = numberOf r; values = placeValues ps }
+answerTold (answer.Nodes count rest) ps = accepted (count ∷ rest ∷ placeValues ps)
+answerTold (answer.Refused r) ps = refused r (placeValues ps)
 
 unfoldable pub digestTold : (digest : Digest) → Told
 digestTold d = answerTold (d .read) (d .entries)

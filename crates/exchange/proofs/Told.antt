@@ -2,7 +2,7 @@
 use Prim.Native.Nat.{ℕ}
 use mathlib.Core.Path.{_≡_, refl, ap, ap₂, sym, _∙_}
 use native.Mathlib.Omega.{arith}
-use Rattle.rules.proofs.Told.{number-is, value-is, not-refused, same-number}
+use Rattle.rules.proofs.Told.{number-is, value-is, need-is, not-refused, same-refusal}
 use Rattle.exchange.specs.Exchanging.{exchangedTold, stepCode}
 use Rattle.exchange.specs.declared.Step.{Step}
 use Rattle.exchange.specs.declared.Step.the-variants.{Digest, Delta, Applying}
@@ -25,4 +25,4 @@ unfolding exchangedTold
 same-exchanged (Done o b n) (Done p c m) e = ap₂ (λ (x y : ℕ). Done x y n) (value-is e 0) (value-is e 1) ∙ ap (Done p c) (value-is e 2)
 same-exchanged (Done o b n) (Refused s r) e = not-refused r (number-is e)
 same-exchanged (Refused s r) (Done o b n) e = not-refused r (sym (number-is e))
-same-exchanged (Refused s r) (Refused t q) e = ap₂ Refused (same-step s t (value-is e 0)) (same-number r q (number-is e))
+same-exchanged (Refused s r) (Refused t q) e = ap₂ Refused (same-step s t (value-is e 0)) (same-refusal r q (number-is e) (need-is e))

@@ -7,7 +7,7 @@ use lib.ListN.{length}
 use Rattle.fields.specs.Choice.{pick}
 use Rattle.fields.specs.Numbers.{Bytes}
 use Rattle.fields.specs.Parts.{part}
-use Rattle.rules.specs.Answers.{Told, numberOf}
+use Rattle.rules.specs.Answers.{Told, accepted, refused}
 use Rattle.rules.specs.Digest.{digestBytes, digestOf}
 use Rattle.rules.specs.Given.{Given, given}
 use Rattle.rules.specs.Whole.{decodeWhole, validWhole}
@@ -162,5 +162,5 @@ stepCode Applying = 3
 
 -- The number and the values of an answer. A refusal tells the step that it belongs to.
 unfoldable pub exchangedTold : (answer : Exchanged) → Told
-exchangedTold (exchanged.Done ops bytes nodes) = record { number = 0; values = ops ∷ bytes ∷ nodes ∷ [] }
-exchangedTold (exchanged.Refused s r) = record { number = numberOf r; values = stepCode s ∷ [] }
+exchangedTold (exchanged.Done ops bytes nodes) = accepted (ops ∷ bytes ∷ nodes ∷ [])
+exchangedTold (exchanged.Refused s r) = refused r (stepCode s ∷ [])

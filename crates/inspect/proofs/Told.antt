@@ -9,7 +9,7 @@ use Rattle.rules.specs.declared.Status.{Status}
 use Rattle.rules.specs.declared.Status.the-variants.{Set, Delete, Ttl}
 use Rattle.rules.specs.declared.Header.{Header}
 use Rattle.rules.specs.declared.Record.{Record}
-use Rattle.rules.proofs.Told.{number-is, value-is, values-long, not-refused, same-number}
+use Rattle.rules.proofs.Told.{number-is, value-is, values-long, need-is, not-refused, same-refusal}
 use Rattle.inspect.specs.Told.{countTold, nodeNumberTold, nodeHeaderTold, recordReadTold}
 use Rattle.inspect.specs.declared.Count.{Count}
 use Rattle.inspect.specs.declared.Count.the-variants as count
@@ -25,14 +25,14 @@ unfolding countTold
 same-count (count.Are n) (count.Are m) e = ap count.Are (value-is e 0)
 same-count (count.Are n) (count.Refused r) e = not-refused r (number-is e)
 same-count (count.Refused r) (count.Are n) e = not-refused r (sym (number-is e))
-same-count (count.Refused r) (count.Refused s) e = ap count.Refused (same-number r s (number-is e))
+same-count (count.Refused r) (count.Refused s) e = ap count.Refused (same-refusal r s (number-is e) (need-is e))
 
 pub same-node-number : (a b : NodeNumber) → nodeNumberTold a ≡ nodeNumberTold b → a ≡ b
 unfolding nodeNumberTold
 same-node-number (number.Is n) (number.Is m) e = ap number.Is (value-is e 0)
 same-node-number (number.Is n) (number.Refused r) e = not-refused r (number-is e)
 same-node-number (number.Refused r) (number.Is n) e = not-refused r (sym (number-is e))
-same-node-number (number.Refused r) (number.Refused s) e = ap number.Refused (same-number r s (number-is e))
+same-node-number (number.Refused r) (number.Refused s) e = ap number.Refused (same-refusal r s (number-is e) (need-is e))
 
 -- a header by its numbers
 abbrev headed : ℕ → ℕ → ℕ → Header
@@ -45,7 +45,7 @@ same-node-header (header.Is h) (header.Is k) e =
     ∙ ap (λ (x : ℕ). header.Is (headed (k .heartbeat .0) (k .max) x)) (value-is e 2)
 same-node-header (header.Is h) (header.Refused r) e = not-refused r (number-is e)
 same-node-header (header.Refused r) (header.Is h) e = not-refused r (sym (number-is e))
-same-node-header (header.Refused r) (header.Refused s) e = ap header.Refused (same-number r s (number-is e))
+same-node-header (header.Refused r) (header.Refused s) e = ap header.Refused (same-refusal r s (number-is e) (need-is e))
 
 -- a status by its byte
 status-back : (s : Status) → statusOfByte (statusByte s) ≡ s
@@ -71,4 +71,4 @@ same-record (rec.Is q) (rec.Refused r) e = not-refused r (number-is e)
 same-record rec.Nothing (rec.Refused r) e = not-refused r (number-is e)
 same-record (rec.Refused r) (rec.Is q) e = not-refused r (sym (number-is e))
 same-record (rec.Refused r) rec.Nothing e = not-refused r (sym (number-is e))
-same-record (rec.Refused r) (rec.Refused s) e = ap rec.Refused (same-number r s (number-is e))
+same-record (rec.Refused r) (rec.Refused s) e = ap rec.Refused (same-refusal r s (number-is e) (need-is e))

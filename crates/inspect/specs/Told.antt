@@ -1,7 +1,7 @@
 -- The number and the values that stand for each answer of the small readings.
 use Prim.Native.Nat.{ℕ}
 use mathlib.Core.List.{List, [], _∷_}
-use Rattle.rules.specs.Answers.{Told, numberOf}
+use Rattle.rules.specs.Answers.{Told, accepted, refused}
 use Rattle.rules.specs.Delta.{statusByte}
 use Rattle.rules.specs.declared.Record.{Record}
 use Rattle.inspect.specs.declared.Count.{Count}
@@ -14,21 +14,21 @@ use Rattle.inspect.specs.declared.RecordRead.{RecordRead}
 use Rattle.inspect.specs.declared.RecordRead.the-variants as rec
 
 unfoldable pub countTold : (answer : Count) → Told
-countTold (count.Are n) = record { number = 0; values = n ∷ [] }
-countTold (count.Refused r) = record { number = numberOf r; values = [] }
+countTold (count.Are n) = accepted (n ∷ [])
+countTold (count.Refused r) = refused r []
 
 unfoldable pub nodeNumberTold : (answer : NodeNumber) → Told
-nodeNumberTold (number.Is n) = record { number = 0; values = n ∷ [] }
-nodeNumberTold (number.Refused r) = record { number = numberOf r; values = [] }
+nodeNumberTold (number.Is n) = accepted (n ∷ [])
+nodeNumberTold (number.Refused r) = refused r []
 
 unfoldable pub nodeHeaderTold : (answer : NodeHeader) → Told
-nodeHeaderTold (header.Is h) = record { number = 0; values = h .heartbeat .0 ∷ h .max ∷ h .«last_gc» ∷ [] }
-nodeHeaderTold (header.Refused r) = record { number = numberOf r; values = [] }
+nodeHeaderTold (header.Is h) = accepted (h .heartbeat .0 ∷ h .max ∷ h .«last_gc» ∷ [])
+nodeHeaderTold (header.Refused r) = refused r []
 
 abbrev pub recordValues : (numbers : Record) → List ℕ
 recordValues r = r .keylen ∷ r .valuelen ∷ r .version ∷ statusByte (r .status) ∷ r .start ∷ []
 
 unfoldable pub recordReadTold : (answer : RecordRead) → Told
-recordReadTold (rec.Is r) = record { number = 0; values = recordValues r }
-recordReadTold rec.Nothing = record { number = 0; values = [] }
-recordReadTold (rec.Refused r) = record { number = numberOf r; values = [] }
+recordReadTold (rec.Is r) = accepted (recordValues r)
+recordReadTold rec.Nothing = accepted []
+recordReadTold (rec.Refused r) = refused r []

@@ -2,20 +2,23 @@
 -- nothing.
 use Prim.Native.Nat.{ℕ, zero, suc, _+_, _-_, _*_, _≤_, _<_}
 use mathlib.Core.Path.{_≡_, refl, ap, sym, _∙_, subst}
+use mathlib.Core.Bool.{Bool, true, false}
 use mathlib.Core.Logic.{inl, inr}
 use mathlib.Core.List.{List, [], _++_, append-assoc}
 use native.Mathlib.Omega.{arith}
+use lib.Dec.{eqb}
 use lib.ListN.{length, length-append}
 use borrow.Author.Tests.{le-leb, lt-leb}
 use Rattle.fields.specs.Blocks.{flat}
+use Rattle.fields.specs.Choice.{pick}
 use Rattle.fields.specs.Parts.{part, put}
 use Rattle.fields.proofs.Parts.{length-part}
-use Rattle.rules.specs.Answers.{numberOf}
+use Rattle.rules.specs.Answers.{numberOf, needOf}
 use Rattle.rules.specs.Sizes.{maxDelta}
 use Rattle.rules.specs.Given.{Gives}
 use Rattle.rules.specs.Delta as rule
 use Rattle.rules.specs.Digest.{writeBytes}
-use Rattle.rules.specs.Listing.{ascii, decimal, listDelta, listing, listingOf, opLine, shownBytes, statusText}
+use Rattle.rules.specs.Listing.{ascii, decimal, listDelta, lineFeed, listing, listingOf, opLine, shownBytes, statusText}
 use Rattle.rules.specs.declared.Status.{Status}
 use Rattle.rules.specs.declared.Status.the-variants.{Set, Delete, Ttl}
 use Rattle.rules.specs.declared.Refusal.{Refusal}
@@ -31,7 +34,7 @@ use Rattle.delta_op.specs.Places.{opOf, opAt, Inside, widthOf}
 use Rattle.delta_op.proofs.Reading.{Within, op-within, le-or-lt}
 use Rattle.delta_op.proofs.Plain.{plain-end, plain-bad, plain-next, good-plain}
 use Rattle.listing_text.proofs.Texts.{decimal-long, shown-long}
-use Rattle.listing.specs.Shapes.{goodText, linesFrom, longestListing, recordLine, refusedText, textsText}
+use Rattle.listing.specs.Shapes.{cutText, faultText, goodText, linesFrom, longestListing, recordLine, refusedText, textsText}
 
 -- ---- one line
 
@@ -111,16 +114,22 @@ listing-good l ops nodes e = go (rule.readDelta l) refl e
         (rw (← k, ← p .0), p .1)
     go (rule.Faulty r at) q a = let z : _≡_ {A = ℕ} 0 1 = cc in absurd (omega arith)
 
-pub listing-refused : (l : List ℕ) (r : Refusal) (at : ℕ) → rule.deltaRead l ≡ read.Refused r at → listing l ≡ refusedText (numberOf r) at
-unfolding rule.deltaRead listing listingOf refusedText
+pub listing-refused : (l : List ℕ) (r : Refusal) (at : ℕ) → rule.deltaRead l ≡ read.Refused r at → listing l ≡ refusedText (numberOf r) at (needOf r)
+unfolding rule.deltaRead listing listingOf faultText cutText
 listing-refused l r at e = go (rule.readDelta l) e
   where
-    go : (x : rule.Ops) → rule.readAnswer x ≡ read.Refused r at → listingOf x (length l) ≡ refusedText (numberOf r) at
+    with-need : (t : Bool)
+        → ascii "end=refused code=" ++ (decimal (numberOf r) ++ (ascii " at=" ++ (decimal at ++ (pick t (ascii " need=" ++ decimal (needOf r)) [] ++ lineFeed))))
+        ≡ pick t (cutText (numberOf r) at (needOf r)) (faultText (numberOf r) at)
+    with-need true = refl
+    with-need false = refl
+
+    go : (x : rule.Ops) → rule.readAnswer x ≡ read.Refused r at → listingOf x (length l) ≡ refusedText (numberOf r) at (needOf r)
     go (rule.Good os) a = let z : _≡_ {A = ℕ} 0 1 = cc in absurd (omega arith)
     go (rule.Faulty s b) a =
         let p : s ≡ r = cc in
         let q : b ≡ at = cc in
-        rw (p, q)
+        rw (p, q) (with-need (eqb (numberOf r) 9))
 
 -- ---- a text at the front of a buffer
 
@@ -137,9 +146,20 @@ module _ (text l : List ℕ) where
       let b = le-leb (length text) (length l - 0) (omega arith) in
       (rw (a, b, p), rw (a, b, q))
 
-pub refused-long : (code at : ℕ) → length (refusedText code at) ≡ 22 + length (decimal code) + length (decimal at)
-unfolding refusedText
-refused-long code at = simp length-append (omega arith)
+pub fault-long : (code at : ℕ) → length (faultText code at) ≡ 22 + length (decimal code) + length (decimal at)
+unfolding faultText
+fault-long code at = simp length-append (omega arith)
+
+pub cut-long : (code at need : ℕ) → length (cutText code at need) ≡ 28 + length (decimal code) + length (decimal at) + length (decimal need)
+unfolding cutText
+cut-long code at need = simp length-append (omega arith)
+
+refused-most : (code at need : ℕ) → length (refusedText code at need) ≤ 88
+refused-most code at need = go (eqb code 9)
+  where
+    go : (t : Bool) → length (pick t (cutText code at need) (faultText code at)) ≤ 88
+    go true = omega (arith, cut-long code at need, decimal-long code, decimal-long at, decimal-long need)
+    go false = omega (arith, fault-long code at, decimal-long code, decimal-long at)
 
 pub good-long : (l : List ℕ) (ops : ℕ) → length (goodText l ops) ≡ length (linesFrom l 0) + 19 + length (decimal ops) + length (decimal (length l))
 unfolding goodText
@@ -172,7 +192,7 @@ listing-most l = go (rule.deltaRead l) refl
         let g : (listing l ≡ goodText l ops) × (length l ≤ maxDelta) = listing-good l ops nodes e in
         omega (arith, ap length (g .0), g .1, good-long l ops, lines-most (length l) 0 l (omega arith), decimal-long ops, decimal-long (length l))
     go (read.Refused r at) e =
-        omega (arith, ap length (listing-refused l r at e), refused-long (numberOf r) at, decimal-long (numberOf r), decimal-long at)
+        omega (arith, ap length (listing-refused l r at e), refused-most (numberOf r) at (needOf r))
 
 -- so a buffer of that size is never refused, and the answer is within it
 module _ (l out : List ℕ) (h : longestListing ≤ length out) where

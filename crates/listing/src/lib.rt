@@ -12,7 +12,7 @@ ghost use Rattle.rules.specs.Digest.{writeBytes};
 ghost use Rattle.rules.specs.Listing.{listDelta, opLine, statusText};
 ghost use Rattle.delta_op.specs.Places.{Inside, opOf};
 ghost use Rattle.listing_text.specs.Texts.{TextFits, putText};
-ghost use Rattle.listing.specs.Shapes.{goodText, linesFrom, recordLine, refusedText, textsText, twoNumbers, versionText};
+ghost use Rattle.listing.specs.Shapes.{cutText, faultText, goodText, linesFrom, recordLine, refusedText, textsText, twoNumbers, versionText};
 use delta_op::Op;
 use delta_op::OpRead;
 use rules::DeltaRead;
@@ -32,6 +32,11 @@ const SET_MAX_VERSION: usize = 16;
 const GOOD: usize = 19;
 
 const REFUSED: usize = 22;
+
+// The same with what is lacking, for the one number that tells it.
+const CUT: usize = REFUSED + 6;
+
+const CUT_NUMBER: u64 = 9;
 
 // Room for every listing: a line is no longer than five times its operation, and the last one of an accepted delta has two numbers of at most twenty digits.
 pub const LONGEST: usize = 5 * sizes::LONGEST_DELTA + GOOD + 20 + 20;
@@ -249,9 +254,33 @@ fn list_good(delta: &[u8], out: &mut [u8], ops: usize) -> Written
     Written::Bytes(n)
 }
 
+// The line of a delta that was refused with this number at this place, and so many bytes lacking.
+fn put_cut(out: &mut [u8], code: u64, at: u64, need: u64) -> usize
+    requires { ⌜ TextFits 0 (cutText code at need) (now out) ⌝ }
+    ensures { λ r. ⌜ Gives (putText 0 (cutText code at need) (now (out .entry))) r (now (out .exit)) ⌝ }
+{
+    let a = listing_text::put_numbered(out, 0, b"end=refused code=", code);
+    put_two_numbers(out, a, b" at=", at, b" need=", need)
+}
+
+// Of a delta that was refused with this number at this place, and so many bytes lacking.
+fn list_cut(out: &mut [u8], code: u64, at: u64, need: u64) -> Written
+    ensures { λ r. ⌜ Gives (writeBytes (cutText code at need) 0 (now (out .entry))) r (now (out .exit)) ⌝ }
+{
+    let n = CUT
+        + listing_text::decimal_len(code)
+        + listing_text::decimal_len(at)
+        + listing_text::decimal_len(need);
+    if out.len() < n {
+        return Written::Refused(Refusal::NoPlace);
+    }
+    put_cut(out, code, at, need);
+    Written::Bytes(n)
+}
+
 // Of a delta that was refused with this number at this place.
-fn list_refused(out: &mut [u8], code: u64, at: u64) -> Written
-    ensures { λ r. ⌜ Gives (writeBytes (refusedText code at) 0 (now (out .entry))) r (now (out .exit)) ⌝ }
+fn list_fault(out: &mut [u8], code: u64, at: u64) -> Written
+    ensures { λ r. ⌜ Gives (writeBytes (faultText code at) 0 (now (out .entry))) r (now (out .exit)) ⌝ }
 {
     let n = REFUSED + listing_text::decimal_len(code) + listing_text::decimal_len(at);
     if out.len() < n {
@@ -261,6 +290,16 @@ fn list_refused(out: &mut [u8], code: u64, at: u64) -> Written
     Written::Bytes(n)
 }
 
+// Of a delta that was refused: what is lacking is told with 9 only.
+fn list_refused(out: &mut [u8], code: u64, at: u64, need: u64) -> Written
+    ensures { λ r. ⌜ Gives (writeBytes (refusedText code at need) 0 (now (out .entry))) r (now (out .exit)) ⌝ }
+{
+    if code == CUT_NUMBER {
+        return list_cut(out, code, at, need);
+    }
+    list_fault(out, code, at)
+}
+
 // The listing of any bytes, at the front of the buffer, and its length. 8, and nothing changed, where the buffer is too short.
 pub fn list_delta(delta: &[u8], out: &mut [u8]) -> Written
     ensures { λ r. ⌜ Tells writtenTold (listDelta (now (delta .entry)) (now (out .entry))) r (now (out .exit)) ⌝ }
@@ -268,6 +307,8 @@ pub fn list_delta(delta: &[u8], out: &mut [u8]) -> Written
     let read = delta_read::read_delta(delta);
     match read {
         DeltaRead::Good { ops, nodes: _ } => list_good(delta, out, ops),
-        DeltaRead::Refused { why, at } => list_refused(out, why.number(), at as u64),
+        DeltaRead::Refused { why, at } => {
+            list_refused(out, why.number(), at as u64, why.need() as u64)
+        }
     }
 }

@@ -1,7 +1,7 @@
 -- The number and the values that are told of what a lookup finds tell it. Assumes nothing.
 use mathlib.Core.Path.{_≡_, refl, ap, ap₂, sym}
 use native.Mathlib.Omega.{arith}
-use Rattle.rules.proofs.Told.{number-is, value-is, values-long, not-refused, same-number}
+use Rattle.rules.proofs.Told.{number-is, value-is, values-long, need-is, not-refused, same-refusal}
 use Rattle.lookup.specs.Told.{foundTold}
 use Rattle.lookup.specs.declared.Found.{Found}
 use Rattle.lookup.specs.declared.Found.the-variants.{At, Nothing, Refused}
@@ -16,4 +16,4 @@ same-found (At s n) (Refused r) e = not-refused r (number-is e)
 same-found Nothing (Refused r) e = not-refused r (number-is e)
 same-found (Refused r) (At t m) e = not-refused r (sym (number-is e))
 same-found (Refused r) Nothing e = not-refused r (sym (number-is e))
-same-found (Refused r) (Refused s) e = ap Refused (same-number r s (number-is e))
+same-found (Refused r) (Refused s) e = ap Refused (same-refusal r s (number-is e) (need-is e))

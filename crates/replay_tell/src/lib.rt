@@ -15,14 +15,28 @@ pub fn touched(out: &mut [u8], at: usize) -> usize {
     print::text(out, at, b"touched")
 }
 
-pub fn refused(out: &mut [u8], at: usize, refusal: Refusal) -> usize {
+fn coded(out: &mut [u8], at: usize, refusal: Refusal) -> usize {
     let next = print::text(out, at, b"refused ");
     print::decimal(out, next, refusal.number())
 }
 
+// The bytes that are lacking: told with 9 only.
+fn lacking(out: &mut [u8], at: usize, refusal: Refusal) -> usize {
+    if refusal.number() == 9 {
+        return numbered(out, at, b" need=", refusal.need());
+    }
+    at
+}
+
+pub fn refused(out: &mut [u8], at: usize, refusal: Refusal) -> usize {
+    let next = coded(out, at, refusal);
+    lacking(out, next, refusal)
+}
+
 pub fn refused_at(out: &mut [u8], at: usize, refusal: Refusal, place: usize) -> usize {
-    let next = refused(out, at, refusal);
-    numbered(out, next, b" at=", place)
+    let code = coded(out, at, refusal);
+    let next = numbered(out, code, b" at=", place);
+    lacking(out, next, refusal)
 }
 
 pub fn answer(out: &mut [u8], at: usize, answer: Answer) -> usize {

@@ -1,7 +1,7 @@
 -- A digest and its bytes: reading what was written gives it back, what was read writes its bytes, and of an ascending digest every entry
 -- counts. Assumes nothing.
 -- the entry's numbers have eight bytes
-use Prim.Native.Nat.{_*_, _+_, _<_, _≤_, suc, zero, ℕ}
+use Prim.Native.Nat.{_*_, _+_, _-_, _<_, _≤_, suc, zero, ℕ}
 use mathlib.Core.Bool.{Bool, false, true}
 use mathlib.Core.List.{List, [], _++_, _∷_, append-assoc, append-nil}
 use mathlib.Core.Logic.{_⊎_, inl, inr}
@@ -22,6 +22,7 @@ use Rattle.fields.specs.Parts.{part}
 use Rattle.rules.proofs.Obeys.{Ascending, OkEntry, OkTable, number-in, table-facts}
 use Rattle.rules.proofs.Ops.{Number}
 use Rattle.rules.proofs.Received.{body}
+use Rattle.rules.specs.Delta.{numberLacks}
 use Rattle.rules.specs.Digest.{Entries, NodeDigest, Refused, countWidth, digestBytes, digestOf, digestOfNode, entryBytes, entryOf, entryWidth, gathered, readCount, readDigest, readEntries, tell, tellAll}
 use Rattle.rules.specs.Node.{beats}
 use Rattle.rules.specs.Sizes.{maxNodes}
@@ -89,7 +90,7 @@ unfoldable pub AllEntries : List NodeDigest → Type 0
 AllEntries [] = Unit {0}
 AllEntries (d ∷ ds) = SmallEntry d × AllEntries ds
 
-entries-long : (ds : List NodeDigest) → length (flat entryBytes ds) ≡ length ds * entryWidth
+pub entries-long : (ds : List NodeDigest) → length (flat entryBytes ds) ≡ length ds * entryWidth
 entries-long ds = length-flat entryBytes entryWidth entry-long ds
 
 entries-back : (ds : List NodeDigest) (rest : List ℕ) → AllEntries ds → unblock entryWidth entryOf (length ds) (flat entryBytes ds ++ rest) ≡ ds
@@ -136,10 +137,10 @@ read-entries ds rest h a =
     let enough : length ds * entryWidth ≤ length body = let k = entries-long ds in simp length-append (omega arith) in
     let n : natOf (take countWidth (c ++ body)) ≡ length ds = ap natOf (take-at c body countWidth lc) ∙ nat-bytes countWidth (length ds) (omega arith) in
     ap readEntries e
-    ∙ ap (λ (b : Bool). pick b (readCount (natOf (take countWidth (c ++ body))) (drop countWidth (c ++ body))) (Refused Cut)) (le-leb _ _ long)
+    ∙ ap (λ (b : Bool). pick b (readCount (natOf (take countWidth (c ++ body))) (drop countWidth (c ++ body))) (Refused (Cut (countWidth - length (c ++ body))))) (le-leb _ _ long)
     ∙ ap₂ readCount n (drop-at c body countWidth lc)
-    ∙ ap (λ (b : Bool). pick b (pick (leb (length ds * entryWidth) (length body)) (Entries (unblock entryWidth entryOf (length ds) body) (drop (length ds * entryWidth) body)) (Refused Cut)) (Refused TooMany)) (le-leb _ _ h)
-    ∙ ap (λ (b : Bool). pick b (Entries (unblock entryWidth entryOf (length ds) body) (drop (length ds * entryWidth) body)) (Refused Cut)) (le-leb _ _ enough)
+    ∙ ap (λ (b : Bool). pick b (pick (leb (length ds * entryWidth) (length body)) (Entries (unblock entryWidth entryOf (length ds) body) (drop (length ds * entryWidth) body)) (Refused (Cut (numberLacks (length body))))) (Refused TooMany)) (le-leb _ _ h)
+    ∙ ap (λ (b : Bool). pick b (Entries (unblock entryWidth entryOf (length ds) body) (drop (length ds * entryWidth) body)) (Refused (Cut (numberLacks (length body))))) (le-leb _ _ enough)
     ∙ ap₂ Entries (entries-back ds rest a) (drop-at (flat entryBytes ds) rest (length ds * entryWidth) (entries-long ds))
 
 pub record EntriesAre (l : List ℕ) (ds : List NodeDigest) (rest : List ℕ) : Type 0 where
@@ -180,17 +181,17 @@ entries-are l ds rest b e = count (leb countWidth (length l)) refl e
         let r : drop (n * entryWidth) m ≡ rest = cc in
         subst₂ (λ (a : List NodeDigest) (z : List ℕ). EntriesAre l a z) p r x
 
-    all-there : (s : Bool) → leb (n * entryWidth) (length m) ≡ s → countWidth ≤ length l → n ≤ maxNodes → pick s (Entries (unblock entryWidth entryOf n m) (drop (n * entryWidth) m)) (Refused Cut) ≡ Entries ds rest → EntriesAre l ds rest
+    all-there : (s : Bool) → leb (n * entryWidth) (length m) ≡ s → countWidth ≤ length l → n ≤ maxNodes → pick s (Entries (unblock entryWidth entryOf n m) (drop (n * entryWidth) m)) (Refused (Cut (numberLacks (length m)))) ≡ Entries ds rest → EntriesAre l ds rest
     all-there true q h g e = as-entries (got h g (leb-true _ _ q)) e
-    all-there false q h g e = not-entries Cut ds rest e
+    all-there false q h g e = not-entries (Cut (numberLacks (length m))) ds rest e
 
-    few : (s : Bool) → leb n maxNodes ≡ s → countWidth ≤ length l → pick s (pick (leb (n * entryWidth) (length m)) (Entries (unblock entryWidth entryOf n m) (drop (n * entryWidth) m)) (Refused Cut)) (Refused TooMany) ≡ Entries ds rest → EntriesAre l ds rest
+    few : (s : Bool) → leb n maxNodes ≡ s → countWidth ≤ length l → pick s (pick (leb (n * entryWidth) (length m)) (Entries (unblock entryWidth entryOf n m) (drop (n * entryWidth) m)) (Refused (Cut (numberLacks (length m))))) (Refused TooMany) ≡ Entries ds rest → EntriesAre l ds rest
     few true q h e = all-there (leb (n * entryWidth) (length m)) refl h (leb-true _ _ q) e
     few false q h e = not-entries TooMany ds rest e
 
-    count : (s : Bool) → leb countWidth (length l) ≡ s → pick s (readCount n m) (Refused Cut) ≡ Entries ds rest → EntriesAre l ds rest
+    count : (s : Bool) → leb countWidth (length l) ≡ s → pick s (readCount n m) (Refused (Cut (countWidth - length l))) ≡ Entries ds rest → EntriesAre l ds rest
     count true q e = few (leb n maxNodes) refl (leb-true _ _ q) e
-    count false q e = not-entries Cut ds rest e
+    count false q e = not-entries (Cut (countWidth - length l)) ds rest e
 
 -- ---- an ascending digest is read as it stands
 

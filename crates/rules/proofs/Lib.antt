@@ -6,6 +6,7 @@ pub mod Taking
 pub mod Stale
 pub mod Next
 pub mod Ops
+pub mod Cuts
 pub mod Deltas
 pub mod Received
 pub mod Obeys

@@ -12,7 +12,7 @@ use Rattle.fields.specs.Widths.{joined}
 use Rattle.rules.specs.Answers.{Told, answerTold, appliedTold, computedTold, listedTold, offeredTold, readTold, writtenTold}
 use Rattle.rules.specs.Apply.{apply, applyEach, codes, plainWays}
 use Rattle.rules.specs.Compute.{allOps, byVersion, compute, cut, deltaFor, fromOf, keyValueOps, ordered, queue, sooner, stale, staleNodes, toldOf}
-use Rattle.rules.specs.Delta.{NodeOp, deltaBytes, deltaRead, follow, opBytes, partsOf, readDelta, readNode, readOp, readOps, readSetMaxVersion, sizeOf}
+use Rattle.rules.specs.Delta.{NodeOp, deltaBytes, deltaRead, follow, opBytes, partsOf, readDelta, readKeyValue, readNode, readOp, readOps, readSetMaxVersion, sizeOf}
 use Rattle.rules.specs.Digest.{digestBytes, digestOf, entryBytes, readDigest, readEntries, tell, tellAll, writeDigest}
 use Rattle.rules.specs.Layout.{decode, encode}
 use Rattle.rules.specs.Memory.{apart, memoryObeys, removedNumbers}
@@ -30,9 +30,14 @@ pub record Row : Type 0 where
   pub call : Told
   pub number : ℕ
   pub values : List ℕ
+  pub need : ℕ
 
 abbrev row : Told → ℕ → List ℕ → Row
-row t n vs = record { call = t; number = n; values = vs }
+row t n vs = record { call = t; number = n; values = vs; need = 0 }
+
+-- 9, and how many bytes the field lacks
+abbrev cutRow : Told → List ℕ → ℕ → Row
+cutRow t vs k = record { call = t; number = 9; values = vs; need = k }
 
 unfoldable pub inCalls : List Row → List Told
 inCalls [] = []
@@ -40,7 +45,7 @@ inCalls (r ∷ rs) = r .call ∷ inCalls rs
 
 unfoldable pub inPaper : List Row → List Told
 inPaper [] = []
-inPaper (r ∷ rs) = record { number = r .number; values = r .values } ∷ inPaper rs
+inPaper (r ∷ rs) = record { number = r .number; values = r .values; need = r .need } ∷ inPaper rs
 
 -- ---- what the rows are made of
 
@@ -81,8 +86,23 @@ rows =
     ∷ row (computedTold (compute [] [] 99 0 [] [] [] .answer)) 7 []
     -- 8: too few bytes
     ∷ row (writtenTold (writeDigest [] 0 [] [] .answer)) 8 []
-    -- 9: bytes end inside a field
-    ∷ row (readTold (deltaRead (0 ∷ []))) 9 (0 ∷ [])
+    -- 9: bytes end inside a field, and what that field lacks: a Node's number, ten bytes behind a Node's tag, a Node's last byte
+    ∷ cutRow (readTold (deltaRead (0 ∷ []))) (0 ∷ []) 8
+    ∷ cutRow (readTold (deltaRead (0 ∷ zeros 10))) (0 ∷ []) 6
+    ∷ cutRow (readTold (deltaRead (0 ∷ zeros 23))) (0 ∷ []) 1
+    -- a key's length, a key of five bytes, a version behind three bytes, a status, a max
+    ∷ cutRow (readTold (deltaRead (1 ∷ []))) (0 ∷ []) 2
+    ∷ cutRow (readTold (deltaRead (1 ∷ 5 ∷ 0 ∷ []))) (0 ∷ []) 5
+    ∷ cutRow (readTold (deltaRead (1 ∷ zeros 7))) (0 ∷ []) 5
+    ∷ cutRow (readTold (deltaRead (1 ∷ zeros 12))) (0 ∷ []) 1
+    ∷ cutRow (readTold (deltaRead (2 ∷ zeros 7))) (0 ∷ []) 1
+    -- the same in the second operation, and applied
+    ∷ cutRow (appliedTold (apply plainWays (0 ∷ zeros 35) 0 [] [] .answer)) (25 ∷ []) 6
+    -- the count of a digest, and its entries
+    ∷ cutRow (computedTold (compute [] [] 100 0 [] [] (zeros 100) .answer)) [] 2
+    ∷ cutRow (computedTold (compute [] [] 100 0 (1 ∷ []) [] (zeros 100) .answer)) [] 1
+    ∷ cutRow (computedTold (compute [] [] 100 0 (1 ∷ 0 ∷ []) [] (zeros 100) .answer)) [] 8
+    ∷ cutRow (computedTold (compute [] [] 100 0 (1 ∷ 0 ∷ zeros 13) [] (zeros 100) .answer)) [] 3
     -- 10: tag above 2
     ∷ row (readTold (deltaRead (3 ∷ []))) 10 (0 ∷ [])
     -- 11: SetMaxVersion before any Node
@@ -113,7 +133,7 @@ rows =
     ∷ []
 
 pub as-the-paper : inCalls rows ≡ inPaper rows
-unfolding inCalls inPaper rows zeros records nodes answerTold computedTold writtenTold readTold appliedTold offeredTold listedTold call removeNode add localBeat compute writeDigest deltaRead apply offer prefixed decide act find wish among numbersOf nodeOf setNode addNode dropNode readDelta readOps readOp readNode readSetMaxVersion follow deltaBytes opBytes bytesOf flat partsOf applyEach codes readDigest readEntries tell tellAll digestOf digestBytes entryBytes offerOf hitsFrom sameBytes allOps byVersion cut deltaFor fromOf keyValueOps ordered queue sooner stale staleNodes toldOf sizeOf natOf startsWith unblock onWhole validWhole obeysWhole memoryObeys removedNumbers differ apart obeys decode part rising all encode encodeWhole decodeMemory joined
+unfolding inCalls inPaper rows zeros records nodes answerTold computedTold writtenTold readTold appliedTold offeredTold listedTold call removeNode add localBeat compute writeDigest deltaRead apply offer prefixed decide act find wish among numbersOf nodeOf setNode addNode dropNode readDelta readOps readOp readNode readKeyValue readSetMaxVersion follow deltaBytes opBytes bytesOf flat partsOf applyEach codes readDigest readEntries tell tellAll digestOf digestBytes entryBytes offerOf hitsFrom sameBytes allOps byVersion cut deltaFor fromOf keyValueOps ordered queue sooner stale staleNodes toldOf sizeOf natOf startsWith unblock onWhole validWhole obeysWhole memoryObeys removedNumbers differ apart obeys decode part rising all encode encodeWhole decodeMemory joined
 as-the-paper = refl
 
 -- the answers of nodes in a lent list

@@ -1,6 +1,6 @@
 -- One operation and its bytes: reading what was written gives it back, and what was read is what its bytes write. Assumes nothing.
 -- ---- an operation whose numbers and texts have their sizes
-use Prim.Native.Nat.{_<_, _^_, _≤_, suc, zero, ℕ}
+use Prim.Native.Nat.{_-_, _<_, _^_, _≤_, suc, zero, ℕ}
 use mathlib.Core.Bool.{Bool, false, true}
 use mathlib.Core.List.{List, [], _++_, _∷_, append-assoc}
 use mathlib.Core.Path.{_∙_, _≡_, ap, refl, subst, subst₂, sym}
@@ -153,7 +153,7 @@ not-got r o rest e = let z : _≡_ {A = ℕ} 0 1 = cc in absurd (omega arith)
 pub number-got : (w : ℕ) (next : ℕ → List ℕ → OpRead) (l : List ℕ) (o : Op) (rest : List ℕ) → AreBytes l → number w next l ≡ Got o rest → GotNumber w next l o rest
 number-got w next l o rest b e = go (leb w (length l)) refl e
   where
-    go : (t : Bool) → leb w (length l) ≡ t → pick t (next (natOf (take w l)) (drop w l)) (Bad Cut) ≡ Got o rest → GotNumber w next l o rest
+    go : (t : Bool) → leb w (length l) ≡ t → pick t (next (natOf (take w l)) (drop w l)) (Bad (Cut (w - length l))) ≡ Got o rest → GotNumber w next l o rest
     go true q e =
         let h : w ≤ length l = leb-true _ _ q in
         let long : length (take w l) ≡ w = length-take-le w l h in
@@ -165,7 +165,7 @@ number-got w next l o rest b e = go (leb w (length l)) refl e
           bytes = bytes-drop w l b;
           went = e;
         }
-    go false q e = not-got Cut o rest e
+    go false q e = not-got (Cut (w - length l)) o rest e
 
 pub text-got : (most : ℕ) (next : List ℕ → List ℕ → OpRead) (l : List ℕ) (o : Op) (rest : List ℕ) → AreBytes l → text most next l ≡ Got o rest → GotText most next l o rest
 unfolding textBytes
@@ -180,7 +180,7 @@ text-got most next l o rest b e = first (number-got 2 (λ n r. pick (leb n most)
         m : List ℕ
         m = x .left
 
-        go : (s : Bool) → leb n most ≡ s → (t : Bool) → leb n (length m) ≡ t → pick s (pick t (next (take n m) (drop n m)) (Bad Cut)) (Bad TooLong) ≡ Got o rest → GotText most next l o rest
+        go : (s : Bool) → leb n most ≡ s → (t : Bool) → leb n (length m) ≡ t → pick s (pick t (next (take n m) (drop n m)) (Bad (Cut (n - length m)))) (Bad TooLong) ≡ Got o rest → GotText most next l o rest
         go true p true q e =
             let h : n ≤ length m = leb-true _ _ q in
             let long : length (take n m) ≡ n = length-take-le n m h in
@@ -196,7 +196,7 @@ text-got most next l o rest b e = first (number-got 2 (λ n r. pick (leb n most)
               bytes = bytes-drop n m (x .bytes);
               went = e;
             }
-        go true p false q e = not-got Cut o rest e
+        go true p false q e = not-got (Cut (n - length m)) o rest e
         go false p t q e = not-got TooLong o rest e
 
 pub record GotStatus (next : Status → OpRead) (n : ℕ) (o : Op) (rest : List ℕ) : Type 0 where

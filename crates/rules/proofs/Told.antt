@@ -1,5 +1,5 @@
--- What is told of an answer in numbers (specs/Answers) tells the answer: no two refusals have one number, no two answers of a node one code, and no two
--- answers of a call the same number and values. So a caller that sees numbers alone, or a script, loses nothing. Assumes nothing.
+-- What is told of an answer in numbers (specs/Answers) tells the answer: no two refusals have one number and lack the same, no two answers of a node have
+-- one code, and no two answers of a call the same number and values and the same bytes lacking. So a caller that sees numbers alone, or a script, loses nothing. Assumes nothing.
 use Prim.Native.Nat.{ℕ, _<_}
 use mathlib.Core.Path.{_≡_, refl, ap, ap₂, sym, _∙_}
 use native.Mathlib.Omega.{arith}
@@ -7,7 +7,7 @@ use lib.Dec.{eqb}
 use lib.ListN.{length, getD}
 use Rattle.fields.specs.Choice.{pick}
 use Rattle.rules.specs.Node.{beats}
-use Rattle.rules.specs.Answers.{Told, numberOf, codeOf, answerTold, offeredTold, rememberedTold, listedTold, writtenTold, computedTold, readTold, appliedTold}
+use Rattle.rules.specs.Answers.{Told, numberOf, needOf, codeOf, answerTold, offeredTold, rememberedTold, listedTold, writtenTold, computedTold, readTold, appliedTold}
 use Rattle.rules.specs.declared.Refusal.{Refusal}
 use Rattle.rules.specs.declared.Refusal.the-variants.{TooLong, NoNode, NoKey, NinthNode, NodeFull, Exhausted, BadMtu, NoPlace, Cut, BadTag, OutOfOrder, NodeTwice, TooMany, BadTable, BadTies}
 use Rattle.rules.specs.declared.NodeAnswer.{NodeAnswer}
@@ -32,9 +32,9 @@ use Rattle.rules.specs.declared.Applied.the-variants as applied
 
 -- ---- refusals and nodes' answers
 
--- the refusal of a number
-abbrev refusalOf : ℕ → Refusal
-refusalOf n =
+-- the refusal of a number, with what is lacking
+abbrev refusalOf : ℕ → ℕ → Refusal
+refusalOf n k =
     pick (eqb n 1) TooLong
     (pick (eqb n 2) NoNode
     (pick (eqb n 3) NoKey
@@ -43,14 +43,14 @@ refusalOf n =
     (pick (eqb n 6) Exhausted
     (pick (eqb n 7) BadMtu
     (pick (eqb n 8) NoPlace
-    (pick (eqb n 9) Cut
+    (pick (eqb n 9) (Cut k)
     (pick (eqb n 10) BadTag
     (pick (eqb n 11) OutOfOrder
     (pick (eqb n 12) NodeTwice
     (pick (eqb n 13) TooMany
     (pick (eqb n 14) BadTable BadTies)))))))))))))
 
-numbered : (r : Refusal) → refusalOf (numberOf r) ≡ r
+numbered : (r : Refusal) → refusalOf (numberOf r) (needOf r) ≡ r
 numbered TooLong = refl
 numbered NoNode = refl
 numbered NoKey = refl
@@ -59,7 +59,7 @@ numbered NodeFull = refl
 numbered Exhausted = refl
 numbered BadMtu = refl
 numbered NoPlace = refl
-numbered Cut = refl
+numbered (Cut n) = refl
 numbered BadTag = refl
 numbered OutOfOrder = refl
 numbered NodeTwice = refl
@@ -77,7 +77,7 @@ positive NodeFull = omega arith
 positive Exhausted = omega arith
 positive BadMtu = omega arith
 positive NoPlace = omega arith
-positive Cut = omega arith
+positive (Cut n) = omega arith
 positive BadTag = omega arith
 positive OutOfOrder = omega arith
 positive NodeTwice = omega arith
@@ -85,8 +85,8 @@ positive TooMany = omega arith
 positive BadTable = omega arith
 positive BadTies = omega arith
 
-pub same-number : (a b : Refusal) → numberOf a ≡ numberOf b → a ≡ b
-same-number a b e = sym (numbered a) ∙ ap refusalOf e ∙ numbered b
+pub same-refusal : (a b : Refusal) → numberOf a ≡ numberOf b → needOf a ≡ needOf b → a ≡ b
+same-refusal a b e n = sym (numbered a) ∙ ap₂ refusalOf e n ∙ numbered b
 
 -- the answer of a code
 abbrev answerOf : ℕ → NodeAnswer
@@ -109,6 +109,9 @@ module _ {a b : Told} (e : a ≡ b) where
   pub number-is : a .number ≡ b .number
   number-is = ap (λ (t : Told). t .number) e
 
+  pub need-is : a .need ≡ b .need
+  need-is = ap (λ (t : Told). t .need) e
+
   pub values-long : length (a .values) ≡ length (b .values)
   values-long = ap (λ (t : Told). length (t .values)) e
 
@@ -124,7 +127,7 @@ unfolding answerTold
 same-answer plain.Done plain.Done e = refl
 same-answer plain.Done (plain.Refused r) e = not-refused r (number-is e)
 same-answer (plain.Refused r) plain.Done e = not-refused r (sym (number-is e))
-same-answer (plain.Refused r) (plain.Refused s) e = ap plain.Refused (same-number r s (number-is e))
+same-answer (plain.Refused r) (plain.Refused s) e = ap plain.Refused (same-refusal r s (number-is e) (need-is e))
 
 pub same-offered : (a b : Offered) → offeredTold a ≡ offeredTold b → a ≡ b
 unfolding offeredTold
@@ -136,7 +139,7 @@ same-offered offered.Yes (offered.Refused r) e = not-refused r (number-is e)
 same-offered offered.No (offered.Refused r) e = not-refused r (number-is e)
 same-offered (offered.Refused r) offered.Yes e = not-refused r (sym (number-is e))
 same-offered (offered.Refused r) offered.No e = not-refused r (sym (number-is e))
-same-offered (offered.Refused r) (offered.Refused s) e = ap offered.Refused (same-number r s (number-is e))
+same-offered (offered.Refused r) (offered.Refused s) e = ap offered.Refused (same-refusal r s (number-is e) (need-is e))
 
 -- a heartbeat is its number
 beat-is : (h k : Heartbeat) → h .0 ≡ k .0 → h ≡ k
@@ -152,39 +155,39 @@ same-remembered remembered.Not remembered.Not e = refl
 same-remembered remembered.Not (remembered.Refused r) e = not-refused r (number-is e)
 same-remembered (remembered.Refused r) (remembered.With h) e = not-refused r (sym (number-is e))
 same-remembered (remembered.Refused r) remembered.Not e = not-refused r (sym (number-is e))
-same-remembered (remembered.Refused r) (remembered.Refused s) e = ap remembered.Refused (same-number r s (number-is e))
+same-remembered (remembered.Refused r) (remembered.Refused s) e = ap remembered.Refused (same-refusal r s (number-is e) (need-is e))
 
 pub same-listed : (a b : Listed) → listedTold a ≡ listedTold b → a ≡ b
 unfolding listedTold
 same-listed (listed.Hits n) (listed.Hits m) e = ap listed.Hits (value-is e 0)
 same-listed (listed.Hits n) (listed.Refused r) e = not-refused r (number-is e)
 same-listed (listed.Refused r) (listed.Hits n) e = not-refused r (sym (number-is e))
-same-listed (listed.Refused r) (listed.Refused s) e = ap listed.Refused (same-number r s (number-is e))
+same-listed (listed.Refused r) (listed.Refused s) e = ap listed.Refused (same-refusal r s (number-is e) (need-is e))
 
 pub same-written : (a b : Written) → writtenTold a ≡ writtenTold b → a ≡ b
 unfolding writtenTold
 same-written (written.Bytes n) (written.Bytes m) e = ap written.Bytes (value-is e 0)
 same-written (written.Bytes n) (written.Refused r) e = not-refused r (number-is e)
 same-written (written.Refused r) (written.Bytes n) e = not-refused r (sym (number-is e))
-same-written (written.Refused r) (written.Refused s) e = ap written.Refused (same-number r s (number-is e))
+same-written (written.Refused r) (written.Refused s) e = ap written.Refused (same-refusal r s (number-is e) (need-is e))
 
 pub same-computed : (a b : Computed) → computedTold a ≡ computedTold b → a ≡ b
 unfolding computedTold
 same-computed (computed.Delta n k) (computed.Delta m l) e = ap₂ computed.Delta (value-is e 0) (value-is e 1)
 same-computed (computed.Delta n k) (computed.Refused r) e = not-refused r (number-is e)
 same-computed (computed.Refused r) (computed.Delta n k) e = not-refused r (sym (number-is e))
-same-computed (computed.Refused r) (computed.Refused s) e = ap computed.Refused (same-number r s (number-is e))
+same-computed (computed.Refused r) (computed.Refused s) e = ap computed.Refused (same-refusal r s (number-is e) (need-is e))
 
 pub same-read : (a b : DeltaRead) → readTold a ≡ readTold b → a ≡ b
 unfolding readTold
 same-read (read.Good n k) (read.Good m l) e = ap₂ read.Good (value-is e 0) (value-is e 1)
 same-read (read.Good n k) (read.Refused r at) e = not-refused r (number-is e)
 same-read (read.Refused r at) (read.Good n k) e = not-refused r (sym (number-is e))
-same-read (read.Refused r at) (read.Refused s to) e = ap₂ read.Refused (same-number r s (number-is e)) (value-is e 0)
+same-read (read.Refused r at) (read.Refused s to) e = ap₂ read.Refused (same-refusal r s (number-is e) (need-is e)) (value-is e 0)
 
 pub same-applied : (a b : Applied) → appliedTold a ≡ appliedTold b → a ≡ b
 unfolding appliedTold
 same-applied (applied.Nodes n) (applied.Nodes m) e = ap applied.Nodes (value-is e 0)
 same-applied (applied.Nodes n) (applied.Refused r at) e = not-refused r (number-is e)
 same-applied (applied.Refused r at) (applied.Nodes n) e = not-refused r (sym (number-is e))
-same-applied (applied.Refused r at) (applied.Refused s to) e = ap₂ applied.Refused (same-number r s (number-is e)) (value-is e 0)
+same-applied (applied.Refused r at) (applied.Refused s to) e = ap₂ applied.Refused (same-refusal r s (number-is e) (need-is e)) (value-is e 0)

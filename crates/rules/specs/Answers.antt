@@ -1,5 +1,5 @@
--- What stands for each case of an answer: document 01's number of a refusal, the number of a node's answer in a lent list, the number of
--- a table's mode, and for each answer of a call its number (0 where it was accepted) and its values.
+-- What stands for each case of an answer: document 01's number of a refusal and the bytes that are lacking with 9, the number of a node's
+-- answer in a lent list, the number of a table's mode, and for each answer of a call its number (0 where it was accepted) and its values.
 use Prim.Native.Nat.{ℕ}
 use mathlib.Core.List.{List, [], _∷_}
 use Rattle.rules.specs.declared.Refusal.{Refusal}
@@ -35,13 +35,31 @@ numberOf NodeFull = 5
 numberOf Exhausted = 6
 numberOf BadMtu = 7
 numberOf NoPlace = 8
-numberOf Cut = 9
+numberOf (Cut n) = 9
 numberOf BadTag = 10
 numberOf OutOfOrder = 11
 numberOf NodeTwice = 12
 numberOf TooMany = 13
 numberOf BadTable = 14
 numberOf BadTies = 15
+
+-- how many bytes the field lacks in which the bytes end; 0 for every number but 9
+abbrev pub needOf : Refusal → ℕ
+needOf (Cut n) = n
+needOf TooLong = 0
+needOf NoNode = 0
+needOf NoKey = 0
+needOf NinthNode = 0
+needOf NodeFull = 0
+needOf Exhausted = 0
+needOf BadMtu = 0
+needOf NoPlace = 0
+needOf BadTag = 0
+needOf OutOfOrder = 0
+needOf NodeTwice = 0
+needOf TooMany = 0
+needOf BadTable = 0
+needOf BadTies = 0
 
 -- a node's answer in a lent list
 abbrev pub codeOf : NodeAnswer → ℕ
@@ -57,16 +75,17 @@ abbrev pub modeOf : Mode → ℕ
 modeOf mode.Plain = 0
 modeOf mode.Fenced = 1
 
--- the number and the values of an answer
+-- the number and the values of an answer, and with 9 the bytes that are lacking
 pub record Told : Type 0 where
   pub number : ℕ
   pub values : List ℕ
+  pub need : ℕ
 
-abbrev accepted : (vs : List ℕ) → Told
-accepted vs = record { number = 0; values = vs }
+abbrev pub accepted : (vs : List ℕ) → Told
+accepted vs = record { number = 0; values = vs; need = 0 }
 
-abbrev refused : (why : Refusal) (vs : List ℕ) → Told
-refused r vs = record { number = numberOf r; values = vs }
+abbrev pub refused : (why : Refusal) (vs : List ℕ) → Told
+refused r vs = record { number = numberOf r; values = vs; need = needOf r }
 
 unfoldable pub answerTold : Answer → Told
 answerTold plain.Done = accepted []

@@ -1,5 +1,5 @@
 -- A delta is a list of operations. Their bytes, how one is read, how a whole delta is read, and the node deltas that it brings.
-use Prim.Native.Nat.{ℕ, zero, suc, _+_, _-_}
+use Prim.Native.Nat.{ℕ, zero, suc, _+_, _-_, _%_}
 use mathlib.Core.List.{List, [], _∷_, _++_}
 use lib.ListN.{length, take, drop}
 use lib.Dec.{leb, ltb}
@@ -34,6 +34,10 @@ lengthWidth = 2
 
 abbrev pub numberWidth : ℕ
 numberWidth = 8
+
+-- numbers one behind the other, of which n bytes are there: what the number in which they end still lacks
+abbrev pub numberLacks : (n : ℕ) → ℕ
+numberLacks n = numberWidth - n % numberWidth
 
 -- a Node: tag, number, last_gc, from
 abbrev pub nodeOpWidths : List ℕ
@@ -74,6 +78,17 @@ opBytes (KeyValueOp r) =
     1 ∷ (textBytes (r .key) ++ (textBytes (r .value) ++ (bytesOf numberWidth (r .version) ++ (statusByte (r .status) ∷ []))))
 opBytes (SetMaxVersionOp m) = 2 ∷ bytesOf numberWidth m
 
+-- the widths of an operation's fields, in their order
+abbrev pub fieldWidths : (op : Op) → List ℕ
+fieldWidths (NodeOp n g f) = nodeOpWidths
+fieldWidths (KeyValueOp r) = byteWidth ∷ lengthWidth ∷ length (r .key) ∷ lengthWidth ∷ length (r .value) ∷ versionWidths
+fieldWidths (SetMaxVersionOp m) = maxOpWidths
+
+-- of fields with these widths, one behind the other and cut off behind n bytes: what the field lacks in which they end
+unfoldable pub lacking : (n : ℕ) (widths : List ℕ) → ℕ
+lacking n [] = 0
+lacking n (w ∷ ws) = pick (leb w n) (lacking (n - w) ws) (w - n)
+
 unfoldable pub sizeOf : (op : Op) → ℕ
 sizeOf o = length (opBytes o)
 
@@ -87,9 +102,9 @@ pub data OpRead : Type 0 where
   Got : Op → List ℕ → OpRead
   Bad : Refusal → OpRead
 
--- a field of w bytes, else 9
+-- a field of w bytes, else 9 with the bytes that it lacks
 abbrev pub field : (width : ℕ) (next : List ℕ → List ℕ → OpRead) (bytes : Bytes) → OpRead
-field w next l = pick (leb w (length l)) (next (take w l) (drop w l)) (Bad Cut)
+field w next l = pick (leb w (length l)) (next (take w l) (drop w l)) (Bad (Cut (w - length l)))
 
 abbrev pub number : (width : ℕ) (next : ℕ → List ℕ → OpRead) (bytes : Bytes) → OpRead
 number w next l = field w (λ b. next (natOf b)) l

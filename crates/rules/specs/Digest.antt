@@ -13,6 +13,7 @@ use Rattle.rules.specs.Given.{Given, given}
 use Rattle.rules.specs.Sizes.{maxNodes}
 use Rattle.rules.specs.Node.{beats}
 use Rattle.rules.specs.Table.{Entry, Table, among}
+use Rattle.rules.specs.Delta.{numberLacks}
 use Rattle.rules.specs.declared.Heartbeat.{Heartbeat}
 use Rattle.rules.specs.declared.Refusal.{Refusal}
 use Rattle.rules.specs.declared.Refusal.the-variants.{NoPlace, Cut, TooMany}
@@ -66,16 +67,16 @@ pub data DigestRead : Type 0 where
   Entries : List NodeDigest → List ℕ → DigestRead
   Refused : Refusal → DigestRead
 
--- so many entries: 13 over eight, 9 where they are not all there
+-- so many entries: 13 over eight, 9 where they are not all there, with the bytes that the number lacks in which they end
 abbrev pub readCount : (n : ℕ) (bytes : Bytes) → DigestRead
 readCount n l =
     pick (leb n maxNodes)
-    (pick (leb (n * entryWidth) (length l)) (Entries (unblock entryWidth entryOf n l) (drop (n * entryWidth) l)) (Refused Cut))
+    (pick (leb (n * entryWidth) (length l)) (Entries (unblock entryWidth entryOf n l) (drop (n * entryWidth) l)) (Refused (Cut (numberLacks (length l)))))
     (Refused TooMany)
 
--- 9 for the count, 13, 9
+-- 9 for the count, with the bytes that it lacks, 13, 9
 unfoldable pub readEntries : (bytes : Bytes) → DigestRead
-readEntries l = pick (leb countWidth (length l)) (readCount (natOf (take countWidth l)) (drop countWidth l)) (Refused Cut)
+readEntries l = pick (leb countWidth (length l)) (readCount (natOf (take countWidth l)) (drop countWidth l)) (Refused (Cut (countWidth - length l)))
 
 -- an entry takes the place of its node's, or its own in the order of the numbers
 unfoldable pub tell : (entry : NodeDigest) (entries : List NodeDigest) → List NodeDigest

@@ -11,9 +11,10 @@ use Rattle.fields.specs.Numbers.{Bytes}
 use Rattle.fields.specs.Choice.{pick}
 use Rattle.fields.specs.Blocks.{flat}
 use Rattle.rules.specs.Given.{Given}
-use Rattle.rules.specs.Answers.{numberOf}
+use Rattle.rules.specs.Answers.{numberOf, needOf}
 use Rattle.rules.specs.Delta.{Op, NodeOp, KeyValueOp, SetMaxVersionOp, Ops, Good, Faulty, readDelta}
 use Rattle.rules.specs.Digest.{writeBytes}
+use Rattle.rules.specs.declared.Refusal.{Refusal}
 use Rattle.rules.specs.declared.Status.{Status}
 use Rattle.rules.specs.declared.Status.the-variants.{Set, Delete, Ttl}
 use Rattle.rules.specs.declared.Written.{Written}
@@ -69,10 +70,14 @@ opLine (SetMaxVersionOp m) = ascii "op=max version=" ++ (decimal m ++ lineFeed)
 abbrev pub endLine : (ops bytes : ℕ) → Bytes
 endLine ops bytes = ascii "end=ok ops=" ++ (decimal ops ++ (ascii " bytes=" ++ (decimal bytes ++ lineFeed)))
 
+-- what is lacking, for 9 only
+abbrev pub needText : (why : Refusal) → Bytes
+needText r = pick (eqb (numberOf r) 9) (ascii " need=" ++ decimal (needOf r)) []
+
 -- a refused delta prints one line; `n` is the length of the delta's bytes
 unfoldable pub listingOf : (read : Ops) (n : ℕ) → Bytes
 listingOf (Good ops) n = flat opLine ops ++ endLine (length ops) n
-listingOf (Faulty r at) n = ascii "end=refused code=" ++ (decimal (numberOf r) ++ (ascii " at=" ++ (decimal at ++ lineFeed)))
+listingOf (Faulty r at) n = ascii "end=refused code=" ++ (decimal (numberOf r) ++ (ascii " at=" ++ (decimal at ++ (needText r ++ lineFeed))))
 
 unfoldable pub listing : (delta : Bytes) → Bytes
 listing l = listingOf (readDelta l) (length l)

@@ -1,7 +1,7 @@
 // The types of document 01 that code and definitions share. What they mean stands in specs/.
 ghost use Prim.Native.Nat.{ℕ};
 ghost use mathlib.Core.Path.{_≡_};
-ghost use Rattle.rules.specs.Answers.{numberOf, codeOf, modeOf};
+ghost use Rattle.rules.specs.Answers.{numberOf, needOf, codeOf, modeOf};
 ghost use Rattle.rules.specs.Node.{freshHeader, offerOf};
 ghost use Rattle.rules.specs.Apply.{statusOf, newerOf, waysOf};
 ghost use Rattle.rules.specs.Delta.{statusByte};
@@ -262,8 +262,8 @@ pub enum Refusal {
     BadMtu,
     // A place past the end, or too few bytes or answer places after it.
     NoPlace,
-    // The bytes end inside a field.
-    Cut,
+    // The bytes end inside a field: how many bytes that field still lacks.
+    Cut(usize),
     // A tag or a status above 2, or a wanted status that a write does not take.
     BadTag,
     // A record or SetMaxVersion before any Node, a version not above the running max, a SetMaxVersion below it.
@@ -292,13 +292,36 @@ impl Refusal {
             Refusal::Exhausted => 6,
             Refusal::BadMtu => 7,
             Refusal::NoPlace => 8,
-            Refusal::Cut => 9,
+            Refusal::Cut(_) => 9,
             Refusal::BadTag => 10,
             Refusal::OutOfOrder => 11,
             Refusal::NodeTwice => 12,
             Refusal::TooMany => 13,
             Refusal::BadTable => 14,
             Refusal::BadTies => 15,
+        }
+    }
+
+    // How many bytes the field lacks in which the bytes end: 0 for every number but 9.
+    pub fn need(self) -> usize
+        ensures { λ r. ⌜ r ≡ needOf self ⌝ }
+    {
+        match self {
+            Refusal::Cut(n) => n,
+            Refusal::TooLong => 0,
+            Refusal::NoNode => 0,
+            Refusal::NoKey => 0,
+            Refusal::NinthNode => 0,
+            Refusal::NodeFull => 0,
+            Refusal::Exhausted => 0,
+            Refusal::BadMtu => 0,
+            Refusal::NoPlace => 0,
+            Refusal::BadTag => 0,
+            Refusal::OutOfOrder => 0,
+            Refusal::NodeTwice => 0,
+            Refusal::TooMany => 0,
+            Refusal::BadTable => 0,
+            Refusal::BadTies => 0,
         }
     }
 }

@@ -1,4 +1,6 @@
 // Where everything stands in the bytes of a delta and of a digest. Numbers are little-endian.
+ghost use mathlib.Core.Path.{_≡_};
+ghost use Rattle.rules.specs.Delta.{numberLacks};
 
 // The widths of a tag or a status, of the length of a text, and of a number.
 pub const BYTE: usize = 1;
@@ -6,6 +8,13 @@ pub const BYTE: usize = 1;
 pub const LENGTH: usize = 2;
 
 pub const NUMBER: usize = 8;
+
+// Of bytes that end inside a number, with so many of them since the numbers began: what that number still lacks.
+pub fn number_lacks(present: usize) -> usize
+    ensures { λ r. ⌜ r ≡ numberLacks present ⌝ }
+{
+    NUMBER - present % NUMBER
+}
 
 // The tags of the three operations. What follows a tag is told from the tag on.
 pub const NODE: usize = 0;

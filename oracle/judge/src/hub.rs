@@ -124,7 +124,7 @@ enum Fault {
     Originals(u8),
 }
 
-/// Layer: 13 for length, 1, SetMaxVersion below the running max (11), 13 for a ninth Node, and where the fault is.
+/// Layer: 13 for length, 1, SetMaxVersion below the running max (11), 13 for a ninth Node, where the fault is, and what 9 lacks.
 /// Original: 9, 10, the other 11, 12, and what an accepted delta says.
 fn read_delta(bytes: &[u8]) -> Outcome<ReadDelta> {
     if bytes.len() > DELTA_MOST {
@@ -140,7 +140,10 @@ fn read_delta(bytes: &[u8]) -> Outcome<ReadDelta> {
         }
         stream.extend(&cut.bytes);
         if let Err(fault) = read_operation(&mut reader, &cut.bytes)? {
-            return Err(same_in_stream(fault, at, &stream));
+            return Err(match same_in_stream(fault, at, &stream) {
+                Answer::RefusedAt(9, at) => Answer::Cut { at: Some(at), need: wire::operation_lacks(&bytes[at..]) },
+                answer => answer,
+            });
         }
         ops += 1;
         at += cut.used;
@@ -181,7 +184,7 @@ fn same_in_stream(fault: Fault, at: usize, operations: &[u8]) -> Answer {
     }
 }
 
-/// Layer: 13 on the count. Original: 9, the entries, what is left.
+/// Layer: 13 on the count, and what 9 lacks. Original: 9, the entries, what is left.
 fn read_digest(bytes: &[u8]) -> Outcome<(Digest, usize)> {
     if let [low, high, ..] = *bytes {
         if usize::from(u16::from_le_bytes([low, high])) > NODES {
@@ -192,7 +195,10 @@ fn read_digest(bytes: &[u8]) -> Outcome<(Digest, usize)> {
     let mut rest = &original[..];
     match Digest::deserialize(ProtocolVersion::V0, &mut rest) {
         Ok(digest) => Ok((digest, rest.len())),
-        Err(error) => Err(Answer::Refused(number_of(&error)?)),
+        Err(error) => Err(match number_of(&error)? {
+            9 => Answer::Cut { at: None, need: wire::digest_lacks(bytes) },
+            number => Answer::Refused(number),
+        }),
     }
 }
 

@@ -108,6 +108,43 @@ fn key_value_len(bytes: &[u8]) -> (usize, bool) {
     ((used + 8 + 1).min(bytes.len()), false)
 }
 
+/// Where the fields of document 01's first operation end, as far as its bytes tell. `bytes` is not empty.
+fn field_ends(bytes: &[u8]) -> Vec<usize> {
+    let mut ends = vec![1];
+    match bytes[0] {
+        TAG_NODE => ends.extend([1 + NUMBER, 1 + NUMBER + 8, OPERATION_NODE]),
+        TAG_KEY_VALUE => {
+            for _text in [KEY, VALUE] {
+                let begin = ends[ends.len() - 1];
+                ends.push(begin + 2);
+                let Some(len) = bytes.get(begin..begin + 2) else {
+                    return ends;
+                };
+                ends.push(begin + 2 + usize::from(u16::from_le_bytes([len[0], len[1]])));
+            }
+            let begin = ends[ends.len() - 1];
+            ends.extend([begin + 8, begin + 8 + 1]);
+        }
+        _ => ends.push(OPERATION_SET_MAX),
+    }
+    ends
+}
+
+/// How many bytes the first field lacks that does not end within document 01's bytes of an operation cut short.
+pub(crate) fn operation_lacks(bytes: &[u8]) -> usize {
+    let end = field_ends(bytes).into_iter().find(|end| *end > bytes.len());
+    end.expect("an operation cut short") - bytes.len()
+}
+
+/// The same of a digest cut short.
+pub(crate) fn digest_lacks(bytes: &[u8]) -> usize {
+    let mut end = DIGEST_COUNT;
+    while end <= bytes.len() {
+        end += 8;
+    }
+    end - bytes.len()
+}
+
 /// The original's stream of these operations: one plain block and the end mark.
 pub(crate) fn plain_stream(operations: &[u8]) -> Vec<u8> {
     const PLAIN_BLOCK: u8 = 2;

@@ -1,6 +1,6 @@
 //! Delta operations: writing and reading, document 01's "Bytes".
 
-use crate::local::Refused;
+use crate::local::{Refused, Unread};
 use crate::table::{MOST_KEY, MOST_NODES, MOST_VALUE, Status};
 
 pub const MOST_BYTES: usize = 16_384;
@@ -61,17 +61,17 @@ pub struct Delta {
     pub operations: usize,
 }
 
-/// The error: a number, and the place of the faulty operation's tag.
-pub fn read(bytes: &[u8]) -> Result<Delta, (Refused, usize)> {
+/// The error: why, and the place of the faulty operation's tag.
+pub fn read(bytes: &[u8]) -> Result<Delta, (Unread, usize)> {
     if bytes.len() > MOST_BYTES {
-        return Err((13, 0));
+        return Err((Unread::Refused(13), 0));
     }
     let mut delta = Delta { nodes: Vec::new(), operations: 0 };
     let mut rest = Fields(bytes);
     while !rest.0.is_empty() {
         let at = bytes.len() - rest.0.len();
-        let operation = rest.operation().map_err(|number| (number, at))?;
-        delta.take(operation).map_err(|number| (number, at))?;
+        let operation = rest.operation().map_err(|why| (why, at))?;
+        delta.take(operation).map_err(|number| (Unread::Refused(number), at))?;
         delta.operations += 1;
     }
     Ok(delta)
@@ -80,28 +80,28 @@ pub fn read(bytes: &[u8]) -> Result<Delta, (Refused, usize)> {
 struct Fields<'a>(&'a [u8]);
 
 impl<'a> Fields<'a> {
-    fn take<const WIDTH: usize>(&mut self) -> Result<[u8; WIDTH], Refused> {
-        let (field, rest) = self.0.split_first_chunk().ok_or(9)?;
+    fn take<const WIDTH: usize>(&mut self) -> Result<[u8; WIDTH], Unread> {
+        let (field, rest) = self.0.split_first_chunk().ok_or_else(|| Unread::Cut(WIDTH - self.0.len()))?;
         self.0 = rest;
         Ok(*field)
     }
 
-    fn number(&mut self) -> Result<u64, Refused> {
+    fn number(&mut self) -> Result<u64, Unread> {
         self.take().map(u64::from_le_bytes)
     }
 
     /// An overlong length is told before the bytes are missed.
-    fn text(&mut self, most: usize) -> Result<Vec<u8>, Refused> {
+    fn text(&mut self, most: usize) -> Result<Vec<u8>, Unread> {
         let len = usize::from(u16::from_le_bytes(self.take()?));
         if len > most {
-            return Err(1);
+            return Err(Unread::Refused(1));
         }
-        let (text, rest) = self.0.split_at_checked(len).ok_or(9)?;
+        let (text, rest) = self.0.split_at_checked(len).ok_or_else(|| Unread::Cut(len - self.0.len()))?;
         self.0 = rest;
         Ok(text.to_vec())
     }
 
-    fn operation(&mut self) -> Result<Operation, Refused> {
+    fn operation(&mut self) -> Result<Operation, Unread> {
         let [tag] = self.take()?;
         match tag {
             0 => Ok(Operation::Node { number: self.number()?, last_gc: self.number()?, from: self.number()? }),
@@ -110,11 +110,11 @@ impl<'a> Fields<'a> {
                 let value = self.text(MOST_VALUE)?;
                 let version = self.number()?;
                 let [status] = self.take()?;
-                let status = Status::from_byte(status).ok_or(10)?;
+                let status = Status::from_byte(status).ok_or(Unread::Refused(10))?;
                 Ok(Operation::KeyValue(Sent { key, value, version, status }))
             }
             2 => Ok(Operation::SetMaxVersion(self.number()?)),
-            _ => Err(10),
+            _ => Err(Unread::Refused(10)),
         }
     }
 }

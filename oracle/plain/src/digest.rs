@@ -2,7 +2,7 @@
 
 use std::collections::BTreeMap;
 
-use crate::local::Refused;
+use crate::local::Unread;
 use crate::table::{MOST_NODES, Table};
 
 pub struct Entry {
@@ -24,16 +24,16 @@ pub fn write(table: &Table, excluded: &[u64]) -> Vec<u8> {
 }
 
 /// The entries and the unread rest. A repeated node's last entry counts.
-pub fn read(bytes: &[u8]) -> Result<(BTreeMap<u64, Entry>, &[u8]), Refused> {
-    let (count, mut rest) = bytes.split_first_chunk().ok_or(9)?;
+pub fn read(bytes: &[u8]) -> Result<(BTreeMap<u64, Entry>, &[u8]), Unread> {
+    let (count, mut rest) = bytes.split_first_chunk().ok_or_else(|| Unread::Cut(2 - bytes.len()))?;
     let count = usize::from(u16::from_le_bytes(*count));
     if count > MOST_NODES {
-        return Err(13);
+        return Err(Unread::Refused(13));
     }
     let mut entries = BTreeMap::new();
     for _ in 0..count {
-        let mut field = || -> Result<u64, Refused> {
-            let (number, behind) = rest.split_first_chunk().ok_or(9)?;
+        let mut field = || -> Result<u64, Unread> {
+            let (number, behind) = rest.split_first_chunk().ok_or_else(|| Unread::Cut(8 - rest.len()))?;
             rest = behind;
             Ok(u64::from_le_bytes(*number))
         };

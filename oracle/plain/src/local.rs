@@ -5,6 +5,12 @@ use crate::table::{MOST_KEY, MOST_NODES, MOST_RECORDS, MOST_REMOVED, MOST_VALUE,
 /// A refusal's number.
 pub type Refused = u8;
 
+/// Why bytes cannot be read: a number, or 9 with how many bytes the field lacks in which they end.
+pub enum Unread {
+    Refused(Refused),
+    Cut(usize),
+}
+
 pub enum Scheduled {
     Delete,
     AfterTtl,

@@ -2,7 +2,7 @@
 
 use script::{Answer, Bytes, Call, DigestEntry, Side};
 
-use crate::local::{Refused, Scheduled};
+use crate::local::{Refused, Scheduled, Unread};
 use crate::table::Table;
 use crate::{apply, compute, delta, digest};
 
@@ -25,8 +25,15 @@ fn room(place: u64, len: usize, need: usize) -> Result<usize, Answer> {
     if place > len || len - place < need as u64 { Err(Answer::Refused(8)) } else { Ok(place as usize) }
 }
 
+fn unread(why: Unread) -> Answer {
+    match why {
+        Unread::Refused(number) => Answer::Refused(number),
+        Unread::Cut(need) => Answer::Cut { at: None, need },
+    }
+}
+
 fn read_digest(bytes: &[u8]) -> Result<Answer, Answer> {
-    let (entries, rest) = digest::read(bytes).map_err(Answer::Refused)?;
+    let (entries, rest) = digest::read(bytes).map_err(unread)?;
     let entries = entries.iter().map(|(&node, entry)| DigestEntry {
         node,
         heartbeat: entry.heartbeat,
@@ -37,7 +44,10 @@ fn read_digest(bytes: &[u8]) -> Result<Answer, Answer> {
 }
 
 fn read_delta(bytes: &[u8]) -> Result<delta::Delta, Answer> {
-    delta::read(bytes).map_err(|(number, at)| Answer::RefusedAt(number, at))
+    delta::read(bytes).map_err(|(why, at)| match why {
+        Unread::Refused(number) => Answer::RefusedAt(number, at),
+        Unread::Cut(need) => Answer::Cut { at: Some(at), need },
+    })
 }
 
 fn write_digest(table: &Table, excluded: &[u64], place: u64, len: usize) -> Result<Answer, Answer> {
@@ -66,7 +76,7 @@ fn compute_delta(
     if ties.len() != table.nodes.len() {
         return Err(Answer::Refused(15));
     }
-    let (digest, _rest) = digest::read(digest).map_err(Answer::Refused)?;
+    let (digest, _rest) = digest::read(digest).map_err(unread)?;
     let (ops, bytes) = compute::delta(table, &digest, mtu, excluded, ties);
     Ok(Answer::DeltaWritten { ops, bytes })
 }

@@ -33,6 +33,11 @@ pub enum Answer {
     Refused(u8),
     /// A refusal of a delta stream, with the place of the faulty operation's tag.
     RefusedAt(u8, usize),
+    /// Number 9: how many bytes the field lacks in which the bytes end; in a delta stream with the place of that operation's tag.
+    Cut {
+        at: Option<usize>,
+        need: usize,
+    },
     Value(Vec<u8>),
     /// The last heartbeat of a removed node.
     Heartbeat(u64),
@@ -101,6 +106,8 @@ impl Display for Answer {
             Answer::Heartbeat(heartbeat) => write!(f, "heartbeat {heartbeat}"),
             Answer::Refused(number) => write!(f, "refused {number}"),
             Answer::RefusedAt(number, at) => write!(f, "refused {number} at={at}"),
+            Answer::Cut { at: None, need } => write!(f, "refused 9 need={need}"),
+            Answer::Cut { at: Some(at), need } => write!(f, "refused 9 at={at} need={need}"),
             Answer::Value(value) => write!(f, "value {}", hex(value)),
             Answer::Ranks(ranks) => {
                 f.write_str("ranks ")?;

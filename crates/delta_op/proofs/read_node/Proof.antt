@@ -7,7 +7,7 @@ use borrow.Author.Tests.{le-leb, lt-leb}
 use Rattle.fields.specs.Numbers.{Bytes, natOf}
 use Rattle.fields.specs.Parts.{part}
 use Rattle.fields.specs.Widths.{offset}
-use Rattle.rules.specs.Delta.{nodeOpWidth, nodeOpWidths, numberWidth}
+use Rattle.rules.specs.Delta.{byteWidth, nodeOpWidth, nodeOpWidths, numberLacks, numberWidth}
 use Rattle.rules.specs.declared.Refusal.the-variants.{Cut}
 use Rattle.delta_op.specs.declared.Op.the-variants.{Node}
 use Rattle.delta_op.specs.declared.OpRead.the-variants.{Got, Bad}
@@ -17,9 +17,9 @@ use Rattle.delta_op.proofs.read_node.Statement.{statement}
 use Rattle.delta_op.proofs.read_node.Tie as tie
 
 module _ (l : Bytes) (at : ℕ) (in-l : at < length l) where
-  short : length l - at < nodeOpWidth → Bad Cut ≡ nodeAt l at
+  short : (k : ℕ) → length l - at < nodeOpWidth → k ≡ numberLacks (length l - at - byteWidth) → Bad (Cut k) ≡ nodeAt l at
   unfolding nodeAt
-  short h = rw (lt-leb (at + nodeOpWidth) (length l) (omega arith))
+  short k h e = rw (e, lt-leb (at + nodeOpWidth) (length l) (omega arith))
 
   whole : (n g f : ℕ) → nodeOpWidth ≤ length l - at → n ≡ natOf (part (at + offset nodeOpWidths 1) numberWidth l)
       → g ≡ natOf (part (at + offset nodeOpWidths 2) numberWidth l) → f ≡ natOf (part (at + offset nodeOpWidths 3) numberWidth l)
@@ -27,11 +27,17 @@ module _ (l : Bytes) (at : ℕ) (in-l : at < length l) where
   unfolding nodeAt
   whole n g f h p q r = rw (le-leb (at + nodeOpWidth) (length l) (omega arith), p, q, r)
 
-sub-if1 : tie.Need-sub-if1
-sub-if1 c = search needs
+sub-present : tie.Need-sub-present
+sub-present c = search needs
+
+sub-number-lacks : tie.Need-sub-number-lacks
+sub-number-lacks c = search needs
+
+number-lacks-requires : tie.Need-number-lacks-requires
+number-lacks-requires c κs = search needs
 
 returns : tie.Need-returns
-returns c = short _ _ (omega arith) (c .if1 .taken)
+returns c = short _ _ (omega arith) _ (c .before .if1 .taken) (c .number-lacks .ensures)
 
 add-read-u64 : tie.Need-add-read-u64
 add-read-u64 c = search needs
@@ -51,8 +57,8 @@ add-read-u64-3 c = search needs
 read-u64-requires-3 : tie.Need-read-u64-requires-3
 read-u64-requires-3 c κs = search needs
 
-add-t12 : tie.Need-add-t12
-add-t12 c = search needs
+add-t15 : tie.Need-add-t15
+add-t15 c = search needs
 
 returns-2 : tie.Need-returns-2
 returns-2 c =
@@ -63,7 +69,9 @@ pub read-node-spec : {M : Type 1} → statement M
 read-node-spec =
     tie.close
     (tie.spec
-    sub-if1
+    sub-present
+    sub-number-lacks
+    number-lacks-requires
     returns
     add-read-u64
     read-u64-requires
@@ -71,5 +79,5 @@ read-node-spec =
     read-u64-requires-2
     add-read-u64-3
     read-u64-requires-3
-    add-t12
+    add-t15
     returns-2)

@@ -17,7 +17,7 @@ use Rattle.delta_op.proofs.read_op.Statement.{statement}
 use Rattle.delta_op.proofs.read_op.Tie as tie
 
 module _ (l : List ℕ) (at : ℕ) where
-  no-tag : at ≡ length l → Bad Cut ≡ opAt l at
+  no-tag : at ≡ length l → Bad (Cut byteWidth) ≡ opAt l at
   unfolding opAt
   no-tag e = rw (lt-leb (at + byteWidth) (length l) (omega arith))
 

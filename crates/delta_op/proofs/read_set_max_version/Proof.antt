@@ -17,7 +17,7 @@ use Rattle.delta_op.proofs.read_set_max_version.Statement.{statement}
 use Rattle.delta_op.proofs.read_set_max_version.Tie as tie
 
 module _ (l : Bytes) (at : ℕ) (in-l : at < length l) where
-  short : length l - at < maxOpWidth → Bad Cut ≡ setMaxVersionAt l at
+  short : length l - at < maxOpWidth → Bad (Cut (maxOpWidth - (length l - at))) ≡ setMaxVersionAt l at
   unfolding setMaxVersionAt
   short h = rw (lt-leb (at + maxOpWidth) (length l) (omega arith))
 
@@ -26,8 +26,11 @@ module _ (l : Bytes) (at : ℕ) (in-l : at < length l) where
   unfolding setMaxVersionAt
   whole m h p = rw (le-leb (at + maxOpWidth) (length l) (omega arith), p)
 
-sub-if1 : tie.Need-sub-if1
-sub-if1 c = search needs
+sub-present : tie.Need-sub-present
+sub-present c = search needs
+
+sub-t6 : tie.Need-sub-t6
+sub-t6 c = search needs
 
 returns : tie.Need-returns
 returns c = short _ _ (omega arith) (c .if1 .taken)
@@ -38,12 +41,12 @@ add-read-u64 c = search needs
 read-u64-requires : tie.Need-read-u64-requires
 read-u64-requires c κs = search needs
 
-add-t4 : tie.Need-add-t4
-add-t4 c = search needs
+add-t10 : tie.Need-add-t10
+add-t10 c = search needs
 
 returns-2 : tie.Need-returns-2
 returns-2 c = whole _ _ (omega arith) _ (c .before .if1 .left) (c .read-u64 .ensures)
 
 pub read-set-max-version-spec : {M : Type 1} → statement M
 read-set-max-version-spec =
-    tie.close (tie.spec sub-if1 returns add-read-u64 read-u64-requires add-t4 returns-2)
+    tie.close (tie.spec sub-present sub-t6 returns add-read-u64 read-u64-requires add-t10 returns-2)

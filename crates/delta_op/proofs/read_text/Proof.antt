@@ -7,7 +7,6 @@ use borrow.Author.Tests.{le-leb, lt-leb}
 use Rattle.fields.specs.Numbers.{Bytes, natOf}
 use Rattle.fields.specs.Parts.{part}
 use Rattle.rules.specs.Delta.{lengthWidth}
-use Rattle.rules.specs.declared.Refusal.the-variants.{Cut, TooLong}
 use Rattle.delta_op.specs.declared.TextRead.the-variants as text
 use Rattle.delta_op.specs.Places.{textAt}
 use borrow.Author.Needs.{needs}
@@ -15,16 +14,16 @@ use Rattle.delta_op.proofs.read_text.Statement.{statement}
 use Rattle.delta_op.proofs.read_text.Tie as tie
 
 module _ (most : ℕ) (l : Bytes) (at : ℕ) (in-l : at ≤ length l) where
-  no-length : length l - at < lengthWidth → text.Bad Cut ≡ textAt most l at
+  no-length : length l - at < lengthWidth → text.Cut (lengthWidth - (length l - at)) ≡ textAt most l at
   unfolding textAt
   no-length h = rw (lt-leb (at + lengthWidth) (length l) (omega arith))
 
   module _ (h : lengthWidth ≤ length l - at) (n : ℕ) (e : n ≡ natOf (part at lengthWidth l)) where
-    long : most < n → text.Bad TooLong ≡ textAt most l at
+    long : most < n → text.Long ≡ textAt most l at
     unfolding textAt
     long g = rw (le-leb (at + lengthWidth) (length l) (omega arith), ← e, lt-leb n most g)
 
-    short : n ≤ most → length l - (at + lengthWidth) < n → text.Bad Cut ≡ textAt most l at
+    short : n ≤ most → length l - (at + lengthWidth) < n → text.Cut (n - (length l - (at + lengthWidth))) ≡ textAt most l at
     unfolding textAt
     short g k =
         rw (le-leb (at + lengthWidth) (length l) (omega arith), ← e, le-leb n most g, lt-leb (at + lengthWidth + n) (length l) (omega arith))
@@ -34,8 +33,11 @@ module _ (most : ℕ) (l : Bytes) (at : ℕ) (in-l : at ≤ length l) where
     held g k =
         rw (le-leb (at + lengthWidth) (length l) (omega arith), ← e, le-leb n most g, le-leb (at + lengthWidth + n) (length l) (omega arith))
 
-sub-if1 : tie.Need-sub-if1
-sub-if1 c = search needs
+sub-present : tie.Need-sub-present
+sub-present c = search needs
+
+sub-need : tie.Need-sub-need
+sub-need c = search needs
 
 returns : tie.Need-returns
 returns c = no-length _ _ _ (omega arith) (c .if1 .taken)
@@ -49,8 +51,11 @@ returns-2 c = long _ _ _ (omega arith) (c .before .before .if1 .left) _ (c .befo
 add-start : tie.Need-add-start
 add-start c = search needs
 
-sub-if3 : tie.Need-sub-if3
-sub-if3 c = search needs
+sub-behind : tie.Need-sub-behind
+sub-behind c = search needs
+
+sub-need-2 : tie.Need-sub-need-2
+sub-need-2 c = search needs
 
 returns-3 : tie.Need-returns-3
 returns-3 c =
@@ -65,4 +70,4 @@ returns-4 c =
 pub read-text-spec : {M : Type 1} → statement M
 read-text-spec =
     tie.close
-    (tie.spec sub-if1 returns read-u16-requires returns-2 add-start sub-if3 returns-3 returns-4)
+    (tie.spec sub-present sub-need returns read-u16-requires returns-2 add-start sub-behind sub-need-2 returns-3 returns-4)

@@ -14,7 +14,7 @@ use Rattle.rules.specs.declared.Status.the-variants.{Ttl}
 use Rattle.rules.specs.declared.Refusal.the-variants.{Cut, BadTag}
 use Rattle.delta_op.specs.declared.Op.the-variants.{KeyValue}
 use Rattle.delta_op.specs.declared.OpRead.the-variants.{Got, Bad}
-use Rattle.delta_op.specs.Places.{versionAt}
+use Rattle.delta_op.specs.Places.{versionAt, versionLacks}
 use borrow.Author.Needs.{needs}
 use Rattle.delta_op.proofs.read_version.Statement.{statement}
 use Rattle.delta_op.proofs.read_version.Tie as tie
@@ -23,9 +23,9 @@ abbrev width : ℕ
 width = total versionWidths
 
 module _ (l : Bytes) (k n v m : ℕ) (in-l : v + m ≤ length l) where
-  short : length l - (v + m) < width → Bad Cut ≡ versionAt l k n v m
+  short : (i : ℕ) → length l - (v + m) < width → i ≡ versionLacks (length l - (v + m)) → Bad (Cut i) ≡ versionAt l k n v m
   unfolding versionAt
-  short h = rw (lt-leb (v + m + width) (length l) (omega arith))
+  short i h e = rw (e, lt-leb (v + m + width) (length l) (omega arith))
 
   module _ (h : width ≤ length l - (v + m)) (b : ℕ) (e : b ≡ natOf (part (v + m + offset versionWidths 1) byteWidth l)) where
     wrong : statusByte Ttl < b → Bad BadTag ≡ versionAt l k n v m
@@ -40,11 +40,14 @@ module _ (l : Bytes) (k n v m : ℕ) (in-l : v + m ≤ length l) where
 add-at : tie.Need-add-at
 add-at c = search needs
 
-sub-if1 : tie.Need-sub-if1
-sub-if1 c = search needs
+sub-present : tie.Need-sub-present
+sub-present c = search needs
+
+version-lacks-requires : tie.Need-version-lacks-requires
+version-lacks-requires c κs = search needs
 
 returns : tie.Need-returns
-returns c = short _ _ _ _ _ (omega arith) (c .if1 .taken)
+returns c = short _ _ _ _ _ (omega arith) _ (c .before .if1 .taken) (c .version-lacks .ensures)
 
 add-byte-at : tie.Need-add-byte-at
 add-byte-at c = search needs
@@ -76,7 +79,8 @@ read-version-spec =
     tie.close
     (tie.spec
     add-at
-    sub-if1
+    sub-present
+    version-lacks-requires
     returns
     add-byte-at
     byte-at-requires

@@ -1,6 +1,6 @@
 -- `listing::list_delta` meets its contract: the listing by what reading has answered. Assumes nothing.
 use Prim.Native.Nat.{ℕ}
-use mathlib.Core.Path.{_≡_, ap, sym, _∙_}
+use mathlib.Core.Path.{_≡_, ap₂, sym, _∙_}
 use mathlib.Core.List.{List}
 use Rattle.rules.specs.Answers.{writtenTold}
 use Rattle.rules.specs.Given.{Gives}
@@ -32,6 +32,9 @@ enum-known-read-2 c = search needs
 number-requires : tie.Need-number-requires
 number-requires c κs = search needs
 
+need-requires : tie.Need-need-requires
+need-requires c κs = search needs
+
 list-refused-requires : tie.Need-list-refused-requires
 list-refused-requires c κs = search needs
 
@@ -52,10 +55,11 @@ same-length-2 c = search needs
 returns-2 : tie.Need-returns-2
 returns-2 c =
     let call = c .before .before .list-refused in
-    let code = c .before .before .before .number .ensures in
-    let read = c .before .before .before .before .before .before in
+    let need = c .before .before .before .need .ensures in
+    let code = c .before .before .before .before .number .ensures in
+    let read = c .before .before .before .before .before .before .before in
     let e = sym (same-read _ _ (read .before .before .read-delta .ensures)) ∙ read .read2 .given .1 in
-    let text = listing-refused _ _ _ e ∙ ap (λ (n : ℕ). refusedText n (read .read2 .given .0 .1 .0)) (sym code) in
+    let text = listing-refused _ _ _ e ∙ ap₂ (λ (n m : ℕ). refusedText n (read .read2 .given .0 .1 .0) m) (sym code) (sym need) in
     tells writtenTold
     (as-listing _ _ (read .before .before .before .before .before .args .out .now) _ _ text (call .ensures))
 
@@ -68,6 +72,7 @@ list-delta-spec =
     list-good-requires
     enum-known-read-2
     number-requires
+    need-requires
     list-refused-requires
     same-length
     returns

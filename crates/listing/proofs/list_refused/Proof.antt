@@ -1,73 +1,50 @@
--- `listing::list_refused` meets its contract: the one line, or no room for it. Assumes nothing.
-use Prim.Native.Nat.{_+_}
+-- `listing::list_refused` meets its contract: by the number. Assumes nothing.
+use Prim.Native.Nat.{ℕ}
 use mathlib.Core.Path.{_≡_}
-use native.Mathlib.Omega.{arith}
-use lib.ListN.{length}
-use Rattle.listing.specs.Shapes.{refusedText}
-use Rattle.listing.proofs.Lines.{front-none, front-whole, refused-long}
+use mathlib.Core.List.{List}
+use borrow.Author.Tests.{eq-eqb, ne-eqb}
+use Rattle.rules.specs.Given.{Gives}
+use Rattle.rules.specs.Digest.{writeBytes}
+use Rattle.rules.specs.declared.Written.{Written}
+use Rattle.listing.specs.Shapes.{cutText, faultText, refusedText}
 use borrow.Author.Needs.{needs}
 use Rattle.listing.proofs.list_refused.Statement.{statement}
 use Rattle.listing.proofs.list_refused.Tie as tie
 
-decimal-len-requires : tie.Need-decimal-len-requires
-decimal-len-requires c κs = search needs
+module _ (code at need : ℕ) (out left : List ℕ) (r : Written) where
+  of-cut : code ≡ 9 → Gives (writeBytes (cutText code at need) 0 out) r left → Gives (writeBytes (refusedText code at need) 0 out) r left
+  of-cut e h = rw (eq-eqb code 9 e) h
 
-add-n : tie.Need-add-n
-add-n c = search needs
+  of-fault : (code ≡ 9 → ⊥) → Gives (writeBytes (faultText code at) 0 out) r left → Gives (writeBytes (refusedText code at need) 0 out) r left
+  of-fault e h = rw (ne-eqb code 9 e) h
 
-decimal-len-requires-2 : tie.Need-decimal-len-requires-2
-decimal-len-requires-2 c κs = search needs
-
-add-n-2 : tie.Need-add-n-2
-add-n-2 c = search needs
-
--- the line is as long as was counted
-long : (c : tie.After-decimal-len2) → let a = c .before .before .before .args in
-    length (refusedText (a .code) (a .at)) ≡ 22 + c .before .decimal-len .result + c .decimal-len2 .result
-long c =
-    let a = c .before .before .before .args in
-    omega (arith, refused-long (a .code) (a .at), c .before .decimal-len .ensures .0, c .decimal-len2 .ensures .0)
-
-returns : tie.Need-returns
-returns c =
-    let a = c .before .before .before .before .args in
-    front-none (refusedText (a .code) (a .at)) (a .out .now) (omega (arith, long (c .before), c .if1 .taken))
-
-slice-aggregate-put-two-numbers : tie.Need-slice-aggregate-put-two-numbers
-slice-aggregate-put-two-numbers c = search needs
-
-slice-aggregate-put-two-numbers-2 : tie.Need-slice-aggregate-put-two-numbers-2
-slice-aggregate-put-two-numbers-2 c = search needs
-
-put-two-numbers-requires : tie.Need-put-two-numbers-requires
-unfolding refusedText
-put-two-numbers-requires c κs =
-    let test = c .before .before .before in
-    omega (arith, long (test .before), test .if1 .left)
+list-cut-requires : tie.Need-list-cut-requires
+list-cut-requires c κs = search needs
 
 same-length : tie.Need-same-length
 same-length c = search needs
 
+returns : tie.Need-returns
+returns c =
+    let call = c .before .before in
+    let test = call .before .before in
+    let a = test .before .before .args in
+    of-cut (a .code) (a .at) (a .need) (a .out .now) _ _ (test .if1 .taken) (call .list-cut .ensures)
+
+list-fault-requires : tie.Need-list-fault-requires
+list-fault-requires c κs = search needs
+
+same-length-2 : tie.Need-same-length-2
+same-length-2 c = search needs
+
 returns-2 : tie.Need-returns-2
-unfolding refusedText
 returns-2 c =
-    let test = c .before .before .before .before .before .before in
-    let e = long (test .before) in
-    let a = test .before .before .before .before .args in
-    front-whole (refusedText (a .code) (a .at)) (a .out .now) _ _ (omega (arith, e, test .if1 .left)) (omega (arith, e))
-    (c .before .before .put-two-numbers .ensures .1)
+    let call = c .before .before in
+    let test = call .before .before in
+    let a = test .before .before .args in
+    of-fault (a .code) (a .at) (a .need) (a .out .now) _ _ (test .if1 .left) (call .list-fault .ensures)
 
 pub list-refused-spec : {M : Type 1} → statement M
 list-refused-spec =
     tie.close
-    (tie.spec
-    decimal-len-requires
-    add-n
-    decimal-len-requires-2
-    add-n-2
-    returns
-    slice-aggregate-put-two-numbers
-    slice-aggregate-put-two-numbers-2
-    put-two-numbers-requires
-    same-length
-    returns-2)
+    (tie.spec list-cut-requires same-length returns list-fault-requires same-length-2 returns-2)
