@@ -48,7 +48,12 @@ pub const MAX: usize = BYTE;
 
 pub const MAX_WIDTH: usize = MAX + NUMBER;
 
-// A digest: the count of its entries, then an entry behind the other, each a number, a heartbeat, last_gc and max.
+// The editions of a digest, by the number that a caller tells.
+pub const V0: u64 = 0;
+
+pub const V1: u64 = 1;
+
+// A digest: in V0 the count of its entries, then an entry behind the other, each a number, a heartbeat, last_gc and max.
 pub const COUNT_WIDTH: usize = 2;
 
 pub const ENTRY_NUMBER: usize = 0;
