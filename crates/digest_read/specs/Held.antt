@@ -53,12 +53,12 @@ listOf g = backs (take (g .count) (g .entries))
 
 -- ---- bytes
 
--- where entry i begins, and the rest behind i entries
+-- where entry i begins among the entries, and what stands behind i of them
 abbrev pub entryPlace : (i : ℕ) → ℕ
-entryPlace i = countWidth + i * entryWidth
+entryPlace i = i * entryWidth
 
--- so many entries, eight at most, are there behind the count
-abbrev pub HasEntries : (n : ℕ) (digest : Bytes) → Type 0
+-- so many entries, eight at most, are there
+abbrev pub HasEntries : (n : ℕ) (bytes : Bytes) → Type 0
 HasEntries n l = (n ≤ maxNodes) × (entryPlace n ≤ length l)
 
 -- how many entries follow the count, or the refusal, with what the count lacks or the number in which the entries end
@@ -71,9 +71,9 @@ countIn l =
     (counted.Refused TooMany))
     (counted.Refused (Cut (countWidth - length l)))
 
--- the first n entries behind the count, as they stand
-abbrev pub entriesAt : (n : ℕ) (digest : Bytes) → List NodeDigest
-entriesAt n l = unblock entryWidth entryOf n (drop countWidth l)
+-- the first n entries, as they stand
+abbrev pub entriesAt : (n : ℕ) (bytes : Bytes) → List NodeDigest
+entriesAt n l = unblock entryWidth entryOf n l
 
 -- the numbers of the nodes that they tell of
 unfoldable pub numbersTold : (entries : List NodeDigest) → List ℕ

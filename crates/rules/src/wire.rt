@@ -1,6 +1,8 @@
 // Where everything stands in the bytes of a delta and of a digest. Numbers are little-endian.
 ghost use mathlib.Core.Path.{_≡_};
+ghost use mathlib.Core.Path.{_≡_};
 ghost use Rattle.rules.specs.Delta.{numberLacks};
+ghost use Rattle.rules.specs.Digest.{headWidth, isEdition};
 
 // The widths of a tag or a status, of the length of a text, and of a number.
 pub const BYTE: usize = 1;
@@ -65,3 +67,20 @@ pub const ENTRY_LAST_GC: usize = ENTRY_HEARTBEAT + NUMBER;
 pub const ENTRY_MAX: usize = ENTRY_LAST_GC + NUMBER;
 
 pub const ENTRY_WIDTH: usize = ENTRY_MAX + NUMBER;
+
+// Whether a number is an edition's.
+pub fn is_edition(edition: u64) -> bool
+    ensures { λ r. ⌜ r ≡ isEdition edition ⌝ }
+{
+    edition <= V1
+}
+
+// How many bytes stand before the entries: the count's, and none in V1.
+pub fn head_width(edition: u64) -> usize
+    ensures { λ r. ⌜ r ≡ headWidth edition ⌝ }
+{
+    if edition == V0 {
+        return COUNT_WIDTH;
+    }
+    0
+}

@@ -11,16 +11,16 @@ use Rattle.rules.specs.Layout.{decode}
 use Rattle.table.proofs.Tables.{valid-laid}
 use Rattle.digest_write.proofs.Outcomes.{no-room, past-end, size-is, written}
 use borrow.Author.Needs.{needs}
-use Rattle.digest_write.proofs.write_good.Statement.{statement}
-use Rattle.digest_write.proofs.write_good.Tie as tie
+use Rattle.digest_write.proofs.write_known.Statement.{statement}
+use Rattle.digest_write.proofs.write_known.Tie as tie
 
 returns : tie.Need-returns
 returns c =
     let a = c .before .before .before .before .args in
-    past-end (a .excluded .now) (a .place) (a .datagram .now) (decode (a .table .now)) (omega arith)
+    past-end (a .edition) (a .excluded .now) (a .place) (a .datagram .now) (decode (a .table .now)) (c .before .before .before .before .pre .1) (omega arith)
 
 count-written-requires : tie.Need-count-written-requires
-count-written-requires c κs = valid-laid _ (c .before .before .before .before .pre)
+count-written-requires c κs = valid-laid _ (c .before .before .before .before .pre .0)
 
 size-for-requires : tie.Need-size-for-requires
 size-for-requires c κs = search needs
@@ -31,8 +31,8 @@ sub-if2 c = search needs
 returns-2 : tie.Need-returns-2
 returns-2 c =
     let a = c .before .before .before .before .before .before .before .args in
-    let size = size-is _ _ _ (c .before .before .count-written .ensures .0) (c .before .size-for .ensures) in
-    no-room (a .excluded .now) (a .place) (a .datagram .now) (decode (a .table .now)) _ size (omega arith) (omega arith)
+    let size = size-is _ _ _ _ (c .before .before .count-written .ensures .0) (c .before .size-for .ensures) in
+    no-room (a .edition) (a .excluded .now) (a .place) (a .datagram .now) (decode (a .table .now)) (c .before .before .before .before .before .before .before .pre .1) _ size (omega arith) (omega arith)
 
 sub-store-digest : tie.Need-sub-store-digest
 sub-store-digest c = search needs
@@ -49,7 +49,7 @@ store-digest-requires c κs =
     let a = s .args in
     let n = c .before .before .before .count-written .ensures .0 in
     let k = ap length (seen-rest (a .place) (a .datagram .now)) ∙ length-drop (a .place) (a .datagram .now) in
-    (valid-laid _ (s .pre), omega arith, n)
+    (valid-laid _ (s .pre .0), omega arith, n, c .before .before .before .count-written .ensures .1)
 
 same-length : tie.Need-same-length
 same-length c = search needs
@@ -58,15 +58,15 @@ returns-3 : tie.Need-returns-3
 returns-3 c =
     let sized = c .before .before .before .before .before in
     let a = sized .before .before .before .before .before .before .args in
-    let b = digestBytes (digestOf (a .excluded .now) (decode (a .table .now))) in
+    let b = digestBytes (a .edition) (digestOf (a .excluded .now) (decode (a .table .now))) in
     let w = c .before .before .store-digest in
-    let size = size-is _ _ _ (sized .before .count-written .ensures .0) (sized .size-for .ensures) in
-    written (a .excluded .now) (a .place) (a .datagram .now) (decode (a .table .now)) _ size (omega arith) _ (omega arith)
+    let size = size-is _ _ _ _ (sized .before .count-written .ensures .0) (sized .size-for .ensures) in
+    written (a .edition) (a .excluded .now) (a .place) (a .datagram .now) (decode (a .table .now)) (sized .before .before .before .before .before .before .pre .1) _ size (omega arith) _ (omega arith)
     (lent-rest-put (a .place) 0 b (a .datagram .now) (w .last .1 .1 .0) (omega arith) (w .ensures)
     ∙ ap (λ (n : ℕ). put n b (a .datagram .now)) (add-zero (a .place)))
 
-pub write-good-spec : {M : Type 1} → statement M
-write-good-spec =
+pub write-known-spec : {M : Type 1} → statement M
+write-known-spec =
     tie.close
     (tie.spec
     returns
