@@ -325,6 +325,7 @@ impl Refusal {
             Refusal::TooMany => 0,
             Refusal::BadTable => 0,
             Refusal::BadTies => 0,
+            Refusal::BadEdition => 0,
         }
     }
 }

@@ -1,6 +1,5 @@
 // Where everything stands in the bytes of a delta and of a digest. Numbers are little-endian.
 ghost use mathlib.Core.Path.{_≡_};
-ghost use mathlib.Core.Path.{_≡_};
 ghost use Rattle.rules.specs.Delta.{numberLacks};
 ghost use Rattle.rules.specs.Digest.{headWidth, isEdition};
 
