@@ -1,12 +1,14 @@
 -- The outcome of writing a digest, case by case. Assumes nothing.
 use Prim.Native.Nat.{ℕ, _+_, _*_, _-_, _<_, _≤_}
 use mathlib.Core.Path.{_≡_, _∙_, ap, sym}
-use mathlib.Core.Bool.{true, false}
+use mathlib.Core.Bool.{Bool, true, false}
 use mathlib.Core.List.{List}
 use native.Mathlib.Omega.{arith}
+use lib.Dec.{eqb}
 use lib.ListN.{length, length-append}
 use borrow.Author.Tests.{eq-eqb, le-leb, lt-leb, ne-eqb}
 use Rattle.fields.specs.Blocks.{flat}
+use Rattle.fields.specs.Choice.{pick}
 use Rattle.fields.specs.Numbers.{bytesOf}
 use Rattle.fields.specs.Parts.{put}
 use Rattle.fields.proofs.Choice.{pick-true}
@@ -45,6 +47,18 @@ module _ (edition : ℕ) where
       let k = entries-long ds in
       put-field _ (bytesOf head (length ds)) (flat entryBytes ds) l a b (length-bytesOf head (length ds)) (omega arith)
       (p ∙ ap (λ (m : ℕ). put 0 (bytesOf head m) l) e) q
+
+  pub head-low : head ≤ countWidth
+  unfolding headWidth
+  head-low = go (eqb edition 0)
+    where
+      go : (b : Bool) → pick b countWidth 0 ≤ countWidth
+      go true = omega arith
+      go false = omega arith
+
+  pub head-counted : edition ≡ 0 → head ≡ countWidth
+  unfolding headWidth
+  head-counted e = rw (eq-eqb edition 0 e)
 
   -- where there is no count, nothing is put in front
   pub counted : edition ≡ 0 → (n : ℕ) (l : List ℕ) → put 0 (bytesOf countWidth n) l ≡ put 0 (bytesOf head n) l

@@ -91,7 +91,7 @@ fn write_entries(table: &[u8], excluded: &[u64], datagram: &mut [u8])
 
 // Stores the count in front of the entries, where the edition has one.
 fn write_count(datagram: &mut [u8], edition: u64, count: usize)
-    requires { ⌜ (headWidth edition ≤ length (now datagram)) × (count ≤ maxNodes) ⌝ }
+    requires { ⌜ headWidth edition ≤ length (now datagram) ⌝ }
     ensures { λ _. ⌜ now (datagram .exit) ≡ put 0 (bytesOf (headWidth edition) count) (now (datagram .entry)) ⌝ }
 {
     if edition == wire::V0 {
@@ -108,7 +108,7 @@ fn store_digest(
     count: usize,
 )
     requires { ⌜ LaidTable (now table) × EntriesFit (headWidth edition) (now excluded) (now table) (now datagram)
-        × (count ≡ length (digestOf (now excluded) (decode (now table)))) × (count ≤ maxNodes) ⌝ }
+        × (count ≡ length (digestOf (now excluded) (decode (now table)))) ⌝ }
     ensures { λ _. ⌜ now (datagram .exit)
         ≡ put 0 (digestBytes edition (digestOf (now (excluded .entry)) (decode (now (table .entry))))) (now (datagram .entry)) ⌝ }
 {

@@ -49,7 +49,7 @@ store-digest-requires c κs =
     let a = s .args in
     let n = c .before .before .before .count-written .ensures .0 in
     let k = ap length (seen-rest (a .place) (a .datagram .now)) ∙ length-drop (a .place) (a .datagram .now) in
-    (valid-laid _ (s .pre .0), omega arith, n, c .before .before .before .count-written .ensures .1)
+    (valid-laid _ (s .pre .0), omega arith, n)
 
 same-length : tie.Need-same-length
 same-length c = search needs
@@ -62,7 +62,7 @@ returns-3 c =
     let w = c .before .before .store-digest in
     let size = size-is _ _ _ _ (sized .before .count-written .ensures .0) (sized .size-for .ensures) in
     written (a .edition) (a .excluded .now) (a .place) (a .datagram .now) (decode (a .table .now)) (sized .before .before .before .before .before .before .pre .1) _ size (omega arith) _ (omega arith)
-    (lent-rest-put (a .place) 0 b (a .datagram .now) (w .last .1 .1 .0) (omega arith) (w .ensures)
+    (lent-rest-put (a .place) 0 b (a .datagram .now) (w .last .1 .1 .1 .0) (omega arith) (w .ensures)
     ∙ ap (λ (n : ℕ). put n b (a .datagram .now)) (add-zero (a .place)))
 
 pub write-known-spec : {M : Type 1} → statement M
