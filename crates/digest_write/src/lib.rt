@@ -100,13 +100,7 @@ fn write_count(datagram: &mut [u8], edition: u64, count: usize)
 }
 
 // Stores the count and the entries at the front of what is lent.
-fn store_digest(
-    table: &[u8],
-    edition: u64,
-    excluded: &[u64],
-    datagram: &mut [u8],
-    count: usize,
-)
+fn store_digest(table: &[u8], edition: u64, excluded: &[u64], datagram: &mut [u8], count: usize)
     requires { ⌜ LaidTable (now table) × EntriesFit (headWidth edition) (now excluded) (now table) (now datagram)
         × (count ≡ length (digestOf (now excluded) (decode (now table)))) ⌝ }
     ensures { λ _. ⌜ now (datagram .exit)
@@ -187,13 +181,7 @@ pub fn write_digest(
         r (now (datagram .exit)) ⌝ }
 {
     if table_check::check_table(table) {
-        return write_good(
-            &table[..layout::AREA],
-            edition,
-            excluded,
-            datagram,
-            place,
-        );
+        return write_good(&table[..layout::AREA], edition, excluded, datagram, place);
     }
     Written::Refused(Refusal::BadTable)
 }

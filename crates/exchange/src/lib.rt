@@ -103,7 +103,15 @@ fn ask_good(
 {
     if wire::is_edition(edition) {
         return ask_rooms(
-            publisher, follower, edition, unasked, mtu, ties, digest, delta, answers,
+            publisher,
+            follower,
+            edition,
+            unasked,
+            mtu,
+            ties,
+            digest,
+            delta,
+            answers,
         );
     }
     Ready::No {
