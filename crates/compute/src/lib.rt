@@ -1,5 +1,5 @@
-// Computing a delta for a digest that a peer sent, in the edition whose number the caller tells: which nodes it is behind with, their line, and what fits of them under the MTU, written into the
-// lent datagram from a stated place on. Any table bytes, any digest bytes and any lists are an input.
+// Computing a delta for a digest that a peer sent, in the edition whose number the caller tells: which nodes it is behind with, their line, and what fits of
+// them under the MTU, written into the lent datagram from a stated place on. Any table bytes, any digest bytes and any lists are an input.
 use compute_write::Sent;
 use digest_read::Digest;
 use digest_read::DigestRead;

@@ -13,7 +13,8 @@ ghost use Rattle.rules.specs.Given.{Gives, Tells};
 ghost use Rattle.rules.specs.Layout.{decode};
 ghost use Rattle.rules.specs.Whole.{validWhole};
 ghost use Rattle.table.specs.Fits.{LaidTable};
-ghost use Rattle.exchange.specs.Exchanging.{allFour, allThree, exchangedTold, lending, lentAnswer, lentExchange, readyFor, readyOn, rooms, roomsFor, threeCalls};
+ghost use Rattle.exchange.specs.Exchanging.{allFour, allThree, exchangedTold, lending, lentAnswer, lentExchange, threeCalls};
+ghost use Rattle.exchange.specs.Exchanging.{readyFor, readyOn, rooms, roomsFor};
 
 // The step of an exchange that a refusal belongs to: the follower's digest, the publisher's delta, applying it to the follower.
 pub enum Step {

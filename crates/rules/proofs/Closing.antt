@@ -1,7 +1,7 @@
 -- Demand 3's end: once writes, deletes and removals cease, as many whole exchanges as the publisher holds records and nodes make every max equal.
 use Prim.Native.Nat.{_+_, _<_, _≤_, max, suc, ℕ}
 use mathlib.Core.Bool.{Bool, _&&_, false, false≢true, true}
-use mathlib.Core.List.{List, [], _++_, _∷_, append-nil}
+use mathlib.Core.List.{List, [], _++_, _∷_}
 use mathlib.Core.Option.{Option, some}
 use mathlib.Core.Path.{_∙_, _≡_, ap, refl, subst, subst₂, sym}
 use native.Mathlib.Omega.{arith}

@@ -5,26 +5,25 @@
 use Prim.Native.Nat.{ℕ, zero, suc, _+_, _-_, _*_, _/_, _%_, _<_, _^_, _≤_}
 use mathlib.Core.Bool.{Bool, true, false}
 use mathlib.Core.List.{List, [], _∷_, _++_, append-assoc, append-nil}
-use mathlib.Core.Path.{_≡_, refl, ap, ap₂, sym, _∙_}
+use mathlib.Core.Path.{_≡_, refl, ap, sym, _∙_}
 use native.Mathlib.Omega.{arith}
 use lib.Dec.{eqb, leb}
-use lib.ListN.{length, take, drop, replicate, length-append, length-drop}
+use lib.ListN.{length, take, drop, replicate, length-append}
 use lib.Seq.{drop-append-le, drop-at, length-take-le, take-append-add, take-append-le, take-at}
 use borrow.Author.Tests.{eqb-false, leb-false, leb-true, le-leb, lt-leb, ne-eqb}
-use Rattle.fields.specs.Blocks.{flat, unblock}
+use Rattle.fields.specs.Blocks.{flat}
 use Rattle.fields.specs.Choice.{pick}
 use Rattle.fields.specs.Numbers.{bytesOf, natOf}
 use Rattle.fields.specs.Widths.{total}
 use Rattle.fields.proofs.Numbers.{length-bytesOf, nat-bytes}
-use Rattle.rules.specs.Delta.{Bad, Got, KeyValueOp, NodeOp, Op, OpRead, SetMaxVersionOp, field, fieldWidths, lacking, number, numberLacks, numberWidth, opBytes, readKeyValue, readNode, readOp, readSetMaxVersion, readTagged, sizeOf, statusByte, statusOr, text, textBytes, versionWidths}
-use Rattle.rules.specs.Digest.{DigestRead, Entries, NodeDigest, Refused, countWidth, digestBytes, entryBytes, entryOf, entryWidth, firstEntries, headWidth, readCount, readCounted, readEntries, readToEnd}
-use Rattle.rules.specs.Node.{KeyValue}
+use Rattle.rules.specs.Delta.{Bad, Got, KeyValueOp, NodeOp, Op, OpRead, SetMaxVersionOp, field, fieldWidths, lacking, number, numberLacks, numberWidth, opBytes, readKeyValue, readNode, readOp, readSetMaxVersion, readTagged, sizeOf, statusByte, statusOr, text, textBytes}
+use Rattle.rules.specs.Digest.{DigestRead, NodeDigest, Refused, countWidth, digestBytes, entryBytes, entryWidth, firstEntries, headWidth, readCount, readCounted, readEntries, readToEnd}
 use Rattle.rules.specs.Sizes.{maxKey, maxNodes, maxValue}
 use Rattle.rules.specs.declared.Refusal.{Refusal}
 use Rattle.rules.specs.declared.Refusal.the-variants.{Cut, TooLong, TooMany, BadTag, BadEdition}
 use Rattle.rules.specs.declared.Status.{Status}
 use Rattle.rules.proofs.Digests.{entries-long}
-use Rattle.rules.proofs.Ops.{Number, SmallKeyValue, SmallOp, afterKey, afterKeyTag, afterNumber, afterTag, afterValue, afterVersion, field-read, one-byte, status-byte}
+use Rattle.rules.proofs.Ops.{SmallOp, afterKey, afterKeyTag, afterNumber, afterTag, afterValue, afterVersion, field-read, one-byte, status-byte}
 use Rattle.rules.proofs.Sending.{size-max, size-node, size-record}
 
 -- ---- more bytes behind those that were cut off

@@ -1,7 +1,6 @@
 -- `delta_op::version_lacks` meets its contract: by whether the version is there. Assumes nothing.
 use Prim.Native.Nat.{ℕ, _-_, _≤_, _<_}
 use mathlib.Core.Path.{_≡_}
-use native.Mathlib.Omega.{arith}
 use borrow.Author.Tests.{le-leb, lt-leb}
 use Rattle.fields.specs.Widths.{total}
 use Rattle.rules.specs.Delta.{numberWidth, versionWidths}
