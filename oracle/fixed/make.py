@@ -13,7 +13,7 @@ HERE = Path(__file__).resolve().parent
 TOP = 2**64 - 1
 NODE, AREA, TABLE = 3713, 29705, 29964
 CALLS = ("add 7", "remove 7", "removed 7", "write 7 x61 x31 0 9", "write 7 x61 x31 2 5", "write 7 x61 x31 1 5", "delete 7 x61 5", "deletettl 7 x61 5",
-         "offer 7 3", "beat 7", "get 7 x61", "list 7 x 32", "gc 9 1", "digest - 0 258", "compute x0000 100 - 0 0 100", "apply x 5 8")
+         "offer 7 3", "beat 7", "get 7 x61", "list 7 x 32", "gc 9 1", "digest - 0 258 0", "compute x0000 100 - 0 0 100 0", "apply x 5 8")
 
 
 def u64(*numbers):
@@ -43,6 +43,11 @@ def top(version):
 
 def digest(*entries, count=None):
     return u16(len(entries) if count is None else count) + b"".join(u64(*entry) for entry in entries)
+
+
+def bare(*entries):
+    """A digest of the second edition."""
+    return digest(*entries)[2:]
 
 
 # A table's bytes.
@@ -230,7 +235,7 @@ def versions():
     yield "gc 100 1"
     yield from writes
     yield "offer 1 5"
-    yield "compute x0000 16384 - 0 0 16384"
+    yield "compute x0000 16384 - 0 0 16384 0"
 
 
 def statuses():
@@ -341,7 +346,7 @@ def removal():
     yield apply(node(1, 40, 0), kv(b"a", b"v", 45, 1), kv(b"b", b"v", 50, 2), kv(b"c", b"v", 60), now=7)
     yield "gc 7 1"
     yield "gc 7 0"
-    yield "digest - 0 66"
+    yield "digest - 0 66 0"
     yield "new"
     yield "add 1"
     for place in range(32):
@@ -353,17 +358,17 @@ def removal():
     yield "delete 1 x6b3331 40"
     yield "gc 40 30"
     yield "list 1 x 32"
-    yield "digest - 0 34"
+    yield "digest - 0 34 0"
     yield "gc 9 0"
 
 
 def digests():
     """Writing: excluded nodes, repeats and strangers, exactly enough bytes and one too few, places to the end and past it."""
-    yield "digest - 0 0"
-    yield "digest - 0 1"
-    yield "digest - 0 2"
-    yield "digest - 2 2"
-    yield "digest - 1 3"
+    yield "digest - 0 0 0"
+    yield "digest - 0 1 0"
+    yield "digest - 0 2 0"
+    yield "digest - 2 2 0"
+    yield "digest - 1 3 0"
     for number in (9, 3, TOP, 0, 7, 256, 4, 1):
         yield f"add {number}"
         yield f"offer {number} {number % 97}"
@@ -372,16 +377,16 @@ def digests():
     yield "gc 5 1"
     for excluded, size in (("-", 258), ("3", 226), ("3,3,3", 226), ("5,6,8,10,11,12,13,14,15", 258), (f"{TOP},0", 194), ("0,1,3,4,7,9,256", 34),
                            (f"0,1,3,4,7,9,256,{TOP}", 2)):
-        yield f"digest {excluded} 0 {size}"
-        yield f"digest {excluded} 0 {size - 1}"
-        yield f"digest {excluded} 7 {size + 7}"
-        yield f"digest {excluded} 7 {size + 6}"
+        yield f"digest {excluded} 0 {size} 0"
+        yield f"digest {excluded} 0 {size - 1} 0"
+        yield f"digest {excluded} 7 {size + 7} 0"
+        yield f"digest {excluded} 7 {size + 6} 0"
     for place, size in ((0, 300), (42, 300), (43, 300), (300, 300), (301, 300), (TOP, 300), (TOP - 1, 300), (20, 300)):
-        yield f"digest - {place} {size}"
-    yield "readdigest @digest"
-    yield "digest 3 0 226"
-    yield "digest - 0 5"
-    yield "readdigest @digest"
+        yield f"digest - {place} {size} 0"
+    yield "readdigest @digest 0"
+    yield "digest 3 0 226 0"
+    yield "digest - 0 5 0"
+    yield "readdigest @digest 0"
 
 
 def digest_reading():
@@ -389,20 +394,72 @@ def digest_reading():
     good = digest((2, 1, 2, 3), (1, 4, 5, 6), (2, 7, 8, 9), (TOP, TOP, TOP, TOP))
     eight = [(n, n + 1, n + 2, n + 3) for n in (80, 70, 60, 50, 40, 30, 20, 10)]
     for size in (0, 1, 2, 33, 34, 129, 130):
-        yield f"readdigest {x(good[:size])}"
-    yield f"readdigest {x(good + b'rest')}"
-    yield f"readdigest {x(digest())}"
-    yield f"readdigest {x(digest() + b'!')}"
-    yield f"readdigest {x(digest(*eight))}"
-    yield f"readdigest {x(digest(*eight[:7], eight[0]))}"
-    yield f"readdigest {x(digest(*eight)[:-1])}"
+        yield f"readdigest {x(good[:size])} 0"
+    yield f"readdigest {x(good + b'rest')} 0"
+    yield f"readdigest {x(digest())} 0"
+    yield f"readdigest {x(digest() + b'!')} 0"
+    yield f"readdigest {x(digest(*eight))} 0"
+    yield f"readdigest {x(digest(*eight[:7], eight[0]))} 0"
+    yield f"readdigest {x(digest(*eight)[:-1])} 0"
     for count in (9, 255, 256, 65535):
-        yield f"readdigest {x(digest(count=count))}"
-    yield f"readdigest {x(digest(*eight, (1, 1, 1, 1)))}"
-    yield f"readdigest {x(digest(*eight, count=7))}"
-    yield f"readdigest {x(digest((5, 1, 1, 1), (5, 0, 0, 0)))}"
-    yield "readdigest @digest"
+        yield f"readdigest {x(digest(count=count))} 0"
+    yield f"readdigest {x(digest(*eight, (1, 1, 1, 1)))} 0"
+    yield f"readdigest {x(digest(*eight, count=7))} 0"
+    yield f"readdigest {x(digest((5, 1, 1, 1), (5, 0, 0, 0)))} 0"
+    yield "readdigest @digest 0"
     yield "readdelta @delta"
+
+
+def editions():
+    """Both editions: exactly enough bytes and one too few, 20 before 8 and before the digest's numbers; V1 cut anywhere, 9 before 13, no rest; a repeated node;
+    editions confused; computing's order; two hubs that use V1."""
+    yield "digest - 0 0 1"
+    yield "digest - 0 0 2"
+    yield "digest - 9 0 2"
+    for number in (9, 3, TOP, 0, 7, 256, 4, 1):
+        yield f"add {number}"
+        yield f"offer {number} {number % 97}"
+        yield f"write {number} x61 x31 0 9"
+    for excluded, size in (("-", 256), ("3", 224), (f"{TOP},0,1,3,4,7,9", 32), (f"0,1,3,4,7,9,256,{TOP}", 0)):
+        yield f"digest {excluded} 0 {size} 1"
+        yield f"digest {excluded} 7 {size + 7} 1"
+        yield f"digest {excluded} 7 {size + 6} 1"
+    yield "digest - 0 255 1"
+    yield "digest - 5 300 1"
+    for edition in (1, 0, 2, 3, TOP):
+        yield f"readdigest @digest {edition}"
+    yield "digest - 5 300 0"
+    for edition in (0, 1, 2):
+        yield f"readdigest @digest {edition}"
+    for edition in (2, 3, 256, TOP - 1, TOP):
+        yield f"digest - 0 258 {edition}"
+        yield f"readdigest x {edition}"
+        yield f"readdigest x0900 {edition}"
+    two, eight = bare((1, 2, 3, 4), (5, 6, 7, 8)), bare(*((n, n + 1, n + 2, n + 3) for n in (80, 70, 60, 50, 40, 30, 20, 10)))
+    for size in range(len(two) + 1):
+        yield f"readdigest {x(two[:size])} 1"
+    nine = eight + bare((1, 1, 1, 1))
+    for data in (eight, eight + b"!", eight + bytes(31), nine[:-1], nine, nine + b"!", nine + nine, bytes(288), bytes(289), bytes(320)):
+        yield f"readdigest {x(data)} 1"
+    yield f"readdigest {x(bare((5, 1, 1, 1), (5, 0, 0, 0)))} 1"
+    yield f"readdigest {x(bare((5, 1, 1, 1), (4, 9, 9, 9), (5, 0, 0, 0)))} 1"
+    yield "new"
+    yield "add 1"
+    yield "write 1 x61 x31 0 9"
+    for data in (b"", bare((1, 0, 0, 0)), bare((1, 0, 0, 1)), bare((1, 0, 0, 0), (1, 0, 0, 1)), bare((1, 0, 0, 1), (1, 0, 0, 0)), eight, two[:-1], nine, nine[:-1]):
+        yield f"compute {x(data)} 100 - 0 0 100 1"
+    for mtu, ties, size in ((99, "0", 99), (100, "0", 99), (100, "-", 100), (100, "0", 100)):
+        for edition, data in ((2, b""), (1, two[:-1]), (1, nine), (0, two[:-1]), (TOP, nine)):
+            yield f"compute {x(data)} {mtu} - {ties} 0 {size} {edition}"
+    yield "hub 1"
+    yield "add 1"
+    for edition, read in ((1, 1), (1, 0), (0, 1), (0, 0)):
+        yield "hub 1"
+        yield f"digest - 3 40 {edition}"
+        yield "hub 0"
+        yield f"compute @digest 100 - 0 0 100 {read}"
+        yield "hub 1"
+        yield "apply @delta 5 1"
 
 
 def delta_reading():
@@ -461,9 +518,9 @@ def lacking():
         yield apply(start, longest[:size], places=0)
     two = digest((1, 2, 3, 4), (5, 6, 7, 8))
     for size in range(len(two)):
-        yield f"readdigest {x(two[:size])}"
+        yield f"readdigest {x(two[:size])} 0"
     for size in (0, 1, 2, 3, 9, 10, 33, 34, 65):
-        yield f"compute {x(two[:size])} 100 - 0 0 100"
+        yield f"compute {x(two[:size])} 100 - 0 0 100 0"
 
 
 def delta_lengths():
@@ -486,19 +543,19 @@ def asking():
     for mtu in (0, 99, 100, 16384, 16385, TOP):
         for place, size in ((0, min(mtu, 16385)), (1, min(mtu, 16385)), (TOP, 100), (0, 0)):
             for ties in ("0,0", "0", "-", "0,0,0"):
-                yield f"compute {good} {mtu} 1,2 {ties} {place} {size}"
+                yield f"compute {good} {mtu} 1,2 {ties} {place} {size} 0"
     for digested in bad:
         for mtu, ties, size in ((100, "0,0", 100), (99, "0,0", 99), (100, "0", 100), (100, "0,0", 99), (16384, "0,0", 16384)):
-            yield f"compute {digested} {mtu} - {ties} 0 {size}"
+            yield f"compute {digested} {mtu} - {ties} 0 {size} 0"
     for place, size in ((100, 200), (101, 200), (200, 200), (201, 200), (0, 100), (7, 120), (TOP, 200), (TOP - 99, 200)):
-        yield f"compute {good} 100 - 0,0 {place} {size}"
-    yield f"compute {x(digest((1, 0, 0, 0), (1, 0, 0, 1)) + b'rest')} 100 - 0,0 0 100"
-    yield f"compute {x(digest((1, 0, 0, 1), (1, 0, 0, 0)))} 100 - 0,0 0 100"
+        yield f"compute {good} 100 - 0,0 {place} {size} 0"
+    yield f"compute {x(digest((1, 0, 0, 0), (1, 0, 0, 1)) + b'rest')} 100 - 0,0 0 100 0"
+    yield f"compute {x(digest((1, 0, 0, 1), (1, 0, 0, 0)))} 100 - 0,0 0 100 0"
     yield "readdelta @delta"
     yield "new"
-    yield "compute x0000 100 - - 0 100"
-    yield "compute x0000 100 - 0 0 100"
-    yield "compute x 100 - - 0 100"
+    yield "compute x0000 100 - - 0 100 0"
+    yield "compute x0000 100 - 0 0 100 0"
+    yield "compute x 100 - - 0 100 0"
 
 
 def from_where():
@@ -508,9 +565,9 @@ def from_where():
         yield "add 1"
         yield apply(node(1, last_gc), kv(b"b", b"2", 2), kv(b"c", b"3", 3), top(most))
         for pair in ((0, 0), (0, 2), (0, 3), (0, 4), (0, 5), (0, 8), (0, 9), (0, 10), (3, 2), (4, 2), (4, 3), (5, 3), (9, 2), (10, 2), (11, 0), (TOP, TOP), (TOP, 0)):
-            yield f"compute {x(digest((1, 77, *pair)))} 200 - 0 0 200"
-        yield f"compute {x(digest((2, 0, 0, 9)))} 200 - 0 0 200"
-        yield "compute x0000 200 1 0 0 200"
+            yield f"compute {x(digest((1, 77, *pair)))} 200 - 0 0 200 0"
+        yield f"compute {x(digest((2, 0, 0, 9)))} 200 - 0 0 200 0"
+        yield "compute x0000 200 1 0 0 200 0"
 
 
 def in_line():
@@ -522,10 +579,10 @@ def in_line():
     partly = x(digest((5, 0, 0, 1), (6, 0, 0, 1), (7, 0, 0, 1), (8, 0, 0, 3)))
     for ties in ("0,0,0,0,0,0,0,0", "8,7,6,5,4,3,2,1", f"1,0,0,1,{TOP},0,0,0", "5,0,5,0,0,1,9,9"):
         for excluded in ("-", "3,7,99,3", "1,2,3,4", "5,6,7,8"):
-            yield f"compute {partly} 16384 {excluded} {ties} 0 16384"
-        yield f"compute {partly} 100 - {ties} 3 110"
-    yield "compute x0000 16384 - 0,0,0,0,0,0,0 0 16384"
-    yield "compute x0000 16384 1,2,3,4,5,6,7,8 0,0,0,0,0,0,0,0 0 16384"
+            yield f"compute {partly} 16384 {excluded} {ties} 0 16384 0"
+        yield f"compute {partly} 100 - {ties} 3 110 0"
+    yield "compute x0000 16384 - 0,0,0,0,0,0,0 0 16384 0"
+    yield "compute x0000 16384 1,2,3,4,5,6,7,8 0,0,0,0,0,0,0,0 0 16384 0"
 
 
 def cuts():
@@ -542,10 +599,10 @@ def cuts():
     for order in ("0,0,0", "2,1,0", "1,2,0"):
         for mtu in (100, 101, 118, 119, 120, 124, 125, 134, 135, 136, 149, 150, 151, 170, 171, 183, 184, 185, 209, 210, 230, 231, 249, 250, 260, 261, 275, 276, 277,
                     298, 299, 310, 311, 312, 400):
-            yield f"compute x0000 {mtu} - {order} 0 {mtu}"
+            yield f"compute x0000 {mtu} - {order} 0 {mtu} 0"
     for pair in ((1, 0, 0, 0), (1, 0, 0, 19), (1, 0, 0, 20)):
         for mtu in (100, 101, 169, 170, 171, 200, 400):
-            yield f"compute {x(digest(pair, (2, 0, 0, 2)))} {mtu} - 0,0,0 5 {mtu + 9}"
+            yield f"compute {x(digest(pair, (2, 0, 0, 2)))} {mtu} - 0,0,0 5 {mtu + 9} 0"
 
 
 def longest_record():
@@ -553,7 +610,7 @@ def longest_record():
     yield "add 1"
     yield f"write 1 {x(b'k' * 32)} {x(b'v' * 64)} 0 9"
     for mtu in (100, 134, 135, 136):
-        yield f"compute x0000 {mtu} - 0 0 {mtu}"
+        yield f"compute x0000 {mtu} - 0 0 {mtu} 0"
         yield "readdelta @delta"
         yield "hub 1"
         yield "new"
@@ -580,7 +637,7 @@ def verdicts():
     yield "add 2"
     yield "add 3"
     yield apply(node(3), kv(b"a", b"1", 1), node(1, 50), kv(b"b", b"2", 51), node(2, 0, 1), kv(b"c", b"3", 9), node(9), top(1), node(4))
-    yield "digest - 0 98"
+    yield "digest - 0 98 0"
 
 
 def taking():
@@ -595,7 +652,7 @@ def taking():
             yield "list 1 x 9"
             yield "get 1 x61"
             yield "get 1 x62"
-            yield "compute x0000 400 - 0 0 400"
+            yield "compute x0000 400 - 0 0 400 0"
     yield apply(node(1), kv(b"z", b"1", 30), kv(b"z", b"2", 31, 1), kv(b"z", b"3", 32), kv(b"", b"", 33), kv(b"k" * 32, b"v" * 64, 34), top(40))
     yield "get 1 x7a"
 
@@ -617,7 +674,7 @@ def room():
     yield apply(node(1, 200, 0), *(kv(b"s%02d" % place, b"", 201 + place) for place in range(32)), node(2), top(11))
     yield "write 1 x61 x 0 9"
     yield "gc 0 0"
-    yield "digest - 0 66"
+    yield "digest - 0 66 0"
 
 
 def fence():
@@ -634,9 +691,9 @@ def exchange():
     """Two hubs: digest, delta, applied, until the follower has all; late and repeated deltas; a reset after removal."""
     def round_trip(mtu, ties, now=9):
         yield "hub 1"
-        yield "digest - 4 300"
+        yield "digest - 4 300 0"
         yield "hub 0"
-        yield f"compute @digest {mtu} - {ties} 2 {mtu + 5}"
+        yield f"compute @digest {mtu} - {ties} 2 {mtu + 5} 0"
         yield "hub 1"
         yield f"apply @delta {now} 8"
         yield f"apply @delta {now + 1} 8"
@@ -654,7 +711,7 @@ def exchange():
     yield "delete 1 x6b3130 20"
     yield "write 2 x6b3230 x31 2 21"
     yield from round_trip(16384, "0,0,0", 22)
-    yield "compute x0000 16384 - 0,0,0 0 16384"
+    yield "compute x0000 16384 - 0,0,0 0 16384 0"
     for call in ("delete 1 x6b3131 23", "delete 3 x6b3330 23", "gc 60 30", "write 1 x6b3130 x32 0 9"):
         yield call
     yield "hub 1"
@@ -679,18 +736,18 @@ def bad_tables():
     for number in (1, 2, 3):
         yield "new"
         yield f"add {number}"
-    yield "digest - 0 34"
+    yield "digest - 0 34 0"
     yield "table @digest"
     yield "dump"
     yield "add 1"
     yield "new"
     yield "add 3"
     yield "write 3 x61 x31 0 9"
-    yield "compute x0000 100 - 0 0 100"
+    yield "compute x0000 100 - 0 0 100 0"
     yield "table @delta"
     yield f"write 3 {x(b'k' * 33)} x 0 9"
-    yield "compute x 99 - - 1 0"
-    yield "digest - 9 0"
+    yield "compute x 99 - - 1 0 0"
+    yield "digest - 9 0 0"
     yield f"list 3 {x(b'k' * 33)} 0"
     yield "apply x03 5 0"
     yield "beat 4"
@@ -718,16 +775,17 @@ def malformed():
     for key in ("", "61", "X61", "x6", "x6g", "x6:", "x6/", "x6`", "x6A", "@digest"):
         yield f"get 1 {key}"
     for numbers in ("", ",", "1,", ",1", "1,,2", "1,:", "--"):
-        yield f"digest {numbers} 0 34"
+        yield f"digest {numbers} 0 34 0"
     yield from ("", " ", "add", "add 1 ", "add  1", " add 1", "add 1 2", "Add 1", "adds 1", "ad 1", "new 0", "make", "hub", "hub 2", "hub :", "dump 0",
-                "readdelta", "readdelta @delt", "table @", "gc 1")
+                "readdelta", "readdelta @delt", "table @", "gc 1", "digest - 0 34", "digest - 0 34 -1", "digest - 0 34 0 0", "readdigest x0000", "readdigest x0000 x",
+                "compute x0000 100 - 0 0 100", "compute x0000 100 - 0 0 100 +1")
     yield "add 2"
 
 
 SCRIPTS = {
     "nodes": nodes, "beats": beats, "sizes": sizes, "versions": versions, "statuses": statuses, "wanted": wanted, "reading": reading, "keys": keys,
     "removal": removal, "removed": removed, "bad-memories": bad_memories,
-    "digests": digests, "digest-reading": digest_reading, "delta-reading": delta_reading, "lacking": lacking, "delta-lengths": delta_lengths, "asking": asking,
+    "digests": digests, "digest-reading": digest_reading, "editions": editions, "delta-reading": delta_reading, "lacking": lacking, "delta-lengths": delta_lengths, "asking": asking,
     "from": from_where, "in-line": in_line,
     "cuts": cuts, "longest-record": longest_record, "verdicts": verdicts, "taking": taking, "room-counts": room, "fence": fence, "exchange": exchange,
     "bad-tables": bad_tables, "malformed": malformed,

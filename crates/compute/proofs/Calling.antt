@@ -18,14 +18,14 @@ use Rattle.fields.proofs.Lent.{seen, lent-put}
 use Rattle.rules.specs.Given.{Given, Gives, given}
 use Rattle.rules.specs.Sizes.{leastMtu, maxDelta}
 use Rattle.rules.specs.Table.{Table}
-use Rattle.rules.specs.Digest.{NodeDigest, DigestRead, Entries, Refused, readDigest}
+use Rattle.rules.specs.Digest.{NodeDigest, DigestRead, Entries, Refused, isEdition, readDigest}
 use Rattle.rules.specs.Delta.{Op, deltaBytes}
-use Rattle.rules.specs.Compute.{deltaFor, written, onDigest, compute}
+use Rattle.rules.specs.Compute.{deltaFor, written, onDigest, compute, computeFor}
 use Rattle.rules.specs.declared.Refusal.{Refusal}
 use Rattle.rules.specs.Whole.{decodeWhole, validWhole}
 use Rattle.rules.specs.Lent.{fromTable, lentCompute}
 use Rattle.rules.proofs.Accepted.{cut-bytes}
-use Rattle.rules.specs.declared.Refusal.the-variants.{BadMtu, NoPlace, BadTies, BadTable}
+use Rattle.rules.specs.declared.Refusal.the-variants.{BadMtu, NoPlace, BadTies, BadTable, BadEdition}
 use Rattle.compute_write.specs.declared.Sent.{Sent}
 use Rattle.compute_write.proofs.Steps.{gives}
 use Rattle.rules.specs.declared.Computed.{Computed}
@@ -68,16 +68,16 @@ delta-fits : (excluded ties : List ℕ) (mtu : ℕ) (ds : List NodeDigest) (t : 
 unfolding deltaFor
 delta-fits excluded ties mtu ds t = cut-bytes mtu _
 
-module _ (excluded ties : List ℕ) (mtu place : ℕ) (digest : Bytes) (t : Table) (l : Bytes) where
+module _ (excluded ties : List ℕ) (mtu place : ℕ) (read : DigestRead) (t : Table) (l : Bytes) where
   abbrev numbers : Asked
   numbers = askedOf mtu place (length l) (length ties) (length t)
 
   abbrev on : Asked → Given Computed Bytes
-  on asked.Good = onDigest excluded ties mtu place (readDigest digest) t l
+  on asked.Good = onDigest excluded ties mtu place read t l
   on (asked.Refused r) = given (computed.Refused r) l
 
-  by-numbers : on numbers ≡ compute excluded ties mtu place digest t l
-  unfolding askedOf compute
+  by-numbers : on numbers ≡ computeFor excluded ties mtu place read t l
+  unfolding askedOf
   by-numbers = go (mtuFits mtu) (isFree place mtu (length l)) (eqb (length ties) (length t))
     where
       go : (a b c : Bool) → on (pick a (pick b (pick c asked.Good (asked.Refused BadTies)) (asked.Refused NoPlace)) (asked.Refused BadMtu))
@@ -88,26 +88,26 @@ module _ (excluded ties : List ℕ) (mtu place : ℕ) (digest : Bytes) (t : Tabl
       go false b c = refl
 
   -- 7, 8, 15
-  pub by-refused : (r : Refusal) → numbers ≡ asked.Refused r → Gives (compute excluded ties mtu place digest t l) (computed.Refused r) l
-  by-refused r e = gives _ _ (compute excluded ties mtu place digest t l) (ap on (sym e) ∙ by-numbers)
+  pub by-refused : (r : Refusal) → numbers ≡ asked.Refused r → Gives (computeFor excluded ties mtu place read t l) (computed.Refused r) l
+  by-refused r e = gives _ _ (computeFor excluded ties mtu place read t l) (ap on (sym e) ∙ by-numbers)
 
-  -- 9, 13, 9
-  pub by-digest : (r : Refusal) → numbers ≡ asked.Good → readDigest digest ≡ Refused r
-      → Gives (compute excluded ties mtu place digest t l) (computed.Refused r) l
+  -- the digest's
+  pub by-digest : (r : Refusal) → numbers ≡ asked.Good → read ≡ Refused r
+      → Gives (computeFor excluded ties mtu place read t l) (computed.Refused r) l
   by-digest r e f =
-      gives _ _ (compute excluded ties mtu place digest t l)
+      gives _ _ (computeFor excluded ties mtu place read t l)
       (ap (λ (d : DigestRead). onDigest excluded ties mtu place d t l) (sym f) ∙ ap on (sym e) ∙ by-numbers)
 
   -- the delta is written
-  pub by-delta : (ds : List NodeDigest) (rest : List ℕ) → numbers ≡ asked.Good → readDigest digest ≡ Entries ds rest
-      → written (deltaFor excluded ties mtu ds t) place l ≡ compute excluded ties mtu place digest t l
+  pub by-delta : (ds : List NodeDigest) (rest : List ℕ) → numbers ≡ asked.Good → read ≡ Entries ds rest
+      → written (deltaFor excluded ties mtu ds t) place l ≡ computeFor excluded ties mtu place read t l
   by-delta ds rest e f = ap (λ (d : DigestRead). onDigest excluded ties mtu place d t l) (sym f) ∙ ap on (sym e) ∙ by-numbers
 
   -- what was written into the part of the datagram that is as long as the MTU
   pub by-part : (ds : List NodeDigest) (rest : Bytes) (r : Sent) (after : Bytes) → place + mtu ≤ length l → numbers ≡ asked.Good
-      → readDigest digest ≡ Entries ds rest → let part : Bytes = take (place + mtu - place) (drop place l) in
+      → read ≡ Entries ds rest → let part : Bytes = take (place + mtu - place) (drop place l) in
       Gives (deltaIn excluded ties ds t part) r after → length after ≡ length part
-      → Gives (compute excluded ties mtu place digest t l) (computed.Delta (r .ops) (r .bytes)) (putMid place (place + mtu - place) l after)
+      → Gives (computeFor excluded ties mtu place read t l) (computed.Delta (r .ops) (r .bytes)) (putMid place (place + mtu - place) l after)
   by-part ds rest r after h e f g k =
       let part : Bytes = take (place + mtu - place) (drop place l) in
       let long : length part ≡ mtu = ap length (seen place mtu l) ∙ length-part place mtu l h in
@@ -116,19 +116,30 @@ module _ (excluded ties : List ℕ) (mtu place : ℕ) (digest : Bytes) (t : Tabl
       let whole : putMid place (place + mtu - place) l after ≡ put place (deltaBytes d) l =
       lent-put place mtu 0 (deltaBytes d) l after h (rw zero-add (delta-fits excluded ties mtu ds t)) (own .1) k
       ∙ ap (λ (n : ℕ). put n (deltaBytes d) l) (add-zero place) in
-      gives _ _ (compute excluded ties mtu place digest t l) ((λ i. given (computed.Delta (own .0 i .ops) (own .0 i .bytes)) (whole i)) ∙ by-delta ds rest e f)
+      gives _ _ (computeFor excluded ties mtu place read t l) ((λ i. given (computed.Delta (own .0 i .ops) (own .0 i .bytes)) (whole i)) ∙ by-delta ds rest e f)
+
+-- ---- 20
+
+module _ (edition : ℕ) (excluded ties : List ℕ) (mtu place : ℕ) (digest : Bytes) (t : Table) (l : Bytes) where
+  pub no-edition : isEdition edition ≡ false → Gives (compute edition excluded ties mtu place digest t l) (computed.Refused BadEdition) l
+  unfolding compute
+  no-edition e = gives _ _ _ (sym (pick-false (isEdition edition) _ _ e))
+
+  pub in-edition : isEdition edition ≡ true → computeFor excluded ties mtu place (readDigest edition digest) t l ≡ compute edition excluded ties mtu place digest t l
+  unfolding compute
+  in-edition e = sym (pick-true (isEdition edition) _ _ e)
 
 -- ---- 14
 
-pub bad-table : (excluded ties : List ℕ) (mtu place : ℕ) (digest l datagram : Bytes) → validWhole l ≡ false
-    → Gives (lentCompute excluded ties mtu place digest datagram l) (computed.Refused BadTable) datagram
+pub bad-table : (edition : ℕ) (excluded ties : List ℕ) (mtu place : ℕ) (digest l datagram : Bytes) → validWhole l ≡ false
+    → Gives (lentCompute edition excluded ties mtu place digest datagram l) (computed.Refused BadTable) datagram
 unfolding fromTable
-bad-table excluded ties mtu place digest l datagram e = gives _ _ _ (sym (pick-false (validWhole l) _ _ e))
+bad-table edition excluded ties mtu place digest l datagram e = gives _ _ _ (sym (pick-false (validWhole l) _ _ e))
 
-pub good-table : (excluded ties : List ℕ) (mtu place : ℕ) (digest l datagram : Bytes) → validWhole l ≡ true
-    → compute excluded ties mtu place digest (decodeWhole l .table) datagram ≡ lentCompute excluded ties mtu place digest datagram l
+pub good-table : (edition : ℕ) (excluded ties : List ℕ) (mtu place : ℕ) (digest l datagram : Bytes) → validWhole l ≡ true
+    → compute edition excluded ties mtu place digest (decodeWhole l .table) datagram ≡ lentCompute edition excluded ties mtu place digest datagram l
 unfolding fromTable
-good-table excluded ties mtu place digest l datagram e = sym (pick-true (validWhole l) _ _ e)
+good-table edition excluded ties mtu place digest l datagram e = sym (pick-true (validWhole l) _ _ e)
 
 -- ---- the numbers
 

@@ -1,11 +1,12 @@
-// Computing a delta for a digest that a peer sent: which nodes it is behind with, their line, and what fits of them under the MTU, written into the
-// lent datagram from a stated place on. Any table bytes, any digest bytes and any lists are an input.
+// Computing a delta for a digest that a peer sent, in the edition whose number the caller tells: which nodes it is behind with, their line, and what fits of
+// them under the MTU, written into the lent datagram from a stated place on. Any table bytes, any digest bytes and any lists are an input.
 use compute_write::Sent;
 use digest_read::Digest;
 use digest_read::DigestRead;
 use rules::Computed;
 use rules::Refusal;
 use rules::sizes;
+use rules::wire;
 use table::layout;
 ghost use mathlib.Core.Path.{_≡_};
 ghost use mathlib.Core.Bool.{true};
@@ -13,7 +14,8 @@ ghost use Prim.Native.Nat.{_+_, _≤_, _<_};
 ghost use lib.ListN.{length};
 ghost use Rattle.rules.specs.Answers.{computedTold};
 ghost use Rattle.rules.specs.Given.{Gives, Tells};
-ghost use Rattle.rules.specs.Compute.{fromOf, compute};
+ghost use Rattle.rules.specs.Compute.{fromOf, compute, computeFor};
+ghost use Rattle.rules.specs.Digest.{readDigest};
 ghost use Rattle.rules.specs.Layout.{decode, valid};
 ghost use Rattle.table.specs.Fits.{LaidTable};
 ghost use Rattle.table.specs.Tests.{nodesOf};
@@ -153,9 +155,11 @@ pub fn ask(mtu: usize, place: usize, room: usize, ties: usize, nodes: usize) -> 
     Asked::Refused(Refusal::BadMtu)
 }
 
-// The delta for a digest from a table that is known to be good: 7, 8, 15, then the digest's 9, 13, 9, or the delta.
-pub fn compute_good(
+// The delta for a digest, in an edition that there is, from a table that is known to be good: 7, 8, 15, then the digest's numbers in its edition's order, or
+// the delta.
+fn compute_known(
     table: &[u8],
+    edition: u64,
     digest: &[u8],
     mtu: usize,
     excluded: &[u64],
@@ -164,7 +168,7 @@ pub fn compute_good(
     place: usize,
 ) -> Computed
     requires { ⌜ valid (now table) ≡ true ⌝ }
-    ensures { λ r. ⌜ Gives (compute (now (excluded .entry)) (now (ties .entry)) mtu place (now (digest .entry))
+    ensures { λ r. ⌜ Gives (computeFor (now (excluded .entry)) (now (ties .entry)) mtu place (readDigest edition (now (digest .entry)))
         (decode (now (table .entry))) (now (datagram .entry))) r (now (datagram .exit)) ⌝ }
 {
     let asked = ask(
@@ -177,7 +181,7 @@ pub fn compute_good(
     if let Asked::Refused(why) = asked {
         return Computed::Refused(why);
     }
-    let d = digest_read::read_digest(digest);
+    let d = digest_read::read_digest(edition, digest);
     let read = d.read;
     match read {
         DigestRead::Nodes { count: _, rest: _ } => {
@@ -192,10 +196,10 @@ pub fn compute_good(
     }
 }
 
-// The delta for a digest, from any lent table: 14, then as above. A refusal leaves the datagram as it was; a delta leaves the bytes before its place
-// and those behind its end.
-pub fn compute(
+// The same of any edition's number: 20, then as above.
+pub fn compute_good(
     table: &[u8],
+    edition: u64,
     digest: &[u8],
     mtu: usize,
     excluded: &[u64],
@@ -203,12 +207,35 @@ pub fn compute(
     datagram: &mut [u8],
     place: usize,
 ) -> Computed
-    ensures { λ r. ⌜ Tells computedTold (lentCompute (now (excluded .entry)) (now (ties .entry)) mtu place (now (digest .entry))
+    requires { ⌜ valid (now table) ≡ true ⌝ }
+    ensures { λ r. ⌜ Gives (compute edition (now (excluded .entry)) (now (ties .entry)) mtu place (now (digest .entry))
+        (decode (now (table .entry))) (now (datagram .entry))) r (now (datagram .exit)) ⌝ }
+{
+    if wire::is_edition(edition) {
+        return compute_known(table, edition, digest, mtu, excluded, ties, datagram, place);
+    }
+    Computed::Refused(Refusal::BadEdition)
+}
+
+// The delta for a digest, from any lent table: 14, then as above. A refusal leaves the datagram as it was; a delta leaves the bytes before its place
+// and those behind its end.
+pub fn compute(
+    table: &[u8],
+    edition: u64,
+    digest: &[u8],
+    mtu: usize,
+    excluded: &[u64],
+    ties: &[u64],
+    datagram: &mut [u8],
+    place: usize,
+) -> Computed
+    ensures { λ r. ⌜ Tells computedTold (lentCompute edition (now (excluded .entry)) (now (ties .entry)) mtu place (now (digest .entry))
         (now (datagram .entry)) (now (table .entry))) r (now (datagram .exit)) ⌝ }
 {
     if table_check::check_table(table) {
         return compute_good(
             &table[..layout::AREA],
+            edition,
             digest,
             mtu,
             excluded,

@@ -1,26 +1,24 @@
 -- The refusals that reading a digest or a delta can come to. Assumes nothing.
-use Prim.Native.Nat.{ℕ, zero, suc, _+_, _-_, _*_}
+use Prim.Native.Nat.{ℕ, zero, suc, _+_, _-_, _*_, _/_, _%_}
 use mathlib.Core.Bool.{Bool, true, false}
 use mathlib.Core.List.{List, [], _∷_}
-use lib.Dec.{leb, ltb}
+use lib.Dec.{leb, ltb, eqb}
 use lib.ListN.{length, take, drop}
 use Rattle.fields.specs.Choice.{pick}
 use Rattle.fields.specs.Numbers.{Bytes, natOf}
-use Rattle.fields.specs.Blocks.{unblock}
 use Rattle.rules.specs.Sizes.{maxDelta, maxKey, maxNodes, maxValue}
 use Rattle.rules.specs.Table.{among}
 use Rattle.rules.specs.Digest as digest
 use Rattle.rules.specs.Delta.{Bad, Fault, Faulty, Followed, Good, Got, KeyValueOp, Next, NodeOp, Op, OpRead, Ops, Reading, SetMaxVersionOp, andThen, field, follow, lengthWidth, nothingRead, number, numberLacks, numberWidth, byteWidth, onFollowed, onRead, readDelta, readKeyValue, readNode, readOp, readOps, readSetMaxVersion, readTagged, statusOr, text, underNode, unlessEnd}
 use Rattle.rules.specs.declared.Refusal.{Refusal}
-use Rattle.rules.specs.declared.Refusal.the-variants.{TooLong, Cut, BadTag, OutOfOrder, NodeTwice, TooMany}
+use Rattle.rules.specs.declared.Refusal.the-variants.{TooLong, Cut, BadTag, OutOfOrder, NodeTwice, TooMany, BadEdition}
 use Rattle.rules.specs.declared.Status.{Status}
 
--- ---- a digest: 9, 13
+-- ---- a digest: 20, 9, 13
 
-module _ (P : digest.DigestRead → Type 0) (cut : (n : ℕ) → P (digest.Refused (Cut n))) (many : P (digest.Refused TooMany)) (read : (ds : List digest.NodeDigest) (rest : List ℕ) → P (digest.Entries ds rest)) where
-  pub digest-comes : (l : Bytes) → P (digest.readDigest l)
-  unfolding digest.readDigest digest.readEntries
-  digest-comes l = go (leb digest.countWidth (length l)) (leb n maxNodes) (leb (n * digest.entryWidth) (length rest))
+module _ (P : digest.DigestRead → Type 0) (other : P (digest.Refused BadEdition)) (cut : (n : ℕ) → P (digest.Refused (Cut n))) (many : P (digest.Refused TooMany)) (read : (ds : List digest.NodeDigest) (rest : List ℕ) → P (digest.Entries ds rest)) where
+  counted-comes : (l : Bytes) → P (digest.gathered (digest.readCounted l))
+  counted-comes l = go (leb digest.countWidth (length l)) (leb n maxNodes) (leb (n * digest.entryWidth) (length rest))
     where
       n : ℕ
       n = natOf (take digest.countWidth l)
@@ -28,11 +26,28 @@ module _ (P : digest.DigestRead → Type 0) (cut : (n : ℕ) → P (digest.Refus
       rest : Bytes
       rest = drop digest.countWidth l
 
-      go : (a b c : Bool) → P (digest.gathered (pick a (pick b (pick c (digest.Entries (unblock digest.entryWidth digest.entryOf n rest) (drop (n * digest.entryWidth) rest)) (digest.Refused (Cut (numberLacks (length rest))))) (digest.Refused TooMany)) (digest.Refused (Cut (digest.countWidth - length l)))))
+      go : (a b c : Bool) → P (digest.gathered (pick a (pick b (pick c (digest.firstEntries n rest) (digest.Refused (Cut (numberLacks (length rest))))) (digest.Refused TooMany)) (digest.Refused (Cut (digest.countWidth - length l)))))
       go false b c = cut _
       go true false c = many
       go true true false = cut _
       go true true true = read _ _
+
+  to-end-comes : (l : Bytes) → P (digest.gathered (digest.readToEnd l))
+  to-end-comes l = go (eqb (length l % digest.entryWidth) 0) (leb (length l / digest.entryWidth) maxNodes)
+    where
+      go : (a b : Bool) → P (digest.gathered (pick a (pick b (digest.firstEntries (length l / digest.entryWidth) l) (digest.Refused TooMany)) (digest.Refused (Cut (numberLacks (length l))))))
+      go false b = cut _
+      go true false = many
+      go true true = read _ _
+
+  pub digest-comes : (edition : ℕ) (l : Bytes) → P (digest.readDigest edition l)
+  unfolding digest.readDigest digest.readEntries
+  digest-comes edition l = go (eqb edition 0) (eqb edition 1)
+    where
+      go : (a b : Bool) → P (digest.gathered (pick a (digest.readCounted l) (pick b (digest.readToEnd l) (digest.Refused BadEdition))))
+      go true b = counted-comes l
+      go false true = to-end-comes l
+      go false false = other
 
 -- ---- a delta: 13, 9, 1, 10, 11, 12
 

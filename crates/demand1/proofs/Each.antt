@@ -19,7 +19,7 @@ use Rattle.rules.specs.Answers.{Told, answerTold, appliedTold, computedTold, li
 use Rattle.rules.specs.Apply.{apply, plainWays, waysOf}
 use Rattle.rules.specs.Compute as computing
 use Rattle.rules.specs.Delta.{NodeOp, Op, deltaBytes, deltaRead, follow, opBytes, partsOf, readDelta, readKeyValue, readNode, readOp, readOps, readSetMaxVersion}
-use Rattle.rules.specs.Digest.{digestBytes, digestOf, readDigest, readEntries, tellAll, writeDigest}
+use Rattle.rules.specs.Digest.{digestBytes, digestOf, headWidth, readDigest, readEntries, tellAll, writeDigest}
 use Rattle.rules.specs.Given.{Given, given}
 use Rattle.rules.specs.Layout.{decode, encode}
 use Rattle.rules.specs.Memory.{apart, heartbeatOf, memoryObeys, removedNumbers}
@@ -60,7 +60,7 @@ use Rattle.inspect_text.specs.declared.Text.the-variants as text
 use Rattle.digest_read.specs.Held.{digestIn}
 use Rattle.digest_read.specs.Told.{digestTold}
 use Rattle.compute.specs.Asking.{askedOf}
-use Rattle.exchange.specs.Exchanging.{Lending, afterAsking, exchangedTold, lending, lentExchange, readyFor, readyOn, roomsOf}
+use Rattle.exchange.specs.Exchanging.{Lending, afterAsking, exchangedTold, lending, lentExchange, readyFor, readyOn, roomsFor, roomsOf}
 use Rattle.exchange.specs.declared.Exchanged.{Exchanged}
 use Rattle.exchange.specs.declared.Step.the-variants.{Delta, Digest}
 use Rattle.exchange.specs.declared.Ready.{Ready}
@@ -390,19 +390,21 @@ texts =
 -- ---- digests
 
 digests : AllShown calls.WriteDigest (calls.possible calls.WriteDigest)
-unfolding calls.leaves calls.refusals writtenTold writeDigest digestOf digestBytes zeros bytesOf flat
+unfolding calls.leaves calls.refusals writtenTold writeDigest digestOf digestBytes headWidth zeros bytesOf flat
 digests =
-    (calls.write-digest (lent []) [] (zeros 2) 0, from-good (λ (a : Given Written Bytes). writtenTold (a .answer) .number) (given (written.Refused BadTable) (zeros 2)) (λ t. writeDigest [] 0 t (zeros 2)) [] none-obeys 0 refl)
-    and (calls.write-digest [] [] [] 0, from-bad (λ (a : Given Written Bytes). writtenTold (a .answer) .number) (given (written.Refused BadTable) []) (λ t. writeDigest [] 0 t []) 14 refl)
-    and (calls.write-digest (lent []) [] [] 0, from-good (λ (a : Given Written Bytes). writtenTold (a .answer) .number) (given (written.Refused BadTable) []) (λ t. writeDigest [] 0 t []) [] none-obeys 8 refl)
+    (calls.write-digest (lent []) 0 [] (zeros 2) 0, from-good (λ (a : Given Written Bytes). writtenTold (a .answer) .number) (given (written.Refused BadTable) (zeros 2)) (λ t. writeDigest 0 [] 0 t (zeros 2)) [] none-obeys 0 refl)
+    and (calls.write-digest [] 0 [] [] 0, from-bad (λ (a : Given Written Bytes). writtenTold (a .answer) .number) (given (written.Refused BadTable) []) (λ t. writeDigest 0 [] 0 t []) 14 refl)
+    and (calls.write-digest (lent []) 2 [] [] 0, from-good (λ (a : Given Written Bytes). writtenTold (a .answer) .number) (given (written.Refused BadTable) []) (λ t. writeDigest 2 [] 0 t []) [] none-obeys 20 refl)
+    and (calls.write-digest (lent []) 0 [] [] 0, from-good (λ (a : Given Written Bytes). writtenTold (a .answer) .number) (given (written.Refused BadTable) []) (λ t. writeDigest 0 [] 0 t []) [] none-obeys 8 refl)
     and no-more
 
 digest-reads : AllShown calls.ReadDigest (calls.possible calls.ReadDigest)
 unfolding calls.leaves calls.refusals digestTold digestIn readDigest readEntries natOf unblock tellAll
 digest-reads =
-    (calls.read-digest (0 ∷ 0 ∷ []), refl)
-    and (calls.read-digest [], refl)
-    and (calls.read-digest (9 ∷ 0 ∷ []), refl)
+    (calls.read-digest 0 (0 ∷ 0 ∷ []), refl)
+    and (calls.read-digest 2 [], refl)
+    and (calls.read-digest 0 [], refl)
+    and (calls.read-digest 0 (9 ∷ 0 ∷ []), refl)
     and no-more
 
 -- ---- deltas
@@ -410,13 +412,14 @@ digest-reads =
 computes : AllShown calls.Compute (calls.possible calls.Compute)
 unfolding calls.leaves calls.refusals computedTold computing.compute readDigest readEntries natOf unblock tellAll zeros
 computes =
-    (calls.compute (lent []) (0 ∷ 0 ∷ []) [] [] (zeros 100) 100 0, from-good (λ (a : Given Computed Bytes). computedTold (a .answer) .number) (given (computed.Refused BadTable) (zeros 100)) (λ t. computing.compute [] [] 100 0 (0 ∷ 0 ∷ []) t (zeros 100)) [] none-obeys 0 refl)
-    and (calls.compute [] [] [] [] [] 100 0, from-bad (λ (a : Given Computed Bytes). computedTold (a .answer) .number) (given (computed.Refused BadTable) []) (λ t. computing.compute [] [] 100 0 [] t []) 14 refl)
-    and (calls.compute (lent []) [] [] [] [] 99 0, from-good (λ (a : Given Computed Bytes). computedTold (a .answer) .number) (given (computed.Refused BadTable) []) (λ t. computing.compute [] [] 99 0 [] t []) [] none-obeys 7 refl)
-    and (calls.compute (lent []) [] [] [] [] 100 0, from-good (λ (a : Given Computed Bytes). computedTold (a .answer) .number) (given (computed.Refused BadTable) []) (λ t. computing.compute [] [] 100 0 [] t []) [] none-obeys 8 refl)
-    and (calls.compute (lent []) [] [] (0 ∷ []) (zeros 100) 100 0, from-good (λ (a : Given Computed Bytes). computedTold (a .answer) .number) (given (computed.Refused BadTable) (zeros 100)) (λ t. computing.compute [] (0 ∷ []) 100 0 [] t (zeros 100)) [] none-obeys 15 refl)
-    and (calls.compute (lent []) [] [] [] (zeros 100) 100 0, from-good (λ (a : Given Computed Bytes). computedTold (a .answer) .number) (given (computed.Refused BadTable) (zeros 100)) (λ t. computing.compute [] [] 100 0 [] t (zeros 100)) [] none-obeys 9 refl)
-    and (calls.compute (lent []) (9 ∷ 0 ∷ []) [] [] (zeros 100) 100 0, from-good (λ (a : Given Computed Bytes). computedTold (a .answer) .number) (given (computed.Refused BadTable) (zeros 100)) (λ t. computing.compute [] [] 100 0 (9 ∷ 0 ∷ []) t (zeros 100)) [] none-obeys 13 refl)
+    (calls.compute (lent []) 0 (0 ∷ 0 ∷ []) [] [] (zeros 100) 100 0, from-good (λ (a : Given Computed Bytes). computedTold (a .answer) .number) (given (computed.Refused BadTable) (zeros 100)) (λ t. computing.compute 0 [] [] 100 0 (0 ∷ 0 ∷ []) t (zeros 100)) [] none-obeys 0 refl)
+    and (calls.compute [] 0 [] [] [] [] 100 0, from-bad (λ (a : Given Computed Bytes). computedTold (a .answer) .number) (given (computed.Refused BadTable) []) (λ t. computing.compute 0 [] [] 100 0 [] t []) 14 refl)
+    and (calls.compute (lent []) 2 [] [] [] [] 99 0, from-good (λ (a : Given Computed Bytes). computedTold (a .answer) .number) (given (computed.Refused BadTable) []) (λ t. computing.compute 2 [] [] 99 0 [] t []) [] none-obeys 20 refl)
+    and (calls.compute (lent []) 0 [] [] [] [] 99 0, from-good (λ (a : Given Computed Bytes). computedTold (a .answer) .number) (given (computed.Refused BadTable) []) (λ t. computing.compute 0 [] [] 99 0 [] t []) [] none-obeys 7 refl)
+    and (calls.compute (lent []) 0 [] [] [] [] 100 0, from-good (λ (a : Given Computed Bytes). computedTold (a .answer) .number) (given (computed.Refused BadTable) []) (λ t. computing.compute 0 [] [] 100 0 [] t []) [] none-obeys 8 refl)
+    and (calls.compute (lent []) 0 [] [] (0 ∷ []) (zeros 100) 100 0, from-good (λ (a : Given Computed Bytes). computedTold (a .answer) .number) (given (computed.Refused BadTable) (zeros 100)) (λ t. computing.compute 0 [] (0 ∷ []) 100 0 [] t (zeros 100)) [] none-obeys 15 refl)
+    and (calls.compute (lent []) 0 [] [] [] (zeros 100) 100 0, from-good (λ (a : Given Computed Bytes). computedTold (a .answer) .number) (given (computed.Refused BadTable) (zeros 100)) (λ t. computing.compute 0 [] [] 100 0 [] t (zeros 100)) [] none-obeys 9 refl)
+    and (calls.compute (lent []) 0 (9 ∷ 0 ∷ []) [] [] (zeros 100) 100 0, from-good (λ (a : Given Computed Bytes). computedTold (a .answer) .number) (given (computed.Refused BadTable) (zeros 100)) (λ t. computing.compute 0 [] [] 100 0 (9 ∷ 0 ∷ []) t (zeros 100)) [] none-obeys 13 refl)
     and no-more
 
 -- nine Nodes, 0 to 8
@@ -468,23 +471,23 @@ shows =
 -- ---- exchanges
 
 -- of two empty tables
-abbrev asking : (mtu : ℕ) (ties digest delta : List ℕ) → Lending
-asking mtu ties digest delta = lending [] [] ties mtu 7 digest delta []
+abbrev asking : (edition mtu : ℕ) (ties digest delta : List ℕ) → Lending
+asking edition mtu ties digest delta = lending edition [] [] ties mtu 7 digest delta []
 
-asked-for : (g : Lending) → readyFor (g .unasked) (roomsOf g) (lent []) (lent []) ≡ readyOn (g .unasked) (roomsOf g) [] []
+asked-for : (g : Lending) → readyFor (g .edition) (g .unasked) (roomsOf g) (lent []) (lent []) ≡ readyOn (g .edition) (g .unasked) (roomsOf g) [] []
 unfolding readyFor
 asked-for g =
     let w : Whole = record { mode = mode.Plain; memory = []; table = [] } in
     let t : Table = decodeWhole (lent []) .table in
-    ap (λ (b : Bool). pick b (pick b (readyOn (g .unasked) (roomsOf g) t t) (ready.No Delta BadTable)) (ready.No Digest BadTable)) (valid-encode-whole w (without-memory mode.Plain [] none-obeys))
-    ∙ ap (λ (u : Whole). readyOn (g .unasked) (roomsOf g) (u .table) (u .table)) (decode-encode-whole w (without-memory mode.Plain [] none-obeys))
+    ap (λ (b : Bool). pick b (pick b (readyOn (g .edition) (g .unasked) (roomsOf g) t t) (ready.No Delta BadTable)) (ready.No Digest BadTable)) (valid-encode-whole w (without-memory mode.Plain [] none-obeys))
+    ∙ ap (λ (u : Whole). readyOn (g .edition) (g .unasked) (roomsOf g) (u .table) (u .table)) (decode-encode-whole w (without-memory mode.Plain [] none-obeys))
 
-refused-as : (g : Lending) (n : ℕ) → exchangedTold (afterAsking g (lent []) (lent []) (readyOn (g .unasked) (roomsOf g) [] []) .answer) .number ≡ n
+refused-as : (g : Lending) (n : ℕ) → exchangedTold (afterAsking g (lent []) (lent []) (readyOn (g .edition) (g .unasked) (roomsOf g) [] []) .answer) .number ≡ n
     → exchangedTold (lentExchange g (lent []) (lent []) .answer) .number ≡ n
 unfolding lentExchange
 refused-as g n e = ap (λ (x : Ready). exchangedTold (afterAsking g (lent []) (lent []) x .answer) .number) (asked-for g) ∙ e
 
-done-as : (g : Lending) → readyOn (g .unasked) (roomsOf g) [] [] ≡ ready.Yes → exchangedTold (lentExchange g (lent []) (lent []) .answer) .number ≡ 0
+done-as : (g : Lending) → readyOn (g .edition) (g .unasked) (roomsOf g) [] [] ≡ ready.Yes → exchangedTold (lentExchange g (lent []) (lent []) .answer) .number ≡ 0
 unfolding lentExchange exchangedTold
 done-as g e =
     let yes = asked-for g ∙ e in
@@ -494,16 +497,17 @@ done-as g e =
 not-asked : (g : Lending) → exchangedTold (lentExchange g [] [] .answer) .number ≡ 14
 unfolding lentExchange readyFor exchangedTold
 not-asked g =
-    ap (λ (b : Bool). exchangedTold (afterAsking g [] [] (pick b (pick (validWhole []) (readyOn (g .unasked) (roomsOf g) (decodeWhole [] .table) (decodeWhole [] .table)) (ready.No Delta BadTable)) (ready.No Digest BadTable)) .answer) .number) none-valid
+    ap (λ (b : Bool). exchangedTold (afterAsking g [] [] (pick b (pick (validWhole []) (readyOn (g .edition) (g .unasked) (roomsOf g) (decodeWhole [] .table) (decodeWhole [] .table)) (ready.No Delta BadTable)) (ready.No Digest BadTable)) .answer) .number) none-valid
 
 exchanges : AllShown calls.Exchange (calls.possible calls.Exchange)
-unfolding calls.leaves calls.refusals exchangedTold readyOn askedOf digestOf digestBytes bytesOf flat zeros
+unfolding calls.leaves calls.refusals exchangedTold readyOn roomsFor askedOf digestOf digestBytes headWidth bytesOf flat zeros
 exchanges =
-    (calls.exchange (lent []) (lent []) [] [] [] (zeros 2) (zeros 100) [] 100 seven, done-as (asking 100 [] (zeros 2) (zeros 100)) refl)
-    and (calls.exchange [] [] [] [] [] [] [] [] 100 seven, not-asked (asking 100 [] [] []))
-    and (calls.exchange (lent []) (lent []) [] [] [] [] [] [] 100 seven, refused-as (asking 100 [] [] []) 8 refl)
-    and (calls.exchange (lent []) (lent []) [] [] [] (zeros 2) [] [] 99 seven, refused-as (asking 99 [] (zeros 2) []) 7 refl)
-    and (calls.exchange (lent []) (lent []) [] [] (0 ∷ []) (zeros 2) (zeros 100) [] 100 seven, refused-as (asking 100 (0 ∷ []) (zeros 2) (zeros 100)) 15 refl)
+    (calls.exchange (lent []) (lent []) 0 [] [] [] (zeros 2) (zeros 100) [] 100 seven, done-as (asking 0 100 [] (zeros 2) (zeros 100)) refl)
+    and (calls.exchange [] [] 0 [] [] [] [] [] [] 100 seven, not-asked (asking 0 100 [] [] []))
+    and (calls.exchange (lent []) (lent []) 2 [] [] [] [] [] [] 100 seven, refused-as (asking 2 100 [] [] []) 20 refl)
+    and (calls.exchange (lent []) (lent []) 0 [] [] [] [] [] [] 100 seven, refused-as (asking 0 100 [] [] []) 8 refl)
+    and (calls.exchange (lent []) (lent []) 0 [] [] [] (zeros 2) [] [] 99 seven, refused-as (asking 0 99 [] (zeros 2) []) 7 refl)
+    and (calls.exchange (lent []) (lent []) 0 [] [] (0 ∷ []) (zeros 2) (zeros 100) [] 100 seven, refused-as (asking 0 100 (0 ∷ []) (zeros 2) (zeros 100)) 15 refl)
     and no-more
 
 -- ---- all kinds

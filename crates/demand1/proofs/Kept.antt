@@ -130,9 +130,9 @@ module _ (g : Lending) (publisher follower : Bytes) (clock : g .clock < numbers)
 
   exchanged : validWhole follower ≡ true → validWhole (lentExchange g publisher follower .lent .follower) ≡ true
   unfolding lentExchange
-  exchanged v = go (readyFor (g .unasked) (roomsOf g) publisher follower) refl
+  exchanged v = go (readyFor (g .edition) (g .unasked) (roomsOf g) publisher follower) refl
     where
-      go : (x : Ready) → readyFor (g .unasked) (roomsOf g) publisher follower ≡ x → validWhole (afterAsking g publisher follower x .lent .follower) ≡ true
+      go : (x : Ready) → readyFor (g .edition) (g .unasked) (roomsOf g) publisher follower ≡ x → validWhole (afterAsking g publisher follower x .lent .follower) ≡ true
       go ready.Yes e = ready-kept (is-ready g publisher follower e)
       go (ready.No s r) e = v
 
@@ -179,13 +179,13 @@ obeying (calls.record-count t i) = λ e. e
 obeying (calls.record-at t i j) = λ e. e
 obeying (calls.record-by-key t k i) = λ e. e
 obeying (calls.find-text t i j x) = λ e. e
-obeying (calls.write-digest t excluded datagram place) = λ e. e
-obeying (calls.read-digest digest) = λ e. e
-obeying (calls.compute t digest excluded ties datagram mtu place) = λ e. e
+obeying (calls.write-digest t edition excluded datagram place) = λ e. e
+obeying (calls.read-digest edition digest) = λ e. e
+obeying (calls.compute t edition digest excluded ties datagram mtu place) = λ e. e
 obeying (calls.read-delta delta) = λ e. e
 obeying (calls.apply t delta answers now) =
     one t _
     (λ v. applying (delta .bytes) (now .value) answers t v (apply-keeps (waysOf (decodeWhole t .mode)) (mode-lawful (decodeWhole t .mode)) (delta .bytes) (now .value) (decodeWhole t .table) answers (delta .are) (now .fits)))
 obeying (calls.list-delta delta out) = λ e. e
-obeying (calls.exchange publisher follower unasked unsent ties digest delta answers mtu now) =
-    two publisher follower _ (exchanged (lending unasked unsent ties mtu (now .value) digest delta answers) publisher follower (now .fits))
+obeying (calls.exchange publisher follower edition unasked unsent ties digest delta answers mtu now) =
+    two publisher follower _ (exchanged (lending edition unasked unsent ties mtu (now .value) digest delta answers) publisher follower (now .fits))

@@ -67,9 +67,9 @@ module _ (g : Lending) (publisher follower : Bytes) where
 
   exchanged : memoryIn (lentExchange g publisher follower .lent .follower) ≡ memoryIn follower
   unfolding lentExchange
-  exchanged = go (readyFor (g .unasked) (roomsOf g) publisher follower) refl
+  exchanged = go (readyFor (g .edition) (g .unasked) (roomsOf g) publisher follower) refl
     where
-      go : (x : Ready) → readyFor (g .unasked) (roomsOf g) publisher follower ≡ x → memoryIn (afterAsking g publisher follower x .lent .follower) ≡ memoryIn follower
+      go : (x : Ready) → readyFor (g .edition) (g .unasked) (roomsOf g) publisher follower ≡ x → memoryIn (afterAsking g publisher follower x .lent .follower) ≡ memoryIn follower
       go ready.Yes e = ready-stays (is-ready g publisher follower e)
       go (ready.No s r) e = refl
 
@@ -105,11 +105,11 @@ remembered (calls.record-count t i) e = refl
 remembered (calls.record-at t i j) e = refl
 remembered (calls.record-by-key t k i) e = refl
 remembered (calls.find-text t i j x) e = refl
-remembered (calls.write-digest t excluded datagram place) e = refl
-remembered (calls.read-digest digest) e = refl
-remembered (calls.compute t digest excluded ties datagram mtu place) e = refl
+remembered (calls.write-digest t edition excluded datagram place) e = refl
+remembered (calls.read-digest edition digest) e = refl
+remembered (calls.compute t edition digest excluded ties datagram mtu place) e = refl
 remembered (calls.read-delta delta) e = refl
 remembered (calls.apply t delta answers now) e = one t _ (applying (delta .bytes) (now .value) answers t)
 remembered (calls.list-delta delta out) e = refl
-remembered (calls.exchange publisher follower unasked unsent ties digest delta answers mtu now) e =
-    two publisher follower _ (exchanged (lending unasked unsent ties mtu (now .value) digest delta answers) publisher follower)
+remembered (calls.exchange publisher follower edition unasked unsent ties digest delta answers mtu now) e =
+    two publisher follower _ (exchanged (lending edition unasked unsent ties mtu (now .value) digest delta answers) publisher follower)

@@ -136,9 +136,9 @@ shown text l = go (fitsAt 0 (length text) l)
 exchanged : (g : Lending) (publisher follower : Bytes) → Refuses (exchangedTold (lentExchange g publisher follower .answer))
     → lentExchange g publisher follower .lent ≡ allFour follower (g .digest) (g .delta) (g .answers)
 unfolding lentExchange exchangedTold
-exchanged g publisher follower = go (readyFor (g .unasked) (roomsOf g) publisher follower) refl
+exchanged g publisher follower = go (readyFor (g .edition) (g .unasked) (roomsOf g) publisher follower) refl
   where
-    go : (x : Ready) → readyFor (g .unasked) (roomsOf g) publisher follower ≡ x
+    go : (x : Ready) → readyFor (g .edition) (g .unasked) (roomsOf g) publisher follower ≡ x
         → Refuses (exchangedTold (afterAsking g publisher follower x .answer))
         → afterAsking g publisher follower x .lent ≡ allFour follower (g .digest) (g .delta) (g .answers)
     go ready.Yes e h = absurd (h (ap (λ (a : Exchanged). exchangedTold a .number) (ready-done g publisher follower (is-ready g publisher follower e))))
@@ -189,21 +189,21 @@ nothing (calls.record-count t i) h = refl
 nothing (calls.record-at t i j) h = refl
 nothing (calls.record-by-key t k i) h = refl
 nothing (calls.find-text t i j x) h = refl
-nothing (calls.write-digest t excluded datagram place) h =
+nothing (calls.write-digest t edition excluded datagram place) h =
     ap (λ (u : Bytes). t ∷ excluded ∷ u ∷ [])
-    (into-list writtenTold (written.Refused BadTable) (λ t. writeDigest excluded place t datagram) datagram
-    (λ t g. let x = by-written _ g in digest-refused excluded place t datagram (x .0) (x .1)) t h)
-nothing (calls.read-digest digest) h = refl
-nothing (calls.compute t digest excluded ties datagram mtu place) h =
+    (into-list writtenTold (written.Refused BadTable) (λ t. writeDigest edition excluded place t datagram) datagram
+    (λ t g. let x = by-written _ g in digest-refused edition excluded place t datagram (x .0) (x .1)) t h)
+nothing (calls.read-digest edition digest) h = refl
+nothing (calls.compute t edition digest excluded ties datagram mtu place) h =
     ap (λ (u : Bytes). t ∷ digest ∷ excluded ∷ ties ∷ u ∷ [])
-    (into-list computedTold (computed.Refused BadTable) (λ t. computing.compute excluded ties mtu place digest t datagram) datagram
-    (λ t g. let x = by-computed _ g in compute-refused excluded ties mtu place digest t datagram (x .0) (x .1)) t h)
+    (into-list computedTold (computed.Refused BadTable) (λ t. computing.compute edition excluded ties mtu place digest t datagram) datagram
+    (λ t g. let x = by-computed _ g in compute-refused edition excluded ties mtu place digest t datagram (x .0) (x .1)) t h)
 nothing (calls.read-delta delta) h = refl
 nothing (calls.apply t delta answers now) h =
     let x = by-applied _ h in
     let s = lent-apply-refused (waysOf (decodeWhole t .mode)) (delta .bytes) (now .value) answers t (x .0) (x .1) (x .2) in
     ap₂ (λ (u m : Bytes). u ∷ delta .bytes ∷ m ∷ []) (s .0) (s .1)
 nothing (calls.list-delta delta out) h = ap (λ (u : Bytes). delta ∷ u ∷ []) (shown (listing delta) out h)
-nothing (calls.exchange publisher follower unasked unsent ties digest delta answers mtu now) h =
+nothing (calls.exchange publisher follower edition unasked unsent ties digest delta answers mtu now) h =
     ap (λ (u : ExchangeLent). publisher ∷ u .follower ∷ unasked ∷ unsent ∷ ties ∷ u .digest ∷ u .delta ∷ u .answers ∷ [])
-    (exchanged (lending unasked unsent ties mtu (now .value) digest delta answers) publisher follower h)
+    (exchanged (lending edition unasked unsent ties mtu (now .value) digest delta answers) publisher follower h)

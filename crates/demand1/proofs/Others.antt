@@ -36,7 +36,7 @@ use Rattle.rules.specs.declared.Listed.{Listed}
 use Rattle.rules.specs.declared.Listed.the-variants as listed
 use Rattle.rules.specs.declared.Offered.the-variants as offered
 use Rattle.rules.specs.declared.Refusal.{Refusal}
-use Rattle.rules.specs.declared.Refusal.the-variants.{BadMtu, BadTable, BadTies, Exhausted, NinthNode, NoNode, NodeFull, NoPlace, TooLong}
+use Rattle.rules.specs.declared.Refusal.the-variants.{BadMtu, BadTable, BadTies, Exhausted, NinthNode, NoNode, NodeFull, NoPlace, TooLong, BadEdition}
 use Rattle.rules.specs.declared.Written.{Written}
 use Rattle.rules.specs.declared.Written.the-variants as written
 use Rattle.table_read.specs.Find.{nodeStart}
@@ -57,7 +57,7 @@ use Rattle.digest_read.specs.Held.{digestIn, heldOf}
 use Rattle.digest_read.specs.Told.{digestTold}
 use Rattle.compute.specs.Asking.{askedOf, isFree, mtuFits}
 use Rattle.compute.specs.declared.Asked.the-variants as asked
-use Rattle.exchange.specs.Exchanging.{Lending, Rooms, afterAsking, exchangedTold, lending, lentExchange, readyFor, readyOn, roomsOf, unlessRefused}
+use Rattle.exchange.specs.Exchanging.{Lending, Rooms, afterAsking, exchangedTold, lending, lentExchange, readyFor, readyOn, roomsFor, roomsOf, unlessRefused}
 use Rattle.exchange.specs.declared.Exchanged.{Exchanged}
 use Rattle.exchange.specs.declared.Ready.{Ready}
 use Rattle.exchange.specs.declared.Ready.the-variants as ready
@@ -375,37 +375,47 @@ writes k b place d short fits = go (digest.fitsAt place (length b) d)
     go true = fits (length b)
     go false = short
 
-digests : (excluded : List ℕ) (place : ℕ) (d l : Bytes)
-    → Of calls.WriteDigest (writtenTold (fromTable (given (written.Refused BadTable) d) (λ t. digest.writeDigest excluded place t d) l .answer))
+digests : (edition : ℕ) (excluded : List ℕ) (place : ℕ) (d l : Bytes)
+    → Of calls.WriteDigest (writtenTold (fromTable (given (written.Refused BadTable) d) (λ t. digest.writeDigest edition excluded place t d) l .answer))
 unfolding digest.writeDigest writtenTold among calls.refusals
-digests excluded place d l =
+digests edition excluded place d l =
     from-table (λ (a : Given Written Bytes). Of calls.WriteDigest (writtenTold (a .answer))) (given (written.Refused BadTable) d)
-    (λ t. digest.writeDigest excluded place t d) refl
-    (λ t. writes calls.WriteDigest (digest.digestBytes (digest.digestOf excluded t)) place d refl (λ n. refl)) l
+    (λ t. digest.writeDigest edition excluded place t d) refl
+    (λ t. known t (digest.isEdition edition)) l
+  where
+    known : (t : Table) (b : Bool)
+        → Of calls.WriteDigest (writtenTold (pick b (digest.writeBytes (digest.digestBytes edition (digest.digestOf excluded t)) place d) (given (written.Refused BadEdition) d) .answer))
+    known t true = writes calls.WriteDigest (digest.digestBytes edition (digest.digestOf excluded t)) place d refl (λ n. refl)
+    known t false = refl
 
-digest-reads : (l : Bytes) → Of calls.ReadDigest (digestTold (digestIn l))
+digest-reads : (edition : ℕ) (l : Bytes) → Of calls.ReadDigest (digestTold (digestIn edition l))
 unfolding digestIn digestTold among calls.refusals
-digest-reads l = digest-comes (λ x. Of calls.ReadDigest (digestTold (heldOf (length l) x))) (λ n. refl) refl (λ ds rest. refl) l
+digest-reads edition l = digest-comes (λ x. Of calls.ReadDigest (digestTold (heldOf (length l) x))) refl (λ n. refl) refl (λ ds rest. refl) edition l
 
 -- ---- deltas
 
-computes : (excluded ties : List ℕ) (mtu place : ℕ) (told d l : Bytes)
-    → Of calls.Compute (computedTold (fromTable (given (computed.Refused BadTable) d) (λ t. computing.compute excluded ties mtu place told t d) l .answer))
+computes : (edition : ℕ) (excluded ties : List ℕ) (mtu place : ℕ) (told d l : Bytes)
+    → Of calls.Compute (computedTold (fromTable (given (computed.Refused BadTable) d) (λ t. computing.compute edition excluded ties mtu place told t d) l .answer))
 unfolding computing.compute computedTold among calls.refusals
-computes excluded ties mtu place told d l =
+computes edition excluded ties mtu place told d l =
     from-table (λ (a : Given Computed Bytes). Of calls.Compute (computedTold (a .answer))) (given (computed.Refused BadTable) d)
-    (λ t. computing.compute excluded ties mtu place told t d) refl
-    (λ t. go t (leb leastMtu mtu && leb mtu maxDelta) (digest.fitsAt place mtu d) (eqb (length ties) (length t))) l
+    (λ t. computing.compute edition excluded ties mtu place told t d) refl
+    (λ t. known t (digest.isEdition edition)) l
   where
-    read : (t : Table) → Of calls.Compute (computedTold (computing.onDigest excluded ties mtu place (digest.readDigest told) t d .answer))
-    read t = digest-comes (λ x. Of calls.Compute (computedTold (computing.onDigest excluded ties mtu place x t d .answer))) (λ n. refl) refl (λ ds rest. refl) told
+    read : (t : Table) → Of calls.Compute (computedTold (computing.onDigest excluded ties mtu place (digest.readDigest edition told) t d .answer))
+    read t = digest-comes (λ x. Of calls.Compute (computedTold (computing.onDigest excluded ties mtu place x t d .answer))) refl (λ n. refl) refl (λ ds rest. refl) edition told
 
     go : (t : Table) (a b c : Bool)
-        → Of calls.Compute (computedTold (pick a (pick b (pick c (computing.onDigest excluded ties mtu place (digest.readDigest told) t d) (given (computed.Refused BadTies) d)) (given (computed.Refused NoPlace) d)) (given (computed.Refused BadMtu) d) .answer))
+        → Of calls.Compute (computedTold (pick a (pick b (pick c (computing.onDigest excluded ties mtu place (digest.readDigest edition told) t d) (given (computed.Refused BadTies) d)) (given (computed.Refused NoPlace) d)) (given (computed.Refused BadMtu) d) .answer))
     go t false b c = refl
     go t true false c = refl
     go t true true false = refl
     go t true true true = read t
+
+    known : (t : Table) (b : Bool)
+        → Of calls.Compute (computedTold (pick b (computing.computeFor excluded ties mtu place (digest.readDigest edition told) t d) (given (computed.Refused BadEdition) d) .answer))
+    known t true = go t (leb leastMtu mtu && leb mtu maxDelta) (digest.fitsAt place mtu d) (eqb (length ties) (length t))
+    known t false = refl
 
 delta-reads : (l : Bytes) → Of calls.ReadDelta (readTold (deltaRead l))
 unfolding deltaRead readTold among calls.refusals
@@ -463,31 +473,35 @@ unfolding among calls.refusals
 asks-places true = tt
 asks-places false = refl
 
-asks-on : (unasked : List ℕ) (k : Rooms) (p f : Table) → Asks (readyOn unasked k p f)
-unfolding readyOn askedOf among calls.refusals
-asks-on unasked k p f = go (leb (length (digest.digestBytes (digest.digestOf unasked f))) (k .digest))
+asks-on : (edition : ℕ) (unasked : List ℕ) (k : Rooms) (p f : Table) → Asks (readyOn edition unasked k p f)
+unfolding readyOn roomsFor askedOf among calls.refusals
+asks-on edition unasked k p f = known (digest.isEdition edition)
   where
     go : (b : Bool) → Asks (pick b (unlessRefused (askedOf (k .mtu) 0 (k .delta) (k .ties) (length p)) (pick (leb (length p) (k .answers)) ready.Yes (ready.No Applying NoPlace))) (ready.No Digest NoPlace))
     go true = asks-numbers (mtuFits (k .mtu)) (isFree 0 (k .mtu) (k .delta)) (eqb (k .ties) (length p)) _ (asks-places (leb (length p) (k .answers)))
     go false = refl
 
-asks : (unasked : List ℕ) (k : Rooms) (publisher follower : Bytes) → Asks (readyFor unasked k publisher follower)
+    known : (b : Bool) → Asks (pick b (roomsFor edition unasked k p f) (ready.No Digest BadEdition))
+    known true = go (leb (length (digest.digestBytes edition (digest.digestOf unasked f))) (k .digest))
+    known false = refl
+
+asks : (edition : ℕ) (unasked : List ℕ) (k : Rooms) (publisher follower : Bytes) → Asks (readyFor edition unasked k publisher follower)
 unfolding readyFor among calls.refusals
-asks unasked k publisher follower = go (validWhole follower) (validWhole publisher)
+asks edition unasked k publisher follower = go (validWhole follower) (validWhole publisher)
   where
-    go : (u v : Bool) → Asks (pick u (pick v (readyOn unasked k (decodeWhole publisher .table) (decodeWhole follower .table)) (ready.No Delta BadTable)) (ready.No Digest BadTable))
+    go : (u v : Bool) → Asks (pick u (pick v (readyOn edition unasked k (decodeWhole publisher .table) (decodeWhole follower .table)) (ready.No Delta BadTable)) (ready.No Digest BadTable))
     go false v = refl
     go true false = refl
-    go true true = asks-on unasked k (decodeWhole publisher .table) (decodeWhole follower .table)
+    go true true = asks-on edition unasked k (decodeWhole publisher .table) (decodeWhole follower .table)
 
 exchanges : (g : Lending) (publisher follower : Bytes) → Of calls.Exchange (exchangedTold (lentExchange g publisher follower .answer))
 unfolding lentExchange exchangedTold
-exchanges g publisher follower = go (readyFor (g .unasked) (roomsOf g) publisher follower) refl (asks (g .unasked) (roomsOf g) publisher follower)
+exchanges g publisher follower = go (readyFor (g .edition) (g .unasked) (roomsOf g) publisher follower) refl (asks (g .edition) (g .unasked) (roomsOf g) publisher follower)
   where
     accepted : among 0 (calls.possible calls.Exchange) ≡ true
     accepted = among-first 0 (calls.refusals calls.Exchange)
 
-    go : (x : Ready) → readyFor (g .unasked) (roomsOf g) publisher follower ≡ x → Asks (readyFor (g .unasked) (roomsOf g) publisher follower)
+    go : (x : Ready) → readyFor (g .edition) (g .unasked) (roomsOf g) publisher follower ≡ x → Asks (readyFor (g .edition) (g .unasked) (roomsOf g) publisher follower)
         → Of calls.Exchange (exchangedTold (afterAsking g publisher follower x .answer))
     go ready.Yes e h =
         ap (λ (a : Exchanged). among (exchangedTold a .number) (calls.possible calls.Exchange)) (ready-done g publisher follower (is-ready g publisher follower e)) ∙ accepted
@@ -516,11 +530,11 @@ no-other (calls.record-count t i) = record-counts (i .value) t
 no-other (calls.record-at t i j) = records (i .value) j t
 no-other (calls.record-by-key t k i) = keyed (i .value) k t
 no-other (calls.find-text t i j x) = texts x (i .value) j t
-no-other (calls.write-digest t excluded datagram place) = digests excluded place datagram t
-no-other (calls.read-digest digest) = digest-reads digest
-no-other (calls.compute t digest excluded ties datagram mtu place) = computes excluded ties mtu place digest datagram t
+no-other (calls.write-digest t edition excluded datagram place) = digests edition excluded place datagram t
+no-other (calls.read-digest edition digest) = digest-reads edition digest
+no-other (calls.compute t edition digest excluded ties datagram mtu place) = computes edition excluded ties mtu place digest datagram t
 no-other (calls.read-delta delta) = delta-reads delta
 no-other (calls.apply t delta answers now) = applies (delta .bytes) (now .value) answers t
 no-other (calls.list-delta delta out) = shows delta out
-no-other (calls.exchange publisher follower unasked unsent ties digest delta answers mtu now) =
-    exchanges (lending unasked unsent ties mtu (now .value) digest delta answers) publisher follower
+no-other (calls.exchange publisher follower edition unasked unsent ties digest delta answers mtu now) =
+    exchanges (lending edition unasked unsent ties mtu (now .value) digest delta answers) publisher follower

@@ -86,13 +86,13 @@ pub data Call : Kind → Type 0 where
   record-at : (table : Bytes) (number : U64) (j : ℕ) → Call RecordAt
   record-by-key : (table key : Bytes) (number : U64) → Call RecordByKey
   find-text : (table : Bytes) (number : U64) (j : ℕ) (text : Text) → Call FindText
-  write-digest : (table : Bytes) (excluded : List ℕ) (datagram : Bytes) (place : ℕ) → Call WriteDigest
-  read-digest : (digest : Bytes) → Call ReadDigest
-  compute : (table digest : Bytes) (excluded ties : List ℕ) (datagram : Bytes) (mtu place : ℕ) → Call Compute
+  write-digest : (table : Bytes) (edition : ℕ) (excluded : List ℕ) (datagram : Bytes) (place : ℕ) → Call WriteDigest
+  read-digest : (edition : ℕ) (digest : Bytes) → Call ReadDigest
+  compute : (table : Bytes) (edition : ℕ) (digest : Bytes) (excluded ties : List ℕ) (datagram : Bytes) (mtu place : ℕ) → Call Compute
   read-delta : (delta : Bytes) → Call ReadDelta
   apply : (table : Bytes) (delta : Received) (answers : Bytes) (clock : U64) → Call Apply
   list-delta : (delta out : Bytes) → Call ListDelta
-  exchange : (publisher follower : Bytes) (unasked unsent ties : List ℕ) (digest delta answers : Bytes) (mtu : ℕ) (clock : U64) → Call Exchange
+  exchange : (publisher follower : Bytes) (edition : ℕ) (unasked unsent ties : List ℕ) (digest delta answers : Bytes) (mtu : ℕ) (clock : U64) → Call Exchange
 
 -- everything lent to a call
 unfoldable pub lentTo : {k : Kind} (call : Call k) → List Bytes
@@ -115,13 +115,13 @@ lentTo (record-count t i) = t ∷ []
 lentTo (record-at t i j) = t ∷ []
 lentTo (record-by-key t k i) = t ∷ k ∷ []
 lentTo (find-text t i j x) = t ∷ []
-lentTo (write-digest t excluded datagram place) = t ∷ excluded ∷ datagram ∷ []
-lentTo (read-digest digest) = digest ∷ []
-lentTo (compute t digest excluded ties datagram mtu place) = t ∷ digest ∷ excluded ∷ ties ∷ datagram ∷ []
+lentTo (write-digest t edition excluded datagram place) = t ∷ excluded ∷ datagram ∷ []
+lentTo (read-digest edition digest) = digest ∷ []
+lentTo (compute t edition digest excluded ties datagram mtu place) = t ∷ digest ∷ excluded ∷ ties ∷ datagram ∷ []
 lentTo (read-delta delta) = delta ∷ []
 lentTo (apply t delta answers now) = t ∷ delta .bytes ∷ answers ∷ []
 lentTo (list-delta delta out) = delta ∷ out ∷ []
-lentTo (exchange publisher follower unasked unsent ties digest delta answers mtu now) =
+lentTo (exchange publisher follower edition unasked unsent ties digest delta answers mtu now) =
     publisher ∷ follower ∷ unasked ∷ unsent ∷ ties ∷ digest ∷ delta ∷ answers ∷ []
 
 -- how many of them, the first ones, are tables
@@ -180,16 +180,16 @@ leaves (record-count t i) = given (countTold (lentRecordCount (i .value) t)) (t 
 leaves (record-at t i j) = given (recordReadTold (lentReadRecord (i .value) j t)) (t ∷ [])
 leaves (record-by-key t k i) = given (recordReadTold (lentRecordByKey (i .value) k t)) (t ∷ k ∷ [])
 leaves (find-text t i j x) = given (foundTold (lentTextFound x (i .value) j t)) (t ∷ [])
-leaves (write-digest t excluded datagram place) = asTold writtenTold (λ u. t ∷ excluded ∷ u ∷ []) (lentDigest excluded place datagram t)
-leaves (read-digest digest) = given (digestTold (digestIn digest)) (digest ∷ [])
-leaves (compute t digest excluded ties datagram mtu place) =
-    asTold computedTold (λ u. t ∷ digest ∷ excluded ∷ ties ∷ u ∷ []) (lentCompute excluded ties mtu place digest datagram t)
+leaves (write-digest t edition excluded datagram place) = asTold writtenTold (λ u. t ∷ excluded ∷ u ∷ []) (lentDigest edition excluded place datagram t)
+leaves (read-digest edition digest) = given (digestTold (digestIn edition digest)) (digest ∷ [])
+leaves (compute t edition digest excluded ties datagram mtu place) =
+    asTold computedTold (λ u. t ∷ digest ∷ excluded ∷ ties ∷ u ∷ []) (lentCompute edition excluded ties mtu place digest datagram t)
 leaves (read-delta delta) = given (readTold (deltaRead delta)) (delta ∷ [])
 leaves (apply t delta answers now) = asTold appliedTold (λ u. u .table ∷ delta .bytes ∷ u .list ∷ []) (lentApply (delta .bytes) (now .value) answers t)
 leaves (list-delta delta out) = asTold writtenTold (λ u. delta ∷ u ∷ []) (listDelta delta out)
-leaves (exchange publisher follower unasked unsent ties digest delta answers mtu now) =
+leaves (exchange publisher follower edition unasked unsent ties digest delta answers mtu now) =
     asTold exchangedTold (λ u. publisher ∷ u .follower ∷ unasked ∷ unsent ∷ ties ∷ u .digest ∷ u .delta ∷ u .answers ∷ [])
-    (lentExchange (lending unasked unsent ties mtu (now .value) digest delta answers) publisher follower)
+    (lentExchange (lending edition unasked unsent ties mtu (now .value) digest delta answers) publisher follower)
 
 -- ---- the numbers that a call can refuse with, in the order in which they are asked
 
@@ -213,13 +213,13 @@ refusals RecordCount = 14 ∷ 2 ∷ []
 refusals RecordAt = 14 ∷ 2 ∷ 8 ∷ []
 refusals RecordByKey = 14 ∷ 2 ∷ 1 ∷ []
 refusals FindText = 14 ∷ 2 ∷ 8 ∷ []
-refusals WriteDigest = 14 ∷ 8 ∷ []
-refusals ReadDigest = 9 ∷ 13 ∷ []
-refusals Compute = 14 ∷ 7 ∷ 8 ∷ 15 ∷ 9 ∷ 13 ∷ []
+refusals WriteDigest = 14 ∷ 20 ∷ 8 ∷ []
+refusals ReadDigest = 20 ∷ 9 ∷ 13 ∷ []
+refusals Compute = 14 ∷ 20 ∷ 7 ∷ 8 ∷ 15 ∷ 9 ∷ 13 ∷ []
 refusals ReadDelta = 13 ∷ 9 ∷ 1 ∷ 10 ∷ 11 ∷ 12 ∷ []
 refusals Apply = 14 ∷ 13 ∷ 9 ∷ 1 ∷ 10 ∷ 11 ∷ 12 ∷ 8 ∷ []
 refusals ListDelta = 8 ∷ []
-refusals Exchange = 14 ∷ 8 ∷ 7 ∷ 15 ∷ []
+refusals Exchange = 14 ∷ 20 ∷ 8 ∷ 7 ∷ 15 ∷ []
 
 -- ---- the calls that may change what is remembered
 

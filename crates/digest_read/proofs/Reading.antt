@@ -7,7 +7,7 @@ use native.Mathlib.Omega.{arith}
 use lib.ListN.{length, drop}
 use Rattle.fields.proofs.Blocks.{length-unblock}
 use Rattle.rules.specs.Sizes.{maxNodes}
-use Rattle.rules.specs.Digest.{NodeDigest, DigestRead, Entries, Refused, countWidth, entryOf, entryWidth, readDigest, tell, tellAll}
+use Rattle.rules.specs.Digest.{NodeDigest, DigestRead, Entries, Refused, entryOf, entryWidth, headWidth, readDigest, tell, tellAll}
 use Rattle.rules.specs.declared.Refusal.{Refusal}
 use Rattle.digest_read.specs.Held.{countIn, digestIn, entriesAt, entriesIn, entriesRead, heldOf, restOf}
 use Rattle.digest_read.specs.declared.Counted.{Counted}
@@ -23,41 +23,41 @@ tell-all-length [] l = omega arith
 tell-all-length (d ∷ ds) l = let h = tell-length d l in let k = tell-all-length ds (tell d l) in omega arith
 
 -- the places hold the entries that were read
-pub entries-in : (l : List ℕ) → entriesIn (digestIn l) ≡ entriesRead (readDigest l)
+pub entries-in : (edition : ℕ) (l : List ℕ) → entriesIn (digestIn edition l) ≡ entriesRead (readDigest edition l)
 unfolding digestIn
-entries-in l = go (countIn l) refl
+entries-in edition l = go (countIn edition l) refl
   where
     -- at most eight entries are had back
     few : (x : DigestRead) → length (entriesRead x) ≤ maxNodes → entriesIn (heldOf (length l) x) ≡ entriesRead x
     few (Entries ds rest) h = backs-places maxNodes ds h
     few (Refused r) h = refl
 
-    short : (n : ℕ) → countIn l ≡ counted.Entries n → length (entriesRead (readDigest l)) ≤ maxNodes
+    short : (n : ℕ) → countIn edition l ≡ counted.Entries n → length (entriesRead (readDigest edition l)) ≤ maxNodes
     short n e =
-        let k = ap (λ (x : DigestRead). length (entriesRead x)) (whole l n e) in
-        let a = announced l n e .few in
-        let t = tell-all-length (entriesAt n l) [] in
-        let u = length-unblock entryWidth entryOf n (drop countWidth l) in
+        let k = ap (λ (x : DigestRead). length (entriesRead x)) (whole edition l n e) in
+        let a = announced edition l n e .few in
+        let t = tell-all-length (entriesAt n (drop (headWidth edition) l)) [] in
+        let u = length-unblock entryWidth entryOf n (drop (headWidth edition) l) in
         omega arith
 
-    go : (c : Counted) → countIn l ≡ c → entriesIn (heldOf (length l) (readDigest l)) ≡ entriesRead (readDigest l)
-    go (counted.Entries n) e = few (readDigest l) (short n e)
-    go (counted.Refused r) e = few (readDigest l) (let k = ap (λ (x : DigestRead). length (entriesRead x)) (none l r e) in omega arith)
+    go : (c : Counted) → countIn edition l ≡ c → entriesIn (heldOf (length l) (readDigest edition l)) ≡ entriesRead (readDigest edition l)
+    go (counted.Entries n) e = few (readDigest edition l) (short n e)
+    go (counted.Refused r) e = few (readDigest edition l) (let k = ap (λ (x : DigestRead). length (entriesRead x)) (none edition l r e) in omega arith)
 
 -- where the answer tells of nodes, the digest is read
-pub read-nodes : (l : List ℕ) (count rest : ℕ) → digestIn l .read ≡ answer.Nodes count rest
-    → readDigest l ≡ Entries (entriesIn (digestIn l)) (restOf (readDigest l))
+pub read-nodes : (edition : ℕ) (l : List ℕ) (count rest : ℕ) → digestIn edition l .read ≡ answer.Nodes count rest
+    → readDigest edition l ≡ Entries (entriesIn (digestIn edition l)) (restOf (readDigest edition l))
 unfolding digestIn
-read-nodes l count rest e = go (readDigest l) e ∙ ap (λ (ds : List NodeDigest). Entries ds (restOf (readDigest l))) (sym (entries-in l))
+read-nodes edition l count rest e = go (readDigest edition l) e ∙ ap (λ (ds : List NodeDigest). Entries ds (restOf (readDigest edition l))) (sym (entries-in edition l))
   where
     go : (x : DigestRead) → heldOf (length l) x .read ≡ answer.Nodes count rest → x ≡ Entries (entriesRead x) (restOf x)
     go (Entries ds r) q = refl
     go (Refused r) q = let z : _≡_ {A = ℕ} 0 1 = cc in absurd (omega arith)
 
 -- where it refuses, the digest is refused, for that reason
-pub read-refused : (l : List ℕ) (r : Refusal) → digestIn l .read ≡ answer.Refused r → readDigest l ≡ Refused r
+pub read-refused : (edition : ℕ) (l : List ℕ) (r : Refusal) → digestIn edition l .read ≡ answer.Refused r → readDigest edition l ≡ Refused r
 unfolding digestIn
-read-refused l r e = go (readDigest l) e
+read-refused edition l r e = go (readDigest edition l) e
   where
     go : (x : DigestRead) → heldOf (length l) x .read ≡ answer.Refused r → x ≡ Refused r
     go (Entries ds rest) q = let z : _≡_ {A = ℕ} 0 1 = cc in absurd (omega arith)

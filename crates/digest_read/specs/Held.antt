@@ -1,9 +1,9 @@
 -- A digest as the code holds it: the answer, and eight places for the entries. What each function makes of the bytes, by the definitions of
 -- `rules`.
-use Prim.Native.Nat.{ℕ, zero, suc, _+_, _*_, _-_, _≤_}
+use Prim.Native.Nat.{ℕ, zero, suc, _*_, _-_, _/_, _%_, _≤_}
 use mathlib.Core.List.{List, [], _∷_}
-use lib.ListN.{length, take, drop}
-use lib.Dec.{leb}
+use lib.ListN.{length, take}
+use lib.Dec.{leb, eqb}
 use Rattle.fields.specs.Choice.{pick}
 use Rattle.fields.specs.Numbers.{Bytes, natOf}
 use Rattle.fields.specs.Parts.{part}
@@ -12,7 +12,7 @@ use Rattle.rules.specs.Sizes.{maxNodes}
 use Rattle.rules.specs.Node.{beats}
 use Rattle.rules.specs.Delta.{numberLacks}
 use Rattle.rules.specs.Digest.{NodeDigest, DigestRead, Entries, Refused, countWidth, entryWidth, entryOf, readDigest}
-use Rattle.rules.specs.declared.Refusal.the-variants.{Cut, TooMany}
+use Rattle.rules.specs.declared.Refusal.the-variants.{Cut, TooMany, BadEdition}
 use Rattle.digest_read.specs.declared.NodeDigest.{NodeDigest as Place}
 use Rattle.digest_read.specs.declared.DigestRead.{DigestRead as Answer}
 use Rattle.digest_read.specs.declared.DigestRead.the-variants as answer
@@ -53,17 +53,17 @@ listOf g = backs (take (g .count) (g .entries))
 
 -- ---- bytes
 
--- where entry i begins, and the rest behind i entries
+-- where entry i begins among the entries, and what stands behind i of them
 abbrev pub entryPlace : (i : ℕ) → ℕ
-entryPlace i = countWidth + i * entryWidth
+entryPlace i = i * entryWidth
 
--- so many entries, eight at most, are there behind the count
-abbrev pub HasEntries : (n : ℕ) (digest : Bytes) → Type 0
+-- so many entries, eight at most, are there
+abbrev pub HasEntries : (n : ℕ) (bytes : Bytes) → Type 0
 HasEntries n l = (n ≤ maxNodes) × (entryPlace n ≤ length l)
 
--- how many entries follow the count, or the refusal, with what the count lacks or the number in which the entries end
-unfoldable pub countIn : (digest : Bytes) → Counted
-countIn l =
+-- V0: how many entries follow the count, or the refusal, with what the count lacks or the number in which the entries end
+unfoldable pub countTold : (digest : Bytes) → Counted
+countTold l =
     pick (leb countWidth (length l))
     (pick (leb (natOf (part 0 countWidth l)) maxNodes)
     (pick (leb (natOf (part 0 countWidth l) * entryWidth) (length l - countWidth)) (counted.Entries (natOf (part 0 countWidth l)))
@@ -71,9 +71,19 @@ countIn l =
     (counted.Refused TooMany))
     (counted.Refused (Cut (countWidth - length l)))
 
--- the first n entries behind the count, as they stand
-abbrev pub entriesAt : (n : ℕ) (digest : Bytes) → List NodeDigest
-entriesAt n l = unblock entryWidth entryOf n (drop countWidth l)
+-- V1: how many entries go to the end
+unfoldable pub countWhole : (digest : Bytes) → Counted
+countWhole l =
+    pick (eqb (length l % entryWidth) 0)
+    (pick (leb (length l / entryWidth) maxNodes) (counted.Entries (length l / entryWidth)) (counted.Refused TooMany))
+    (counted.Refused (Cut (numberLacks (length l))))
+
+unfoldable pub countIn : (edition : ℕ) (digest : Bytes) → Counted
+countIn edition l = pick (eqb edition 0) (countTold l) (pick (eqb edition 1) (countWhole l) (counted.Refused BadEdition))
+
+-- the first n entries, as they stand
+abbrev pub entriesAt : (n : ℕ) (bytes : Bytes) → List NodeDigest
+entriesAt n l = unblock entryWidth entryOf n l
 
 -- the numbers of the nodes that they tell of
 unfoldable pub numbersTold : (entries : List NodeDigest) → List ℕ
@@ -87,8 +97,8 @@ abbrev pub heldOf : (n : ℕ) (read : DigestRead) → Digest
 heldOf n (Entries ds rest) = record { read = answer.Nodes (length ds) (n - length rest); entries = places maxNodes ds }
 heldOf n (Refused r) = record { read = answer.Refused r; entries = places maxNodes [] }
 
-unfoldable pub digestIn : (digest : Bytes) → Digest
-digestIn l = heldOf (length l) (readDigest l)
+unfoldable pub digestIn : (edition : ℕ) (digest : Bytes) → Digest
+digestIn edition l = heldOf (length l) (readDigest edition l)
 
 -- the unread rest, and where it begins
 abbrev pub restOf : (read : DigestRead) → Bytes
@@ -99,8 +109,8 @@ abbrev pub beginOf : (n : ℕ) (read : DigestRead) → ℕ
 beginOf n (Entries ds rest) = n - length rest
 beginOf n (Refused r) = 0
 
-unfoldable pub restAt : (digest : Bytes) → ℕ
-restAt l = beginOf (length l) (readDigest l)
+unfoldable pub restAt : (edition : ℕ) (digest : Bytes) → ℕ
+restAt edition l = beginOf (length l) (readDigest edition l)
 
 -- ---- what a digest tells
 

@@ -7,7 +7,7 @@ use mathlib.Core.List.{List, [], _∷_, _++_}
 use mathlib.Core.Option.{some}
 use native.Mathlib.Omega.{arith}
 use lib.Dec.{leb, ltb}
-use borrow.Author.Tests.{ltb-true}
+use borrow.Author.Tests.{eq-eqb, ltb-true}
 use Rattle.fields.specs.Choice.{pick}
 use Rattle.fields.proofs.Choice.{and-intro, and-left, and-right}
 use Rattle.rules.specs.Node.{KeyValue, Node}
@@ -58,10 +58,10 @@ one-step e es st w u g =
 -- a call with nothing excluded, a wide MTU and all its events granted is one
 module _ (g : Lending) (fs : List Event) (n : ℕ) (st : Stage) (w : LentWorld) where
   abbrev asking : Event
-  asking = Digesting (g .unasked) 0 (g .digest)
+  asking = Digesting (g .edition) (g .unasked) 0 (g .digest)
 
   abbrev answering : Event
-  answering = Computing (g .unsent) (g .ties) (g .mtu) 0 (g .delta)
+  answering = Computing (g .edition) (g .unsent) (g .ties) (g .mtu) 0 (g .delta)
 
   abbrev taking-in : Event
   taking-in = Applying (g .clock) (g .answers)
@@ -77,8 +77,9 @@ module _ (g : Lending) (fs : List Event) (n : ℕ) (st : Stage) (w : LentWorld) 
       let b = and-right (lentGranted asking w) _ a in
       let c = and-right (lentGranted answering x) _ b in
       let i = one-step asking (answering ∷ taking-in ∷ fs) st w (and-left (isNone (g .unasked)) _ p) (and-left (lentGranted asking w) _ a) in
-      let j = one-step answering (taking-in ∷ fs) Asked x (and-right (isNone (g .unasked)) _ p) (and-left (lentGranted answering x) _ b) in
+      let j = one-step answering (taking-in ∷ fs) (Asked (g .edition)) x (and-right (isNone (g .unasked)) _ p) (and-left (lentGranted answering x) _ b) in
       let k = one-step taking-in fs Answered y refl (and-left (lentGranted taking-in y) _ c) in
+      let one = ap (λ (b : Bool). lentWholes (pick b Answered NotBegun) (taking-in ∷ fs) y) (eq-eqb (g .edition) (g .edition) refl) in
       omega arith
 
 -- ---- a call, a beat, an offer

@@ -12,12 +12,12 @@ use Rattle.fields.specs.Parts.{put}
 use Rattle.fields.proofs.Parts.{length-put}
 use Rattle.rules.specs.Given.{Given, given}
 use Rattle.rules.specs.Table.{Table}
-use Rattle.rules.specs.Digest.{digestBytes, digestOf, writeBytes, writeDigest}
+use Rattle.rules.specs.Digest.{digestBytes, digestOf, isEdition, writeBytes, writeDigest}
 use Rattle.rules.specs.Delta.{deltaBytes}
 use Rattle.rules.specs.Compute.{allOps, compute, cut, deltaFor, ordered, staleNodes}
 use Rattle.rules.specs.Whole.{validWhole}
 use Rattle.rules.specs.Lent.{fromTable, lentCompute, lentDigest}
-use Rattle.rules.specs.declared.Refusal.the-variants.{BadTable, NoPlace}
+use Rattle.rules.specs.declared.Refusal.the-variants.{BadEdition, BadTable, NoPlace}
 use Rattle.rules.specs.declared.Written.{Written}
 use Rattle.rules.specs.declared.Written.the-variants as written
 use Rattle.rules.specs.declared.Computed.{Computed}
@@ -53,21 +53,31 @@ bytes-within b d n = go (leb 0 (length d)) (leb (length b) (length d - 0)) refl
     go true false h e = let z : _≡_ {A = ℕ} 0 1 = cc in absurd (omega arith)
     go false q h e = let z : _≡_ {A = ℕ} 0 1 = cc in absurd (omega arith)
 
-pub digest-within : (excluded d l : List ℕ) (n : ℕ) → lentDigest excluded 0 d l .answer ≡ written.Bytes n → n ≤ length (lentDigest excluded 0 d l .lent)
+pub digest-within : (edition : ℕ) (excluded d l : List ℕ) (n : ℕ) → lentDigest edition excluded 0 d l .answer ≡ written.Bytes n → n ≤ length (lentDigest edition excluded 0 d l .lent)
 unfolding writeDigest
-digest-within excluded d l n =
-    from-table (λ (o : Given Written (List ℕ)). o .answer ≡ written.Bytes n → n ≤ length (o .lent)) (given (written.Refused BadTable) d) (λ t. writeDigest excluded 0 t d) l (λ e. let z : _≡_ {A = ℕ} 0 1 = cc in absurd (omega arith))
-    (bytes-within (digestBytes (digestOf excluded (tableIn l))) d n)
+digest-within edition excluded d l n =
+    from-table (λ (o : Given Written (List ℕ)). o .answer ≡ written.Bytes n → n ≤ length (o .lent)) (given (written.Refused BadTable) d) (λ t. writeDigest edition excluded 0 t d) l (λ e. let z : _≡_ {A = ℕ} 0 1 = cc in absurd (omega arith))
+    (known (isEdition edition))
+  where
+    b : List ℕ
+    b = digestBytes edition (digestOf excluded (tableIn l))
 
-pub delta-within : (excluded ties : List ℕ) (mtu : ℕ) (digest d l : List ℕ) (ops bytes : ℕ) → lentCompute excluded ties mtu 0 digest d l .answer ≡ computed.Delta ops bytes → bytes ≤ length (lentCompute excluded ties mtu 0 digest d l .lent)
+    Out : Bool → Given Written (List ℕ)
+    Out x = pick x (writeBytes b 0 d) (given (written.Refused BadEdition) d)
+
+    known : (x : Bool) → Out x .answer ≡ written.Bytes n → n ≤ length (Out x .lent)
+    known true e = bytes-within b d n e
+    known false e = let z : _≡_ {A = ℕ} 0 1 = cc in absurd (omega arith)
+
+pub delta-within : (edition : ℕ) (excluded ties : List ℕ) (mtu : ℕ) (digest d l : List ℕ) (ops bytes : ℕ) → lentCompute edition excluded ties mtu 0 digest d l .answer ≡ computed.Delta ops bytes → bytes ≤ length (lentCompute edition excluded ties mtu 0 digest d l .lent)
 unfolding deltaFor
-delta-within excluded ties mtu digest d l ops bytes =
-    from-table Out (given (computed.Refused BadTable) d) (λ t. compute excluded ties mtu 0 digest t d) l (λ e. let z : _≡_ {A = ℕ} 0 1 = cc in absurd (omega arith)) (go _ (comes excluded ties mtu 0 digest (tableIn l) d))
+delta-within edition excluded ties mtu digest d l ops bytes =
+    from-table Out (given (computed.Refused BadTable) d) (λ t. compute edition excluded ties mtu 0 digest t d) l (λ e. let z : _≡_ {A = ℕ} 0 1 = cc in absurd (omega arith)) (go _ (comes edition excluded ties mtu 0 digest (tableIn l) d))
   where
     Out : Given Computed (List ℕ) → Type 0
     Out o = o .answer ≡ computed.Delta ops bytes → bytes ≤ length (o .lent)
 
-    go : (o : Given Computed (List ℕ)) → Comes excluded ties mtu 0 digest (tableIn l) d o → Out o
+    go : (o : Given Computed (List ℕ)) → Comes edition excluded ties mtu 0 digest (tableIn l) d o → Out o
     go o (refuses r) e = let z : _≡_ {A = ℕ} 0 1 = cc in absurd (omega arith)
     go o (writes ds rest q h g) e =
         let b = deltaBytes (cut mtu (allOps (ordered (staleNodes excluded ds ties (tableIn l))))) in

@@ -31,21 +31,21 @@ use Rattle.exchange.proofs.Refusing.{is-ready, ready-done}
 
 -- ---- the second step and the third
 
-module _ (unsent ties : List ℕ) (mtu clock : ℕ) (told delta answers publisher follower : List ℕ) where
+module _ (edition : ℕ) (unsent ties : List ℕ) (mtu clock : ℕ) (told delta answers publisher follower : List ℕ) where
   abbrev made : Given Computed (List ℕ)
-  made = lentCompute unsent ties mtu 0 told delta publisher
+  made = lentCompute edition unsent ties mtu 0 told delta publisher
 
   abbrev outcome : Given Exchanged AnswerLent
-  outcome = lentAnswer unsent ties mtu clock told delta answers publisher follower
+  outcome = lentAnswer edition unsent ties mtu clock told delta answers publisher follower
 
   -- of a good table it is the rule on it
-  pub made-good : validWhole publisher ≡ true → (a : Computed) (d : List ℕ) → Gives (compute unsent ties mtu 0 told (decodeWhole publisher .table) delta) a d → Gives made a d
+  pub made-good : validWhole publisher ≡ true → (a : Computed) (d : List ℕ) → Gives (compute edition unsent ties mtu 0 told (decodeWhole publisher .table) delta) a d → Gives made a d
   made-good v a d x =
-      let same = good-table unsent ties mtu 0 told publisher delta v in
+      let same = good-table edition unsent ties mtu 0 told publisher delta v in
       (x .0 ∙ ap (λ (o : Given Computed (List ℕ)). o .answer) same, x .1 ∙ ap (λ (o : Given Computed (List ℕ)). o .lent) same)
 
   pub made-within : (ops bytes : ℕ) (d : List ℕ) → made .answer ≡ computed.Delta ops bytes → d ≡ made .lent → bytes ≤ length d
-  made-within ops bytes d e q = let h = delta-within unsent ties mtu told delta publisher ops bytes e in let k = ap length q in omega arith
+  made-within ops bytes d e q = let h = delta-within edition unsent ties mtu told delta publisher ops bytes e in let k = ap length q in omega arith
 
   pub no-delta : (r : Refusal) (d : List ℕ) → made .answer ≡ computed.Refused r → d ≡ made .lent → Gives outcome (exchanged.Refused Delta r) (allThree follower d answers)
   unfolding lentAnswer
@@ -69,20 +69,20 @@ module _ (unsent ties : List ℕ) (mtu clock : ℕ) (told delta answers publishe
 
 module _ (g : Lending) (publisher follower : List ℕ) where
   abbrev told : Given Written (List ℕ)
-  told = lentDigest (g .unasked) 0 (g .digest) follower
+  told = lentDigest (g .edition) (g .unasked) 0 (g .digest) follower
 
   -- the publisher's answer to a digest
   abbrev answer-to : List ℕ → Given Exchanged AnswerLent
-  answer-to b = lentAnswer (g .unsent) (g .ties) (g .mtu) (g .clock) b (g .delta) (g .answers) publisher follower
+  answer-to b = lentAnswer (g .edition) (g .unsent) (g .ties) (g .mtu) (g .clock) b (g .delta) (g .answers) publisher follower
 
   -- of a good table it is the rule on it
-  pub told-good : validWhole follower ≡ true → (a : Written) (d : List ℕ) → Gives (writeDigest (g .unasked) 0 (decodeWhole follower .table) (g .digest)) a d → Gives told a d
+  pub told-good : validWhole follower ≡ true → (a : Written) (d : List ℕ) → Gives (writeDigest (g .edition) (g .unasked) 0 (decodeWhole follower .table) (g .digest)) a d → Gives told a d
   told-good v a d x =
-      let same = Outcomes.good-table (g .unasked) 0 (g .digest) follower v in
+      let same = Outcomes.good-table (g .edition) (g .unasked) 0 (g .digest) follower v in
       (x .0 ∙ ap (λ (o : Given Written (List ℕ)). o .answer) same, x .1 ∙ ap (λ (o : Given Written (List ℕ)). o .lent) same)
 
   pub told-within : (n : ℕ) (d : List ℕ) → told .answer ≡ written.Bytes n → d ≡ told .lent → n ≤ length d
-  told-within n d e q = let h = digest-within (g .unasked) (g .digest) follower n e in let k = ap length q in omega arith
+  told-within n d e q = let h = digest-within (g .edition) (g .unasked) (g .digest) follower n e in let k = ap length q in omega arith
 
   pub no-digest : (r : Refusal) (d : List ℕ) → told .answer ≡ written.Refused r → d ≡ told .lent
       → Gives (threeCalls g publisher follower) (exchanged.Refused Digest r) (allFour follower d (g .delta) (g .answers))
@@ -105,12 +105,12 @@ module _ (g : Lending) (publisher follower : List ℕ) where
 
   -- ---- the exchange
 
-  pub not-ready : (s : Step) (r : Refusal) → readyFor (g .unasked) (roomsOf g) publisher follower ≡ ready.No s r
+  pub not-ready : (s : Step) (r : Refusal) → readyFor (g .edition) (g .unasked) (roomsOf g) publisher follower ≡ ready.No s r
       → Gives (lentExchange g publisher follower) (exchanged.Refused s r) (allFour follower (g .digest) (g .delta) (g .answers))
   unfolding lentExchange
   not-ready s r e = rw e (refl, refl)
 
-  pub goes-ahead : readyFor (g .unasked) (roomsOf g) publisher follower ≡ ready.Yes → lentExchange g publisher follower ≡ threeCalls g publisher follower
+  pub goes-ahead : readyFor (g .edition) (g .unasked) (roomsOf g) publisher follower ≡ ready.Yes → lentExchange g publisher follower ≡ threeCalls g publisher follower
   unfolding lentExchange
   goes-ahead e = rw e refl
 
@@ -118,9 +118,9 @@ module _ (g : Lending) (publisher follower : List ℕ) where
   pub refused-leaves : (s : Step) (r : Refusal) → lentExchange g publisher follower .answer ≡ exchanged.Refused s r
       → lentExchange g publisher follower .lent ≡ allFour follower (g .digest) (g .delta) (g .answers)
   unfolding lentExchange
-  refused-leaves s r = go (readyFor (g .unasked) (roomsOf g) publisher follower) refl
+  refused-leaves s r = go (readyFor (g .edition) (g .unasked) (roomsOf g) publisher follower) refl
     where
-      go : (a : Ready) → readyFor (g .unasked) (roomsOf g) publisher follower ≡ a → afterAsking g publisher follower a .answer ≡ exchanged.Refused s r
+      go : (a : Ready) → readyFor (g .edition) (g .unasked) (roomsOf g) publisher follower ≡ a → afterAsking g publisher follower a .answer ≡ exchanged.Refused s r
           → afterAsking g publisher follower a .lent ≡ allFour follower (g .digest) (g .delta) (g .answers)
       go ready.Yes e f =
           let d = sym (ready-done g publisher follower (is-ready g publisher follower e)) ∙ f in
@@ -132,7 +132,7 @@ module _ (g : Lending) (publisher follower : List ℕ) where
   pub accepted-three : (ops bytes nodes : ℕ) → lentExchange g publisher follower .answer ≡ exchanged.Done ops bytes nodes
       → lentExchange g publisher follower ≡ threeCalls g publisher follower
   unfolding lentExchange
-  accepted-three ops bytes nodes = go (readyFor (g .unasked) (roomsOf g) publisher follower)
+  accepted-three ops bytes nodes = go (readyFor (g .edition) (g .unasked) (roomsOf g) publisher follower)
     where
       go : (a : Ready) → afterAsking g publisher follower a .answer ≡ exchanged.Done ops bytes nodes → afterAsking g publisher follower a ≡ threeCalls g publisher follower
       go ready.Yes f = refl

@@ -45,16 +45,16 @@ module _ (pm fm : Mode) (w : World) (p : obeys (w .publisher) ≡ true) (f : obe
   granted-lent (Beating s i) = refl
   granted-lent (Offering s i h) = refl
   granted-lent (Removing s now grace) = refl
-  granted-lent (Digesting excluded place d) =
+  granted-lent (Digesting edition excluded place d) =
       ap (λ (o : Given Written (List ℕ)). wroteDigest (o .answer))
-      (from-encoded fm (w .follower) f (given (written.Refused BadTable) d) (λ t. writeDigest excluded place t d))
-  granted-lent (Computing excluded ties mtu place d) = go (w .exchange)
+      (from-encoded fm (w .follower) f (given (written.Refused BadTable) d) (λ t. writeDigest edition excluded place t d))
+  granted-lent (Computing edition excluded ties mtu place d) = go (w .exchange)
     where
-      go : (x : Exchange) → lentIsComputed excluded ties mtu place d (inMode pm (w .publisher)) x ≡ isComputed excluded ties mtu place d (w .publisher) x
+      go : (x : Exchange) → lentIsComputed edition excluded ties mtu place d (inMode pm (w .publisher)) x ≡ isComputed edition excluded ties mtu place d (w .publisher) x
       go Idle = refl
       go (DigestSent b) =
           ap (λ (o : Given Computed (List ℕ)). wroteDelta (o .answer))
-          (from-encoded pm (w .publisher) p (given (computed.Refused BadTable) d) (λ t. compute excluded ties mtu place b t d))
+          (from-encoded pm (w .publisher) p (given (computed.Refused BadTable) d) (λ t. compute edition excluded ties mtu place b t d))
       go (DeltaSent b) = refl
   granted-lent (Applying now answers) = ap (λ (b : Bool). ltb now numbers && b) (go (w .exchange))
     where
@@ -62,7 +62,7 @@ module _ (pm fm : Mode) (w : World) (p : obeys (w .publisher) ≡ true) (f : obe
       go Idle = refl
       go (DigestSent b) = refl
       go (DeltaSent b) = ap (λ (o : Given Applied TableAndList). noRoom (o .answer) (o .lent .list)) (apply-encoded fm (w .follower) f b now answers)
-  granted-lent (Sending digest excluded ties mtu place d) = refl
+  granted-lent (Sending edition digest excluded ties mtu place d) = refl
   granted-lent (Arriving k now answers) = refl
 
 -- and so is the count

@@ -79,8 +79,8 @@ module _ (pm fm : Mode) where
     on-side {A} Publishers bad rule = ap (λ (o : Given A (List ℕ)). onLent Publishers (λ l. o .lent) (lent w)) (on-encoded pm (w .publisher) p bad rule)
     on-side {A} Followers bad rule = ap (λ (o : Given A (List ℕ)). onLent Followers (λ l. o .lent) (lent w)) (on-encoded fm (w .follower) f bad rule)
 
-    computed-lent : (digest : List ℕ) (excluded ties : List ℕ) (mtu place : ℕ) (d : List ℕ) → lentCompute excluded ties mtu place digest d (inMode pm (w .publisher)) ≡ compute excluded ties mtu place digest (w .publisher) d
-    computed-lent digest excluded ties mtu place d = from-encoded pm (w .publisher) p (given (computed.Refused BadTable) d) (λ t. compute excluded ties mtu place digest t d)
+    computed-lent : (edition : ℕ) (digest : List ℕ) (excluded ties : List ℕ) (mtu place : ℕ) (d : List ℕ) → lentCompute edition excluded ties mtu place digest d (inMode pm (w .publisher)) ≡ compute edition excluded ties mtu place digest (w .publisher) d
+    computed-lent edition digest excluded ties mtu place d = from-encoded pm (w .publisher) p (given (computed.Refused BadTable) d) (λ t. compute edition excluded ties mtu place digest t d)
 
     applied-lent : (now : ℕ) (answers : List ℕ) (x : Exchange) → lentApplied now answers x (inMode fm (w .follower)) ≡ inMode fm (appliedTo ways now answers x (w .follower))
     applied-lent now answers Idle = refl
@@ -101,20 +101,20 @@ module _ (pm fm : Mode) where
     calls-lent (Beating s i) = on-side s (plain.Refused BadTable) (localBeat i)
     calls-lent (Offering s i h) = on-side s (offered.Refused BadTable) (offer i h)
     calls-lent (Removing s now grace) = on-side s (plain.Refused BadTable) (gc now grace)
-    calls-lent (Digesting excluded place d) =
+    calls-lent (Digesting edition excluded place d) =
         ap (λ (o : Given Written (List ℕ)). onWay (afterDigest place (o .lent) (o .answer) (w .exchange)) (w .sent) (lent w))
-        (from-encoded fm (w .follower) f (given (written.Refused BadTable) d) (λ t. writeDigest excluded place t d))
-    calls-lent (Computing excluded ties mtu place d) = go (w .exchange)
+        (from-encoded fm (w .follower) f (given (written.Refused BadTable) d) (λ t. writeDigest edition excluded place t d))
+    calls-lent (Computing edition excluded ties mtu place d) = go (w .exchange)
       where
-        go : (x : Exchange) → onWay (lentComputed excluded ties mtu place d (inMode pm (w .publisher)) x) (lentSentOn excluded ties mtu place d (inMode pm (w .publisher)) x (w .sent)) (lent w) ≡ lent (onExchange (computedFor excluded ties mtu place d (w .publisher) x) (onSent (sentOn excluded ties mtu place d (w .publisher) x (w .sent)) w))
+        go : (x : Exchange) → onWay (lentComputed edition excluded ties mtu place d (inMode pm (w .publisher)) x) (lentSentOn edition excluded ties mtu place d (inMode pm (w .publisher)) x (w .sent)) (lent w) ≡ lent (onExchange (computedFor edition excluded ties mtu place d (w .publisher) x) (onSent (sentOn edition excluded ties mtu place d (w .publisher) x (w .sent)) w))
         go Idle = refl
         go (DigestSent b) =
             ap (λ (o : Given Computed (List ℕ)). onWay (afterDelta place (o .lent) (o .answer) (DigestSent b)) (sentAfter place (o .lent) (o .answer) (w .sent)) (lent w))
-            (computed-lent b excluded ties mtu place d)
+            (computed-lent edition b excluded ties mtu place d)
         go (DeltaSent b) = refl
     calls-lent (Applying now answers) = ap (λ (l : List ℕ). onLent Followers (λ m. l) (lent w)) (applied-lent now answers (w .exchange))
-    calls-lent (Sending digest excluded ties mtu place d) =
-        ap (λ (o : Given Computed (List ℕ)). onWay (w .exchange) (sentAfter place (o .lent) (o .answer) (w .sent)) (lent w)) (computed-lent digest excluded ties mtu place d)
+    calls-lent (Sending edition digest excluded ties mtu place d) =
+        ap (λ (o : Given Computed (List ℕ)). onWay (w .exchange) (sentAfter place (o .lent) (o .answer) (w .sent)) (lent w)) (computed-lent edition digest excluded ties mtu place d)
     calls-lent (Arriving k now answers) = ap (λ (l : List ℕ). onLent Followers (λ m. l) (lent w)) (applied-lent now answers (nthSent k (w .sent)))
 
     -- the follower's ways are those of its mode

@@ -3,7 +3,7 @@
 use Prim.Native.Nat.{ℕ, _-_, _≤_}
 use mathlib.Core.Path.{_≡_, _∙_, ap, refl, sym}
 use mathlib.Core.Bool.{Bool, false, true}
-use mathlib.Core.List.{List, [], append-nil}
+use mathlib.Core.List.{List, []}
 use native.Mathlib.Omega.{arith}
 use lib.Dec.{leb}
 use lib.ListN.{length}
@@ -12,27 +12,27 @@ use Rattle.fields.specs.Choice.{pick}
 use Rattle.fields.specs.Parts.{part, put}
 use Rattle.fields.proofs.Parts.{part-put}
 use Rattle.rules.specs.Given.{Given, given}
-use Rattle.rules.specs.Digest.{Entries, NodeDigest, digestBytes, digestOf, readDigest, writeDigest}
+use Rattle.rules.specs.Digest.{Entries, NodeDigest, digestBytes, digestOf, isEdition, readDigest, writeDigest}
 use Rattle.rules.specs.Delta.{Good, Op, deltaBytes, partsOf, readDelta}
 use Rattle.rules.specs.Compute.{deltaFor, written}
 use Rattle.rules.specs.Apply.{apply, waysOf}
 use Rattle.rules.specs.Whole.{areaOf, decodeWhole, validWhole}
 use Rattle.rules.specs.Lent.{fromTable, lentApply, lentApplyAs, lentCompute, lentDigest}
-use Rattle.rules.specs.declared.Refusal.the-variants.{BadTable, NoPlace}
+use Rattle.rules.specs.declared.Refusal.the-variants.{BadEdition, BadTable, NoPlace}
 use Rattle.rules.specs.declared.Written.{Written}
 use Rattle.rules.specs.declared.Written.the-variants as written-as
 use Rattle.rules.specs.declared.Computed.{Computed}
 use Rattle.rules.specs.declared.Applied.the-variants as applied
 use Rattle.rules.proofs.Accepted.{read-computed, within-mtu}
-use Rattle.rules.proofs.Digests.{read-digest}
+use Rattle.rules.proofs.Digests.{read-written}
 use Rattle.table.proofs.Tables.{valid-obeys}
 use Rattle.table.proofs.Wholes.{area-valid}
 use Rattle.apply.proofs.Applied.{reads-is}
 use Rattle.compute.specs.Asking.{askedOf}
 use Rattle.compute.specs.declared.Asked.{Asked}
 use Rattle.compute.specs.declared.Asked.the-variants as asked
-use Rattle.compute.proofs.Calling.{by-delta, good-table, granted}
-use Rattle.exchange.specs.Exchanging.{Lending, afterComputing, afterDigesting, exchangedAs, lentAnswer, readyFor, readyOn, roomsOf, threeCalls, unlessRefused}
+use Rattle.compute.proofs.Calling.{by-delta, good-table, granted, in-edition}
+use Rattle.exchange.specs.Exchanging.{Lending, afterComputing, afterDigesting, exchangedAs, lentAnswer, readyFor, readyOn, roomsFor, roomsOf, threeCalls, unlessRefused}
 use Rattle.exchange.specs.declared.Step.the-variants.{Applying, Delta, Digest}
 use Rattle.exchange.specs.declared.Ready.the-variants as ready
 use Rattle.exchange.specs.declared.Exchanged.the-variants as exchanged
@@ -43,34 +43,37 @@ use Rattle.exchange.proofs.FewNodes.{few-parts}
 pub record IsReady (g : Lending) (publisher follower : List ℕ) : Type 0 where
   pub follower-valid : validWhole follower ≡ true
   pub publisher-valid : validWhole publisher ≡ true
-  pub digest-fits : length (digestBytes (digestOf (g .unasked) (decodeWhole follower .table))) ≤ length (g .digest)
+  pub known : isEdition (g .edition) ≡ true
+  pub digest-fits : length (digestBytes (g .edition) (digestOf (g .unasked) (decodeWhole follower .table))) ≤ length (g .digest)
   pub numbers-good : askedOf (g .mtu) 0 (length (g .delta)) (length (g .ties)) (length (decodeWhole publisher .table)) ≡ asked.Good
   pub places : length (decodeWhole publisher .table) ≤ length (g .answers)
 
-pub is-ready : (g : Lending) (publisher follower : List ℕ) → readyFor (g .unasked) (roomsOf g) publisher follower ≡ ready.Yes → IsReady g publisher follower
-unfolding readyFor readyOn
+pub is-ready : (g : Lending) (publisher follower : List ℕ) → readyFor (g .edition) (g .unasked) (roomsOf g) publisher follower ≡ ready.Yes → IsReady g publisher follower
+unfolding readyFor readyOn roomsFor
 is-ready g publisher follower =
-    go (validWhole follower) refl (validWhole publisher) refl (leb (length b) (length (g .digest))) refl
+    go (validWhole follower) refl (validWhole publisher) refl (isEdition (g .edition)) refl (leb (length b) (length (g .digest))) refl
     (askedOf (g .mtu) 0 (length (g .delta)) (length (g .ties)) (length (decodeWhole publisher .table))) refl
     (leb (length (decodeWhole publisher .table)) (length (g .answers))) refl
   where
     b : List ℕ
-    b = digestBytes (digestOf (g .unasked) (decodeWhole follower .table))
+    b = digestBytes (g .edition) (digestOf (g .unasked) (decodeWhole follower .table))
 
     go : (u : Bool) → validWhole follower ≡ u
         → (v : Bool) → validWhole publisher ≡ v
+        → (k : Bool) → isEdition (g .edition) ≡ k
         → (d : Bool) → leb (length b) (length (g .digest)) ≡ d
         → (n : Asked) → askedOf (g .mtu) 0 (length (g .delta)) (length (g .ties)) (length (decodeWhole publisher .table)) ≡ n
         → (p : Bool) → leb (length (decodeWhole publisher .table)) (length (g .answers)) ≡ p
-        → pick u (pick v (pick d (unlessRefused n (pick p ready.Yes (ready.No Applying NoPlace))) (ready.No Digest NoPlace)) (ready.No Delta BadTable)) (ready.No Digest BadTable) ≡ ready.Yes
+        → pick u (pick v (pick k (pick d (unlessRefused n (pick p ready.Yes (ready.No Applying NoPlace))) (ready.No Digest NoPlace)) (ready.No Digest BadEdition)) (ready.No Delta BadTable)) (ready.No Digest BadTable) ≡ ready.Yes
         → IsReady g publisher follower
-    go true u true v true d asked.Good n true p e =
-        record { follower-valid = u; publisher-valid = v; digest-fits = leb-true _ _ d; numbers-good = n; places = leb-true _ _ p }
-    go true u true v true d asked.Good n false p e = let z : _≡_ {A = ℕ} 0 1 = cc in absurd (omega arith)
-    go true u true v true d (asked.Refused r) n p q e = let z : _≡_ {A = ℕ} 0 1 = cc in absurd (omega arith)
-    go true u true v false d n m p q e = let z : _≡_ {A = ℕ} 0 1 = cc in absurd (omega arith)
-    go true u false v d f n m p q e = let z : _≡_ {A = ℕ} 0 1 = cc in absurd (omega arith)
-    go false u v w d f n m p q e = let z : _≡_ {A = ℕ} 0 1 = cc in absurd (omega arith)
+    go true u true v true k true d asked.Good n true p e =
+        record { follower-valid = u; publisher-valid = v; known = k; digest-fits = leb-true _ _ d; numbers-good = n; places = leb-true _ _ p }
+    go true u true v true k true d asked.Good n false p e = let z : _≡_ {A = ℕ} 0 1 = cc in absurd (omega arith)
+    go true u true v true k true d (asked.Refused r) n p q e = let z : _≡_ {A = ℕ} 0 1 = cc in absurd (omega arith)
+    go true u true v true k false d n m p q e = let z : _≡_ {A = ℕ} 0 1 = cc in absurd (omega arith)
+    go true u true v false k d f n m p q e = let z : _≡_ {A = ℕ} 0 1 = cc in absurd (omega arith)
+    go true u false v k x d f n m p q e = let z : _≡_ {A = ℕ} 0 1 = cc in absurd (omega arith)
+    go false u v w k x d f n m p q e = let z : _≡_ {A = ℕ} 0 1 = cc in absurd (omega arith)
 
 -- ---- the three calls
 
@@ -79,31 +82,35 @@ module _ (g : Lending) (publisher follower : List ℕ) (r : IsReady g publisher 
   ds = digestOf (g .unasked) (decodeWhole follower .table)
 
   -- the digest's bytes, as they stand in their datagram
+  abbrev pub bytes : List ℕ
+  bytes = digestBytes (g .edition) ds
+
   abbrev pub told : List ℕ
-  told = put 0 (digestBytes ds) (g .digest)
+  told = put 0 bytes (g .digest)
 
   abbrev pub sent : List Op
   sent = deltaFor (g .unsent) (g .ties) (g .mtu) ds (decodeWhole publisher .table)
 
-  pub digest-told : lentDigest (g .unasked) 0 (g .digest) follower ≡ given (written-as.Bytes (length (digestBytes ds))) told
+  pub digest-told : lentDigest (g .edition) (g .unasked) 0 (g .digest) follower ≡ given (written-as.Bytes (length bytes)) told
   unfolding fromTable writeDigest
   digest-told =
       let h = r .digest-fits in
       let a = le-leb 0 (length (g .digest)) (omega arith) in
-      let b = le-leb (length (digestBytes ds)) (length (g .digest) - 0) (omega arith) in
-      rw (r .follower-valid, a, b) refl
+      let b = le-leb (length bytes) (length (g .digest) - 0) (omega arith) in
+      rw (r .follower-valid, r .known, a, b) refl
 
-  digest-read : readDigest (part 0 (length (digestBytes ds)) told) ≡ Entries ds []
+  digest-read : readDigest (g .edition) (part 0 (length bytes) told) ≡ Entries ds []
   digest-read =
       let h = r .digest-fits in
-      ap readDigest (part-put 0 (digestBytes ds) (g .digest) (omega arith) ∙ sym (append-nil (digestBytes ds)))
-      ∙ read-digest (g .unasked) (decodeWhole follower .table) [] (valid-obeys (areaOf follower) (area-valid follower (r .follower-valid)))
+      ap (readDigest (g .edition)) (part-put 0 bytes (g .digest) (omega arith))
+      ∙ read-written (g .edition) (r .known) (g .unasked) (decodeWhole follower .table) (valid-obeys (areaOf follower) (area-valid follower (r .follower-valid)))
 
-  pub delta-made : lentCompute (g .unsent) (g .ties) (g .mtu) 0 (part 0 (length (digestBytes ds)) told) (g .delta) publisher ≡ written sent 0 (g .delta)
+  pub delta-made : lentCompute (g .edition) (g .unsent) (g .ties) (g .mtu) 0 (part 0 (length bytes) told) (g .delta) publisher ≡ written sent 0 (g .delta)
   delta-made =
       sym
-      (by-delta (g .unsent) (g .ties) (g .mtu) 0 (part 0 (length (digestBytes ds)) told) (decodeWhole publisher .table) (g .delta) ds [] (r .numbers-good) digest-read
-      ∙ good-table (g .unsent) (g .ties) (g .mtu) 0 (part 0 (length (digestBytes ds)) told) publisher (g .delta) (r .publisher-valid))
+      (by-delta (g .unsent) (g .ties) (g .mtu) 0 (readDigest (g .edition) (part 0 (length bytes) told)) (decodeWhole publisher .table) (g .delta) ds [] (r .numbers-good) digest-read
+      ∙ in-edition (g .edition) (g .unsent) (g .ties) (g .mtu) 0 (part 0 (length bytes) told) (decodeWhole publisher .table) (g .delta) (r .known)
+      ∙ good-table (g .edition) (g .unsent) (g .ties) (g .mtu) 0 (part 0 (length bytes) told) publisher (g .delta) (r .publisher-valid))
 
   pub delta-read : readDelta (part 0 (length (deltaBytes sent)) (put 0 (deltaBytes sent) (g .delta))) ≡ Good sent
   delta-read =

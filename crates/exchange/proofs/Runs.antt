@@ -38,16 +38,16 @@ and-true false = refl
 
 module _ (g : Lending) (w : LentWorld) (clock : g .clock < numbers) where
   abbrev told : Given Written (List ℕ)
-  told = lentDigest (g .unasked) 0 (g .digest) (w .follower)
+  told = lentDigest (g .edition) (g .unasked) 0 (g .digest) (w .follower)
 
   abbrev made : List ℕ → Given Computed (List ℕ)
-  made b = lentCompute (g .unsent) (g .ties) (g .mtu) 0 b (g .delta) (w .publisher)
+  made b = lentCompute (g .edition) (g .unsent) (g .ties) (g .mtu) 0 b (g .delta) (w .publisher)
 
   abbrev asking : Event
-  asking = Digesting (g .unasked) 0 (g .digest)
+  asking = Digesting (g .edition) (g .unasked) 0 (g .digest)
 
   abbrev answering : Event
-  answering = Computing (g .unsent) (g .ties) (g .mtu) 0 (g .delta)
+  answering = Computing (g .edition) (g .unsent) (g .ties) (g .mtu) 0 (g .delta)
 
   abbrev taking-in : Event
   taking-in = Applying (g .clock) (g .answers)
@@ -94,7 +94,7 @@ module _ (g : Lending) (w : LentWorld) (clock : g .clock < numbers) where
       answered (computed.Refused r) q = (DigestSent b, w .sent, three b _ _ (first n e) (second b _ q) (third-none b))
 
   abbrev is-asked : Ready
-  is-asked = readyFor (g .unasked) (roomsOf g) (w .publisher) (w .follower)
+  is-asked = readyFor (g .edition) (g .unasked) (roomsOf g) (w .publisher) (w .follower)
 
   -- Whatever the call answers, it is this run.
   pub exchange-run : IsRun g w (lentExchange g (w .publisher) (w .follower))

@@ -8,12 +8,12 @@ use Rattle.fields.specs.Choice.{pick}
 use Rattle.fields.specs.Numbers.{Bytes}
 use Rattle.fields.specs.Parts.{part}
 use Rattle.rules.specs.Answers.{Told, accepted, refused}
-use Rattle.rules.specs.Digest.{digestBytes, digestOf}
+use Rattle.rules.specs.Digest.{digestBytes, digestOf, isEdition}
 use Rattle.rules.specs.Given.{Given, given}
 use Rattle.rules.specs.Whole.{decodeWhole, validWhole}
 use Rattle.rules.specs.Lent.{TableAndList, lentDigest, lentCompute, lentApply}
 use Rattle.rules.specs.Table.{Table}
-use Rattle.rules.specs.declared.Refusal.the-variants.{BadTable, NoPlace}
+use Rattle.rules.specs.declared.Refusal.the-variants.{BadEdition, BadTable, NoPlace}
 use Rattle.rules.specs.declared.Written.{Written}
 use Rattle.rules.specs.declared.Written.the-variants as written
 use Rattle.rules.specs.declared.Computed.{Computed}
@@ -32,9 +32,11 @@ use Rattle.exchange.specs.declared.Exchanged.the-variants as exchanged
 
 -- ---- what is lent
 
--- What an exchange is given beside the tables: nodes that the follower leaves out of its digest, nodes that the publisher leaves out of its delta,
--- ties, MTU, the follower's clock; the datagrams for the digest and the delta, each used from its first byte on; the list for the answers.
+-- What an exchange is given beside the tables: the digest's edition, one for both ends; nodes that the follower leaves out of its digest, nodes that the
+-- publisher leaves out of its delta, ties, MTU, the follower's clock; the datagrams for the digest and the delta, each used from its first byte on; the
+-- list for the answers.
 pub record Lending : Type 0 where
+  pub edition : ℕ
   pub unasked : List ℕ
   pub unsent : List ℕ
   pub ties : List ℕ
@@ -44,9 +46,9 @@ pub record Lending : Type 0 where
   pub delta : Bytes
   pub answers : Bytes
 
-abbrev pub lending : (unasked unsent ties : List ℕ) (mtu clock : ℕ) (digest delta answers : Bytes) → Lending
-lending unasked unsent ties mtu clock digest delta answers =
-    record { unasked = unasked; unsent = unsent; ties = ties; mtu = mtu; clock = clock; digest = digest; delta = delta; answers = answers }
+abbrev pub lending : (edition : ℕ) (unasked unsent ties : List ℕ) (mtu clock : ℕ) (digest delta answers : Bytes) → Lending
+lending edition unasked unsent ties mtu clock digest delta answers =
+    record { edition = edition; unasked = unasked; unsent = unsent; ties = ties; mtu = mtu; clock = clock; digest = digest; delta = delta; answers = answers }
 
 -- what it may change: the follower's table, the datagrams of the digest and of the delta, the list of answers
 pub record ExchangeLent : Type 0 where
@@ -79,19 +81,23 @@ abbrev pub unlessRefused : (numbers : Asked) (next : Ready) → Ready
 unlessRefused asked.Good next = next
 unlessRefused (asked.Refused r) next = ready.No Delta r
 
--- Of two good tables: 8 where the digest does not fit, then 7, 8, 15 of computing, then 8 where there are fewer places for answers than the publisher has nodes.
-unfoldable pub readyOn : (unasked : List ℕ) (rooms : Rooms) (publisher follower : Table) → Ready
-readyOn unasked k publisher follower =
-    pick (leb (length (digestBytes (digestOf unasked follower))) (k .digest))
+-- 8 where the digest does not fit, then 7, 8, 15 of computing, then 8 where there are fewer places for answers than the publisher has nodes.
+unfoldable pub roomsFor : (edition : ℕ) (unasked : List ℕ) (rooms : Rooms) (publisher follower : Table) → Ready
+roomsFor edition unasked k publisher follower =
+    pick (leb (length (digestBytes edition (digestOf unasked follower))) (k .digest))
     (unlessRefused (askedOf (k .mtu) 0 (k .delta) (k .ties) (length publisher))
     (pick (leb (length publisher) (k .answers)) ready.Yes (ready.No Applying NoPlace)))
     (ready.No Digest NoPlace)
 
+-- of two good tables: 20 for another edition, told of the digest, then as above
+unfoldable pub readyOn : (edition : ℕ) (unasked : List ℕ) (rooms : Rooms) (publisher follower : Table) → Ready
+readyOn edition unasked k publisher follower = pick (isEdition edition) (roomsFor edition unasked k publisher follower) (ready.No Digest BadEdition)
+
 -- 14 first: of the follower's table, of the publisher's
-unfoldable pub readyFor : (unasked : List ℕ) (rooms : Rooms) (publisher follower : Bytes) → Ready
-readyFor unasked k publisher follower =
+unfoldable pub readyFor : (edition : ℕ) (unasked : List ℕ) (rooms : Rooms) (publisher follower : Bytes) → Ready
+readyFor edition unasked k publisher follower =
     pick (validWhole follower)
-    (pick (validWhole publisher) (readyOn unasked k (decodeWhole publisher .table) (decodeWhole follower .table)) (ready.No Delta BadTable))
+    (pick (validWhole publisher) (readyOn edition unasked k (decodeWhole publisher .table) (decodeWhole follower .table)) (ready.No Delta BadTable))
     (ready.No Digest BadTable)
 
 -- ---- the second call and the third
@@ -119,11 +125,11 @@ afterComputing clock answers follower delta (computed.Delta ops bytes) = afterAp
 afterComputing clock answers follower delta (computed.Refused r) = given (exchanged.Refused Delta r) (allThree follower delta answers)
 
 -- the publisher's delta for a digest, applied
-unfoldable pub lentAnswer : (unsent ties : List ℕ) (mtu clock : ℕ) (told delta answers publisher follower : Bytes) → Given Exchanged AnswerLent
-lentAnswer unsent ties mtu clock told delta answers publisher follower =
+unfoldable pub lentAnswer : (edition : ℕ) (unsent ties : List ℕ) (mtu clock : ℕ) (told delta answers publisher follower : Bytes) → Given Exchanged AnswerLent
+lentAnswer edition unsent ties mtu clock told delta answers publisher follower =
     afterComputing clock answers follower
-    (lentCompute unsent ties mtu 0 told delta publisher .lent)
-    (lentCompute unsent ties mtu 0 told delta publisher .answer)
+    (lentCompute edition unsent ties mtu 0 told delta publisher .lent)
+    (lentCompute edition unsent ties mtu 0 told delta publisher .answer)
 
 -- ---- the three calls
 
@@ -133,15 +139,15 @@ withDigest digest o = given (o .answer) (allFour (o .lent .follower) digest (o .
 -- the publisher answers the digest, where there is one
 abbrev pub afterDigesting : (lending : Lending) (publisher follower digest : Bytes) (written : Written) → Given Exchanged ExchangeLent
 afterDigesting g publisher follower digest (written.Bytes n) =
-    withDigest digest (lentAnswer (g .unsent) (g .ties) (g .mtu) (g .clock) (part 0 n digest) (g .delta) (g .answers) publisher follower)
+    withDigest digest (lentAnswer (g .edition) (g .unsent) (g .ties) (g .mtu) (g .clock) (part 0 n digest) (g .delta) (g .answers) publisher follower)
 afterDigesting g publisher follower digest (written.Refused r) = given (exchanged.Refused Digest r) (allFour follower digest (g .delta) (g .answers))
 
 -- one after the other; the first that is refused would end it
 unfoldable pub threeCalls : (lending : Lending) (publisher follower : Bytes) → Given Exchanged ExchangeLent
 threeCalls g publisher follower =
     afterDigesting g publisher follower
-    (lentDigest (g .unasked) 0 (g .digest) follower .lent)
-    (lentDigest (g .unasked) 0 (g .digest) follower .answer)
+    (lentDigest (g .edition) (g .unasked) 0 (g .digest) follower .lent)
+    (lentDigest (g .edition) (g .unasked) 0 (g .digest) follower .answer)
 
 -- ---- the whole
 
@@ -151,7 +157,7 @@ afterAsking g publisher follower ready.Yes = threeCalls g publisher follower
 afterAsking g publisher follower (ready.No s r) = given (exchanged.Refused s r) (allFour follower (g .digest) (g .delta) (g .answers))
 
 unfoldable pub lentExchange : (lending : Lending) (publisher follower : Bytes) → Given Exchanged ExchangeLent
-lentExchange g publisher follower = afterAsking g publisher follower (readyFor (g .unasked) (roomsOf g) publisher follower)
+lentExchange g publisher follower = afterAsking g publisher follower (readyFor (g .edition) (g .unasked) (roomsOf g) publisher follower)
 
 -- ---- what is told of it
 

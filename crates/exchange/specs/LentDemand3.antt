@@ -29,10 +29,10 @@ pub record LentSound (is : List ℕ) (w : LentWorld) : Type 0 where
 
 -- ---- nothing refused, read off the answers of the calls on lent bytes
 
-abbrev pub lentIsComputed : (excluded ties : List ℕ) (mtu place : ℕ) (datagram table : Bytes) (way : Exchange) → Bool
-lentIsComputed excluded ties mtu place d l Idle = false
-lentIsComputed excluded ties mtu place d l (DigestSent b) = wroteDelta (lentCompute excluded ties mtu place b d l .answer)
-lentIsComputed excluded ties mtu place d l (DeltaSent b) = false
+abbrev pub lentIsComputed : (edition : ℕ) (excluded ties : List ℕ) (mtu place : ℕ) (datagram table : Bytes) (way : Exchange) → Bool
+lentIsComputed edition excluded ties mtu place d l Idle = false
+lentIsComputed edition excluded ties mtu place d l (DigestSent b) = wroteDelta (lentCompute edition excluded ties mtu place b d l .answer)
+lentIsComputed edition excluded ties mtu place d l (DeltaSent b) = false
 
 abbrev pub lentIsApplied : (now : ℕ) (answers table : Bytes) (way : Exchange) → Bool
 lentIsApplied now answers l Idle = false
@@ -45,10 +45,10 @@ lentGranted (Writing i k c) w = true
 lentGranted (Beating s i) w = true
 lentGranted (Offering s i h) w = true
 lentGranted (Removing s now grace) w = true
-lentGranted (Digesting excluded place d) w = wroteDigest (lentDigest excluded place d (w .follower) .answer)
-lentGranted (Computing excluded ties mtu place d) w = lentIsComputed excluded ties mtu place d (w .publisher) (w .exchange)
+lentGranted (Digesting edition excluded place d) w = wroteDigest (lentDigest edition excluded place d (w .follower) .answer)
+lentGranted (Computing edition excluded ties mtu place d) w = lentIsComputed edition excluded ties mtu place d (w .publisher) (w .exchange)
 lentGranted (Applying now answers) w = possible (waysIn (w .follower)) (Applying now answers) && lentIsApplied now answers (w .follower) (w .exchange)
-lentGranted (Sending digest excluded ties mtu place d) w = true
+lentGranted (Sending edition digest excluded ties mtu place d) w = true
 lentGranted (Arriving k now answers) w = true
 
 -- the whole exchanges of a run (Demand3 of `rules`), by the answers of these calls
@@ -64,7 +64,8 @@ lentWholes st (e ∷ es) w =
 -- Of the bytes of a publisher's table and a follower's that begin fresh with the nodes `is`, in the modes p and f. At every moment of every run
 -- of calls the claims hold; between any two moments no node's pair falls in either table; and when writes, deletes and removals cease after any
 -- run, as many whole exchanges as the publisher then holds records and nodes make every max equal, whatever else happens. Where f is fenced, every delta
--- that was ever computed may arrive at any moment and any number of times, within the counted exchanges too.
+-- that was ever computed may arrive at any moment and any number of times, within the counted exchanges too. The first two claims hold with the digest's
+-- editions confused too: any bytes are a digest there, and may be read in either. A counted exchange uses one edition at both ends (Demand3 of `rules`).
 pub record LentDemand3 (p f : Mode) (is : List ℕ) : Type 0 where
   pub at-every-moment : (es : List Event) → LentSound is (lentAfter es (lentStart p f is))
   pub between-moments : (es fs : List Event)

@@ -48,26 +48,26 @@ lentAdds (i ∷ is) l = lentAdds is (lentAdd i l .lent)
 
 -- ---- what is on its way after a call
 
-abbrev pub lentDigested : (excluded : List ℕ) (place : ℕ) (datagram table : Bytes) (way : Exchange) → Exchange
-lentDigested excluded place d l x = afterDigest place (lentDigest excluded place d l .lent) (lentDigest excluded place d l .answer) x
+abbrev pub lentDigested : (edition : ℕ) (excluded : List ℕ) (place : ℕ) (datagram table : Bytes) (way : Exchange) → Exchange
+lentDigested edition excluded place d l x = afterDigest place (lentDigest edition excluded place d l .lent) (lentDigest edition excluded place d l .answer) x
 
 -- only for a digest that is on its way
-abbrev pub lentComputed : (excluded ties : List ℕ) (mtu place : ℕ) (datagram table : Bytes) (way : Exchange) → Exchange
-lentComputed excluded ties mtu place d l Idle = Idle
-lentComputed excluded ties mtu place d l (DigestSent b) =
-    afterDelta place (lentCompute excluded ties mtu place b d l .lent) (lentCompute excluded ties mtu place b d l .answer) (DigestSent b)
-lentComputed excluded ties mtu place d l (DeltaSent b) = DeltaSent b
+abbrev pub lentComputed : (edition : ℕ) (excluded ties : List ℕ) (mtu place : ℕ) (datagram table : Bytes) (way : Exchange) → Exchange
+lentComputed edition excluded ties mtu place d l Idle = Idle
+lentComputed edition excluded ties mtu place d l (DigestSent b) =
+    afterDelta place (lentCompute edition excluded ties mtu place b d l .lent) (lentCompute edition excluded ties mtu place b d l .answer) (DigestSent b)
+lentComputed edition excluded ties mtu place d l (DeltaSent b) = DeltaSent b
 
 -- what was ever computed, for any bytes as a digest
-abbrev pub lentSentFor : (digest : Bytes) (excluded ties : List ℕ) (mtu place : ℕ) (datagram table : Bytes) (sent : List Bytes) → List Bytes
-lentSentFor digest excluded ties mtu place d l ss =
-    sentAfter place (lentCompute excluded ties mtu place digest d l .lent) (lentCompute excluded ties mtu place digest d l .answer) ss
+abbrev pub lentSentFor : (edition : ℕ) (digest : Bytes) (excluded ties : List ℕ) (mtu place : ℕ) (datagram table : Bytes) (sent : List Bytes) → List Bytes
+lentSentFor edition digest excluded ties mtu place d l ss =
+    sentAfter place (lentCompute edition excluded ties mtu place digest d l .lent) (lentCompute edition excluded ties mtu place digest d l .answer) ss
 
 -- for a digest that is on its way
-abbrev pub lentSentOn : (excluded ties : List ℕ) (mtu place : ℕ) (datagram table : Bytes) (way : Exchange) (sent : List Bytes) → List Bytes
-lentSentOn excluded ties mtu place d l Idle ss = ss
-lentSentOn excluded ties mtu place d l (DigestSent b) ss = lentSentFor b excluded ties mtu place d l ss
-lentSentOn excluded ties mtu place d l (DeltaSent b) ss = ss
+abbrev pub lentSentOn : (edition : ℕ) (excluded ties : List ℕ) (mtu place : ℕ) (datagram table : Bytes) (way : Exchange) (sent : List Bytes) → List Bytes
+lentSentOn edition excluded ties mtu place d l Idle ss = ss
+lentSentOn edition excluded ties mtu place d l (DigestSent b) ss = lentSentFor edition b excluded ties mtu place d l ss
+lentSentOn edition excluded ties mtu place d l (DeltaSent b) ss = ss
 
 -- only a delta that is on its way
 abbrev pub lentApplied : (now : ℕ) (answers : Bytes) (way : Exchange) (table : Bytes) → Bytes
@@ -98,11 +98,11 @@ lentCalls (Writing i k c) w =
 lentCalls (Beating s i) w = onLent s (λ l. lentBeat i l .lent) w
 lentCalls (Offering s i h) w = onLent s (λ l. lentOffer i h l .lent) w
 lentCalls (Removing s now grace) w = onLent s (λ l. lentGc now grace l .lent) w
-lentCalls (Digesting excluded place d) w = onWay (lentDigested excluded place d (w .follower) (w .exchange)) (w .sent) w
-lentCalls (Computing excluded ties mtu place d) w =
-    onWay (lentComputed excluded ties mtu place d (w .publisher) (w .exchange)) (lentSentOn excluded ties mtu place d (w .publisher) (w .exchange) (w .sent)) w
+lentCalls (Digesting edition excluded place d) w = onWay (lentDigested edition excluded place d (w .follower) (w .exchange)) (w .sent) w
+lentCalls (Computing edition excluded ties mtu place d) w =
+    onWay (lentComputed edition excluded ties mtu place d (w .publisher) (w .exchange)) (lentSentOn edition excluded ties mtu place d (w .publisher) (w .exchange) (w .sent)) w
 lentCalls (Applying now answers) w = onLent Followers (lentApplied now answers (w .exchange)) w
-lentCalls (Sending digest excluded ties mtu place d) w = onWay (w .exchange) (lentSentFor digest excluded ties mtu place d (w .publisher) (w .sent)) w
+lentCalls (Sending edition digest excluded ties mtu place d) w = onWay (w .exchange) (lentSentFor edition digest excluded ties mtu place d (w .publisher) (w .sent)) w
 lentCalls (Arriving k now answers) w = onLent Followers (lentApplied now answers (nthSent k (w .sent))) w
 
 -- the world after an event; one that is not possible changes nothing

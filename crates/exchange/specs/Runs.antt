@@ -21,10 +21,11 @@ use Rattle.exchange.specs.Exchanging.{Lending, ExchangeLent, lentExchang
 
 -- ---- one call
 
+-- its one edition is the digest's at both ends
 abbrev pub eventsOf : (lending : Lending) → List Event
 eventsOf g =
-    Digesting (g .unasked) 0 (g .digest)
-    ∷ Computing (g .unsent) (g .ties) (g .mtu) 0 (g .delta)
+    Digesting (g .edition) (g .unasked) 0 (g .digest)
+    ∷ Computing (g .edition) (g .unsent) (g .ties) (g .mtu) 0 (g .delta)
     ∷ Applying (g .clock) (g .answers)
     ∷ []
 

@@ -5,6 +5,7 @@ use rules::Applied;
 use rules::Computed;
 use rules::Refusal;
 use rules::Written;
+use rules::wire;
 use table::layout;
 ghost use mathlib.Core.Bool.{true};
 ghost use mathlib.Core.Path.{_≡_};
@@ -12,7 +13,8 @@ ghost use Rattle.rules.specs.Given.{Gives, Tells};
 ghost use Rattle.rules.specs.Layout.{decode};
 ghost use Rattle.rules.specs.Whole.{validWhole};
 ghost use Rattle.table.specs.Fits.{LaidTable};
-ghost use Rattle.exchange.specs.Exchanging.{allFour, allThree, exchangedTold, lending, lentAnswer, lentExchange, readyFor, readyOn, rooms, threeCalls};
+ghost use Rattle.exchange.specs.Exchanging.{allFour, allThree, exchangedTold, lending, lentAnswer, lentExchange, threeCalls};
+ghost use Rattle.exchange.specs.Exchanging.{readyFor, readyOn, rooms, roomsFor};
 
 // The step of an exchange that a refusal belongs to: the follower's digest, the publisher's delta, applying it to the follower.
 pub enum Step {
@@ -49,6 +51,7 @@ pub enum Ready {
 fn ask_rooms(
     publisher: &[u8],
     follower: &[u8],
+    edition: u64,
     unasked: &[u64],
     mtu: usize,
     ties: usize,
@@ -57,10 +60,10 @@ fn ask_rooms(
     answers: usize,
 ) -> Ready
     requires { ⌜ LaidTable (now publisher) × LaidTable (now follower) ⌝ }
-    ensures { λ r. ⌜ r ≡ readyOn (now (unasked .entry)) (rooms mtu ties digest delta answers)
+    ensures { λ r. ⌜ r ≡ roomsFor edition (now (unasked .entry)) (rooms mtu ties digest delta answers)
         (decode (now (publisher .entry))) (decode (now (follower .entry))) ⌝ }
 {
-    if digest < digest_write::digest_size(follower, unasked) {
+    if digest < digest_write::digest_size(follower, edition, unasked) {
         return Ready::No {
             step: Step::Digest,
             why: Refusal::NoPlace,
@@ -83,10 +86,11 @@ fn ask_rooms(
     Ready::Yes
 }
 
-// Of any bytes: 14 first, of the follower's table and of the publisher's.
-fn ask(
+// Of good tables: 20 for another edition, told of the digest, then as above.
+fn ask_good(
     publisher: &[u8],
     follower: &[u8],
+    edition: u64,
     unasked: &[u64],
     mtu: usize,
     ties: usize,
@@ -94,13 +98,49 @@ fn ask(
     delta: usize,
     answers: usize,
 ) -> Ready
-    ensures { λ r. ⌜ r ≡ readyFor (now (unasked .entry)) (rooms mtu ties digest delta answers) (now (publisher .entry)) (now (follower .entry)) ⌝ }
+    requires { ⌜ LaidTable (now publisher) × LaidTable (now follower) ⌝ }
+    ensures { λ r. ⌜ r ≡ readyOn edition (now (unasked .entry)) (rooms mtu ties digest delta answers)
+        (decode (now (publisher .entry))) (decode (now (follower .entry))) ⌝ }
+{
+    if wire::is_edition(edition) {
+        return ask_rooms(
+            publisher,
+            follower,
+            edition,
+            unasked,
+            mtu,
+            ties,
+            digest,
+            delta,
+            answers,
+        );
+    }
+    Ready::No {
+        step: Step::Digest,
+        why: Refusal::BadEdition,
+    }
+}
+
+// Of any bytes: 14 first, of the follower's table and of the publisher's.
+fn ask(
+    publisher: &[u8],
+    follower: &[u8],
+    edition: u64,
+    unasked: &[u64],
+    mtu: usize,
+    ties: usize,
+    digest: usize,
+    delta: usize,
+    answers: usize,
+) -> Ready
+    ensures { λ r. ⌜ r ≡ readyFor edition (now (unasked .entry)) (rooms mtu ties digest delta answers) (now (publisher .entry)) (now (follower .entry)) ⌝ }
 {
     if table_check::check_table(follower) {
         if table_check::check_table(publisher) {
-            return ask_rooms(
+            return ask_good(
                 &publisher[..layout::AREA],
                 &follower[..layout::AREA],
+                edition,
                 unasked,
                 mtu,
                 ties,
@@ -126,6 +166,7 @@ fn ask(
 fn answer_digest(
     publisher: &[u8],
     follower: &mut [u8],
+    edition: u64,
     told: &[u8],
     mtu: usize,
     unsent: &[u64],
@@ -136,12 +177,13 @@ fn answer_digest(
 ) -> Exchanged
     requires { ⌜ validWhole (now publisher) ≡ true ⌝ }
     ensures { λ r. ⌜ Gives
-        (lentAnswer (now (unsent .entry)) (now (ties .entry)) mtu clock
+        (lentAnswer edition (now (unsent .entry)) (now (ties .entry)) mtu clock
         (now (told .entry)) (now (delta .entry)) (now (answers .entry)) (now (publisher .entry)) (now (follower .entry)))
         r (allThree (now (follower .exit)) (now (delta .exit)) (now (answers .exit))) ⌝ }
 {
     let computed = compute::compute_good(
         &publisher[..layout::AREA],
+        edition,
         told,
         mtu,
         unsent,
@@ -171,6 +213,7 @@ fn answer_digest(
 fn exchange_good(
     publisher: &[u8],
     follower: &mut [u8],
+    edition: u64,
     mtu: usize,
     unasked: &[u64],
     unsent: &[u64],
@@ -183,16 +226,17 @@ fn exchange_good(
     requires { ⌜ (validWhole (now publisher) ≡ true) × (validWhole (now follower) ≡ true) ⌝ }
     ensures { λ r. ⌜ Gives
         (threeCalls
-        (lending (now (unasked .entry)) (now (unsent .entry)) (now (ties .entry)) mtu clock
+        (lending edition (now (unasked .entry)) (now (unsent .entry)) (now (ties .entry)) mtu clock
         (now (digest .entry)) (now (delta .entry)) (now (answers .entry)))
         (now (publisher .entry)) (now (follower .entry)))
         r (allFour (now (follower .exit)) (now (digest .exit)) (now (delta .exit)) (now (answers .exit))) ⌝ }
 {
-    let written = digest_write::write_good(&follower[..layout::AREA], unasked, digest, 0);
+    let written = digest_write::write_good(&follower[..layout::AREA], edition, unasked, digest, 0);
     match written {
         Written::Bytes(n) => answer_digest(
             publisher,
             follower,
+            edition,
             &digest[..n],
             mtu,
             unsent,
@@ -208,12 +252,13 @@ fn exchange_good(
     }
 }
 
-// One exchange. The digest leaves out the nodes `unasked`, the delta the nodes `unsent`; each stands at the front of its datagram. It is refused before
-// anything is written, in this order: 14 of the follower's table, 14 of the publisher's, 8 for the digest's bytes, 7, 8 for the delta's bytes, 15, 8 for
-// the answers. Both tables, both datagrams and the answers are then as they were.
+// One exchange, with the digest in one edition at both ends. The digest leaves out the nodes `unasked`, the delta the nodes `unsent`; each stands at the front
+// of its datagram. It is refused before anything is written, in this order: 14 of the follower's table, 14 of the publisher's, 20, 8 for the digest's bytes, 7,
+// 8 for the delta's bytes, 15, 8 for the answers. Both tables, both datagrams and the answers are then as they were.
 pub fn exchange(
     publisher: &[u8],
     follower: &mut [u8],
+    edition: u64,
     mtu: usize,
     unasked: &[u64],
     unsent: &[u64],
@@ -225,7 +270,7 @@ pub fn exchange(
 ) -> Exchanged
     ensures { λ r. ⌜ Tells exchangedTold
         (lentExchange
-        (lending (now (unasked .entry)) (now (unsent .entry)) (now (ties .entry)) mtu clock
+        (lending edition (now (unasked .entry)) (now (unsent .entry)) (now (ties .entry)) mtu clock
         (now (digest .entry)) (now (delta .entry)) (now (answers .entry)))
         (now (publisher .entry)) (now (follower .entry)))
         r (allFour (now (follower .exit)) (now (digest .exit)) (now (delta .exit)) (now (answers .exit))) ⌝ }
@@ -233,6 +278,7 @@ pub fn exchange(
     let asked = ask(
         publisher,
         follower,
+        edition,
         unasked,
         mtu,
         ties.len(),
@@ -244,6 +290,7 @@ pub fn exchange(
         Ready::Yes => exchange_good(
             publisher,
             follower,
+            edition,
             mtu,
             unasked,
             unsent,

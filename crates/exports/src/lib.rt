@@ -200,21 +200,22 @@ pub extern "C" fn kev_remove_good(table: &mut [u8], clock: u64, grace: u64)
 #[no_mangle]
 pub extern "C" fn kev_write_digest(
     table: &[u8],
+    edition: u64,
     excluded: &[u64],
     datagram: &mut [u8],
     place: usize,
 ) -> usize
-    ensures { λ r. ⌜ Gives (toldAs bytesWritten (lentDigest (now (excluded .entry)) place (now (datagram .entry)) (now (table .entry))))
+    ensures { λ r. ⌜ Gives (toldAs bytesWritten (lentDigest edition (now (excluded .entry)) place (now (datagram .entry)) (now (table .entry))))
         r (now (datagram .exit)) ⌝ }
 {
-    bytes_written(digest_write::write_digest(table, excluded, datagram, place))
+    bytes_written(digest_write::write_digest(table, edition, excluded, datagram, place))
 }
 
 #[no_mangle]
-pub extern "C" fn kev_read_digest(bytes: &[u8]) -> usize
-    ensures { λ r. ⌜ r ≡ nodesTold (digestIn (now (bytes .entry)) .read) ⌝ }
+pub extern "C" fn kev_read_digest(edition: u64, bytes: &[u8]) -> usize
+    ensures { λ r. ⌜ r ≡ nodesTold (digestIn edition (now (bytes .entry)) .read) ⌝ }
 {
-    let d = digest_read::read_digest(bytes);
+    let d = digest_read::read_digest(edition, bytes);
     let read = d.read;
     nodes_told(read)
 }
@@ -231,6 +232,7 @@ pub extern "C" fn kev_read_delta(delta: &[u8]) -> usize
 #[no_mangle]
 pub extern "C" fn kev_compute(
     table: &[u8],
+    edition: u64,
     digest: &[u8],
     mtu: usize,
     excluded: &[u64],
@@ -240,15 +242,16 @@ pub extern "C" fn kev_compute(
 ) -> usize
     ensures { λ r. ⌜ Gives
         (toldAs bytesComputed
-        (lentCompute (now (excluded .entry)) (now (ties .entry)) mtu place (now (digest .entry)) (now (datagram .entry)) (now (table .entry))))
+        (lentCompute edition (now (excluded .entry)) (now (ties .entry)) mtu place (now (digest .entry)) (now (datagram .entry)) (now (table .entry))))
         r (now (datagram .exit)) ⌝ }
 {
-    bytes_computed(compute::compute(table, digest, mtu, excluded, ties, datagram, place))
+    bytes_computed(compute::compute(table, edition, digest, mtu, excluded, ties, datagram, place))
 }
 
 #[no_mangle]
 pub extern "C" fn kev_compute_good(
     table: &[u8],
+    edition: u64,
     digest: &[u8],
     mtu: usize,
     excluded: &[u64],
@@ -259,11 +262,20 @@ pub extern "C" fn kev_compute_good(
     requires { ⌜ valid (now table) ≡ true ⌝ }
     ensures { λ r. ⌜ Gives
         (toldAs bytesComputed
-        (computing.compute (now (excluded .entry)) (now (ties .entry)) mtu place
+        (computing.compute edition (now (excluded .entry)) (now (ties .entry)) mtu place
         (now (digest .entry)) (decode (now (table .entry))) (now (datagram .entry))))
         r (now (datagram .exit)) ⌝ }
 {
-    bytes_computed(compute::compute_good(table, digest, mtu, excluded, ties, datagram, place))
+    bytes_computed(compute::compute_good(
+        table,
+        edition,
+        digest,
+        mtu,
+        excluded,
+        ties,
+        datagram,
+        place,
+    ))
 }
 
 #[no_mangle]

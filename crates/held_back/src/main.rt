@@ -74,6 +74,7 @@ fn meet(publisher: &[u8], follower: &mut [u8]) {
     let e = exchange::exchange(
         publisher,
         follower,
+        wire::V0,
         MTU,
         &none,
         &none,
@@ -101,11 +102,11 @@ fn send(publisher: &[u8], follower: &[u8], delta: &mut [u8]) {
     let mut digest = [0u8; DIGEST];
     let none = [0u64; 0];
     let ties = [0u64; 1];
-    match digest_write::write_digest(follower, &none, &mut digest, 0) {
+    match digest_write::write_digest(follower, wire::V0, &none, &mut digest, 0) {
         Written::Bytes(_) => {}
         Written::Refused(r) => say_number(b"refused ", r.number()),
     }
-    match compute::compute(publisher, &digest, MTU, &none, &ties, delta, 0) {
+    match compute::compute(publisher, wire::V0, &digest, MTU, &none, &ties, delta, 0) {
         Computed::Delta { ops: _, bytes } => say_number(b"  held back: a delta of ", bytes as u64),
         Computed::Refused(r) => say_number(b"refused ", r.number()),
     }

@@ -202,7 +202,7 @@ fn say_exchange(i: u64, e: Exchanged, answers: &[u8]) {
 
 // ---- the exchanges
 
-// One exchange: nothing is left out, and the nodes go by their numbers.
+// One exchange: the digest is of the second edition, nothing is left out, and the nodes go by their numbers.
 fn step(i: u64, publisher: &[u8], follower: &mut [u8], clock: u64) {
     let mut digest = [0u8; DIGEST];
     let mut delta = [0u8; MTU];
@@ -212,6 +212,7 @@ fn step(i: u64, publisher: &[u8], follower: &mut [u8], clock: u64) {
     let e = exchange::exchange(
         publisher,
         follower,
+        wire::V1,
         MTU,
         &none,
         &none,

@@ -33,7 +33,7 @@ fn bytes_call(
 ) -> Desk {
     let at = desk.out;
     match verb {
-        verbs::READ_DIGEST => desk.with_out(replay_peers::read_digest(bytes, out, at)),
+        verbs::READ_DIGEST => desk.with_out(replay_peers::read_digest(bytes, line, out, at)),
         verbs::READ_DELTA => desk.with_out(replay_peers::read_delta(bytes, out, at)),
         verbs::APPLY => desk.with_out(replay_peers::apply(table, bytes, line, out, at)),
         _ => {

@@ -48,15 +48,28 @@ fn end_of(place: usize, n: usize) -> usize {
 
 // ---- reading
 
-pub fn read_digest(bytes: &[u8], out: &mut [u8], at: usize) -> usize {
-    let digest = digest_read::read_digest(bytes);
+// In the edition of the last word.
+pub fn read_digest(bytes: &[u8], line: &[u8], out: &mut [u8], at: usize) -> usize {
+    let Numeral::Is(edition) = read::number(read::word(line, 2)) else {
+        return at;
+    };
+    tell_digest(edition, bytes, out, at)
+}
+
+fn tell_digest(edition: u64, bytes: &[u8], out: &mut [u8], at: usize) -> usize {
+    let digest = digest_read::read_digest(edition, bytes);
     let got = digest.read;
     match got {
         DigestRead::Nodes { count, rest: _ } => {
             let nodes = digest.entries;
             let mut next = print::text(out, at, b"digest ");
             next = replay_tell::entries(out, next, nodes, count);
-            replay_tell::numbered(out, next, b" rest=", digest_read::digest_rest(bytes).len())
+            replay_tell::numbered(
+                out,
+                next,
+                b" rest=",
+                digest_read::digest_rest(edition, bytes).len(),
+            )
         }
         DigestRead::Refused(refusal) => replay_tell::refused(out, at, refusal),
     }
@@ -159,6 +172,7 @@ fn refuse(refusal: Refusal, datagram: &[u8], held: Kept, out: &mut [u8]) -> Kept
 
 fn digest_into(
     table: &[u8],
+    edition: u64,
     excluded: &[u64],
     place: usize,
     datagram: &mut [u8],
@@ -166,14 +180,14 @@ fn digest_into(
     held: Kept,
     out: &mut [u8],
 ) -> Kept {
-    let written = digest_write::write_digest(table, excluded, datagram, place);
+    let written = digest_write::write_digest(table, edition, excluded, datagram, place);
     match written {
         Written::Bytes(n) => keep_digest(datagram, place, end_of(place, n), kept, held, out),
         Written::Refused(refusal) => refuse(refusal, datagram, held, out),
     }
 }
 
-// A datagram of as many bytes as the last word says.
+// The place, a datagram of as many bytes as the next word says, and the edition.
 fn digest_in(
     table: &[u8],
     excluded: &[u64],
@@ -188,13 +202,25 @@ fn digest_in(
     let Numeral::Is(len) = read::number(read::word(line, 3)) else {
         return held;
     };
+    let Numeral::Is(edition) = read::number(read::word(line, 4)) else {
+        return held;
+    };
     let n = len as usize;
     if DATAGRAM < n {
         return held;
     }
     let mut room = [marks::MARK; DATAGRAM];
     let datagram = read::front_mut(&mut room, n);
-    digest_into(table, excluded, place as usize, datagram, kept, held, out)
+    digest_into(
+        table,
+        edition,
+        excluded,
+        place as usize,
+        datagram,
+        kept,
+        held,
+        out,
+    )
 }
 
 pub fn digest(table: &[u8], line: &[u8], kept: &mut [u8], held: Kept, out: &mut [u8]) -> Kept {
@@ -239,6 +265,7 @@ fn keep_delta(
 
 fn compute_into(
     table: &[u8],
+    edition: u64,
     digest: &[u8],
     mtu: usize,
     excluded: &[u64],
@@ -249,14 +276,14 @@ fn compute_into(
     held: Kept,
     out: &mut [u8],
 ) -> Kept {
-    let computed = compute::compute(table, digest, mtu, excluded, ties, datagram, place);
+    let computed = compute::compute(table, edition, digest, mtu, excluded, ties, datagram, place);
     match computed {
         Computed::Delta { ops, bytes } => keep_delta(datagram, ops, place, bytes, kept, held, out),
         Computed::Refused(refusal) => refuse(refusal, datagram, held, out),
     }
 }
 
-// The MTU, the place, and a datagram of as many bytes as the last word says.
+// The MTU, the place, a datagram of as many bytes as the next word says, and the edition.
 fn compute_in(
     table: &[u8],
     digest: &[u8],
@@ -276,6 +303,9 @@ fn compute_in(
     let Numeral::Is(len) = read::number(read::word(line, 6)) else {
         return held;
     };
+    let Numeral::Is(edition) = read::number(read::word(line, 7)) else {
+        return held;
+    };
     let n = len as usize;
     if DATAGRAM < n {
         return held;
@@ -284,6 +314,7 @@ fn compute_in(
     let datagram = read::front_mut(&mut room, n);
     compute_into(
         table,
+        edition,
         digest,
         mtu as usize,
         excluded,

@@ -12,7 +12,7 @@ use Rattle.fields.proofs.Parts.{part-put}
 use Rattle.fields.specs.Blocks.{flat}
 use Rattle.fields.specs.Choice.{_∈_, here, later, pick}
 use Rattle.fields.specs.Parts.{part, put}
-use Rattle.rules.specs.Given.{given}
+use Rattle.rules.specs.Given.{Given, given}
 use Rattle.rules.proofs.Deltas.{AllSmall, Chain, follow-max, follow-record, read-delta}
 use Rattle.rules.proofs.Next.{Differ, Strict, strict-stale}
 use Rattle.rules.proofs.Obeys.{OkNode, OkRec, OkTable, table-facts}
@@ -21,14 +21,15 @@ use Rattle.rules.proofs.Received.{strict-lower}
 use Rattle.rules.proofs.Stale.{stale-from}
 use Rattle.rules.proofs.Tables.{Behind, NoTwo, behind-from, ordered-from, ordered-no-two, stale-no-two}
 use Rattle.rules.proofs.Taking.{FromOf, from-of, no-reset, reset-due}
-use Rattle.rules.specs.Compute.{StaleNode, allOps, bodyOps, compute, cut, deltaFor, firstTie, fromFor, fromOf, keyValueOps, onDigest, ordered, otherTies, queue, sooner, staleNode, staleNodes, staleOf, toldOf, unlessMax}
+use Rattle.rules.specs.Compute.{StaleNode, allOps, bodyOps, compute, computeFor, cut, deltaFor, firstTie, fromFor, fromOf, keyValueOps, onDigest, ordered, otherTies, queue, sooner, staleNode, staleNodes, staleOf, toldOf, unlessMax}
 use Rattle.rules.specs.Delta.{Good, KeyValueOp, Next, NodeOp, Op, Reading, SetMaxVersionOp, deltaBytes, follow, nothingRead, readDelta, sizeOf}
-use Rattle.rules.specs.Digest.{DigestRead, Entries, NodeDigest, Refused, readDigest}
+use Rattle.rules.specs.Digest.{DigestRead, Entries, NodeDigest, Refused, isEdition, readDigest}
 use Rattle.rules.specs.Node.{KeyValue, Rec}
 use Rattle.rules.specs.Sizes.{leastMtu, maxDelta, maxNodes}
 use Rattle.rules.specs.Table.{Table, among, obeys}
 use Rattle.rules.specs.declared.Refusal.{Refusal}
-use Rattle.rules.specs.declared.Refusal.the-variants.{BadMtu, BadTies, NoPlace}
+use Rattle.rules.specs.declared.Refusal.the-variants.{BadEdition, BadMtu, BadTies, NoPlace}
+use Rattle.rules.specs.declared.Computed.{Computed}
 use Rattle.rules.specs.declared.Computed.the-variants as computed
 
 abbrev reading : List ℕ → ℕ → Reading
@@ -261,12 +262,11 @@ pub record ComputedAs (place ops bytes : ℕ) (l : List ℕ) : Type 0 where
 not-computed : {A : Type 0} (r : Refusal) (ops bytes : ℕ) → computed.Refused r ≡ computed.Delta ops bytes → A
 not-computed r ops bytes e = let z : _≡_ {A = ℕ} 0 1 = cc in absurd (omega arith)
 
-pub computed-read : (excluded ties : List ℕ) (mtu place : ℕ) (digest : List ℕ) (t : Table) (l : List ℕ) (ops bytes : ℕ) → obeys t ≡ true
-    → compute excluded ties mtu place digest t l .answer ≡ computed.Delta ops bytes
-    → ComputedAs place ops bytes (compute excluded ties mtu place digest t l .lent)
+pub computed-read : (edition : ℕ) (excluded ties : List ℕ) (mtu place : ℕ) (digest : List ℕ) (t : Table) (l : List ℕ) (ops bytes : ℕ) → obeys t ≡ true
+    → compute edition excluded ties mtu place digest t l .answer ≡ computed.Delta ops bytes
+    → ComputedAs place ops bytes (compute edition excluded ties mtu place digest t l .lent)
 unfolding compute
-computed-read excluded ties mtu place digest t l ops bytes ob e =
-    go (leb leastMtu mtu) (leb mtu maxDelta) refl (leb place (length l)) refl (leb mtu (length l - place)) refl (eqb (length ties) (length t)) (readDigest digest) e
+computed-read edition excluded ties mtu place digest t l ops bytes ob e = known (isEdition edition) e
   where
     done : (ds : List NodeDigest) → mtu ≤ maxDelta → place ≤ length l → mtu ≤ length l - place → computed.Delta (length (deltaFor excluded ties mtu ds t)) (length (deltaBytes (deltaFor excluded ties mtu ds t))) ≡ computed.Delta ops bytes → ComputedAs place ops bytes (put place (deltaBytes (deltaFor excluded ties mtu ds t)) l)
     done ds h g k e =
@@ -300,3 +300,11 @@ computed-read excluded ties mtu place digest t l ops bytes ob e =
     go true true p true q true s false r e = not-computed BadTies ops bytes e
     go true true p true q true s true (Entries ds rest) e = done ds (leb-true _ _ p) (leb-true _ _ q) (leb-true _ _ s) e
     go true true p true q true s true (Refused x) e = not-computed x ops bytes e
+
+    whole : Bool → Given Computed (List ℕ)
+    whole x = pick x (computeFor excluded ties mtu place (readDigest edition digest) t l) (given (computed.Refused BadEdition) l)
+
+    known : (x : Bool) → whole x .answer ≡ computed.Delta ops bytes → ComputedAs place ops bytes (whole x .lent)
+    known true e =
+        go (leb leastMtu mtu) (leb mtu maxDelta) refl (leb place (length l)) refl (leb mtu (length l - place)) refl (eqb (length ties) (length t)) (readDigest edition digest) e
+    known false e = not-computed BadEdition ops bytes e

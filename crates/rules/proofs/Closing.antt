@@ -1,17 +1,17 @@
 -- Demand 3's end: once writes, deletes and removals cease, as many whole exchanges as the publisher holds records and nodes make every max equal.
 use Prim.Native.Nat.{_+_, _<_, _≤_, max, suc, ℕ}
 use mathlib.Core.Bool.{Bool, _&&_, false, false≢true, true}
-use mathlib.Core.List.{List, [], _++_, _∷_, append-nil}
+use mathlib.Core.List.{List, [], _++_, _∷_}
 use mathlib.Core.Option.{Option, some}
 use mathlib.Core.Path.{_∙_, _≡_, ap, refl, subst, subst₂, sym}
 use native.Mathlib.Omega.{arith}
-use lib.Dec.{leb}
+use lib.Dec.{eqb, leb}
 use lib.ListN.{length}
-use borrow.Author.Tests.{leb-false, leb-true}
+use borrow.Author.Tests.{eqb-true, leb-false, leb-true}
 use Rattle.fields.proofs.Choice.{and-left, and-right}
 use Rattle.fields.specs.Choice.{_∈_, here, later, pick}
 use Rattle.rules.proofs.Calls.{node-in}
-use Rattle.rules.proofs.Digests.{read-digest}
+use Rattle.rules.proofs.Digests.{read-written}
 use Rattle.rules.proofs.EachNode.{nodeAt, orFresh, unbeaten}
 use Rattle.rules.proofs.Moments.{InOrder, Moment, moment, moment-claims, moments}
 use Rattle.rules.proofs.Nearer.{Small, Tells, Way, lack, lack-falls, next, queued, sent, sum, sum-le, sum-lt, sum-none, sum-some, told-held}
@@ -56,13 +56,13 @@ module _ (ways : Ways) (law : Lawful ways) (is : List ℕ) where
   abbrev Since : Table → World → Type 0
   Since t w = (i : ℕ) → Onward (nodeAt i (w .publisher)) (nodeAt i t) (nodeAt i (w .follower))
 
-  -- the digest on its way tells what the follower's nodes had when it was written
-  record AskedIn (w : World) : Type 0 where
+  -- the digest on its way tells, in its edition, what the follower's nodes had when it was written
+  record AskedIn (edition : ℕ) (w : World) : Type 0 where
     bytes : List ℕ
     told : List NodeDigest
     was : Table
     sent-is : w .exchange ≡ DigestSent bytes
-    read-is : readDigest bytes ≡ Entries told []
+    read-is : readDigest edition bytes ≡ Entries told []
     tells : Tells told was
     was-nodes : numbersOf was ≡ is
     since : Since was w
@@ -86,13 +86,13 @@ module _ (ways : Ways) (law : Lawful ways) (is : List ℕ) where
 
   abbrev At : Stage → World → Type 0
   At NotBegun w = Unit {0}
-  At Asked w = AskedIn w
+  At (Asked edition) w = AskedIn edition w
   At Answered w = AnsweredIn w
 
   -- the follower's table of which the exchange speaks, and all that was needed then
   abbrev tableOf : (st : Stage) (w : World) → At st w → Table
   tableOf NotBegun w a = w .follower
-  tableOf Asked w a = a .was
+  tableOf (Asked edition) w a = a .was
   tableOf Answered w a = a .was
 
   abbrev lackingIn : (st : Stage) (w : World) → At st w → ℕ
@@ -106,7 +106,7 @@ module _ (ways : Ways) (law : Lawful ways) (is : List ℕ) where
 
   at-calm : (st : Stage) (w x : World) → Calm w x → x .exchange ≡ w .exchange → At st w → At st x
   at-calm NotBegun w x c e a = tt
-  at-calm Asked w x c e a =
+  at-calm (Asked edition) w x c e a =
       record {
         bytes = a .bytes;
         told = a .told;
@@ -142,31 +142,29 @@ module _ (ways : Ways) (law : Lawful ways) (is : List ℕ) where
     -- no more is needed now
     since-then : (st : Stage) (a : At st w) → lacking w ≤ lackingIn st w a
     since-then NotBegun a = omega arith
-    since-then Asked a = sum-le (lacks w) (lack (w .publisher) (a .was)) is (λ i. onward-lacks ways law is w m (a .was) i (a .since i))
+    since-then (Asked edition) a = sum-le (lacks w) (lack (w .publisher) (a .was)) is (λ i. onward-lacks ways law is w m (a .was) i (a .since i))
     since-then Answered a = sum-le (lacks w) (lack (w .publisher) (a .was)) is (λ i. onward-lacks ways law is w m (a .was) i (a .since i))
 
     -- ---- its three steps
 
-    at-asked : (place : ℕ) (l : List ℕ) → granted ways (Digesting [] place l) w ≡ true → AskedIn (happen ways (Digesting [] place l) w)
+    at-asked : (edition place : ℕ) (l : List ℕ) → granted ways (Digesting edition [] place l) w ≡ true → AskedIn edition (happen ways (Digesting edition [] place l) w)
     unfolding happen
-    at-asked place l g =
+    at-asked edition place l g =
         record {
-          bytes = digestBytes (digestOf [] (w .follower));
+          bytes = digestBytes edition (digestOf [] (w .follower));
           told = digestOf [] (w .follower);
           was = w .follower;
-          sent-is = asked ways w place l g;
-          read-is =
-              ap readDigest (sym (append-nil (digestBytes (digestOf [] (w .follower)))))
-              ∙ read-digest [] (w .follower) [] (facts-table (w .follower) (ok .follower-ok));
+          sent-is = asked ways w edition place l g .1;
+          read-is = read-written edition (asked ways w edition place l g .0) [] (w .follower) (facts-table (w .follower) (ok .follower-ok));
           tells = λ i f e. (ap (λ (d : NodeDigest). d .last-gc) (told-held i (w .follower) f e), ap (λ (d : NodeDigest). d .max) (told-held i (w .follower) f e));
           was-nodes = ok .follower-nodes;
           since = λ i. onward-same (nodeAt i (w .publisher)) (nodeAt i (w .follower));
         }
 
-    at-answered : (ties : List ℕ) (mtu place : ℕ) (l : List ℕ) → leastWidth ≤ mtu → granted ways (Computing [] ties mtu place l) w ≡ true → AskedIn w → AnsweredIn (happen ways (Computing [] ties mtu place l) w)
+    at-answered : (edition : ℕ) (ties : List ℕ) (mtu place : ℕ) (l : List ℕ) → leastWidth ≤ mtu → granted ways (Computing edition [] ties mtu place l) w ≡ true → (e : ℕ) → e ≡ edition → AskedIn e w → AnsweredIn (happen ways (Computing edition [] ties mtu place l) w)
     unfolding happen
-    at-answered ties mtu place l wide g a =
-        let c = answered ways w ties mtu place l (a .bytes) (a .told) (a .sent-is) (a .read-is) g in
+    at-answered edition ties mtu place l wide g e one a =
+        let c = answered ways w edition ties mtu place l (a .bytes) (a .told) (a .sent-is) (ap (λ (k : ℕ). readDigest k (a .bytes)) (sym one) ∙ a .read-is) g in
         record {
           told = a .told;
           was = a .was;
@@ -185,13 +183,13 @@ module _ (ways : Ways) (law : Lawful ways) (is : List ℕ) where
         }
 
     -- they speak of the same table of the follower
-    as-asked : (place : ℕ) (l : List ℕ) (g : granted ways (Digesting [] place l) w ≡ true) → lackingIn Asked (happen ways (Digesting [] place l) w) (at-asked place l g) ≡ lacking w
+    as-asked : (edition place : ℕ) (l : List ℕ) (g : granted ways (Digesting edition [] place l) w ≡ true) → lackingIn (Asked edition) (happen ways (Digesting edition [] place l) w) (at-asked edition place l g) ≡ lacking w
     unfolding happen at-asked
-    as-asked place l g = refl
+    as-asked edition place l g = refl
 
-    as-answered : (ties : List ℕ) (mtu place : ℕ) (l : List ℕ) (wide : leastWidth ≤ mtu) (g : granted ways (Computing [] ties mtu place l) w ≡ true) (a : AskedIn w) → lackingIn Answered (happen ways (Computing [] ties mtu place l) w) (at-answered ties mtu place l wide g a) ≡ lackingIn Asked w a
+    as-answered : (edition : ℕ) (ties : List ℕ) (mtu place : ℕ) (l : List ℕ) (wide : leastWidth ≤ mtu) (g : granted ways (Computing edition [] ties mtu place l) w ≡ true) (e : ℕ) (one : e ≡ edition) (a : AskedIn e w) → lackingIn Answered (happen ways (Computing edition [] ties mtu place l) w) (at-answered edition ties mtu place l wide g e one a) ≡ lackingIn (Asked e) w a
     unfolding happen at-answered
-    as-answered ties mtu place l wide g a = refl
+    as-answered edition ties mtu place l wide g e one a = refl
 
     -- the last of them: some node needs less, if any needed something when the digest was written
     module _ (now : ℕ) (l : List ℕ) (a : AnsweredIn w) (g : granted ways (Applying now l) w ≡ true) where
@@ -286,8 +284,11 @@ module _ (ways : Ways) (law : Lawful ways) (is : List ℕ) where
     stays-in-all e q = sum-le (lacks (happen ways e w)) (lacks w) is (lacks-stays ways law is w m e q)
 
     -- where it brings the exchange, and that the count is kept
+    abbrev BringsTo : (to : Stage) (e : Event) (st : Stage) → At st w → Type 0
+    BringsTo to e st a = (b : At to (happen ways e w)) × ((k : ℕ) → lackingIn st w a ≤ ending e st + k → lackingIn to (happen ways e w) b ≤ k)
+
     abbrev Brings : (e : Event) (st : Stage) → At st w → Type 0
-    Brings e st a = (b : At (onward e st) (happen ways e w)) × ((k : ℕ) → lackingIn st w a ≤ ending e st + k → lackingIn (onward e st) (happen ways e w) b ≤ k)
+    Brings e st a = BringsTo (onward e st) e st a
 
     -- an event that ends the exchange uncounted
     ends-it : (e : Event) → quiet e ≡ true → (st : Stage) (a : At st w) (k : ℕ) → lackingIn st w a ≤ 0 + k → lacking (happen ways e w) ≤ k
@@ -308,7 +309,7 @@ module _ (ways : Ways) (law : Lawful ways) (is : List ℕ) where
 
         go : (st : Stage) (a : At st w) (k : ℕ) → lackingIn st w a ≤ 0 + k → lackingIn st (happen ways e w) (at-calm st w (happen ways e w) c s a) ≤ k
         go NotBegun a k h = let x = stays-in-all e q in omega arith
-        go Asked a k h = same (a .was) k (omega arith)
+        go (Asked edition) a k h = same (a .was) k (omega arith)
         go Answered a k h = same (a .was) k (omega arith)
 
     goes-on : (e : Event) (st : Stage) → quiet e ≡ true → (a : At st w) → unlimited e ≡ true → granted ways e w ≡ true → Brings e st a
@@ -316,17 +317,26 @@ module _ (ways : Ways) (law : Lawful ways) (is : List ℕ) where
     goes-on (Removing s now grace) st q a u g = absurd (false≢true q)
     goes-on (Beating s i) st q a u g = leaves-it (Beating s i) refl (way-beating ways w s i) st a
     goes-on (Offering s i h) st q a u g = leaves-it (Offering s i h) refl (way-offering ways w s i h) st a
-    goes-on (Digesting [] place l) st q a u g = (at-asked place l g, λ k h. let y = since-then st a in let z = as-asked place l g in omega arith)
-    goes-on (Digesting (i ∷ is) place l) st q a u g = absurd (false≢true u)
-    goes-on (Computing [] ties mtu place l) NotBegun q a u g = (tt, ends-it (Computing [] ties mtu place l) refl NotBegun a)
-    goes-on (Computing [] ties mtu place l) Asked q a u g =
-        let wide = leb-true leastWidth mtu u in (at-answered ties mtu place l wide g a, λ k h. let z = as-answered ties mtu place l wide g a in omega arith)
-    goes-on (Computing [] ties mtu place l) Answered q a u g = (tt, ends-it (Computing [] ties mtu place l) refl Answered a)
-    goes-on (Computing (i ∷ is) ties mtu place l) st q a u g = absurd (false≢true u)
+    goes-on (Digesting edition [] place l) st q a u g = (at-asked edition place l g, λ k h. let y = since-then st a in let z = as-asked edition place l g in omega arith)
+    goes-on (Digesting edition (i ∷ is) place l) st q a u g = absurd (false≢true u)
+    goes-on (Computing edition [] ties mtu place l) NotBegun q a u g = (tt, ends-it (Computing edition [] ties mtu place l) refl NotBegun a)
+    goes-on (Computing edition [] ties mtu place l) (Asked e) q a u g = same (eqb e edition) refl
+      where
+        wide : leastWidth ≤ mtu
+        wide = leb-true leastWidth mtu u
+
+        -- the digest is read in the edition that it was written in, or the exchange is not counted
+        same : (b : Bool) → eqb e edition ≡ b → BringsTo (pick b Answered NotBegun) (Computing edition [] ties mtu place l) (Asked e) a
+        same true p =
+            let one = eqb-true e edition p in
+            (at-answered edition ties mtu place l wide g e one a, λ k h. let z = as-answered edition ties mtu place l wide g e one a in omega arith)
+        same false p = (tt, ends-it (Computing edition [] ties mtu place l) refl (Asked e) a)
+    goes-on (Computing edition [] ties mtu place l) Answered q a u g = (tt, ends-it (Computing edition [] ties mtu place l) refl Answered a)
+    goes-on (Computing edition (i ∷ is) ties mtu place l) st q a u g = absurd (false≢true u)
     goes-on (Applying now l) NotBegun q a u g = (tt, ends-it (Applying now l) refl NotBegun a)
-    goes-on (Applying now l) Asked q a u g = (tt, ends-it (Applying now l) refl Asked a)
+    goes-on (Applying now l) (Asked edition) q a u g = (tt, ends-it (Applying now l) refl (Asked edition) a)
     goes-on (Applying now l) Answered q a u g = (tt, λ k h. falls now l a g k (omega arith))
-    goes-on (Sending digest excluded ties mtu place l) st q a u g = leaves-it (Sending digest excluded ties mtu place l) refl (way-sending ways w digest excluded ties mtu place l) st a
+    goes-on (Sending edition digest excluded ties mtu place l) st q a u g = leaves-it (Sending edition digest excluded ties mtu place l) refl (way-sending ways w edition digest excluded ties mtu place l) st a
     goes-on (Arriving k now l) st q a u g = leaves-it (Arriving k now l) refl (way-arriving ways w k now l) st a
 
   -- ---- all of them

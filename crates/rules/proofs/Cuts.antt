@@ -1,26 +1,26 @@
 -- What 9 says of the bytes that are lacking. It is the field's: an operation that was written, cut off anywhere, lacks what its field lacks in which the
--- bytes end (`written-cut`), and a digest likewise (`digest-cut`). And of any bytes that are refused with 9 (`op-cut`, `entries-cut`): the count is not 0;
+-- bytes end (`written-cut`), and a digest likewise (`digest-cut`; `bare-cut` in V1). And of any bytes that are refused with 9 (`op-cut`, `entries-cut`): the count is not 0;
 -- with fewer bytes more, whatever they are, the same field is cut, and lacks the rest; with as many or more, that field is not cut again. A field is known
 -- by where it ends. Assumes nothing.
-use Prim.Native.Nat.{ℕ, zero, suc, _+_, _-_, _*_, _<_, _^_, _≤_}
+use Prim.Native.Nat.{ℕ, zero, suc, _+_, _-_, _*_, _/_, _%_, _<_, _^_, _≤_}
 use mathlib.Core.Bool.{Bool, true, false}
 use mathlib.Core.List.{List, [], _∷_, _++_, append-assoc, append-nil}
 use mathlib.Core.Path.{_≡_, refl, ap, sym, _∙_}
 use native.Mathlib.Omega.{arith}
-use lib.Dec.{leb}
+use lib.Dec.{eqb, leb}
 use lib.ListN.{length, take, drop, replicate, length-append}
 use lib.Seq.{drop-append-le, drop-at, length-take-le, take-append-add, take-append-le, take-at}
-use borrow.Author.Tests.{leb-false, leb-true, le-leb, lt-leb}
-use Rattle.fields.specs.Blocks.{flat, unblock}
+use borrow.Author.Tests.{eqb-false, leb-false, leb-true, le-leb, lt-leb, ne-eqb}
+use Rattle.fields.specs.Blocks.{flat}
 use Rattle.fields.specs.Choice.{pick}
 use Rattle.fields.specs.Numbers.{bytesOf, natOf}
 use Rattle.fields.specs.Widths.{total}
 use Rattle.fields.proofs.Numbers.{length-bytesOf, nat-bytes}
 use Rattle.rules.specs.Delta.{Bad, Got, KeyValueOp, NodeOp, Op, OpRead, SetMaxVersionOp, field, fieldWidths, lacking, number, numberLacks, numberWidth, opBytes, readKeyValue, readNode, readOp, readSetMaxVersion, readTagged, sizeOf, statusByte, statusOr, text, textBytes}
-use Rattle.rules.specs.Digest.{DigestRead, Entries, NodeDigest, Refused, countWidth, digestBytes, entryBytes, entryOf, entryWidth, readCount, readEntries}
+use Rattle.rules.specs.Digest.{DigestRead, NodeDigest, Refused, countWidth, digestBytes, entryBytes, entryWidth, firstEntries, headWidth, readCount, readCounted, readEntries, readToEnd}
 use Rattle.rules.specs.Sizes.{maxKey, maxNodes, maxValue}
 use Rattle.rules.specs.declared.Refusal.{Refusal}
-use Rattle.rules.specs.declared.Refusal.the-variants.{Cut, TooLong, TooMany, BadTag}
+use Rattle.rules.specs.declared.Refusal.the-variants.{Cut, TooLong, TooMany, BadTag, BadEdition}
 use Rattle.rules.specs.declared.Status.{Status}
 use Rattle.rules.proofs.Digests.{entries-long}
 use Rattle.rules.proofs.Ops.{SmallOp, afterKey, afterKeyTag, afterNumber, afterTag, afterValue, afterVersion, field-read, one-byte, status-byte}
@@ -113,9 +113,9 @@ op-cut l m n e =
 
 -- ---- the same of a digest
 
-entries-grow : (l m : List ℕ) (n : ℕ) → readEntries l ≡ Refused (Cut n) → (0 < n) × (length m < n → readEntries (l ++ m) ≡ Refused (Cut (n - length m)))
-unfolding readEntries
-entries-grow l m n e = count (leb countWidth (length l)) refl e
+-- V0
+counted-grow : (l m : List ℕ) (n : ℕ) → readCounted l ≡ Refused (Cut n) → (0 < n) × (length m < n → readCounted (l ++ m) ≡ Refused (Cut (n - length m)))
+counted-grow l m n e = count (leb countWidth (length l)) refl e
   where
     c : ℕ
     c = natOf (take countWidth l)
@@ -124,12 +124,12 @@ entries-grow l m n e = count (leb countWidth (length l)) refl e
     r = drop countWidth l
 
     good : DigestRead
-    good = Entries (unblock entryWidth entryOf c r) (drop (c * entryWidth) r)
+    good = firstEntries c r
 
     Out : Type 0
-    Out = (0 < n) × (length m < n → readEntries (l ++ m) ≡ Refused (Cut (n - length m)))
+    Out = (0 < n) × (length m < n → readCounted (l ++ m) ≡ Refused (Cut (n - length m)))
 
-    joined : countWidth ≤ length l → readEntries (l ++ m) ≡ readCount c (r ++ m)
+    joined : countWidth ≤ length l → readCounted (l ++ m) ≡ readCount c (r ++ m)
     joined h =
         let h′ : countWidth ≤ length (l ++ m) = simp length-append (omega arith) in
         rw (le-leb countWidth (length (l ++ m)) h′, take-append-le countWidth l m h, drop-append-le countWidth l m h)
@@ -157,10 +157,39 @@ entries-grow l m n e = count (leb countWidth (length l)) refl e
         let h′ : length m < n → length (l ++ m) < countWidth = λ k. simp length-append (omega arith) in
         (omega arith, λ k. rw (lt-leb countWidth (length (l ++ m)) (h′ k), rest k))
 
-pub entries-cut : (l m : List ℕ) (n : ℕ) → readEntries l ≡ Refused (Cut n) → Fills (length l) n (length m) (λ k. readEntries (l ++ m) ≡ Refused (Cut k))
-entries-cut l m n e =
-    let g = entries-grow l m n e in
-    record { lacks = g .0; fewer = g .1; enough = λ h k q. let p = entries-grow (l ++ m) [] k q .0 in omega arith }
+-- V1
+to-end-grow : (l m : List ℕ) (n : ℕ) → readToEnd l ≡ Refused (Cut n) → (0 < n) × (length m < n → readToEnd (l ++ m) ≡ Refused (Cut (n - length m)))
+to-end-grow l m n e = whole (eqb (length l % entryWidth) 0) refl (leb (length l / entryWidth) maxNodes) e
+  where
+    whole : (t : Bool) → eqb (length l % entryWidth) 0 ≡ t → (s : Bool)
+        → pick t (pick s (firstEntries (length l / entryWidth) l) (Refused TooMany)) (Refused (Cut (numberLacks (length l)))) ≡ Refused (Cut n)
+        → (0 < n) × (length m < n → readToEnd (l ++ m) ≡ Refused (Cut (n - length m)))
+    whole true q true e = let z : _≡_ {A = ℕ} 0 1 = cc in absurd (omega arith)
+    whole true q false e = let z : _≡_ {A = ℕ} 0 1 = cc in absurd (omega arith)
+    whole false q s e =
+        let part : length l % entryWidth ≡ 0 → ⊥ = eqb-false _ _ q in
+        let same : numberLacks (length l) ≡ n = cc in
+        let still : length m < n → length (l ++ m) % entryWidth ≡ 0 → ⊥ = λ k. simp length-append (λ z. part (omega arith)) in
+        let rest : length m < n → numberLacks (length (l ++ m)) ≡ n - length m = λ k. simp length-append (omega arith) in
+        (omega arith, λ k. rw (ne-eqb (length (l ++ m) % entryWidth) 0 (still k), rest k))
+
+entries-grow : (edition : ℕ) (l m : List ℕ) (n : ℕ) → readEntries edition l ≡ Refused (Cut n) → (0 < n) × (length m < n → readEntries edition (l ++ m) ≡ Refused (Cut (n - length m)))
+unfolding readEntries
+entries-grow edition l m n = go (eqb edition 0) (eqb edition 1)
+  where
+    Out : Bool → Bool → List ℕ → DigestRead
+    Out a b x = pick a (readCounted x) (pick b (readToEnd x) (Refused BadEdition))
+
+    go : (a b : Bool) → Out a b l ≡ Refused (Cut n) → (0 < n) × (length m < n → Out a b (l ++ m) ≡ Refused (Cut (n - length m)))
+    go true b e = counted-grow l m n e
+    go false true e = to-end-grow l m n e
+    go false false e = let z : _≡_ {A = ℕ} 0 1 = cc in absurd (omega arith)
+
+-- in either edition
+pub entries-cut : (edition : ℕ) (l m : List ℕ) (n : ℕ) → readEntries edition l ≡ Refused (Cut n) → Fills (length l) n (length m) (λ k. readEntries edition (l ++ m) ≡ Refused (Cut k))
+entries-cut edition l m n e =
+    let g = entries-grow edition l m n e in
+    record { lacks = g .0; fewer = g .1; enough = λ h k q. let p = entries-grow edition (l ++ m) [] k q .0 in omega arith }
 
 -- ---- what was written, cut off behind n bytes
 
@@ -261,14 +290,14 @@ lacking-numbers (suc k) n h = go (leb numberWidth n) refl (λ g. lacking-numbers
     go true q ih = let g : numberWidth ≤ n = leb-true _ _ q in ih (omega arith) ∙ omega arith
     go false q ih = let g : n < numberWidth = leb-false _ _ q in omega arith
 
--- the fields of a digest of k entries
+-- the fields of a digest of k entries in V0
 abbrev pub digestWidths : (k : ℕ) → List ℕ
 digestWidths k = countWidth ∷ replicate (k * 4) numberWidth
 
--- a digest, cut off anywhere
-pub digest-cut : (ds : List NodeDigest) (n : ℕ) → length ds ≤ maxNodes → n < length (digestBytes ds)
-    → readEntries (take n (digestBytes ds)) ≡ Refused (Cut (lacking n (digestWidths (length ds))))
-unfolding readEntries digestBytes lacking
+-- a digest in V0, cut off anywhere
+pub digest-cut : (ds : List NodeDigest) (n : ℕ) → length ds ≤ maxNodes → n < length (digestBytes 0 ds)
+    → readEntries 0 (take n (digestBytes 0 ds)) ≡ Refused (Cut (lacking n (digestWidths (length ds))))
+unfolding readEntries digestBytes headWidth lacking
 digest-cut ds n few h = go (leb countWidth n) refl
   where
     c : List ℕ
@@ -286,14 +315,14 @@ digest-cut ds n few h = go (leb countWidth n) refl
     n-most : n < countWidth + length ds * entryWidth
     n-most = omega (arith, length-append c body, lc, long)
 
-    go : (t : Bool) → leb countWidth n ≡ t → readEntries (take n (c ++ body)) ≡ Refused (Cut (pick t (lacking (n - countWidth) (replicate (length ds * 4) numberWidth)) (countWidth - n)))
+    go : (t : Bool) → leb countWidth n ≡ t → readEntries 0 (take n (c ++ body)) ≡ Refused (Cut (pick t (lacking (n - countWidth) (replicate (length ds * 4) numberWidth)) (countWidth - n)))
     go true q =
         let g : countWidth ≤ n = leb-true _ _ q in
         let r : List ℕ = take (n - countWidth) body in
         let lr : length r ≡ n - countWidth = length-take-le (n - countWidth) body (omega (arith, long, n-most)) in
         let there : countWidth ≤ length (c ++ r) = simp length-append (omega (arith, lc)) in
         let count : natOf c ≡ length ds = nat-bytes countWidth (length ds) (omega arith) in
-        ap readEntries (take-behind countWidth c body lc n g)
+        ap (readEntries 0) (take-behind countWidth c body lc n g)
         ∙ rw (le-leb countWidth (length (c ++ r)) there, take-at c r countWidth lc, drop-at c r countWidth lc, count, le-leb (length ds) maxNodes few)
         (rw (lr, lt-leb (length ds * entryWidth) (n - countWidth) (omega (arith, n-most)))
         (ap (λ (k : ℕ). Refused (Cut k)) (sym (lacking-numbers (length ds * 4) (n - countWidth) (omega (arith, n-most))))))
@@ -301,3 +330,12 @@ digest-cut ds n few h = go (leb countWidth n) refl
         let g : n < countWidth = leb-false _ _ q in
         let k : length (take n (c ++ body)) ≡ n = length-take-le n (c ++ body) (simp length-append (omega (arith, lc))) in
         rw (k, lt-leb countWidth n g)
+
+-- one in V1, cut off inside an entry: what the number lacks in which n bytes end. Between two entries it is a digest of fewer.
+pub bare-cut : (ds : List NodeDigest) (n : ℕ) → n < length (digestBytes 1 ds) → (n % entryWidth ≡ 0 → ⊥)
+    → readEntries 1 (take n (digestBytes 1 ds)) ≡ Refused (Cut (lacking n (replicate (length ds * 4) numberWidth)))
+unfolding readEntries digestBytes headWidth bytesOf
+bare-cut ds n h part =
+    let long : length (flat entryBytes ds) ≡ length ds * entryWidth = entries-long ds in
+    let k : length (take n (flat entryBytes ds)) ≡ n = length-take-le n (flat entryBytes ds) (omega arith) in
+    rw (k, ne-eqb (n % entryWidth) 0 part, lacking-numbers (length ds * 4) n (omega arith))

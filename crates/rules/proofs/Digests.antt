@@ -1,16 +1,16 @@
--- A digest and its bytes: reading what was written gives it back, what was read writes its bytes, and of an ascending digest every entry
--- counts. Assumes nothing.
+-- A digest and its bytes: reading what was written gives it back, in either edition, what was read writes its bytes, and of an ascending digest
+-- every entry counts. Assumes nothing.
 -- the entry's numbers have eight bytes
-use Prim.Native.Nat.{_*_, _+_, _-_, _<_, _≤_, suc, zero, ℕ}
+use Prim.Native.Nat.{_%_, _*_, _+_, _-_, _/_, _<_, _≤_, suc, zero, ℕ}
 use mathlib.Core.Bool.{Bool, false, true}
 use mathlib.Core.List.{List, [], _++_, _∷_, append-assoc, append-nil}
 use mathlib.Core.Logic.{_⊎_, inl, inr}
 use mathlib.Core.Path.{_∙_, _≡_, ap, ap₂, refl, subst, subst₂, sym}
 use native.Mathlib.Omega.{arith}
-use lib.Dec.{leb}
+use lib.Dec.{eqb, leb}
 use lib.ListN.{drop, length, length-append, length-drop, take, take-append-drop}
-use lib.Seq.{drop-at, drop-drop, length-take-le, take-at}
-use borrow.Author.Tests.{le-leb, le-ltb, leb-true, ne-eqb}
+use lib.Seq.{drop-at, drop-drop, drop-length, length-take-le, take-at}
+use borrow.Author.Tests.{eq-eqb, eqb-true, le-leb, le-ltb, leb-true, ne-eqb}
 use Rattle.fields.proofs.Blocks.{length-flat, length-unblock}
 use Rattle.fields.proofs.Choice.{in-append, in-cons, in-none}
 use Rattle.fields.proofs.Numbers.{bytes-back, bytes-drop, bytes-take, length-bytesOf, nat-bytes, nat-part, part-back}
@@ -23,12 +23,12 @@ use Rattle.rules.proofs.Obeys.{Ascending, OkEntry, OkTable, number-in, 
 use Rattle.rules.proofs.Ops.{Number}
 use Rattle.rules.proofs.Received.{body}
 use Rattle.rules.specs.Delta.{numberLacks}
-use Rattle.rules.specs.Digest.{Entries, NodeDigest, Refused, countWidth, digestBytes, digestOf, digestOfNode, entryBytes, entryOf, entryWidth, gathered, readCount, readDigest, readEntries, tell, tellAll}
+use Rattle.rules.specs.Digest.{Entries, NodeDigest, Refused, countWidth, digestBytes, digestOf, digestOfNode, entryBytes, entryOf, entryWidth, firstEntries, gathered, headWidth, isEdition, readCount, readCounted, readDigest, readEntries, readToEnd, tell, tellAll}
 use Rattle.rules.specs.Node.{beats}
 use Rattle.rules.specs.Sizes.{maxNodes}
 use Rattle.rules.specs.Table.{Entry, Table, among, numbersOf, obeys}
 use Rattle.rules.specs.declared.Refusal.{Refusal}
-use Rattle.rules.specs.declared.Refusal.the-variants.{Cut, TooMany}
+use Rattle.rules.specs.declared.Refusal.the-variants.{BadEdition, Cut, TooMany}
 
 pub record SmallEntry (d : NodeDigest) : Type 0 where
   pub number-fits : Number (d .number)
@@ -123,75 +123,154 @@ entries-small (suc n) l b h = (
   entries-small n (drop entryWidth l) (bytes-drop entryWidth l b) (simp length-drop (omega arith)),
 )
 
+-- ---- the editions
+
+-- what holds of V0 and of V1 holds of each edition
+pub by-edition : (P : ℕ → Type 0) → P 0 → P 1 → (edition : ℕ) → isEdition edition ≡ true → P edition
+by-edition P a b zero e = a
+by-edition P a b (suc zero) e = b
+by-edition P a b (suc (suc n)) e = let h = leb-true (suc (suc n)) 1 e in absurd (omega arith)
+
+-- what may stand behind the entries: anything in V0, nothing in V1
+abbrev pub MayFollow : (edition : ℕ) (rest : List ℕ) → Type 0
+MayFollow edition rest = edition ≡ 1 → rest ≡ []
+
 -- ---- the digest
 
--- reading what was written
-pub read-entries : (ds : List NodeDigest) (rest : List ℕ) → length ds ≤ maxNodes → AllEntries ds → readEntries (digestBytes ds ++ rest) ≡ Entries ds rest
-unfolding readEntries digestBytes
-read-entries ds rest h a =
-    let body : List ℕ = flat entryBytes ds ++ rest in
-    let c : List ℕ = bytesOf countWidth (length ds) in
-    let e : (c ++ flat entryBytes ds) ++ rest ≡ c ++ body = append-assoc c (flat entryBytes ds) rest in
-    let lc : length c ≡ countWidth = length-bytesOf countWidth (length ds) in
-    let long : countWidth ≤ length (c ++ body) = simp length-append (omega arith) in
-    let enough : length ds * entryWidth ≤ length body = let k = entries-long ds in simp length-append (omega arith) in
-    let n : natOf (take countWidth (c ++ body)) ≡ length ds = ap natOf (take-at c body countWidth lc) ∙ nat-bytes countWidth (length ds) (omega arith) in
-    ap readEntries e
-    ∙ ap (λ (b : Bool). pick b (readCount (natOf (take countWidth (c ++ body))) (drop countWidth (c ++ body))) (Refused (Cut (countWidth - length (c ++ body))))) (le-leb _ _ long)
-    ∙ ap₂ readCount n (drop-at c body countWidth lc)
-    ∙ ap (λ (b : Bool). pick b (pick (leb (length ds * entryWidth) (length body)) (Entries (unblock entryWidth entryOf (length ds) body) (drop (length ds * entryWidth) body)) (Refused (Cut (numberLacks (length body))))) (Refused TooMany)) (le-leb _ _ h)
-    ∙ ap (λ (b : Bool). pick b (Entries (unblock entryWidth entryOf (length ds) body) (drop (length ds * entryWidth) body)) (Refused (Cut (numberLacks (length body))))) (le-leb _ _ enough)
-    ∙ ap₂ Entries (entries-back ds rest a) (drop-at (flat entryBytes ds) rest (length ds * entryWidth) (entries-long ds))
+-- entries that were written, and what stands behind them
+first-entries : (ds : List NodeDigest) (rest : List ℕ) → AllEntries ds → firstEntries (length ds) (flat entryBytes ds ++ rest) ≡ Entries ds rest
+first-entries ds rest a = ap₂ Entries (entries-back ds rest a) (drop-at (flat entryBytes ds) rest (length ds * entryWidth) (entries-long ds))
 
-pub record EntriesAre (l : List ℕ) (ds : List NodeDigest) (rest : List ℕ) : Type 0 where
-  pub bytes : digestBytes ds ++ rest ≡ l
+-- V0: behind their count
+read-counted : (n : ℕ) (m : List ℕ) → n ≤ maxNodes → n * entryWidth ≤ length m → readCounted (bytesOf countWidth n ++ m) ≡ firstEntries n m
+read-counted n m h enough =
+    let c : List ℕ = bytesOf countWidth n in
+    let lc : length c ≡ countWidth = length-bytesOf countWidth n in
+    let long : countWidth ≤ length (c ++ m) = simp length-append (omega arith) in
+    let count : natOf (take countWidth (c ++ m)) ≡ n = ap natOf (take-at c m countWidth lc) ∙ nat-bytes countWidth n (omega arith) in
+    rw (le-leb _ _ long)
+    (ap₂ readCount count (drop-at c m countWidth lc)
+    ∙ rw (le-leb _ _ h, le-leb _ _ enough))
+
+-- V1: to the end
+read-to-end : (n : ℕ) (l : List ℕ) → n ≤ maxNodes → length l ≡ n * entryWidth → readToEnd l ≡ firstEntries n l
+read-to-end n l h long =
+    let whole : length l % entryWidth ≡ 0 = omega arith in
+    let count : length l / entryWidth ≡ n = omega arith in
+    rw (eq-eqb (length l % entryWidth) 0 whole, count, le-leb n maxNodes h)
+
+-- reading what was written, in either edition
+pub read-entries : (edition : ℕ) → isEdition edition ≡ true → (ds : List NodeDigest) (rest : List ℕ) → MayFollow edition rest → length ds ≤ maxNodes → AllEntries ds → readEntries edition (digestBytes edition ds ++ rest) ≡ Entries ds rest
+unfolding readEntries digestBytes headWidth bytesOf
+read-entries edition is ds rest follows h a =
+    by-edition (λ e. MayFollow e rest → readEntries e (digestBytes e ds ++ rest) ≡ Entries ds rest)
+    (λ f. ap readCounted (append-assoc (bytesOf countWidth (length ds)) (flat entryBytes ds) rest) ∙ read-counted (length ds) body h (let k = long in omega arith) ∙ first-entries ds rest a)
+    (λ f. read-to-end (length ds) body h (let g = ap length (f refl) in let k = long in omega arith) ∙ first-entries ds rest a)
+    edition is follows
+  where
+    body : List ℕ
+    body = flat entryBytes ds ++ rest
+
+    long : length body ≡ length ds * entryWidth + length rest
+    long = let k = entries-long ds in simp length-append (omega arith)
+
+pub record EntriesAre (edition : ℕ) (l : List ℕ) (ds : List NodeDigest) (rest : List ℕ) : Type 0 where
+  pub bytes : digestBytes edition ds ++ rest ≡ l
   pub few : length ds ≤ maxNodes
   pub small : AllEntries ds
+  pub follows : MayFollow edition rest
 
 not-entries : {A : Type 0} (r : Refusal) (ds : List NodeDigest) (rest : List ℕ) → Refused r ≡ Entries ds rest → A
 not-entries r ds rest e = let z : _≡_ {A = ℕ} 0 1 = cc in absurd (omega arith)
 
--- what was read writes its bytes
-pub entries-are : (l : List ℕ) (ds : List NodeDigest) (rest : List ℕ) → AreBytes l → readEntries l ≡ Entries ds rest → EntriesAre l ds rest
-unfolding readEntries digestBytes
-entries-are l ds rest b e = count (leb countWidth (length l)) refl e
+-- the first n entries of bytes, written again, are the front of those bytes
+record FirstAre (n : ℕ) (m : List ℕ) (ds : List NodeDigest) (rest : List ℕ) : Type 0 where
+  bytes : flat entryBytes ds ++ rest ≡ m
+  long : length ds ≡ n
+  small : AllEntries ds
+  left : rest ≡ drop (n * entryWidth) m
+
+first-are : (n : ℕ) (m : List ℕ) (ds : List NodeDigest) (rest : List ℕ) → AreBytes m → n * entryWidth ≤ length m → firstEntries n m ≡ Entries ds rest → FirstAre n m ds rest
+first-are n m ds rest b h e =
+    let p : unblock entryWidth entryOf n m ≡ ds = cc in
+    let r : drop (n * entryWidth) m ≡ rest = cc in
+    subst₂ (λ (a : List NodeDigest) (z : List ℕ). FirstAre n m a z) p r
+    (record {
+      bytes = back-entries n m b h;
+      long = length-unblock entryWidth entryOf n m;
+      small = entries-small n m b h;
+      left = refl;
+    })
+
+module _ (l : List ℕ) (ds : List NodeDigest) (rest : List ℕ) (b : AreBytes l) where
+  counted-are : readCounted l ≡ Entries ds rest → EntriesAre 0 l ds rest
+  unfolding digestBytes headWidth
+  counted-are e = count (leb countWidth (length l)) refl e
+    where
+      n : ℕ
+      n = natOf (take countWidth l)
+
+      m : List ℕ
+      m = drop countWidth l
+
+      got : countWidth ≤ length l → n ≤ maxNodes → FirstAre n m ds rest → EntriesAre 0 l ds rest
+      got h g x =
+          let front : bytesOf countWidth n ≡ take countWidth l = bytes-back countWidth (take countWidth l) (length-take-le countWidth l h) (bytes-take countWidth l b) in
+          record {
+            bytes =
+                append-assoc (bytesOf countWidth (length ds)) (flat entryBytes ds) rest
+                ∙ ap₂ (λ (y z : List ℕ). y ++ z) (ap (bytesOf countWidth) (x .long) ∙ front) (x .bytes)
+                ∙ take-append-drop countWidth l;
+            few = rw (x .long) g;
+            small = x .small;
+            follows = λ z. absurd (omega arith);
+          }
+
+      all-there : (s : Bool) → leb (n * entryWidth) (length m) ≡ s → countWidth ≤ length l → n ≤ maxNodes → pick s (firstEntries n m) (Refused (Cut (numberLacks (length m)))) ≡ Entries ds rest → EntriesAre 0 l ds rest
+      all-there true q h g e = got h g (first-are n m ds rest (bytes-drop countWidth l b) (leb-true _ _ q) e)
+      all-there false q h g e = not-entries (Cut (numberLacks (length m))) ds rest e
+
+      few : (s : Bool) → leb n maxNodes ≡ s → countWidth ≤ length l → pick s (pick (leb (n * entryWidth) (length m)) (firstEntries n m) (Refused (Cut (numberLacks (length m))))) (Refused TooMany) ≡ Entries ds rest → EntriesAre 0 l ds rest
+      few true q h e = all-there (leb (n * entryWidth) (length m)) refl h (leb-true _ _ q) e
+      few false q h e = not-entries TooMany ds rest e
+
+      count : (s : Bool) → leb countWidth (length l) ≡ s → pick s (readCount n m) (Refused (Cut (countWidth - length l))) ≡ Entries ds rest → EntriesAre 0 l ds rest
+      count true q e = few (leb n maxNodes) refl (leb-true _ _ q) e
+      count false q e = not-entries (Cut (countWidth - length l)) ds rest e
+
+  to-end-are : readToEnd l ≡ Entries ds rest → EntriesAre 1 l ds rest
+  unfolding digestBytes headWidth bytesOf
+  to-end-are e = whole (eqb (length l % entryWidth) 0) refl e
+    where
+      n : ℕ
+      n = length l / entryWidth
+
+      got : length l % entryWidth ≡ 0 → n ≤ maxNodes → FirstAre n l ds rest → EntriesAre 1 l ds rest
+      got h g x =
+          record {
+            bytes = x .bytes;
+            few = rw (x .long) g;
+            small = x .small;
+            follows = λ z. x .left ∙ ap (λ (k : ℕ). drop k l) (let q : n * entryWidth ≡ length l = omega arith in q) ∙ drop-length l;
+          }
+
+      few : (s : Bool) → leb n maxNodes ≡ s → length l % entryWidth ≡ 0 → pick s (firstEntries n l) (Refused TooMany) ≡ Entries ds rest → EntriesAre 1 l ds rest
+      few true q h e = got h (leb-true _ _ q) (first-are n l ds rest b (omega arith) e)
+      few false q h e = not-entries TooMany ds rest e
+
+      whole : (s : Bool) → eqb (length l % entryWidth) 0 ≡ s → pick s (pick (leb n maxNodes) (firstEntries n l) (Refused TooMany)) (Refused (Cut (numberLacks (length l)))) ≡ Entries ds rest → EntriesAre 1 l ds rest
+      whole true q e = few (leb n maxNodes) refl (eqb-true _ _ q) e
+      whole false q e = not-entries (Cut (numberLacks (length l))) ds rest e
+
+-- what was read writes its bytes, in the edition that it was read in; and in V1 nothing is left unread
+pub entries-are : (edition : ℕ) (l : List ℕ) (ds : List NodeDigest) (rest : List ℕ) → AreBytes l → readEntries edition l ≡ Entries ds rest → EntriesAre edition l ds rest
+unfolding readEntries
+entries-are edition l ds rest b e = go (eqb edition 0) refl (eqb edition 1) refl e
   where
-    n : ℕ
-    n = natOf (take countWidth l)
-
-    m : List ℕ
-    m = drop countWidth l
-
-    got : countWidth ≤ length l → n ≤ maxNodes → n * entryWidth ≤ length m → EntriesAre l (unblock entryWidth entryOf n m) (drop (n * entryWidth) m)
-    got h g k =
-        let long : length (unblock entryWidth entryOf n m) ≡ n = length-unblock entryWidth entryOf n m in
-        let front : bytesOf countWidth n ≡ take countWidth l = bytes-back countWidth (take countWidth l) (length-take-le countWidth l h) (bytes-take countWidth l b) in
-        record {
-          bytes =
-              append-assoc (bytesOf countWidth (length (unblock entryWidth entryOf n m))) (flat entryBytes (unblock entryWidth entryOf n m)) (drop (n * entryWidth) m)
-              ∙ ap₂ (λ (x y : List ℕ). x ++ y) (ap (bytesOf countWidth) long ∙ front) (back-entries n m (bytes-drop countWidth l b) k)
-              ∙ take-append-drop countWidth l;
-          few = rw long g;
-          small = entries-small n m (bytes-drop countWidth l b) k;
-        }
-
-    as-entries : EntriesAre l (unblock entryWidth entryOf n m) (drop (n * entryWidth) m) → Entries (unblock entryWidth entryOf n m) (drop (n * entryWidth) m) ≡ Entries ds rest → EntriesAre l ds rest
-    as-entries x q =
-        let p : unblock entryWidth entryOf n m ≡ ds = cc in
-        let r : drop (n * entryWidth) m ≡ rest = cc in
-        subst₂ (λ (a : List NodeDigest) (z : List ℕ). EntriesAre l a z) p r x
-
-    all-there : (s : Bool) → leb (n * entryWidth) (length m) ≡ s → countWidth ≤ length l → n ≤ maxNodes → pick s (Entries (unblock entryWidth entryOf n m) (drop (n * entryWidth) m)) (Refused (Cut (numberLacks (length m)))) ≡ Entries ds rest → EntriesAre l ds rest
-    all-there true q h g e = as-entries (got h g (leb-true _ _ q)) e
-    all-there false q h g e = not-entries (Cut (numberLacks (length m))) ds rest e
-
-    few : (s : Bool) → leb n maxNodes ≡ s → countWidth ≤ length l → pick s (pick (leb (n * entryWidth) (length m)) (Entries (unblock entryWidth entryOf n m) (drop (n * entryWidth) m)) (Refused (Cut (numberLacks (length m))))) (Refused TooMany) ≡ Entries ds rest → EntriesAre l ds rest
-    few true q h e = all-there (leb (n * entryWidth) (length m)) refl h (leb-true _ _ q) e
-    few false q h e = not-entries TooMany ds rest e
-
-    count : (s : Bool) → leb countWidth (length l) ≡ s → pick s (readCount n m) (Refused (Cut (countWidth - length l))) ≡ Entries ds rest → EntriesAre l ds rest
-    count true q e = few (leb n maxNodes) refl (leb-true _ _ q) e
-    count false q e = not-entries (Cut (countWidth - length l)) ds rest e
+    go : (x : Bool) → eqb edition 0 ≡ x → (y : Bool) → eqb edition 1 ≡ y → pick x (readCounted l) (pick y (readToEnd l) (Refused BadEdition)) ≡ Entries ds rest → EntriesAre edition l ds rest
+    go true p y q e = subst (λ (k : ℕ). EntriesAre k l ds rest) (sym (eqb-true edition 0 p)) (counted-are l ds rest b e)
+    go false p true q e = subst (λ (k : ℕ). EntriesAre k l ds rest) (sym (eqb-true edition 1 q)) (to-end-are l ds rest b e)
+    go false p false q e = not-entries BadEdition ds rest e
 
 -- ---- an ascending digest is read as it stands
 
@@ -222,10 +301,10 @@ tell-all (d ∷ ds) l a h =
         one (inl e) = subst (λ (z : NodeDigest). z .number < y .number) (sym e) (a .0 y n)
         one (inr o) = absurd (in-none o)
 
-pub read-ascending : (ds : List NodeDigest) (rest : List ℕ) → length ds ≤ maxNodes → AllEntries ds → Ascends ds → readDigest (digestBytes ds ++ rest) ≡ Entries ds rest
+pub read-ascending : (edition : ℕ) → isEdition edition ≡ true → (ds : List NodeDigest) (rest : List ℕ) → MayFollow edition rest → length ds ≤ maxNodes → AllEntries ds → Ascends ds → readDigest edition (digestBytes edition ds ++ rest) ≡ Entries ds rest
 unfolding readDigest
-read-ascending ds rest h a s =
-    ap gathered (read-entries ds rest h a) ∙ ap (λ (x : List NodeDigest). Entries x rest) (tell-all ds [] s (λ x y m n. absurd (in-none m)))
+read-ascending edition is ds rest follows h a s =
+    ap gathered (read-entries edition is ds rest follows h a) ∙ ap (λ (x : List NodeDigest). Entries x rest) (tell-all ds [] s (λ x y m n. absurd (in-none m)))
 
 -- ---- the digest of a table that obeys the rules
 
@@ -293,8 +372,13 @@ digest-small excluded t ok = all-small (digestOf excluded t) (λ x m. at x (dige
     at : (x : NodeDigest) → (e : Entry) × (e ∈ t) × (x ≡ digestOfNode e) → SmallEntry x
     at x y = subst SmallEntry (sym (y .2)) (of-node (y .0) (ok .each (y .0) (y .1)))
 
--- what a table writes, reading gives back, and hands out what stands behind it
-pub read-digest : (excluded : List ℕ) (t : Table) (rest : List ℕ) → obeys t ≡ true → readDigest (digestBytes (digestOf excluded t) ++ rest) ≡ Entries (digestOf excluded t) rest
-read-digest excluded t rest e =
+-- what a table writes in an edition, reading in the same gives back, and hands out what stands behind it
+pub read-digest : (edition : ℕ) → isEdition edition ≡ true → (excluded : List ℕ) (t : Table) (rest : List ℕ) → MayFollow edition rest → obeys t ≡ true → readDigest edition (digestBytes edition (digestOf excluded t) ++ rest) ≡ Entries (digestOf excluded t) rest
+read-digest edition is excluded t rest follows e =
     let ok = table-facts t e in
-    read-ascending (digestOf excluded t) rest (let a = digest-few excluded t in let b = ok .few in omega arith) (digest-small excluded t ok) (digest-ascends excluded t (ok .ascending))
+    read-ascending edition is (digestOf excluded t) rest follows (let a = digest-few excluded t in let b = ok .few in omega arith) (digest-small excluded t ok) (digest-ascends excluded t (ok .ascending))
+
+-- and where nothing stands behind it, which is what an exchange sends
+pub read-written : (edition : ℕ) → isEdition edition ≡ true → (excluded : List ℕ) (t : Table) → obeys t ≡ true → readDigest edition (digestBytes edition (digestOf excluded t)) ≡ Entries (digestOf excluded t) []
+read-written edition is excluded t e =
+    ap (readDigest edition) (sym (append-nil (digestBytes edition (digestOf excluded t)))) ∙ read-digest edition is excluded t [] (λ z. refl) e

@@ -181,10 +181,10 @@ module _ (ways : Ways) (i : ℕ) (w : World) where
       go none e false q = (_, stays, refl)
       go (some p) e b q = seen-decided j k p (decide c k p) e b q
 
-  pub seen-digesting : (excluded : List ℕ) (place : ℕ) (l : List ℕ) → Seen ways (at i w) (at i (calls ways (Digesting excluded place l) w))
-  seen-digesting excluded place l = go (writeDigest excluded place (w .follower) l .answer)
+  pub seen-digesting : (edition : ℕ) (excluded : List ℕ) (place : ℕ) (l : List ℕ) → Seen ways (at i w) (at i (calls ways (Digesting edition excluded place l) w))
+  seen-digesting edition excluded place l = go (writeDigest edition excluded place (w .follower) l .answer)
     where
-      go : (a : Written) → Seen ways (at i w) (at i (onExchange (afterDigest place (writeDigest excluded place (w .follower) l .lent) a (w .exchange)) w))
+      go : (a : Written) → Seen ways (at i w) (at i (onExchange (afterDigest place (writeDigest edition excluded place (w .follower) l .lent) a (w .exchange)) w))
       go (written.Bytes n) = (_, lost, refl)
       go (written.Refused r) = (_, stays, refl)
 

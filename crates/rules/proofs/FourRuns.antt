@@ -47,7 +47,7 @@ one = 49 ∷ []
 
 -- a delta on its way, and applied
 abbrev delta : ℕ → List Event
-delta mtu = Digesting [] 0 (replicate 34 0) ∷ Computing [] (0 ∷ []) mtu 0 (replicate 300 0) ∷ []
+delta mtu = Digesting 0 [] 0 (replicate 34 0) ∷ Computing 0 [] (0 ∷ []) mtu 0 (replicate 300 0) ∷ []
 
 abbrev exchange : ℕ → List Event
 exchange mtu = delta mtu ++ (Applying 50 (0 ∷ []) ∷ [])
@@ -66,9 +66,9 @@ whole = exchange 135
 abbrev pub lively : List Event
 lively =
     Beating Publishers 7
-    ∷ Digesting [] 0 (replicate 34 0)
+    ∷ Digesting 0 [] 0 (replicate 34 0)
     ∷ Beating Followers 7
-    ∷ Computing [] (0 ∷ []) 135 0 (replicate 135 0)
+    ∷ Computing 0 [] (0 ∷ []) 135 0 (replicate 135 0)
     ∷ Offering Followers 7 (beats 9)
     ∷ Applying 50 (0 ∷ [])
     ∷ Beating Publishers 7
@@ -99,7 +99,7 @@ removedThere =
 abbrev pub forgotten : World
 forgotten = after plainWays (exchange 300) removedThere
 
--- ---- two nodes in one delta
+-- ---- two nodes in one delta, for a digest of the second edition
 
 abbrev pub bothNodes : World
 bothNodes =
@@ -107,8 +107,8 @@ bothNodes =
     (Writing 7 k (Setting one)
     ∷ Writing 9 b (Setting one)
     ∷ Writing 9 b (Setting [])
-    ∷ Digesting [] 0 (replicate 66 0)
-    ∷ Computing [] (0 ∷ 0 ∷ []) 300 0 (replicate 300 0)
+    ∷ Digesting 1 [] 0 (replicate 64 0)
+    ∷ Computing 1 [] (0 ∷ 0 ∷ []) 300 0 (replicate 300 0)
     ∷ Applying 50 (0 ∷ 0 ∷ [])
     ∷ [])
     (start (7 ∷ 9 ∷ []))
@@ -154,8 +154,8 @@ heldOff = after fencedWays arriving (wasReset fencedWays)
 abbrev pub amid : List Event
 amid =
     arriving
-    ++ ((Digesting [] 0 (replicate 34 0) ∷ [])
-    ++ (arriving ++ ((Computing [] (0 ∷ []) 300 0 (replicate 300 0) ∷ Arriving 2 50 (0 ∷ []) ∷ Applying 50 (0 ∷ []) ∷ []) ++ exchange 300)))
+    ++ ((Digesting 0 [] 0 (replicate 34 0) ∷ [])
+    ++ (arriving ++ ((Computing 0 [] (0 ∷ []) 300 0 (replicate 300 0) ∷ Arriving 2 50 (0 ∷ []) ∷ Applying 50 (0 ∷ []) ∷ []) ++ exchange 300)))
 
 abbrev pub fencedUp : World
 fencedUp = after fencedWays amid heldOff

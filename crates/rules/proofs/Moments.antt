@@ -195,19 +195,19 @@ module _ (ways : Ways) (law : Lawful ways) (is : List ℕ) (w : World) (ok : InO
     next-sending = record { seen = λ i. seen-sent ways i w bytes (made-of i); order = sent-out _ _ reads-well one-more }
 
   -- a delta that is computed for any bytes as a digest
-  module _ (excluded ties : List ℕ) (mtu place : ℕ) (l d : List ℕ) where
+  module _ (edition : ℕ) (excluded ties : List ℕ) (mtu place : ℕ) (l d : List ℕ) where
     may-be-sent : (ds : List NodeDigest) → mtu ≤ maxDelta → Sendable (w .publisher) (deltaFor excluded ties mtu ds (w .publisher))
     may-be-sent ds h = computed-sendable excluded ties mtu ds (w .publisher) (facts-table (w .publisher) (ok .publisher-ok)) h
 
-    next-computing : w .exchange ≡ DigestSent d → (o : Given Computed (List ℕ)) → Comes excluded ties mtu place d (w .publisher) l o → Next ways is w (onExchange (afterDelta place (o .lent) (o .answer) (DigestSent d)) (onSent (sentAfter place (o .lent) (o .answer) (w .sent)) w))
+    next-computing : w .exchange ≡ DigestSent d → (o : Given Computed (List ℕ)) → Comes edition excluded ties mtu place d (w .publisher) l o → Next ways is w (onExchange (afterDelta place (o .lent) (o .answer) (DigestSent d)) (onSent (sentAfter place (o .lent) (o .answer) (w .sent)) w))
     next-computing x o (refuses r) = subst (λ (y : Exchange). Next ways is w (onExchange y w)) x stays-so
     next-computing x o (writes ds rest e h g) =
-        subst (λ (b : List ℕ). Next ways is w (onExchange (DeltaSent b) (onSent (b ∷ w .sent) w))) (sym (delta-bytes excluded ties mtu place d (w .publisher) l ds g)) (next-sending _ (may-be-sent ds h))
+        subst (λ (b : List ℕ). Next ways is w (onExchange (DeltaSent b) (onSent (b ∷ w .sent) w))) (sym (delta-bytes edition excluded ties mtu place d (w .publisher) l ds g)) (next-sending _ (may-be-sent ds h))
 
-    next-keeping : (o : Given Computed (List ℕ)) → Comes excluded ties mtu place d (w .publisher) l o → Next ways is w (onSent (sentAfter place (o .lent) (o .answer) (w .sent)) w)
+    next-keeping : (o : Given Computed (List ℕ)) → Comes edition excluded ties mtu place d (w .publisher) l o → Next ways is w (onSent (sentAfter place (o .lent) (o .answer) (w .sent)) w)
     next-keeping o (refuses r) = stays-so
     next-keeping o (writes ds rest e h g) =
-        subst (λ (b : List ℕ). Next ways is w (onSent (b ∷ w .sent) w)) (sym (delta-bytes excluded ties mtu place d (w .publisher) l ds g)) (next-kept _ (may-be-sent ds h))
+        subst (λ (b : List ℕ). Next ways is w (onSent (b ∷ w .sent) w)) (sym (delta-bytes edition excluded ties mtu place d (w .publisher) l ds g)) (next-kept _ (may-be-sent ds h))
 
   -- any such bytes are taken
   pub taken-order : (now : ℕ) (l b : List ℕ) → now < numbers → ReadsWell b → InOrder is (onSide Followers (λ t. apply ways b now t l .table) w)
@@ -260,16 +260,16 @@ module _ (ways : Ways) (law : Lawful ways) (is : List ℕ) (w : World) (ok : InO
         order = theirs _ (numbers-offer i h (w .follower)) (kept (w .follower) _ (offer-keeps i h (w .follower) (ltb-true _ _ p)) (ok .follower-ok));
       }
   next-calls (Removing s now grace) p = next-removing s (λ i. due now grace)
-  next-calls (Digesting excluded place l) p = record { seen = λ j. seen-digesting ways j w excluded place l; order = sent-out _ (w .sent) (go (writeDigest excluded place (w .follower) l .answer)) (ok .all-read) }
+  next-calls (Digesting edition excluded place l) p = record { seen = λ j. seen-digesting ways j w edition excluded place l; order = sent-out _ (w .sent) (go (writeDigest edition excluded place (w .follower) l .answer)) (ok .all-read) }
     where
-      go : (a : Written) → Readable (afterDigest place (writeDigest excluded place (w .follower) l .lent) a (w .exchange))
+      go : (a : Written) → Readable (afterDigest place (writeDigest edition excluded place (w .follower) l .lent) a (w .exchange))
       go (written.Bytes n) = tt
       go (written.Refused r) = ok .readable
-  next-calls (Computing excluded ties mtu place l) p = go (w .exchange) refl
+  next-calls (Computing edition excluded ties mtu place l) p = go (w .exchange) refl
     where
-      go : (x : Exchange) → w .exchange ≡ x → Next ways is w (onExchange (computedFor excluded ties mtu place l (w .publisher) x) (onSent (sentOn excluded ties mtu place l (w .publisher) x (w .sent)) w))
+      go : (x : Exchange) → w .exchange ≡ x → Next ways is w (onExchange (computedFor edition excluded ties mtu place l (w .publisher) x) (onSent (sentOn edition excluded ties mtu place l (w .publisher) x (w .sent)) w))
       go Idle q = subst (λ (y : Exchange). Next ways is w (onExchange y w)) q stays-so
-      go (DigestSent d) q = next-computing excluded ties mtu place l d q _ (comes excluded ties mtu place d (w .publisher) l)
+      go (DigestSent d) q = next-computing edition excluded ties mtu place l d q _ (comes edition excluded ties mtu place d (w .publisher) l)
       go (DeltaSent b) q = subst (λ (y : Exchange). Next ways is w (onExchange y w)) q stays-so
   next-calls (Applying now l) p = go (w .exchange) refl (ok .readable)
     where
@@ -277,7 +277,7 @@ module _ (ways : Ways) (law : Lawful ways) (is : List ℕ) (w : World) (ok : InO
       go Idle q r = stays-so
       go (DigestSent d) q r = stays-so
       go (DeltaSent b) q r = next-applying now l b (ltb-true _ _ p) q r
-  next-calls (Sending digest excluded ties mtu place l) p = next-keeping excluded ties mtu place l digest _ (comes excluded ties mtu place digest (w .publisher) l)
+  next-calls (Sending edition digest excluded ties mtu place l) p = next-keeping edition excluded ties mtu place l digest _ (comes edition excluded ties mtu place digest (w .publisher) l)
   next-calls (Arriving k now l) p =
       nth-sent (λ x. Next ways is w (onSide Followers (appliedTo ways now l x) w)) stays-so k (w .sent)
       (λ b m. next-arriving (and-left (ways .late) _ p) now l b (ltb-true _ _ (and-right (ways .late) _ p)) m)

@@ -1,4 +1,4 @@
--- Evidence, and no part of a promise: document 01's numbers and values, each beside a call on a small input that gives it. The numbers stand here a
+-- Evidence, and no part of a promise: the numbers and values of documents 01 and 02, each beside a call on a small input that gives it. The numbers stand here a
 -- second time, so that two of them exchanged in Answers, or two values, do not pass. Assumes nothing.
 use Prim.Native.Nat.{ℕ, zero, suc, _-_}
 use mathlib.Core.List.{List, [], _∷_}
@@ -13,7 +13,7 @@ use Rattle.rules.specs.Answers.{Told, answerTold, appliedTold, computedT
 use Rattle.rules.specs.Apply.{apply, applyEach, codes, plainWays}
 use Rattle.rules.specs.Compute.{allOps, byVersion, compute, cut, deltaFor, fromOf, keyValueOps, ordered, queue, sooner, stale, staleNodes, toldOf}
 use Rattle.rules.specs.Delta.{NodeOp, deltaBytes, deltaRead, follow, opBytes, partsOf, readDelta, readKeyValue, readNode, readOp, readOps, readSetMaxVersion, sizeOf}
-use Rattle.rules.specs.Digest.{digestBytes, digestOf, entryBytes, readDigest, readEntries, tell, tellAll, writeDigest}
+use Rattle.rules.specs.Digest.{digestBytes, digestOf, entryBytes, headWidth, readDigest, readEntries, tell, tellAll, writeDigest}
 use Rattle.rules.specs.Layout.{decode, encode}
 use Rattle.rules.specs.Memory.{apart, memoryObeys, removedNumbers}
 use Rattle.rules.specs.Whole.{decodeMemory, encodeWhole, obeysWhole, validWhole}
@@ -83,9 +83,9 @@ rows =
     -- 6: a heartbeat is 2^64-1 and must rise
     ∷ row (answerTold (localBeat 7 (holding (at top 0 [])) .answer)) 6 []
     -- 7: MTU below 100
-    ∷ row (computedTold (compute [] [] 99 0 [] [] [] .answer)) 7 []
+    ∷ row (computedTold (compute 0 [] [] 99 0 [] [] [] .answer)) 7 []
     -- 8: too few bytes
-    ∷ row (writtenTold (writeDigest [] 0 [] [] .answer)) 8 []
+    ∷ row (writtenTold (writeDigest 0 [] 0 [] [] .answer)) 8 []
     -- 9: bytes end inside a field, and what that field lacks: a Node's number, ten bytes behind a Node's tag, a Node's last byte
     ∷ cutRow (readTold (deltaRead (0 ∷ []))) (0 ∷ []) 8
     ∷ cutRow (readTold (deltaRead (0 ∷ zeros 10))) (0 ∷ []) 6
@@ -99,10 +99,13 @@ rows =
     -- the same in the second operation, and applied
     ∷ cutRow (appliedTold (apply plainWays (0 ∷ zeros 35) 0 [] [] .answer)) (25 ∷ []) 6
     -- the count of a digest, and its entries
-    ∷ cutRow (computedTold (compute [] [] 100 0 [] [] (zeros 100) .answer)) [] 2
-    ∷ cutRow (computedTold (compute [] [] 100 0 (1 ∷ []) [] (zeros 100) .answer)) [] 1
-    ∷ cutRow (computedTold (compute [] [] 100 0 (1 ∷ 0 ∷ []) [] (zeros 100) .answer)) [] 8
-    ∷ cutRow (computedTold (compute [] [] 100 0 (1 ∷ 0 ∷ zeros 13) [] (zeros 100) .answer)) [] 3
+    ∷ cutRow (computedTold (compute 0 [] [] 100 0 [] [] (zeros 100) .answer)) [] 2
+    ∷ cutRow (computedTold (compute 0 [] [] 100 0 (1 ∷ []) [] (zeros 100) .answer)) [] 1
+    ∷ cutRow (computedTold (compute 0 [] [] 100 0 (1 ∷ 0 ∷ []) [] (zeros 100) .answer)) [] 8
+    ∷ cutRow (computedTold (compute 0 [] [] 100 0 (1 ∷ 0 ∷ zeros 13) [] (zeros 100) .answer)) [] 3
+    -- in V1 no whole number of entries, above eight too
+    ∷ cutRow (computedTold (compute 1 [] [] 100 0 (zeros 8) [] (zeros 100) .answer)) [] 8
+    ∷ cutRow (computedTold (compute 1 [] [] 100 0 (zeros 289) [] (zeros 100) .answer)) [] 7
     -- 10: tag above 2
     ∷ row (readTold (deltaRead (3 ∷ []))) 10 (0 ∷ [])
     -- 11: SetMaxVersion before any Node
@@ -110,11 +113,15 @@ rows =
     -- 12: node repeated, at the second one's tag
     ∷ row (appliedTold (apply plainWays (deltaBytes (NodeOp 7 0 0 ∷ NodeOp 7 0 0 ∷ [])) 0 [] [] .answer)) 12 (25 ∷ [])
     -- 13: digest count over 8
-    ∷ row (computedTold (compute [] [] 100 0 (9 ∷ 0 ∷ []) [] (zeros 100) .answer)) 13 []
+    ∷ row (computedTold (compute 0 [] [] 100 0 (9 ∷ 0 ∷ []) [] (zeros 100) .answer)) 13 []
+    ∷ row (computedTold (compute 1 [] [] 100 0 (zeros 288) [] (zeros 100) .answer)) 13 []
     -- 14: no bytes are no table
     ∷ row (answerTold (lentAdd 7 [] .answer)) 14 []
     -- 15: tie list not one a node
-    ∷ row (computedTold (compute [] (0 ∷ []) 100 0 [] [] (zeros 100) .answer)) 15 []
+    ∷ row (computedTold (compute 0 [] (0 ∷ []) 100 0 [] [] (zeros 100) .answer)) 15 []
+    -- 20: no such edition, before all that is asked of the datagram and the MTU
+    ∷ row (writtenTold (writeDigest 2 [] 0 [] [] .answer)) 20 []
+    ∷ row (computedTold (compute 2 [] [] 99 0 [] [] [] .answer)) 20 []
     -- accepted, with nothing to tell
     ∷ row (answerTold (add 7 [] .answer)) 0 []
     -- a heartbeat offer: no is 0, yes is 1
@@ -123,9 +130,10 @@ rows =
     -- a prefix listing: the hits
     ∷ row (listedTold (prefixed 7 [] (holding (at 0 2 (records 2))) (zeros 2) .answer)) 0 (2 ∷ [])
     -- a digest: its bytes
-    ∷ row (writtenTold (writeDigest [] 0 (holding fresh) (zeros 34) .answer)) 0 (34 ∷ [])
+    ∷ row (writtenTold (writeDigest 0 [] 0 (holding fresh) (zeros 34) .answer)) 0 (34 ∷ [])
+    ∷ row (writtenTold (writeDigest 1 [] 0 (holding fresh) (zeros 32) .answer)) 0 (32 ∷ [])
     -- computing: operations, then bytes
-    ∷ row (computedTold (compute [] (0 ∷ []) 100 0 (0 ∷ 0 ∷ []) (holding (at 0 1 [])) (zeros 100) .answer)) 0 (2 ∷ 34 ∷ [])
+    ∷ row (computedTold (compute 0 [] (0 ∷ []) 100 0 (0 ∷ 0 ∷ []) (holding (at 0 1 [])) (zeros 100) .answer)) 0 (2 ∷ 34 ∷ [])
     -- delta reading: operations, then nodes
     ∷ row (readTold (deltaRead (deltaBytes (NodeOp 7 0 0 ∷ [])))) 0 (1 ∷ 1 ∷ [])
     -- applying: the answers
@@ -133,7 +141,7 @@ rows =
     ∷ []
 
 pub as-the-paper : inCalls rows ≡ inPaper rows
-unfolding inCalls inPaper rows zeros records nodes answerTold computedTold writtenTold readTold appliedTold offeredTold listedTold call removeNode add localBeat compute writeDigest deltaRead apply offer prefixed decide act find wish among numbersOf nodeOf setNode addNode dropNode readDelta readOps readOp readNode readKeyValue readSetMaxVersion follow deltaBytes opBytes bytesOf flat partsOf applyEach codes readDigest readEntries tell tellAll digestOf digestBytes entryBytes offerOf hitsFrom sameBytes allOps byVersion cut deltaFor fromOf keyValueOps ordered queue sooner stale staleNodes toldOf sizeOf natOf startsWith unblock onWhole validWhole obeysWhole memoryObeys removedNumbers differ apart obeys decode part rising all encode encodeWhole decodeMemory joined
+unfolding inCalls inPaper rows zeros records nodes answerTold computedTold writtenTold readTold appliedTold offeredTold listedTold call removeNode add localBeat compute writeDigest deltaRead apply offer prefixed decide act find wish among numbersOf nodeOf setNode addNode dropNode readDelta readOps readOp readNode readKeyValue readSetMaxVersion follow deltaBytes opBytes bytesOf flat partsOf applyEach codes readDigest readEntries tell tellAll digestOf digestBytes headWidth entryBytes offerOf hitsFrom sameBytes allOps byVersion cut deltaFor fromOf keyValueOps ordered queue sooner stale staleNodes toldOf sizeOf natOf startsWith unblock onWhole validWhole obeysWhole memoryObeys removedNumbers differ apart obeys decode part rising all encode encodeWhole decodeMemory joined
 as-the-paper = refl
 
 -- the answers of nodes in a lent list

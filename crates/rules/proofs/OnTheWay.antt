@@ -14,7 +14,7 @@ use Rattle.fields.specs.Choice.{pick}
 use Rattle.fields.specs.Parts.{part, put}
 use Rattle.rules.specs.Given.{Given, given}
 use Rattle.rules.proofs.Accepted.{cut-bytes, computed-chain, computed-small, read-computed}
-use Rattle.rules.specs.Compute.{allOps, compute, cut, deltaFor, onDigest, ordered, staleNodes, written, StaleNode}
+use Rattle.rules.specs.Compute.{allOps, compute, computeFor, cut, deltaFor, onDigest, ordered, staleNodes, written, StaleNode}
 use Rattle.rules.specs.Delta.{deltaBytes, Good, NodeDelta, Op, nothingRead, partsOf, readDelta}
 use Rattle.rules.proofs.Deltas.{AllSmall, Chain}
 use Rattle.rules.proofs.EachNode.{nodeAt, orFresh}
@@ -22,26 +22,29 @@ use Rattle.rules.proofs.Obeys.{table-facts}
 use Rattle.rules.proofs.Sending.{MadeOf, nodeDelta, sends}
 use Rattle.rules.proofs.Tables.{Behind, SentPart, behind-from, node-entry, ordered-from, part-sent, partAt}
 use Rattle.rules.specs.Demand3.{wroteDigest}
-use Rattle.rules.specs.Digest.{DigestRead, Entries, NodeDigest, Refused, digestBytes, digestOf, readDigest, writeDigest}
+use Rattle.rules.specs.Digest.{DigestRead, Entries, NodeDigest, Refused, digestBytes, digestOf, isEdition, readDigest, writeBytes, writeDigest}
 use Rattle.rules.specs.Node.{Node}
 use Rattle.rules.specs.Sizes.{leastMtu, maxDelta}
 use Rattle.rules.specs.Table.{Table, obeys}
 use Rattle.rules.specs.World.{DigestSent, Exchange, afterDigest, digested}
 use Rattle.rules.specs.declared.Computed.{Computed}
 use Rattle.rules.specs.declared.Refusal.{Refusal}
-use Rattle.rules.specs.declared.Refusal.the-variants.{BadMtu, BadTies, NoPlace}
+use Rattle.rules.specs.declared.Refusal.the-variants.{BadEdition, BadMtu, BadTies, NoPlace}
 use Rattle.rules.specs.declared.Written.{Written}
 use Rattle.rules.specs.declared.Written.the-variants as written-as
 use Rattle.rules.specs.declared.Computed.the-variants as computed
 
 -- ---- a digest
 
-pub digest-written : (excluded : List ℕ) (place : ℕ) (l : List ℕ) (t : Table) (x : Exchange) → wroteDigest (writeDigest excluded place t l .answer) ≡ true → digested excluded place l t x ≡ DigestSent (digestBytes (digestOf excluded t))
+-- one that is written has an edition, and its bytes are on their way
+pub digest-written : (edition : ℕ) (excluded : List ℕ) (place : ℕ) (l : List ℕ) (t : Table) (x : Exchange)
+    → wroteDigest (writeDigest edition excluded place t l .answer) ≡ true
+    → (isEdition edition ≡ true) × (digested edition excluded place l t x ≡ DigestSent (digestBytes edition (digestOf excluded t)))
 unfolding writeDigest
-digest-written excluded place l t x e = go (leb place (length l)) refl (leb (length b) (length l - place)) refl e
+digest-written edition excluded place l t x e = known (isEdition edition) refl e
   where
     b : List ℕ
-    b = digestBytes (digestOf excluded t)
+    b = digestBytes edition (digestOf excluded t)
 
     Out : Bool → Given Written (List ℕ)
     Out c = pick c (given (written-as.Bytes (length b)) (put place b l)) (given (written-as.Refused NoPlace) l)
@@ -51,17 +54,24 @@ digest-written excluded place l t x e = go (leb place (length l)) refl (leb (len
     go true p false q e = absurd (false≢true e)
     go false p d q e = absurd (false≢true e)
 
+    Whole : Bool → Given Written (List ℕ)
+    Whole y = pick y (writeBytes b place l) (given (written-as.Refused BadEdition) l)
+
+    known : (y : Bool) → isEdition edition ≡ y → wroteDigest (Whole y .answer) ≡ true → (isEdition edition ≡ true) × (afterDigest place (Whole y .lent) (Whole y .answer) x ≡ DigestSent b)
+    known true p e = (p, go (leb place (length l)) refl (leb (length b) (length l - place)) refl e)
+    known false p e = absurd (false≢true e)
+
 -- ---- a delta
 
 -- what computing comes to: a refusal, or the delta for what the digest's bytes tell
-pub data Comes (excluded ties : List ℕ) (mtu place : ℕ) (d : List ℕ) (t : Table) (l : List ℕ) : Given Computed (List ℕ) → Type 0 where
-  refuses : (r : Refusal) → Comes excluded ties mtu place d t l (given (computed.Refused r) l)
-  writes : (ds : List NodeDigest) (rest : List ℕ) → readDigest d ≡ Entries ds rest → mtu ≤ maxDelta → place + mtu ≤ length l → Comes excluded ties mtu place d t l (written (deltaFor excluded ties mtu ds t) place l)
+pub data Comes (edition : ℕ) (excluded ties : List ℕ) (mtu place : ℕ) (d : List ℕ) (t : Table) (l : List ℕ) : Given Computed (List ℕ) → Type 0 where
+  refuses : (r : Refusal) → Comes edition excluded ties mtu place d t l (given (computed.Refused r) l)
+  writes : (ds : List NodeDigest) (rest : List ℕ) → readDigest edition d ≡ Entries ds rest → mtu ≤ maxDelta → place + mtu ≤ length l → Comes edition excluded ties mtu place d t l (written (deltaFor excluded ties mtu ds t) place l)
 
-module _ (excluded ties : List ℕ) (mtu place : ℕ) (d : List ℕ) (t : Table) (l : List ℕ) where
-  pub comes : Comes excluded ties mtu place d t l (compute excluded ties mtu place d t l)
+module _ (edition : ℕ) (excluded ties : List ℕ) (mtu place : ℕ) (d : List ℕ) (t : Table) (l : List ℕ) where
+  pub comes : Comes edition excluded ties mtu place d t l (compute edition excluded ties mtu place d t l)
   unfolding compute
-  comes = go (leb leastMtu mtu) (leb mtu maxDelta) refl (leb place (length l)) refl (leb mtu (length l - place)) refl (eqb (length ties) (length t)) (readDigest d) refl
+  comes = known (isEdition edition)
     where
       no : Refusal → Given Computed (List ℕ)
       no r = given (computed.Refused r) l
@@ -73,8 +83,8 @@ module _ (excluded ties : List ℕ) (mtu place : ℕ) (d : List ℕ) (t : Table)
           → (q : Bool)
           → leb mtu (length l - place) ≡ q
           → (c : Bool) (x : DigestRead)
-          → readDigest d ≡ x
-          → Comes excluded ties mtu place d t l (pick (a && b) (pick (p && q) (pick c (onDigest excluded ties mtu place x t l) (no BadTies)) (no NoPlace)) (no BadMtu))
+          → readDigest edition d ≡ x
+          → Comes edition excluded ties mtu place d t l (pick (a && b) (pick (p && q) (pick c (onDigest excluded ties mtu place x t l) (no BadTies)) (no NoPlace)) (no BadMtu))
       go false b b′ p p′ q q′ c x e = refuses BadMtu
       go true false b p p′ q q′ c x e = refuses BadMtu
       go true true b false p q q′ c x e = refuses NoPlace
@@ -85,6 +95,11 @@ module _ (excluded ties : List ℕ) (mtu place : ℕ) (d : List ℕ) (t : Table)
           let h = leb-true mtu (length l - place) q in
           writes ds rest e (leb-true mtu maxDelta b) (omega arith)
       go true true b true p true q true (Refused r) e = refuses r
+
+      known : (y : Bool) → Comes edition excluded ties mtu place d t l (pick y (computeFor excluded ties mtu place (readDigest edition d) t l) (no BadEdition))
+      known true =
+          go (leb leastMtu mtu) (leb mtu maxDelta) refl (leb place (length l)) refl (leb mtu (length l - place)) refl (eqb (length ties) (length t)) (readDigest edition d) refl
+      known false = refuses BadEdition
 
   -- the bytes that a delta leaves in the datagram
   pub delta-bytes : (ds : List NodeDigest)

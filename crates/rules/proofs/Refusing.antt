@@ -15,9 +15,9 @@ use Rattle.fields.specs.Parts.{put}
 use Rattle.rules.proofs.Writing.{write-is}
 use Rattle.rules.specs.Given.{Given, given}
 use Rattle.rules.specs.Apply.{ApplyOutcome, apply, applyEach, applyNode, applyOps, codes, Ways}
-use Rattle.rules.specs.Compute.{compute, onDigest, written}
+use Rattle.rules.specs.Compute.{compute, computeFor, onDigest, written}
 use Rattle.rules.specs.Delta.{Faulty, Good, Ops, Part, partsOf}
-use Rattle.rules.specs.Digest.{DigestRead, Entries, Refused, digestBytes, digestOf, fitsAt, readDigest, writeDigest}
+use Rattle.rules.specs.Digest.{DigestRead, Entries, Refused, digestBytes, digestOf, fitsAt, isEdition, readDigest, writeBytes, writeDigest}
 use Rattle.rules.specs.Whole.{decodeWhole, encodeWhole, obeysWhole, validWhole, withTable}
 use Rattle.rules.specs.Lent.{TableAndList, both, onTable, storedIn, storedApply, lentApplyAs}
 use Rattle.rules.specs.Local.{Outcome, add, answerOf, beatOn, call, callOn, gives, listInto, localBeat, offer, offerOn, prefixOn, prefixed, removeNode, write, yesNo}
@@ -29,7 +29,7 @@ use Rattle.rules.specs.declared.Computed.{Computed}
 use Rattle.rules.specs.declared.Heartbeat.{Heartbeat}
 use Rattle.rules.specs.declared.Listed.{Listed}
 use Rattle.rules.specs.declared.Refusal.{Refusal}
-use Rattle.rules.specs.declared.Refusal.the-variants.{BadMtu, BadTable, BadTies, Exhausted, NinthNode, NoNode, NoPlace, TooLong}
+use Rattle.rules.specs.declared.Refusal.the-variants.{BadEdition, BadMtu, BadTable, BadTies, Exhausted, NinthNode, NoNode, NoPlace, TooLong}
 use Rattle.rules.specs.declared.Written.{Written}
 use Rattle.rules.specs.declared.Answer.the-variants as plain
 use Rattle.rules.specs.declared.Offered.the-variants as offered
@@ -142,10 +142,13 @@ prefixed-refused i k t l r = go (nodeOf i t)
     go none e = refl
     go (some n) e = key n (leb (length k) maxKey) e
 
-pub digest-refused : (excluded : List ℕ) (place : ℕ) (t : Table) (l : List ℕ) (r : Refusal) → writeDigest excluded place t l .answer ≡ written.Refused r → writeDigest excluded place t l .lent ≡ l
+pub digest-refused : (edition : ℕ) (excluded : List ℕ) (place : ℕ) (t : Table) (l : List ℕ) (r : Refusal) → writeDigest edition excluded place t l .answer ≡ written.Refused r → writeDigest edition excluded place t l .lent ≡ l
 unfolding writeDigest
-digest-refused excluded place t l r = go (digestBytes (digestOf excluded t)) (fitsAt place (length (digestBytes (digestOf excluded t))) l)
+digest-refused edition excluded place t l r = known (isEdition edition)
   where
+    bytes : List ℕ
+    bytes = digestBytes edition (digestOf excluded t)
+
     out : List ℕ → Bool → Given Written (List ℕ)
     out b c = pick c (given (written.Bytes (length b)) (put place b l)) (given (written.Refused NoPlace) l)
 
@@ -153,10 +156,16 @@ digest-refused excluded place t l r = go (digestBytes (digestOf excluded t)) (fi
     go b true e = let z : _≡_ {A = ℕ} 0 1 = cc in absurd (omega arith)
     go b false e = refl
 
-pub compute-refused : (excluded ties : List ℕ) (mtu place : ℕ) (digest : List ℕ) (t : Table) (l : List ℕ) (r : Refusal) → compute excluded ties mtu place digest t l .answer ≡ computed.Refused r → compute excluded ties mtu place digest t l .lent ≡ l
+    whole : Bool → Given Written (List ℕ)
+    whole x = pick x (writeBytes bytes place l) (given (written.Refused BadEdition) l)
+
+    known : (x : Bool) → whole x .answer ≡ written.Refused r → whole x .lent ≡ l
+    known true e = go bytes (fitsAt place (length bytes) l) e
+    known false e = refl
+
+pub compute-refused : (edition : ℕ) (excluded ties : List ℕ) (mtu place : ℕ) (digest : List ℕ) (t : Table) (l : List ℕ) (r : Refusal) → compute edition excluded ties mtu place digest t l .answer ≡ computed.Refused r → compute edition excluded ties mtu place digest t l .lent ≡ l
 unfolding compute
-compute-refused excluded ties mtu place digest t l r =
-    go (leb leastMtu mtu && leb mtu maxDelta) (fitsAt place mtu l) (eqb (length ties) (length t)) (readDigest digest)
+compute-refused edition excluded ties mtu place digest t l r = known (isEdition edition)
   where
     out : Bool → Bool → Bool → DigestRead → Given Computed (List ℕ)
     out a b c d =
@@ -169,6 +178,13 @@ compute-refused excluded ties mtu place digest t l r =
     go true true false d e = refl
     go true true true (Entries ds rest) e = let z : _≡_ {A = ℕ} 0 1 = cc in absurd (omega arith)
     go true true true (Refused x) e = refl
+
+    whole : Bool → Given Computed (List ℕ)
+    whole x = pick x (computeFor excluded ties mtu place (readDigest edition digest) t l) (given (computed.Refused BadEdition) l)
+
+    known : (x : Bool) → whole x .answer ≡ computed.Refused r → whole x .lent ≡ l
+    known true e = go (leb leastMtu mtu && leb mtu maxDelta) (fitsAt place mtu l) (eqb (length ties) (length t)) (readDigest edition digest) e
+    known false e = refl
 
 pub apply-refused : (ways : Ways) (bytes : List ℕ) (now : ℕ) (t : Table) (l : List ℕ) (r : Refusal) (at : ℕ) → apply ways bytes now t l .answer ≡ applied.Refused r at → (apply ways bytes now t l .table ≡ t) × (apply ways bytes now t l .list ≡ l)
 unfolding apply

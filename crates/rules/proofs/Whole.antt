@@ -23,7 +23,7 @@ use Rattle.rules.specs.Apply.{ApplyOutcome, Lawful, Stream, Taking, Ways
 use Rattle.rules.specs.Compute.{deltaFor, ordered, staleNodes}
 use Rattle.rules.specs.Delta.{Faulty, Good, Op, Ops, Part, deltaBytes, partsOf, readDelta}
 use Rattle.rules.specs.Demand3.{granted, isApplied, isComputed, noRoom, wroteDelta}
-use Rattle.rules.specs.Digest.{Entries, NodeDigest, digestBytes, digestOf, readDigest}
+use Rattle.rules.specs.Digest.{Entries, NodeDigest, digestBytes, digestOf, isEdition, readDigest}
 use Rattle.rules.specs.Node.{Node}
 use Rattle.rules.specs.Sizes.{maxDelta, numbers}
 use Rattle.rules.specs.Table.{Table, among, nodeOf, obeys}
@@ -62,30 +62,30 @@ front n vs l e h = subst (λ (k : ℕ). take k (put 0 vs l) ≡ vs) e (part-put 
 -- ---- the three calls
 
 module _ (ways : Ways) (w : World) where
-  pub asked : (place : ℕ) (l : List ℕ) → granted ways (Digesting [] place l) w ≡ true → happen ways (Digesting [] place l) w .exchange ≡ DigestSent (digestBytes (digestOf [] (w .follower)))
+  pub asked : (edition place : ℕ) (l : List ℕ) → granted ways (Digesting edition [] place l) w ≡ true → (isEdition edition ≡ true) × (happen ways (Digesting edition [] place l) w .exchange ≡ DigestSent (digestBytes edition (digestOf [] (w .follower))))
   unfolding happen
-  asked place l g = digest-written [] place l (w .follower) (w .exchange) g
+  asked edition place l g = digest-written edition [] place l (w .follower) (w .exchange) g
 
   -- for a digest that is read as it was told
-  pub answered : (ties : List ℕ) (mtu place : ℕ) (l b : List ℕ) (told : List NodeDigest)
+  pub answered : (edition : ℕ) (ties : List ℕ) (mtu place : ℕ) (l b : List ℕ) (told : List NodeDigest)
       → w .exchange ≡ DigestSent b
-      → readDigest b ≡ Entries told []
-      → granted ways (Computing [] ties mtu place l) w ≡ true
-      → (happen ways (Computing [] ties mtu place l) w .exchange ≡ DeltaSent (deltaBytes (deltaFor [] ties mtu told (w .publisher)))) × (mtu ≤ maxDelta)
+      → readDigest edition b ≡ Entries told []
+      → granted ways (Computing edition [] ties mtu place l) w ≡ true
+      → (happen ways (Computing edition [] ties mtu place l) w .exchange ≡ DeltaSent (deltaBytes (deltaFor [] ties mtu told (w .publisher)))) × (mtu ≤ maxDelta)
   unfolding happen
-  answered ties mtu place l b told x read g =
-      subst (λ (y : Exchange). isComputed [] ties mtu place l (w .publisher) y ≡ true → Done (computedFor [] ties mtu place l (w .publisher) y)) (sym x)
-      (go _ (comes [] ties mtu place b (w .publisher) l)) g
+  answered edition ties mtu place l b told x read g =
+      subst (λ (y : Exchange). isComputed edition [] ties mtu place l (w .publisher) y ≡ true → Done (computedFor edition [] ties mtu place l (w .publisher) y)) (sym x)
+      (go _ (comes edition [] ties mtu place b (w .publisher) l)) g
     where
       Done : Exchange → Type 0
       Done y = (y ≡ DeltaSent (deltaBytes (deltaFor [] ties mtu told (w .publisher)))) × (mtu ≤ maxDelta)
 
-      go : (o : Given Computed (List ℕ)) → Comes [] ties mtu place b (w .publisher) l o → wroteDelta (o .answer) ≡ true → Done (afterDelta place (o .lent) (o .answer) (DigestSent b))
+      go : (o : Given Computed (List ℕ)) → Comes edition [] ties mtu place b (w .publisher) l o → wroteDelta (o .answer) ≡ true → Done (afterDelta place (o .lent) (o .answer) (DigestSent b))
       go o (refuses r) g = absurd (false≢true g)
       go o (writes ds rest e h k) g =
           let same : Entries ds rest ≡ Entries told [] = sym e ∙ read in
           let ds-is : ds ≡ told = cc in (
-            ap DeltaSent (delta-bytes [] ties mtu place b (w .publisher) l ds k)
+            ap DeltaSent (delta-bytes edition [] ties mtu place b (w .publisher) l ds k)
                 ∙ ap (λ (y : List NodeDigest). DeltaSent (deltaBytes (deltaFor [] ties mtu y (w .publisher)))) ds-is,
             h,
           )

@@ -16,7 +16,7 @@ use Rattle.rules.specs.Apply.{apply, applyEach, applyNode, codes, deltaS
 use Rattle.rules.specs.Compute.{allOps, byVersion, compute, cut, deltaFor, fromOf, keyValueOps, ordered, queue, sooner, stale, staleNodes, toldOf}
 use Rattle.rules.specs.Delta.{deltaBytes, follow, maxOf, opBytes, partsOf, readDelta, readKeyValue, readNode, readOp, readOps, readSetMaxVersion, recsOf, sizeOf, textBytes}
 use Rattle.rules.specs.Demand3.{Holds, SameMax, Sound}
-use Rattle.rules.specs.Digest.{digestBytes, digestOf, entryBytes, entryOf, readDigest, readEntries, tell, tellAll, writeDigest}
+use Rattle.rules.specs.Digest.{digestBytes, digestOf, entryBytes, entryOf, headWidth, readDigest, readEntries, tell, tellAll, writeDigest}
 use Rattle.rules.specs.Local.{call, gc}
 use Rattle.rules.specs.Node.{KeyValue, Node, Rec, act, decide, find, lastGc, remove, store, wish, write}
 use Rattle.rules.specs.Table.{among, nodeOf, removeAll, setNode, versions}
@@ -41,13 +41,13 @@ one-too-few s =
 
 -- the publisher has no k any more, and the follower has it
 not-there : (r : Rec) → r ∈ nodeAt 7 (caughtUp .publisher) .recs → r .kv ≡ dead → ⊥
-unfolding after happen start freshTable call gc nodeOf setNode removeAll decide wish find act write store remove lastGc keep sameBytes lessBytes among writeDigest digestOf digestBytes entryBytes entryOf readEntries readDigest tell tellAll compute deltaFor cut allOps ordered queue sooner staleNodes toldOf fromOf stale byVersion keyValueOps sizeOf deltaBytes opBytes textBytes bytesOf natOf part put flat unblock apply applyEach applyNode deltaStatus statusOf newerOf outcome takeAll takes codes readDelta readOps readOp readNode readKeyValue readSetMaxVersion follow partsOf recsOf maxOf versions
+unfolding after happen start freshTable call gc nodeOf setNode removeAll decide wish find act write store remove lastGc keep sameBytes lessBytes among writeDigest digestOf digestBytes headWidth entryBytes entryOf readEntries readDigest tell tellAll compute deltaFor cut allOps ordered queue sooner staleNodes toldOf fromOf stale byVersion keyValueOps sizeOf deltaBytes opBytes textBytes bytesOf natOf part put flat unblock apply applyEach applyNode deltaStatus statusOf newerOf outcome takeAll takes codes readDelta readOps readOp readNode readKeyValue readSetMaxVersion follow partsOf recsOf maxOf versions
 not-there r h e =
     among-not 5 (versions (nodeAt 7 (caughtUp .publisher) .recs)) refl
     (subst (λ (v : ℕ). v ∈ versions (nodeAt 7 (caughtUp .publisher) .recs)) (ap (λ (s : KeyValue). s .version) e) (version-in h))
 
 there : Holds (nodeAt 7 (caughtUp .follower)) dead
-unfolding after happen start freshTable call gc nodeOf setNode removeAll decide wish find act write store remove lastGc keep sameBytes lessBytes among writeDigest digestOf digestBytes entryBytes entryOf readEntries readDigest tell tellAll compute deltaFor cut allOps ordered queue sooner staleNodes toldOf fromOf stale byVersion keyValueOps sizeOf deltaBytes opBytes textBytes bytesOf natOf part put flat unblock apply applyEach applyNode deltaStatus statusOf newerOf outcome takeAll takes codes readDelta readOps readOp readNode readKeyValue readSetMaxVersion follow partsOf recsOf maxOf
+unfolding after happen start freshTable call gc nodeOf setNode removeAll decide wish find act write store remove lastGc keep sameBytes lessBytes among writeDigest digestOf digestBytes headWidth entryBytes entryOf readEntries readDigest tell tellAll compute deltaFor cut allOps ordered queue sooner staleNodes toldOf fromOf stale byVersion keyValueOps sizeOf deltaBytes opBytes textBytes bytesOf natOf part put flat unblock apply applyEach applyNode deltaStatus statusOf newerOf outcome takeAll takes codes readDelta readOps readOp readNode readKeyValue readSetMaxVersion follow partsOf recsOf maxOf
 there = (record { kv = dead; start = 0 }, later (later (later (later (here refl)))), refl)
 
 -- so that demand 3's claims fail of late deltas

@@ -3,7 +3,7 @@
 use Prim.Native.Nat.{ℕ}
 use mathlib.Core.List.{List, [], _∷_}
 use Rattle.rules.specs.declared.Refusal.{Refusal}
-use Rattle.rules.specs.declared.Refusal.the-variants.{TooLong, NoNode, NoKey, NinthNode, NodeFull, Exhausted, BadMtu, NoPlace, Cut, BadTag, OutOfOrder, NodeTwice, TooMany, BadTable, BadTies}
+use Rattle.rules.specs.declared.Refusal.the-variants.{TooLong, NoNode, NoKey, NinthNode, NodeFull, Exhausted, BadMtu, NoPlace, Cut, BadTag, OutOfOrder, NodeTwice, TooMany, BadTable, BadTies, BadEdition}
 use Rattle.rules.specs.declared.NodeAnswer.{NodeAnswer}
 use Rattle.rules.specs.declared.NodeAnswer.the-variants as node
 use Rattle.rules.specs.declared.Mode.{Mode}
@@ -25,7 +25,7 @@ use Rattle.rules.specs.declared.DeltaRead.the-variants as read
 use Rattle.rules.specs.declared.Applied.{Applied}
 use Rattle.rules.specs.declared.Applied.the-variants as applied
 
--- the number of the refusal in document 01
+-- the number of the refusal: document 01's from 1 to 15, document 02's behind them
 abbrev pub numberOf : Refusal → ℕ
 numberOf TooLong = 1
 numberOf NoNode = 2
@@ -42,6 +42,7 @@ numberOf NodeTwice = 12
 numberOf TooMany = 13
 numberOf BadTable = 14
 numberOf BadTies = 15
+numberOf BadEdition = 20
 
 -- how many bytes the field lacks in which the bytes end; 0 for every number but 9
 abbrev pub needOf : Refusal → ℕ
@@ -60,6 +61,7 @@ needOf NodeTwice = 0
 needOf TooMany = 0
 needOf BadTable = 0
 needOf BadTies = 0
+needOf BadEdition = 0
 
 -- a node's answer in a lent list
 abbrev pub codeOf : NodeAnswer → ℕ

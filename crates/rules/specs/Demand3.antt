@@ -6,7 +6,7 @@ use mathlib.Core.Logic.{_⊎_}
 use mathlib.Core.Bool.{Bool, true, false, not, _&&_}
 use mathlib.Core.List.{List, [], _∷_}
 use mathlib.Core.Option.{some}
-use lib.Dec.{leb}
+use lib.Dec.{leb, eqb}
 use lib.ListN.{length, take}
 use Rattle.fields.specs.Numbers.{Bytes}
 use Rattle.fields.specs.Choice.{_∈_, pick}
@@ -69,10 +69,10 @@ quiet (Writing i k c) = false
 quiet (Beating s i) = true
 quiet (Offering s i h) = true
 quiet (Removing s now grace) = false
-quiet (Digesting excluded place l) = true
-quiet (Computing excluded ties mtu place l) = true
+quiet (Digesting edition excluded place l) = true
+quiet (Computing edition excluded ties mtu place l) = true
 quiet (Applying now l) = true
-quiet (Sending digest excluded ties mtu place l) = true
+quiet (Sending edition digest excluded ties mtu place l) = true
 quiet (Arriving k now l) = true
 
 unfoldable pub allQuiet : (events : List Event) → Bool
@@ -93,10 +93,10 @@ unlimited (Writing i k c) = true
 unlimited (Beating s i) = true
 unlimited (Offering s i h) = true
 unlimited (Removing s now grace) = true
-unlimited (Digesting excluded place l) = isNone excluded
-unlimited (Computing excluded ties mtu place l) = isNone excluded && leb leastWidth mtu
+unlimited (Digesting edition excluded place l) = isNone excluded
+unlimited (Computing edition excluded ties mtu place l) = isNone excluded && leb leastWidth mtu
 unlimited (Applying now l) = true
-unlimited (Sending digest excluded ties mtu place l) = true
+unlimited (Sending edition digest excluded ties mtu place l) = true
 unlimited (Arriving k now l) = true
 
 -- Nothing refused, read off the answers: the three calls of an exchange give no number, and no node answers Room. A Reject is no refusal.
@@ -113,10 +113,10 @@ abbrev pub noRoom : (answer : Applied) (list : Bytes) → Bool
 noRoom (applied.Nodes n) l = not (among (codeOf node.Room) (take n l))
 noRoom (applied.Refused r at) l = false
 
-abbrev pub isComputed : (excluded ties : List ℕ) (mtu place : ℕ) (datagram : Bytes) (table : Table) (way : Exchange) → Bool
-isComputed excluded ties mtu place l t Idle = false
-isComputed excluded ties mtu place l t (DigestSent d) = wroteDelta (compute excluded ties mtu place d t l .answer)
-isComputed excluded ties mtu place l t (DeltaSent b) = false
+abbrev pub isComputed : (edition : ℕ) (excluded ties : List ℕ) (mtu place : ℕ) (datagram : Bytes) (table : Table) (way : Exchange) → Bool
+isComputed edition excluded ties mtu place l t Idle = false
+isComputed edition excluded ties mtu place l t (DigestSent d) = wroteDelta (compute edition excluded ties mtu place d t l .answer)
+isComputed edition excluded ties mtu place l t (DeltaSent b) = false
 
 abbrev pub isApplied : (ways : Ways) (now : ℕ) (answers : Bytes) (table : Table) (way : Exchange) → Bool
 isApplied ways now l t Idle = false
@@ -129,17 +129,18 @@ granted ways (Writing i k c) w = true
 granted ways (Beating s i) w = true
 granted ways (Offering s i h) w = true
 granted ways (Removing s now grace) w = true
-granted ways (Digesting excluded place l) w = wroteDigest (writeDigest excluded place (w .follower) l .answer)
-granted ways (Computing excluded ties mtu place l) w = isComputed excluded ties mtu place l (w .publisher) (w .exchange)
+granted ways (Digesting edition excluded place l) w = wroteDigest (writeDigest edition excluded place (w .follower) l .answer)
+granted ways (Computing edition excluded ties mtu place l) w = isComputed edition excluded ties mtu place l (w .publisher) (w .exchange)
 granted ways (Applying now l) w = possible ways (Applying now l) && isApplied ways now l (w .follower) (w .exchange)
-granted ways (Sending digest excluded ties mtu place l) w = true
+granted ways (Sending edition digest excluded ties mtu place l) w = true
 granted ways (Arriving k now l) w = true
 
 -- A whole exchange is a digest, a delta and its applying, in this order, with no node excluded, an MTU of 135 or more, nothing lost and nothing
--- refused. Beats, offers and late deltas may fall between its steps. The stages: none has begun, its digest is written, its delta is computed.
+-- refused, and both ends use one edition: the delta is computed in the edition that the digest was written in. Beats, offers and late deltas may fall
+-- between its steps. The stages: none has begun, its digest is written in an edition, its delta is computed.
 pub data Stage : Type 0 where
   NotBegun : Stage
-  Asked : Stage
+  Asked : ℕ → Stage
   Answered : Stage
 
 -- where a call brings it that is unlimited and granted
@@ -148,12 +149,12 @@ onward (Writing i k c) st = st
 onward (Beating s i) st = st
 onward (Offering s i h) st = st
 onward (Removing s now grace) st = st
-onward (Digesting excluded place l) st = Asked
-onward (Computing excluded ties mtu place l) NotBegun = NotBegun
-onward (Computing excluded ties mtu place l) Asked = Answered
-onward (Computing excluded ties mtu place l) Answered = NotBegun
+onward (Digesting edition excluded place l) st = Asked edition
+onward (Computing edition excluded ties mtu place l) NotBegun = NotBegun
+onward (Computing edition excluded ties mtu place l) (Asked e) = pick (eqb e edition) Answered NotBegun
+onward (Computing edition excluded ties mtu place l) Answered = NotBegun
 onward (Applying now l) st = NotBegun
-onward (Sending digest excluded ties mtu place l) st = st
+onward (Sending edition digest excluded ties mtu place l) st = st
 onward (Arriving k now l) st = st
 
 -- the applying is its end; the same delta, applied again, counts no more
@@ -162,12 +163,12 @@ ending (Writing i k c) st = 0
 ending (Beating s i) st = 0
 ending (Offering s i h) st = 0
 ending (Removing s now grace) st = 0
-ending (Digesting excluded place l) st = 0
-ending (Computing excluded ties mtu place l) st = 0
+ending (Digesting edition excluded place l) st = 0
+ending (Computing edition excluded ties mtu place l) st = 0
 ending (Applying now l) NotBegun = 0
-ending (Applying now l) Asked = 0
+ending (Applying now l) (Asked edition) = 0
 ending (Applying now l) Answered = 1
-ending (Sending digest excluded ties mtu place l) st = 0
+ending (Sending edition digest excluded ties mtu place l) st = 0
 ending (Arriving k now l) st = 0
 
 -- the whole exchanges of a run; a step that is limited or refused ends its exchange uncounted
@@ -191,7 +192,8 @@ SameMax t u = (i : ℕ) (a b : Node) → nodeOf i t ≡ some a → nodeOf i u �
 
 -- Of a publisher and a follower that begin fresh with the nodes `is`, the follower in these ways (document 01: `plainWays`). At every moment of
 -- every run the claims hold; between any two moments no node's pair falls in either table; and when writes, deletes and removals cease after any
--- run, as many whole exchanges as the publisher then holds records and nodes make every max equal, whatever else happens.
+-- run, as many whole exchanges as the publisher then holds records and nodes make every max equal, whatever else happens. The first two hold with
+-- the digest's editions confused too: a digest may be written in one and read in the other. The count asks that both ends of an exchange use the same.
 pub record Demand3 (ways : Ways) (is : List ℕ) : Type 0 where
   pub at-every-moment : (es : List Event) → Sound is (after ways es (start is))
   pub between-moments : (es fs : List Event)

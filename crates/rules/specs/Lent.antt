@@ -114,12 +114,13 @@ lentLookup number k table = fromTable (NotFound BadTable) (lookup number k) tabl
 abbrev pub lentPrefixed : (number : ℕ) (key list table : Bytes) → Given Listed Bytes
 lentPrefixed number k list table = fromTable (given (listed.Refused BadTable) list) (λ t. prefixed number k t list) table
 
-abbrev pub lentDigest : (excluded : List ℕ) (place : ℕ) (datagram table : Bytes) → Given Written Bytes
-lentDigest excluded place datagram table = fromTable (given (written.Refused BadTable) datagram) (λ t. writeDigest excluded place t datagram) table
+abbrev pub lentDigest : (edition : ℕ) (excluded : List ℕ) (place : ℕ) (datagram table : Bytes) → Given Written Bytes
+lentDigest edition excluded place datagram table =
+    fromTable (given (written.Refused BadTable) datagram) (λ t. writeDigest edition excluded place t datagram) table
 
-abbrev pub lentCompute : (excluded ties : List ℕ) (mtu place : ℕ) (digest datagram table : Bytes) → Given Computed Bytes
-lentCompute excluded ties mtu place digest datagram table =
-    fromTable (given (computed.Refused BadTable) datagram) (λ t. compute excluded ties mtu place digest t datagram) table
+abbrev pub lentCompute : (edition : ℕ) (excluded ties : List ℕ) (mtu place : ℕ) (digest datagram table : Bytes) → Given Computed Bytes
+lentCompute edition excluded ties mtu place digest datagram table =
+    fromTable (given (computed.Refused BadTable) datagram) (λ t. compute edition excluded ties mtu place digest t datagram) table
 
 -- ---- applying changes the table and the list of answers
 

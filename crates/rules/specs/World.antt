@@ -63,15 +63,17 @@ pub data Event : Type 0 where
   Offering : Side → ℕ → Heartbeat → Event
   -- removal over all nodes: now, grace
   Removing : Side → ℕ → ℕ → Event
-  -- The follower writes a digest: excluded nodes, place in the datagram, datagram. Once written it replaces what was on its way; refused, it ends nothing.
-  Digesting : List ℕ → ℕ → List ℕ → Event
-  -- the publisher computes a delta for the digest on its way: excluded nodes, ties, MTU, the place in the datagram, the datagram
-  Computing : List ℕ → List ℕ → ℕ → ℕ → List ℕ → Event
+  -- The follower writes a digest: edition, excluded nodes, place in the datagram, datagram. Once written it replaces what was on its way; refused, it ends
+  -- nothing.
+  Digesting : ℕ → List ℕ → ℕ → List ℕ → Event
+  -- the publisher computes a delta for the digest on its way, which it reads in any edition: the edition, excluded nodes, ties, MTU, the place in the
+  -- datagram, the datagram
+  Computing : ℕ → List ℕ → List ℕ → ℕ → ℕ → List ℕ → Event
   -- the follower applies the delta on its way, and may apply it again: now, the lent list of answers
   Applying : ℕ → List ℕ → Event
-  -- the publisher computes a delta for any bytes as a digest, late or forged ones too, beside the exchange: those bytes, excluded nodes, ties, MTU,
-  -- the place in the datagram, the datagram
-  Sending : List ℕ → List ℕ → List ℕ → ℕ → ℕ → List ℕ → Event
+  -- the publisher computes a delta for any bytes as a digest, late or forged ones too, beside the exchange: the edition, those bytes, excluded nodes,
+  -- ties, MTU, the place in the datagram, the datagram
+  Sending : ℕ → List ℕ → List ℕ → List ℕ → ℕ → ℕ → List ℕ → Event
   -- a delta that was ever computed arrives at the follower, late or again: which of them, now, the lent list of answers
   Arriving : ℕ → ℕ → List ℕ → Event
 
@@ -88,10 +90,10 @@ possible ways (Writing i k c) = ltb (timeOf c) numbers
 possible ways (Beating s i) = true
 possible ways (Offering s i h) = ltb (h .0) numbers
 possible ways (Removing s now grace) = true
-possible ways (Digesting excluded place l) = true
-possible ways (Computing excluded ties mtu place l) = true
+possible ways (Digesting edition excluded place l) = true
+possible ways (Computing edition excluded ties mtu place l) = true
 possible ways (Applying now l) = ltb now numbers
-possible ways (Sending digest excluded ties mtu place l) = true
+possible ways (Sending edition digest excluded ties mtu place l) = true
 possible ways (Arriving k now l) = ways .late && ltb now numbers
 
 -- ---- what a call gives to its key
@@ -121,30 +123,30 @@ abbrev pub afterDelta : (place : ℕ) (datagram : Bytes) (answer : Computed) (wa
 afterDelta place l (computed.Delta ops bytes) x = DeltaSent (part place bytes l)
 afterDelta place l (computed.Refused r) x = x
 
-abbrev pub digested : (excluded : List ℕ) (place : ℕ) (datagram : Bytes) (table : Table) (way : Exchange) → Exchange
-digested excluded place l t x = afterDigest place (writeDigest excluded place t l .lent) (writeDigest excluded place t l .answer) x
+abbrev pub digested : (edition : ℕ) (excluded : List ℕ) (place : ℕ) (datagram : Bytes) (table : Table) (way : Exchange) → Exchange
+digested edition excluded place l t x = afterDigest place (writeDigest edition excluded place t l .lent) (writeDigest edition excluded place t l .answer) x
 
 -- only for a digest that is on its way
-abbrev pub computedFor : (excluded ties : List ℕ) (mtu place : ℕ) (datagram : Bytes) (table : Table) (way : Exchange) → Exchange
-computedFor excluded ties mtu place l t Idle = Idle
-computedFor excluded ties mtu place l t (DigestSent d) =
-    afterDelta place (compute excluded ties mtu place d t l .lent) (compute excluded ties mtu place d t l .answer) (DigestSent d)
-computedFor excluded ties mtu place l t (DeltaSent b) = DeltaSent b
+abbrev pub computedFor : (edition : ℕ) (excluded ties : List ℕ) (mtu place : ℕ) (datagram : Bytes) (table : Table) (way : Exchange) → Exchange
+computedFor edition excluded ties mtu place l t Idle = Idle
+computedFor edition excluded ties mtu place l t (DigestSent d) =
+    afterDelta place (compute edition excluded ties mtu place d t l .lent) (compute edition excluded ties mtu place d t l .answer) (DigestSent d)
+computedFor edition excluded ties mtu place l t (DeltaSent b) = DeltaSent b
 
 -- what was ever computed, when a call has computed one more
 abbrev pub sentAfter : (place : ℕ) (datagram : Bytes) (answer : Computed) (sent : List Bytes) → List Bytes
 sentAfter place l (computed.Delta ops bytes) ss = part place bytes l ∷ ss
 sentAfter place l (computed.Refused r) ss = ss
 
-abbrev pub sentFor : (digest : Bytes) (excluded ties : List ℕ) (mtu place : ℕ) (datagram : Bytes) (table : Table) (sent : List Bytes) → List Bytes
-sentFor digest excluded ties mtu place l t ss =
-    sentAfter place (compute excluded ties mtu place digest t l .lent) (compute excluded ties mtu place digest t l .answer) ss
+abbrev pub sentFor : (edition : ℕ) (digest : Bytes) (excluded ties : List ℕ) (mtu place : ℕ) (datagram : Bytes) (table : Table) (sent : List Bytes) → List Bytes
+sentFor edition digest excluded ties mtu place l t ss =
+    sentAfter place (compute edition excluded ties mtu place digest t l .lent) (compute edition excluded ties mtu place digest t l .answer) ss
 
 -- for a digest that is on its way
-abbrev pub sentOn : (excluded ties : List ℕ) (mtu place : ℕ) (datagram : Bytes) (table : Table) (way : Exchange) (sent : List Bytes) → List Bytes
-sentOn excluded ties mtu place l t Idle ss = ss
-sentOn excluded ties mtu place l t (DigestSent d) ss = sentFor d excluded ties mtu place l t ss
-sentOn excluded ties mtu place l t (DeltaSent b) ss = ss
+abbrev pub sentOn : (edition : ℕ) (excluded ties : List ℕ) (mtu place : ℕ) (datagram : Bytes) (table : Table) (way : Exchange) (sent : List Bytes) → List Bytes
+sentOn edition excluded ties mtu place l t Idle ss = ss
+sentOn edition excluded ties mtu place l t (DigestSent d) ss = sentFor edition d excluded ties mtu place l t ss
+sentOn edition excluded ties mtu place l t (DeltaSent b) ss = ss
 
 -- the delta of this place among all of them, as if it were on its way
 unfoldable pub nthSent : (place : ℕ) (sent : List Bytes) → Exchange
@@ -183,11 +185,11 @@ calls ways (Writing i k c) w =
 calls ways (Beating s i) w = onSide s (λ t. localBeat i t .table) w
 calls ways (Offering s i h) w = onSide s (λ t. offer i h t .table) w
 calls ways (Removing s now grace) w = onSide s (λ t. gc now grace t .table) w
-calls ways (Digesting excluded place l) w = onExchange (digested excluded place l (w .follower) (w .exchange)) w
-calls ways (Computing excluded ties mtu place l) w =
-    onExchange (computedFor excluded ties mtu place l (w .publisher) (w .exchange)) (onSent (sentOn excluded ties mtu place l (w .publisher) (w .exchange) (w .sent)) w)
+calls ways (Digesting edition excluded place l) w = onExchange (digested edition excluded place l (w .follower) (w .exchange)) w
+calls ways (Computing edition excluded ties mtu place l) w =
+    onExchange (computedFor edition excluded ties mtu place l (w .publisher) (w .exchange)) (onSent (sentOn edition excluded ties mtu place l (w .publisher) (w .exchange) (w .sent)) w)
 calls ways (Applying now l) w = onSide Followers (appliedTo ways now l (w .exchange)) w
-calls ways (Sending digest excluded ties mtu place l) w = onSent (sentFor digest excluded ties mtu place l (w .publisher) (w .sent)) w
+calls ways (Sending edition digest excluded ties mtu place l) w = onSent (sentFor edition digest excluded ties mtu place l (w .publisher) (w .sent)) w
 calls ways (Arriving k now l) w = onSide Followers (appliedTo ways now l (nthSent k (w .sent))) w
 
 -- the world after an event; one that is not possible changes nothing

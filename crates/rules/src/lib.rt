@@ -244,7 +244,7 @@ impl NodeAnswer {
     }
 }
 
-// Why a call was refused. Document 01 numbers them from 1 to 15 in this order.
+// Why a call was refused. Document 01 numbers them from 1 to 15 in this order; those behind have the numbers of document 02.
 pub enum Refusal {
     // Key over 32 or value over 64.
     TooLong,
@@ -276,10 +276,12 @@ pub enum Refusal {
     BadTable,
     // The tie list has not one number a node.
     BadTies,
+    // The number of a digest's edition is neither 0 nor 1.
+    BadEdition,
 }
 
 impl Refusal {
-    // Document 01's number.
+    // Its number in document 01, or in document 02.
     pub fn number(self) -> u64
         ensures { λ r. ⌜ r ≡ numberOf self ⌝ }
     {
@@ -299,6 +301,7 @@ impl Refusal {
             Refusal::TooMany => 13,
             Refusal::BadTable => 14,
             Refusal::BadTies => 15,
+            Refusal::BadEdition => 20,
         }
     }
 
@@ -322,6 +325,7 @@ impl Refusal {
             Refusal::TooMany => 0,
             Refusal::BadTable => 0,
             Refusal::BadTies => 0,
+            Refusal::BadEdition => 0,
         }
     }
 }

@@ -1,6 +1,7 @@
 // Where everything stands in the bytes of a delta and of a digest. Numbers are little-endian.
 ghost use mathlib.Core.Path.{_≡_};
 ghost use Rattle.rules.specs.Delta.{numberLacks};
+ghost use Rattle.rules.specs.Digest.{headWidth, isEdition};
 
 // The widths of a tag or a status, of the length of a text, and of a number.
 pub const BYTE: usize = 1;
@@ -48,7 +49,12 @@ pub const MAX: usize = BYTE;
 
 pub const MAX_WIDTH: usize = MAX + NUMBER;
 
-// A digest: the count of its entries, then an entry behind the other, each a number, a heartbeat, last_gc and max.
+// The editions of a digest, by the number that a caller tells.
+pub const V0: u64 = 0;
+
+pub const V1: u64 = 1;
+
+// A digest: in V0 the count of its entries, then an entry behind the other, each a number, a heartbeat, last_gc and max.
 pub const COUNT_WIDTH: usize = 2;
 
 pub const ENTRY_NUMBER: usize = 0;
@@ -60,3 +66,20 @@ pub const ENTRY_LAST_GC: usize = ENTRY_HEARTBEAT + NUMBER;
 pub const ENTRY_MAX: usize = ENTRY_LAST_GC + NUMBER;
 
 pub const ENTRY_WIDTH: usize = ENTRY_MAX + NUMBER;
+
+// Whether a number is an edition's.
+pub fn is_edition(edition: u64) -> bool
+    ensures { λ r. ⌜ r ≡ isEdition edition ⌝ }
+{
+    edition <= V1
+}
+
+// How many bytes stand before the entries: the count's, and none in V1.
+pub fn head_width(edition: u64) -> usize
+    ensures { λ r. ⌜ r ≡ headWidth edition ⌝ }
+{
+    if edition == V0 {
+        return COUNT_WIDTH;
+    }
+    0
+}

@@ -44,17 +44,19 @@ mod c {
         pub fn kev_write_digest(
             table: *const u8,
             len: usize,
+            edition: u64,
             excluded: *const u64,
             excludedlen: usize,
             datagram: *mut u8,
             datagramlen: usize,
             place: usize,
         ) -> usize;
-        pub fn kev_read_digest(bytes: *const u8, len: usize) -> usize;
+        pub fn kev_read_digest(edition: u64, bytes: *const u8, len: usize) -> usize;
         pub fn kev_read_delta(delta: *const u8, len: usize) -> usize;
         pub fn kev_compute(
             table: *const u8,
             len: usize,
+            edition: u64,
             digest: *const u8,
             digestlen: usize,
             mtu: usize,
@@ -69,6 +71,7 @@ mod c {
         pub fn kev_compute_good(
             table: *const u8,
             len: usize,
+            edition: u64,
             digest: *const u8,
             digestlen: usize,
             mtu: usize,
@@ -139,15 +142,17 @@ pub fn remove(table: &mut [u8], time: u64, grace: u64, good: bool) {
     }
 }
 
+/// Digests are of V0, whose bytes the original writes without blocks.
+const EDITION: u64 = 0;
+
 pub fn write_digest(table: &[u8], datagram: &mut [u8]) -> usize {
     let none: &[u64] = &[];
-    unsafe {
-        c::kev_write_digest(table.as_ptr(), table.len(), none.as_ptr(), 0, datagram.as_mut_ptr(), datagram.len(), 0)
-    }
+    let (d, n) = (datagram.as_mut_ptr(), datagram.len());
+    unsafe { c::kev_write_digest(table.as_ptr(), table.len(), EDITION, none.as_ptr(), 0, d, n, 0) }
 }
 
 pub fn read_digest(bytes: &[u8]) -> usize {
-    unsafe { c::kev_read_digest(bytes.as_ptr(), bytes.len()) }
+    unsafe { c::kev_read_digest(EDITION, bytes.as_ptr(), bytes.len()) }
 }
 
 pub fn read_delta(delta: &[u8]) -> usize {
@@ -162,6 +167,7 @@ pub fn compute(table: &[u8], digest: &[u8], ties: &[u64], datagram: &mut [u8], g
         f(
             table.as_ptr(),
             lent(table, good),
+            EDITION,
             digest.as_ptr(),
             digest.len(),
             16_384,

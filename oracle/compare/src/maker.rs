@@ -22,6 +22,8 @@ pub struct Maker {
     clock: u64,
     /// Of both hubs' tables.
     mode: u8,
+    /// The edition of the last digest.
+    told: u64,
 }
 
 fn list(numbers: &[u64]) -> String {
@@ -38,7 +40,7 @@ impl Maker {
         let values = (0..4).map(|_| pieces::value(&mut random)).collect();
         let mode = if random.once_in(2) { table::FENCED } else { table::PLAIN };
         let lines = ["hub 1".to_string(), format!("make {mode}"), "hub 0".to_string(), format!("make {mode}")];
-        Maker { random, lines: lines.to_vec(), hub: 0, held: Default::default(), nodes, keys, values, clock: 10, mode }
+        Maker { random, lines: lines.to_vec(), hub: 0, held: Default::default(), nodes, keys, values, clock: 10, mode, told: 0 }
     }
 
     pub fn finish(self) -> Vec<String> {
@@ -181,13 +183,27 @@ impl Maker {
     pub fn digest(&mut self) {
         let excluded = self.excluded();
         let written = self.held[self.hub].iter().filter(|node| !excluded.contains(node)).count();
-        let (place, len) = self.room(2 + 32 * written as u64);
-        self.line(format!("digest {} {place} {len}", list(&excluded)));
+        let edition = self.edition();
+        let count = if edition == 0 { 2 } else { 0 };
+        let (place, len) = self.room(count + 32 * written as u64);
+        self.told = edition;
+        self.line(format!("digest {} {place} {len} {edition}", list(&excluded)));
+    }
+
+    /// One of the two, now and then another number.
+    pub fn edition(&mut self) -> u64 {
+        if self.random.once_in(40) { *self.random.pick(&[2, 3, 256, u64::MAX]) } else { self.random.below(2) }
+    }
+
+    /// Mostly that of the last digest.
+    pub fn told_edition(&mut self) -> u64 {
+        if self.random.once_in(15) { self.edition() } else { self.told }
     }
 
     /// A digest that is surely written, all nodes in it.
     pub fn whole_digest(&mut self) {
-        self.line("digest - 0 258");
+        self.told = self.random.below(2);
+        self.line(format!("digest - 0 258 {}", self.told));
     }
 
     fn ties(&mut self) -> Vec<u64> {
@@ -202,17 +218,18 @@ impl Maker {
     pub fn compute(&mut self, digest: &str, mtu: u64) {
         let (excluded, ties) = (self.excluded(), self.ties());
         let (place, len) = self.room(mtu.min(20_000));
-        self.line(format!("compute {digest} {mtu} {} {} {place} {len}", list(&excluded), list(&ties)));
+        let edition = self.told_edition();
+        self.line(format!("compute {digest} {mtu} {} {} {place} {len} {edition}", list(&excluded), list(&ties)));
     }
 
     /// As `compute`, with nothing that could be refused but the digest.
     pub fn plain_compute(&mut self, digest: &str, mtu: u64) {
         let held = self.held[self.hub].len();
         let ties: Vec<u64> = (0..held).map(|_| self.random.below(3)).collect();
-        self.line(format!("compute {digest} {mtu} - {} 0 {mtu}", list(&ties)));
+        self.line(format!("compute {digest} {mtu} - {} 0 {mtu} {}", list(&ties), self.told));
     }
 
-    /// A digest of the nodes of the pool, by hand: repeats, strangers, any order, now and then nine entries.
+    /// A digest of the nodes of the pool, by hand, in either edition: repeats, strangers, any order, now and then nine entries.
     pub fn hand_digest(&mut self) -> Vec<u8> {
         let count = if self.random.once_in(10) { self.random.within(7, 10) } else { self.random.below(6) };
         let entries: Vec<[u64; 4]> = (0..count)
@@ -226,7 +243,8 @@ impl Maker {
                 ]
             })
             .collect();
-        let mut bytes = pieces::digest(&entries);
+        self.told = self.random.below(2);
+        let mut bytes = pieces::digest(self.told, &entries);
         if self.random.once_in(8) {
             bytes.extend(pieces::text(&mut self.random, 3));
         }

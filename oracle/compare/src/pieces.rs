@@ -113,9 +113,12 @@ pub fn delta(ops: &[Op]) -> Vec<u8> {
     bytes
 }
 
-/// A digest in document 01's bytes: node, heartbeat, last_gc, max.
-pub fn digest(entries: &[[u64; 4]]) -> Vec<u8> {
-    let mut bytes = (entries.len() as u16).to_le_bytes().to_vec();
+/// A digest in the bytes of an edition: the count, if it has one, then node, heartbeat, last_gc, max.
+pub fn digest(edition: u64, entries: &[[u64; 4]]) -> Vec<u8> {
+    let mut bytes = Vec::new();
+    if edition == 0 {
+        bytes.extend((entries.len() as u16).to_le_bytes());
+    }
     bytes.extend(entries.iter().flatten().flat_map(|field| field.to_le_bytes()));
     bytes
 }

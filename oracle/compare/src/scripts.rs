@@ -350,7 +350,8 @@ fn hand_digests(mut random: Random) -> Vec<String> {
         }
         let word = hex(&bytes);
         if m.random.once_in(4) {
-            m.line(format!("readdigest {word}"));
+            let edition = m.told_edition();
+            m.line(format!("readdigest {word} {edition}"));
         } else {
             let mtu = pieces::mtu(&mut m.random);
             m.compute(&word, mtu);

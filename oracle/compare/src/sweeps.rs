@@ -73,12 +73,12 @@ fn bench() -> Vec<String> {
     lines.extend(more.map(String::from));
     lines.extend(node_at(4, 9));
     for (last_gc, max) in [(0, 3), (0, 4), (4, 3)] {
-        lines.push(format!("compute {} 100 - 0 0 100", hex(&digest(&[[1, 0, last_gc, max]]))));
+        lines.push(format!("compute {} 100 - 0 0 100 0", hex(&digest(0, &[[1, 0, last_gc, max]]))));
     }
     lines.extend(["new".to_string(), "add 1".to_string()]);
     lines.push(format!("write 1 {} {} 0 9", hex(&[b'k'; 32]), hex(&[b'v'; 64])));
     for mtu in [134, 135] {
-        lines.push(format!("compute x0000 {mtu} - 0 0 {mtu}"));
+        lines.push(format!("compute x0000 {mtu} - 0 0 {mtu} 0"));
     }
     lines.extend(priorities());
     lines
@@ -93,8 +93,8 @@ fn priorities() -> Vec<String> {
             lines.push(format!("write {number} {} x 0 9", hex(&[b'a' + write])));
         }
     }
-    let digest = hex(&digest(&[[3, 0, 0, 1], [4, 0, 0, 1]]));
-    lines.push(format!("compute {digest} 16384 - 0,0,0,0 0 16384"));
+    let digest = hex(&digest(0, &[[3, 0, 0, 1], [4, 0, 0, 1]]));
+    lines.push(format!("compute {digest} 16384 - 0,0,0,0 0 16384 0"));
     lines
 }
 
@@ -230,8 +230,9 @@ fn from() -> Vec<String> {
         lines.extend(node_at(own / 4, own % 4));
         lines.push("write 1 x61 x31 0 9".to_string());
         for pair in 0..36 {
-            let digest = hex(&digest(&[[1, 0, pair / 6, pair % 6]]));
-            lines.push(format!("compute {digest} 100 - 0 0 100"));
+            let edition = (own + pair) % 2;
+            let digest = hex(&digest(edition, &[[1, 0, pair / 6, pair % 6]]));
+            lines.push(format!("compute {digest} 100 - 0 0 100 {edition}"));
         }
     }
     lines
@@ -264,10 +265,10 @@ fn cuts() -> Vec<String> {
         ));
     }
     lines.push("delete 4 x61 1".to_string());
-    let partly = hex(&digest(&[[3, 0, 0, 2], [5, 0, 0, 22], [4, 0, 0, 1], [6, 0, 0, 1]]));
+    let partly = hex(&digest(1, &[[3, 0, 0, 2], [5, 0, 0, 22], [4, 0, 0, 1], [6, 0, 0, 1]]));
     for mtu in 100..=620 {
-        lines.push(format!("compute x0000 {mtu} - 0,0,0,0,0,0 0 {mtu}"));
-        lines.push(format!("compute {partly} {mtu} - 1,0,1,0,1,0 0 {mtu}"));
+        lines.push(format!("compute x0000 {mtu} - 0,0,0,0,0,0 0 {mtu} 0"));
+        lines.push(format!("compute {partly} {mtu} - 1,0,1,0,1,0 0 {mtu} 1"));
     }
     lines
 }
@@ -294,7 +295,7 @@ fn brim() -> Vec<String> {
             })
             .collect();
         lines.push(format!("table {}", hex(&table::encode(&nodes, table::PLAIN))));
-        lines.extend((16_270..=16_384).map(|mtu| format!("compute x0000 {mtu} - 0,0,0,0,0,0 0 {mtu}")));
+        lines.extend((16_270..=16_384).map(|mtu| format!("compute x0000 {mtu} - 0,0,0,0,0,0 0 {mtu} 0")));
     }
     lines
 }
@@ -306,7 +307,7 @@ fn exchanges() -> Vec<String> {
         &["write 1 x62 x32 2 3"],
         &["delete 1 x61 4"],
         &["gc 5 1"],
-        &["hub 1", "digest - 0 34", "hub 0", "compute @digest 100 - 0 0 100", "hub 1", "apply @delta 4 1", "hub 0"],
+        &["hub 1", "digest - 0 34 0", "hub 0", "compute @digest 100 - 0 0 100 0", "hub 1", "apply @delta 4 1", "hub 0"],
         &["hub 1", "gc 5 1", "write 1 x63 x 0 9", "hub 0"],
     ];
     let mut lines = Vec::new();
@@ -351,17 +352,20 @@ fn damaged_delta() -> Vec<String> {
     lines
 }
 
+/// A digest of either edition, cut at each place and damaged at each byte, read in both.
 fn damaged_digest() -> Vec<String> {
-    let good = digest(&[[2, 1, 2, 3], [1, 4, 5, 6], [2, 7, 8, 9]]);
     let mut lines = Vec::new();
-    for len in 0..=good.len() {
-        lines.push(format!("readdigest {}", hex(&good[..len])));
-    }
-    for place in 0..good.len() {
-        for byte in [0, 1, 2, 3, 4, 8, 9, 255] {
-            let mut damaged = good.clone();
-            damaged[place] = byte;
-            lines.push(format!("readdigest {}", hex(&damaged)));
+    for edition in [0, 1] {
+        let good = digest(edition, &[[2, 1, 2, 3], [1, 4, 5, 6], [2, 7, 8, 9]]);
+        for len in 0..=good.len() {
+            lines.extend([0, 1, 2].map(|read| format!("readdigest {} {read}", hex(&good[..len]))));
+        }
+        for place in 0..good.len() {
+            for byte in [0, 1, 2, 3, 4, 8, 9, 255] {
+                let mut damaged = good.clone();
+                damaged[place] = byte;
+                lines.extend([0, 1].map(|read| format!("readdigest {} {read}", hex(&damaged))));
+            }
         }
     }
     lines

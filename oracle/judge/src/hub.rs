@@ -184,8 +184,39 @@ fn same_in_stream(fault: Fault, at: usize, operations: &[u8]) -> Answer {
     }
 }
 
+/// Layer: 20.
+fn edition_of(number: u64) -> Outcome<ProtocolVersion> {
+    match number {
+        0 => Ok(ProtocolVersion::V0),
+        1 => Ok(ProtocolVersion::V1),
+        _ => Err(Answer::Refused(20)),
+    }
+}
+
+fn read_digest(bytes: &[u8], edition: u64) -> Outcome<(Digest, usize)> {
+    match edition_of(edition)? {
+        ProtocolVersion::V0 => read_counted(bytes),
+        ProtocolVersion::V1 => read_to_end(bytes).map(|digest| (digest, 0)),
+    }
+}
+
+/// Layer: the plain stream around the entries, 13 over eight of them, what 9 lacks. Original: 9, the entries.
+fn read_to_end(bytes: &[u8]) -> Outcome<Digest> {
+    let original = wire::plain_stream(&wire::entries_original(bytes));
+    let mut rest = &original[..];
+    match Digest::deserialize(ProtocolVersion::V1, &mut rest) {
+        Ok(_) if bytes.len() / wire::DIGEST_ENTRY > NODES => Err(Answer::Refused(13)),
+        Ok(_) if !rest.is_empty() => Err(Answer::Broken(format!("{} bytes behind the stream", rest.len()))),
+        Ok(digest) => Ok(digest),
+        Err(error) => Err(match number_of(&error)? {
+            9 => Answer::Cut { at: None, need: wire::entries_lack(bytes) },
+            number => Answer::Refused(number),
+        }),
+    }
+}
+
 /// Layer: 13 on the count, and what 9 lacks. Original: 9, the entries, what is left.
-fn read_digest(bytes: &[u8]) -> Outcome<(Digest, usize)> {
+fn read_counted(bytes: &[u8]) -> Outcome<(Digest, usize)> {
     if let [low, high, ..] = *bytes {
         if usize::from(u16::from_le_bytes([low, high])) > NODES {
             return Err(Answer::Refused(13));
@@ -314,12 +345,16 @@ impl Hub {
         if ranks.len() as u64 > places { Err(Answer::Refused(8)) } else { Ok(Answer::Ranks(ranks)) }
     }
 
-    fn write_digest(&mut self, excluded: &[u64], place: u64, len: usize) -> Outcome<Answer> {
+    fn write_digest(&mut self, excluded: &[u64], place: u64, len: usize, edition: u64) -> Outcome<Answer> {
+        let edition = edition_of(edition)?;
         let excluded = ids(excluded);
         let digest = self.cluster.compute_digest(&excluded.iter().collect());
         let mut original = Vec::new();
-        digest.serialize(ProtocolVersion::V0, &mut original);
-        let bytes = wire::digest_01(&original);
+        digest.serialize(edition, &mut original);
+        let bytes = match edition {
+            ProtocolVersion::V0 => wire::digest_01(&original),
+            ProtocolVersion::V1 => wire::entries_01(&wire::plain_blocks(&original)),
+        };
         let start = free(place, len, bytes.len())?;
         let end = start + bytes.len();
         let mut datagram = vec![UNTOUCHED; len];
@@ -327,7 +362,7 @@ impl Hub {
         Ok(Answer::DigestWritten { datagram, start, end })
     }
 
-    /// Layer: 7, 8, 15, the digest's 13, the tie numbers. Original: the operations, their order, where the MTU cuts.
+    /// Layer: 20, 7, 8, 15, the digest's 13, the tie numbers. Original: the operations, their order, where the MTU cuts.
     fn compute(
         &mut self,
         digest: &[u8],
@@ -336,7 +371,9 @@ impl Hub {
         ties: &[u64],
         place: u64,
         len: usize,
+        edition: u64,
     ) -> Outcome<Answer> {
+        edition_of(edition)?;
         if !(MTU_LEAST..=MTU_MOST).contains(&mtu) {
             return Err(Answer::Refused(7));
         }
@@ -345,7 +382,7 @@ impl Hub {
         if ties.len() != self.cluster.nodes().count() {
             return Err(Answer::Refused(15));
         }
-        let (digest, _rest) = read_digest(digest)?;
+        let (digest, _rest) = read_digest(digest, edition)?;
         let numbers: Vec<u64> = self.cluster.nodes().map(|id| id.generation_id).collect();
         rand::set_ties(numbers.into_iter().zip(ties.iter().copied()));
         let excluded = ids(excluded);
@@ -450,9 +487,9 @@ impl Hub {
                 ask(|| self.cluster.gc_keys_marked_for_deletion(Duration::from_millis(*grace)))?;
                 Ok(Answer::Done)
             }
-            Call::Digest { excluded, place, len } => self.write_digest(excluded, *place, *len),
-            Call::Compute { digest, mtu, excluded, ties, place, len } => {
-                self.compute(given(digest), *mtu, excluded, ties, *place, *len)
+            Call::Digest { excluded, place, len, edition } => self.write_digest(excluded, *place, *len, *edition),
+            Call::Compute { digest, mtu, excluded, ties, place, len, edition } => {
+                self.compute(given(digest), *mtu, excluded, ties, *place, *len, *edition)
             }
             Call::Apply { bytes, now, places } => self.apply(given(bytes), *now, *places),
             _ => unreachable!("answered without a table"),
@@ -534,7 +571,7 @@ impl Side for Hub {
     fn answer(&mut self, call: &Call) -> Answer {
         // The two readers are lent no table.
         let outcome = match call {
-            Call::ReadDigest { bytes } => read_digest(given(bytes)).map(|(digest, rest)| Answer::Digest {
+            Call::ReadDigest { bytes, edition } => read_digest(given(bytes), *edition).map(|(digest, rest)| Answer::Digest {
                 entries: digest
                     .node_digests
                     .iter()

@@ -145,12 +145,13 @@ pub(crate) fn digest_lacks(bytes: &[u8]) -> usize {
     end - bytes.len()
 }
 
-/// The original's stream of these operations: one plain block and the end mark.
+const PLAIN_BLOCK: u8 = 2;
+const NO_MORE_BLOCKS: u8 = 0;
+
+/// The original's stream of these operations or entries: one plain block and the end mark.
 pub(crate) fn plain_stream(operations: &[u8]) -> Vec<u8> {
-    const PLAIN_BLOCK: u8 = 2;
-    const NO_MORE_BLOCKS: u8 = 0;
     let mut stream = vec![PLAIN_BLOCK];
-    stream.extend(u16::try_from(operations.len()).expect("a delta of at most 16,384 bytes").to_le_bytes());
+    stream.extend(u16::try_from(operations.len()).expect("at most 65,535 bytes").to_le_bytes());
     stream.extend(operations);
     stream.push(NO_MORE_BLOCKS);
     stream
@@ -167,7 +168,7 @@ pub(crate) fn operation_01(original: &[u8]) -> Vec<u8> {
 }
 
 const DIGEST_COUNT: usize = 2;
-const DIGEST_ENTRY: usize = NUMBER + 3 * 8;
+pub(crate) const DIGEST_ENTRY: usize = NUMBER + 3 * 8;
 
 /// The original's V0 digest for document 01's. Entries are renamed as far as the count asks for them; what is
 /// behind them is the unread rest and goes along unchanged.
@@ -192,8 +193,42 @@ pub(crate) fn digest_original(bytes: &[u8]) -> Vec<u8> {
 pub(crate) fn digest_01(original: &[u8]) -> Vec<u8> {
     let (count, entries) = original.split_at(DIGEST_COUNT);
     let mut bytes = count.to_vec();
-    for entry in entries.chunks(DIGEST_ENTRY + NAME_EXTRA) {
+    bytes.extend(entries_01(entries));
+    bytes
+}
+
+/// Document 01's entries for those that the original wrote.
+pub(crate) fn entries_01(original: &[u8]) -> Vec<u8> {
+    let mut bytes = Vec::new();
+    for entry in original.chunks(DIGEST_ENTRY + NAME_EXTRA) {
         number_only(entry, &mut bytes);
     }
+    bytes
+}
+
+/// The original's entries for document 01's; the last may be cut short.
+pub(crate) fn entries_original(bytes: &[u8]) -> Vec<u8> {
+    let mut original = Vec::new();
+    for entry in bytes.chunks(DIGEST_ENTRY) {
+        rename(entry, &mut original);
+    }
+    original
+}
+
+/// How many bytes the field lacks in which entries end that are cut short.
+pub(crate) fn entries_lack(bytes: &[u8]) -> usize {
+    digest_lacks(&[&[0; DIGEST_COUNT], bytes].concat())
+}
+
+/// What is in the original's stream of plain blocks.
+pub(crate) fn plain_blocks(stream: &[u8]) -> Vec<u8> {
+    let mut bytes = Vec::new();
+    let mut rest = stream;
+    while let [PLAIN_BLOCK, low, high, behind @ ..] = rest {
+        let (block, next) = behind.split_at(usize::from(u16::from_le_bytes([*low, *high])));
+        bytes.extend(block);
+        rest = next;
+    }
+    assert_eq!(rest, [NO_MORE_BLOCKS], "a stream of plain blocks");
     bytes
 }

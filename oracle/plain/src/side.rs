@@ -32,8 +32,12 @@ fn unread(why: Unread) -> Answer {
     }
 }
 
-fn read_digest(bytes: &[u8]) -> Result<Answer, Answer> {
-    let (entries, rest) = digest::read(bytes).map_err(unread)?;
+fn edition_of(number: u64) -> Result<digest::Edition, Answer> {
+    digest::Edition::of(number).map_err(Answer::Refused)
+}
+
+fn read_digest(bytes: &[u8], edition: u64) -> Result<Answer, Answer> {
+    let (entries, rest) = digest::read(bytes, edition_of(edition)?).map_err(unread)?;
     let entries = entries.iter().map(|(&node, entry)| DigestEntry {
         node,
         heartbeat: entry.heartbeat,
@@ -50,8 +54,8 @@ fn read_delta(bytes: &[u8]) -> Result<delta::Delta, Answer> {
     })
 }
 
-fn write_digest(table: &Table, excluded: &[u64], place: u64, len: usize) -> Result<Answer, Answer> {
-    let bytes = digest::write(table, excluded);
+fn write_digest(table: &Table, excluded: &[u64], place: u64, len: usize, edition: u64) -> Result<Answer, Answer> {
+    let bytes = digest::write(table, excluded, edition_of(edition)?);
     let start = room(place, len, bytes.len())?;
     let end = start + bytes.len();
     let mut datagram = vec![0xEE; len];
@@ -67,7 +71,9 @@ fn compute_delta(
     ties: &[u64],
     place: u64,
     len: usize,
+    edition: u64,
 ) -> Result<Answer, Answer> {
+    let edition = edition_of(edition)?;
     if mtu < 100 || mtu > 16_384 {
         return Err(Answer::Refused(7));
     }
@@ -76,7 +82,7 @@ fn compute_delta(
     if ties.len() != table.nodes.len() {
         return Err(Answer::Refused(15));
     }
-    let (digest, _rest) = digest::read(digest).map_err(unread)?;
+    let (digest, _rest) = digest::read(digest, edition).map_err(unread)?;
     let (ops, bytes) = compute::delta(table, &digest, mtu, excluded, ties);
     Ok(Answer::DeltaWritten { ops, bytes })
 }
@@ -119,9 +125,9 @@ fn answer_good(table: &mut Table, call: &Call) -> Result<Answer, Answer> {
             table.gc(*now, *grace);
             Ok(Answer::Done)
         }
-        Call::Digest { excluded, place, len } => write_digest(table, excluded, *place, *len),
-        Call::Compute { digest, mtu, excluded, ties, place, len } => {
-            compute_delta(table, given(digest), *mtu, excluded, ties, *place, *len)
+        Call::Digest { excluded, place, len, edition } => write_digest(table, excluded, *place, *len, *edition),
+        Call::Compute { digest, mtu, excluded, ties, place, len, edition } => {
+            compute_delta(table, given(digest), *mtu, excluded, ties, *place, *len, *edition)
         }
         Call::Apply { bytes, now, places } => apply_delta(table, given(bytes), *now, *places),
         _ => unreachable!("answered without a table"),
@@ -135,7 +141,7 @@ impl Side for Lent {
 
     fn answer(&mut self, call: &Call) -> Answer {
         let outcome = match (call, self) {
-            (Call::ReadDigest { bytes }, _) => read_digest(given(bytes)),
+            (Call::ReadDigest { bytes, edition }, _) => read_digest(given(bytes), *edition),
             (Call::ReadDelta { bytes }, _) => read_delta(given(bytes)).map(|delta| Answer::DeltaRead {
                 ops: delta.operations,
                 nodes: delta.nodes.len(),

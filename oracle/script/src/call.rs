@@ -25,10 +25,10 @@ pub enum Call {
     Get { node: u64, key: Vec<u8> },
     List { node: u64, prefix: Vec<u8>, places: u64 },
     Gc { now: u64, grace: u64 },
-    Digest { excluded: Vec<u64>, place: u64, len: usize },
-    ReadDigest { bytes: Bytes },
+    Digest { excluded: Vec<u64>, place: u64, len: usize, edition: u64 },
+    ReadDigest { bytes: Bytes, edition: u64 },
     ReadDelta { bytes: Bytes },
-    Compute { digest: Bytes, mtu: u64, excluded: Vec<u64>, ties: Vec<u64>, place: u64, len: usize },
+    Compute { digest: Bytes, mtu: u64, excluded: Vec<u64>, ties: Vec<u64>, place: u64, len: usize, edition: u64 },
     Apply { bytes: Bytes, now: u64, places: u64 },
     Table { bytes: Bytes },
     Dump,
@@ -122,8 +122,13 @@ impl Call {
             "get" => Call::Get { node: w.number()?, key: w.text()? },
             "list" => Call::List { node: w.number()?, prefix: w.text()?, places: w.number()? },
             "gc" => Call::Gc { now: w.number()?, grace: w.number()? },
-            "digest" => Call::Digest { excluded: w.numbers()?, place: w.number()?, len: w.size()? },
-            "readdigest" => Call::ReadDigest { bytes: w.bytes()? },
+            "digest" => Call::Digest {
+                excluded: w.numbers()?,
+                place: w.number()?,
+                len: w.size()?,
+                edition: w.number()?,
+            },
+            "readdigest" => Call::ReadDigest { bytes: w.bytes()?, edition: w.number()? },
             "readdelta" => Call::ReadDelta { bytes: w.bytes()? },
             "compute" => Call::Compute {
                 digest: w.bytes()?,
@@ -132,6 +137,7 @@ impl Call {
                 ties: w.numbers()?,
                 place: w.number()?,
                 len: w.size()?,
+                edition: w.number()?,
             },
             "apply" => Call::Apply { bytes: w.bytes()?, now: w.number()?, places: w.number()? },
             "table" => Call::Table { bytes: w.bytes()? },
@@ -149,14 +155,15 @@ mod tests {
     #[test]
     fn words_become_calls() {
         assert_eq!(
-            Call::parse("compute @digest 135 - 5,6 0 200"),
+            Call::parse("compute @digest 135 - 5,6 0 200 1"),
             Some(Call::Compute {
                 digest: Bytes::LastDigest,
                 mtu: 135,
                 excluded: vec![],
                 ties: vec![5, 6],
                 place: 0,
-                len: 200
+                len: 200,
+                edition: 1
             })
         );
         assert_eq!(
@@ -164,7 +171,7 @@ mod tests {
             Some(Call::Write { node: u64::MAX, key: vec![], value: vec![0, 255], status: 3, now: 7 })
         );
         let calls = ["", "write 1 x x 0", "write 1 x x x 0 0", "write 1 x x -1 0", "get 1 xA0", "get 1 x0", "hub 2"];
-        let numbers = ["add -1", "add +1", "add :", "add  1", "digest +1 0 2"];
+        let numbers = ["add -1", "add +1", "add :", "add  1", "digest +1 0 2 0", "digest - 0 2"];
         for wrong in calls.into_iter().chain(numbers) {
             assert_eq!(Call::parse(wrong), None, "{wrong:?}");
         }

@@ -38,7 +38,7 @@ impl<S: Side> Desk<S> {
 
     fn answer(&mut self, mut call: Call) -> Answer {
         match &mut call {
-            Call::ReadDigest { bytes }
+            Call::ReadDigest { bytes, .. }
             | Call::ReadDelta { bytes }
             | Call::Apply { bytes, .. }
             | Call::Table { bytes }

@@ -30,14 +30,14 @@ returns c =
     let a = entry checked .args in
     let good = sym (checked .check-table .ensures) ∙ c .before .before .before .before .before .if1 .taken in
     tells computedTold
-    (gives-as (good-table (a .excluded .now) (a .ties .now) (a .mtu) (a .place) (a .digest .now) (a .table .now) (a .datagram .now) good)
+    (gives-as (good-table (a .edition) (a .excluded .now) (a .ties .now) (a .mtu) (a .place) (a .digest .now) (a .table .now) (a .datagram .now) good)
     (c .before .before .compute-good .ensures))
 
 returns-2 : tie.Need-returns-2
 returns-2 c =
     let a = entry (c .before) .args in
     tells computedTold
-    (bad-table (a .excluded .now) (a .ties .now) (a .mtu) (a .place) (a .digest .now) (a .table .now) (a .datagram .now)
+    (bad-table (a .edition) (a .excluded .now) (a .ties .now) (a .mtu) (a .place) (a .digest .now) (a .table .now) (a .datagram .now)
     (sym (c .before .check-table .ensures) ∙ c .if1 .left))
 
 pub compute-spec : {M : Type 1} → statement M

@@ -11,7 +11,7 @@ size-for-requires : tie.Need-size-for-requires
 size-for-requires c κs = search needs
 
 returns : tie.Need-returns
-returns c = size-is _ _ _ (c .before .count-written .ensures .0) (c .size-for .ensures)
+returns c = size-is _ _ _ _ (c .before .count-written .ensures .0) (c .size-for .ensures)
 
 pub digest-size-spec : {M : Type 1} → statement M
 digest-size-spec = tie.close (tie.spec count-written-requires size-for-requires returns)

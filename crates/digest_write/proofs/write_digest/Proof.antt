@@ -29,14 +29,14 @@ returns c =
     let checked = c .before .before .before .before .before .before in
     let a = entry checked .args in
     let good = sym (checked .check-table .ensures) ∙ c .before .before .before .before .before .if1 .taken in
-    let same = good-table (a .excluded .now) (a .place) (a .datagram .now) (a .table .now) good in
+    let same = good-table (a .edition) (a .excluded .now) (a .place) (a .datagram .now) (a .table .now) good in
     let done = c .before .before .write-good .ensures in
     tells writtenTold (done .0 ∙ ap (λ (o : Given _ _). o .answer) same, done .1 ∙ ap (λ (o : Given _ _). o .lent) same)
 
 returns-2 : tie.Need-returns-2
 returns-2 c =
     let a = entry (c .before) .args in
-    tells writtenTold (bad-table (a .excluded .now) (a .place) (a .datagram .now) (a .table .now) (sym (c .before .check-table .ensures) ∙ c .if1 .left))
+    tells writtenTold (bad-table (a .edition) (a .excluded .now) (a .place) (a .datagram .now) (a .table .now) (sym (c .before .check-table .ensures) ∙ c .if1 .left))
 
 pub write-digest-spec : {M : Type 1} → statement M
 write-digest-spec =

@@ -26,20 +26,20 @@ compute-good-requires c κs = area-valid _ (c .before .before .before .before .b
 
 -- what computing gives
 made-so : (c : tie.After-compute-good) → let a = entry c .args in
-    Gives (lentCompute (a .unsent .now) (a .ties .now) (a .mtu) 0 (a .told .now) (a .delta .now) (a .publisher .now)) (c .compute-good .result) (c .compute-good .last .1 .1 .1 .1 .1 .0)
+    Gives (lentCompute (a .edition) (a .unsent .now) (a .ties .now) (a .mtu) 0 (a .told .now) (a .delta .now) (a .publisher .now)) (c .compute-good .result) (c .compute-good .last .1 .1 .1 .1 .1 .1 .0)
 made-so c =
     let a = entry c .args in
-    made-good (a .unsent .now) (a .ties .now) (a .mtu) (a .clock) (a .told .now) (a .delta .now) (a .answers .now) (a .publisher .now) (a .follower .now) (entry c .pre) _ _ (c .compute-good .ensures)
+    made-good (a .edition) (a .unsent .now) (a .ties .now) (a .mtu) (a .clock) (a .told .now) (a .delta .now) (a .answers .now) (a .publisher .now) (a .follower .now) (entry c .pre) _ _ (c .compute-good .ensures)
 
 enum-known-computed : tie.Need-enum-known-computed
 enum-known-computed c = search needs
 
 -- the delta stands in its datagram
-within : (c : tie.After-computed) → c .computed .given .0 .1 .0 ≤ length (c .before .before .before .before .compute-good .last .1 .1 .1 .1 .1 .0)
+within : (c : tie.After-computed) → c .computed .given .0 .1 .0 ≤ length (c .before .before .before .before .compute-good .last .1 .1 .1 .1 .1 .1 .0)
 within c =
     let call = c .before .before .before .before in
     let a = entry call .args in
-    made-within (a .unsent .now) (a .ties .now) (a .mtu) (a .clock) (a .told .now) (a .delta .now) (a .answers .now) (a .publisher .now) (a .follower .now) _ _ _ (sym (made-so call .0) ∙ c .computed .given .1) (made-so call .1)
+    made-within (a .edition) (a .unsent .now) (a .ties .now) (a .mtu) (a .clock) (a .told .now) (a .delta .now) (a .answers .now) (a .publisher .now) (a .follower .now) _ _ _ (sym (made-so call .0) ∙ c .computed .given .1) (made-so call .1)
 
 slice-reshare-prefix-apply : tie.Need-slice-reshare-prefix-apply
 slice-reshare-prefix-apply c = within (c .before .before)
@@ -55,13 +55,13 @@ abbrev asked : tie.After-apply → tie.After-compute-good
 asked c = made c .before .before .before .before
 
 taken : (c : tie.After-apply) (r : Applied) → c .apply .result ≡ r → let a = entry (asked c) .args in
-    Gives (lentAnswer (a .unsent .now) (a .ties .now) (a .mtu) (a .clock) (a .told .now) (a .delta .now) (a .answers .now) (a .publisher .now) (a .follower .now))
+    Gives (lentAnswer (a .edition) (a .unsent .now) (a .ties .now) (a .mtu) (a .clock) (a .told .now) (a .delta .now) (a .answers .now) (a .publisher .now) (a .follower .now))
     (exchangedAs (made c .computed .given .0 .0) (made c .computed .given .0 .1 .0) r)
-    (allThree (c .apply .last .0) (asked c .compute-good .last .1 .1 .1 .1 .1 .0) (c .apply .last .1 .1 .1 .0))
+    (allThree (c .apply .last .0) (asked c .compute-good .last .1 .1 .1 .1 .1 .1 .0) (c .apply .last .1 .1 .1 .0))
 taken c r e =
     let a = entry (asked c) .args in
     let call = made-so (asked c) in
-    delta-taken (a .unsent .now) (a .ties .now) (a .mtu) (a .clock) (a .told .now) (a .delta .now) (a .answers .now) (a .publisher .now) (a .follower .now) _ _ _ (sym (call .0) ∙ made c .computed .given .1) (call .1) r _ _ (sym e ∙ same-applied _ _ (c .apply .ensures .0), c .apply .ensures .1)
+    delta-taken (a .edition) (a .unsent .now) (a .ties .now) (a .mtu) (a .clock) (a .told .now) (a .delta .now) (a .answers .now) (a .publisher .now) (a .follower .now) _ _ _ (sym (call .0) ∙ made c .computed .given .1) (call .1) r _ _ (sym e ∙ same-applied _ _ (c .apply .ensures .0), c .apply .ensures .1)
 
 apply-requires : tie.Need-apply-requires
 apply-requires c κs = search needs
@@ -106,7 +106,7 @@ returns-3 : tie.Need-returns-3
 returns-3 c =
     let call = c .before .before .before .before .before in
     let a = entry call .args in
-    no-delta (a .unsent .now) (a .ties .now) (a .mtu) (a .clock) (a .told .now) (a .delta .now) (a .answers .now) (a .publisher .now) (a .follower .now) _ _ (sym (made-so call .0) ∙ c .before .computed2 .given .1) (made-so call .1)
+    no-delta (a .edition) (a .unsent .now) (a .ties .now) (a .mtu) (a .clock) (a .told .now) (a .delta .now) (a .answers .now) (a .publisher .now) (a .follower .now) _ _ (sym (made-so call .0) ∙ c .before .computed2 .given .1) (made-so call .1)
 
 pub answer-digest-spec : {M : Type 1} → statement M
 answer-digest-spec =

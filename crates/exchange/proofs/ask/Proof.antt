@@ -29,14 +29,14 @@ follower-good c = sym (c .before .check-table .ensures) ∙ c .if1 .taken
 publisher-good : (c : tie.Then2) → validWhole (entry (c .before .before .before) .args .publisher .now) ≡ true
 publisher-good c = sym (c .before .check-table2 .ensures) ∙ c .if2 .taken
 
-slice-aggregate-ask-rooms : tie.Need-slice-aggregate-ask-rooms
-slice-aggregate-ask-rooms c = area-long _ refl (publisher-good (c .before))
+slice-aggregate-ask-good : tie.Need-slice-aggregate-ask-good
+slice-aggregate-ask-good c = area-long _ refl (publisher-good (c .before))
 
-slice-aggregate-ask-rooms-2 : tie.Need-slice-aggregate-ask-rooms-2
-slice-aggregate-ask-rooms-2 c = area-long _ refl (follower-good (c .before .before .before .before))
+slice-aggregate-ask-good-2 : tie.Need-slice-aggregate-ask-good-2
+slice-aggregate-ask-good-2 c = area-long _ refl (follower-good (c .before .before .before .before))
 
-ask-rooms-requires : tie.Need-ask-rooms-requires
-ask-rooms-requires c κs =
+ask-good-requires : tie.Need-ask-good-requires
+ask-good-requires c κs =
     let t = c .before .before in
     (valid-laid _ (area-valid _ (publisher-good t)), valid-laid _ (area-valid _ (follower-good (t .before .before))))
 
@@ -45,20 +45,20 @@ returns c =
     let t = c .before .before .before in
     let s = entry (t .before .before .before) in
     let a = s .args in
-    c .ask-rooms .ensures ∙ both-good (a .unasked .now) (room s) (a .publisher .now) (a .follower .now) (follower-good (t .before .before)) (publisher-good t)
+    c .ask-good .ensures ∙ both-good (a .edition) (a .unasked .now) (room s) (a .publisher .now) (a .follower .now) (follower-good (t .before .before)) (publisher-good t)
 
 returns-2 : tie.Need-returns-2
 returns-2 c =
     let s = entry (c .before .before .before) in
     let a = s .args in
-    publisher-bad (a .unasked .now) (room s) (a .publisher .now) (a .follower .now) (follower-good (c .before .before))
+    publisher-bad (a .edition) (a .unasked .now) (room s) (a .publisher .now) (a .follower .now) (follower-good (c .before .before))
     (sym (c .before .check-table2 .ensures) ∙ c .if2 .left)
 
 returns-3 : tie.Need-returns-3
 returns-3 c =
     let s = entry (c .before) in
     let a = s .args in
-    follower-bad (a .unasked .now) (room s) (a .publisher .now) (a .follower .now) (sym (c .before .check-table .ensures) ∙ c .if1 .left)
+    follower-bad (a .edition) (a .unasked .now) (room s) (a .publisher .now) (a .follower .now) (sym (c .before .check-table .ensures) ∙ c .if1 .left)
 
 pub ask-spec : {M : Type 1} → statement M
 ask-spec =
@@ -66,9 +66,9 @@ ask-spec =
     (tie.spec
     check-table-requires
     check-table-requires-2
-    slice-aggregate-ask-rooms
-    slice-aggregate-ask-rooms-2
-    ask-rooms-requires
+    slice-aggregate-ask-good
+    slice-aggregate-ask-good-2
+    ask-good-requires
     returns
     returns-2
     returns-3)

@@ -14,7 +14,7 @@ abbrev entry : tie.After-ask → tie.Start
 entry c = c .before .before .before .before .before .before .before .before .before .before
 
 abbrev lent : tie.After-ask → Lending
-lent c = let a = entry c .args in lending (a .unasked .now) (a .unsent .now) (a .ties .now) (a .mtu) (a .clock) (a .digest .now) (a .delta .now) (a .answers .now)
+lent c = let a = entry c .args in lending (a .edition) (a .unasked .now) (a .unsent .now) (a .ties .now) (a .mtu) (a .clock) (a .digest .now) (a .delta .now) (a .answers .now)
 
 -- nothing refuses it
 ready-so : (c : tie.After-enum-told) → let call = c .before .before in IsReady (lent call) (entry call .args .publisher .now) (entry call .args .follower .now)

@@ -17,7 +17,7 @@ abbrev entry : tie.After-write-good → tie.Start
 entry c = c .before .before .before .before .before .before .before .before .before .before .before
 
 abbrev given : tie.After-write-good → Lending
-given c = let a = entry c .args in lending (a .unasked .now) (a .unsent .now) (a .ties .now) (a .mtu) (a .clock) (a .digest .now) (a .delta .now) (a .answers .now)
+given c = let a = entry c .args in lending (a .edition) (a .unasked .now) (a .unsent .now) (a .ties .now) (a .mtu) (a .clock) (a .digest .now) (a .delta .now) (a .answers .now)
 
 slice-reshare-prefix-write-good : tie.Need-slice-reshare-prefix-write-good
 slice-reshare-prefix-write-good c = area-within _ refl (c .before .before .before .before .before .before .before .before .pre .1)
@@ -30,14 +30,14 @@ write-good-requires c κs = area-valid _ (c .before .before .before .before .bef
 
 -- what writing the digest gives
 told-so : (c : tie.After-write-good) → let a = entry c .args in
-    Gives (lentDigest (a .unasked .now) 0 (a .digest .now) (a .follower .now)) (c .write-good .result) (c .write-good .last .1 .1 .0)
+    Gives (lentDigest (a .edition) (a .unasked .now) 0 (a .digest .now) (a .follower .now)) (c .write-good .result) (c .write-good .last .1 .1 .1 .0)
 told-so c = let a = entry c .args in told-good (given c) (a .publisher .now) (a .follower .now) (entry c .pre .1) _ _ (c .write-good .ensures)
 
 enum-known-written : tie.Need-enum-known-written
 enum-known-written c = search needs
 
 -- the digest stands in its datagram
-within : (c : tie.After-written) → c .written .given .0 .0 ≤ length (c .before .before .before .before .write-good .last .1 .1 .0)
+within : (c : tie.After-written) → c .written .given .0 .0 ≤ length (c .before .before .before .before .write-good .last .1 .1 .1 .0)
 within c =
     let call = c .before .before .before .before in
     let a = entry call .args in
