@@ -46,7 +46,7 @@ pub data GotEither (name : Bytes) (other : LineRead) (next : Bytes → LineRead)
   this : GotWord name next l o rest → GotEither name other next l o rest
   that : other ≡ Line o rest → GotEither name other next l o rest
 
-starts-then : (name l : Bytes) → startsWith name l ≡ true → name ++ drop (length name) l ≡ l
+pub starts-then : (name l : Bytes) → startsWith name l ≡ true → name ++ drop (length name) l ≡ l
 starts-then name l e = ap (λ (r : Bytes). r ++ drop (length name) l) (sym (starts-take name l e)) ∙ take-append-drop (length name) l
 
 either-got : (name : Bytes) (other : LineRead) (next : Bytes → LineRead) (l : Bytes) (o : Op) (rest : Bytes) → word name other next l ≡ Line o rest
