@@ -31,6 +31,14 @@ pub fn front(bytes: &[u8], n: usize) -> &[u8]
     &bytes[..n]
 }
 
+// The bytes behind the first `n`; none where there are fewer.
+pub fn behind(bytes: &[u8], n: usize) -> &[u8] {
+    if bytes.len() < n {
+        return &bytes[..0];
+    }
+    &bytes[n..]
+}
+
 // How many pieces may still come behind one of `n` bytes: none behind the last, which is not whole.
 fn pieces_left(left: u64, n: usize) -> u64
     requires { ⌜ 0 < left ⌝ }
