@@ -1,7 +1,7 @@
 -- What a text has come to when a byte more is taken in, and what it gives at its end. Assumes nothing.
-use Prim.Native.Nat.{ℕ, zero, suc, _+_, _^_, _≤_, _<_}
+use Prim.Native.Nat.{ℕ, zero, suc, _+_, _≤_, _<_}
 use mathlib.Core.Path.{_≡_, refl, ap, sym, _∙_, subst}
-use mathlib.Core.Bool.{Bool, true, false, _&&_, not, true≢false, false≢true}
+use mathlib.Core.Bool.{Bool, true, false, _&&_, not}
 use mathlib.Core.List.{List, [], _∷_, _++_, append-assoc, append-nil}
 use native.Mathlib.Decide.{decLe}
 use native.Mathlib.Numerals.{add-one}
@@ -9,7 +9,7 @@ use native.Mathlib.Omega.{arith}
 use lib.Dec.{eqb, leb}
 use lib.ListN.{length, drop, take, getD, set, length-append, length-set}
 use lib.Seq.{length-take-le, take-all, take-at, take-suc, take-suc-set}
-use borrow.Author.Tests.{eq-eqb, eqb-false, le-leb, leb-false, leb-true, lt-leb, ne-eqb, not-true}
+use borrow.Author.Tests.{eqb-false, le-leb, leb-true, lt-leb, ne-eqb, not-true}
 use Rattle.fields.specs.Blocks.{flat}
 use Rattle.fields.specs.Choice.{all, pick}
 use Rattle.fields.specs.Numbers.{Bytes}
@@ -22,13 +22,12 @@ use Rattle.rules.specs.Delta as rule
 use Rattle.rules.specs.Delta.{Op, deltaBytes, opBytes, readDelta, sizeOf}
 use Rattle.rules.specs.Listing.{endLine, lineFeed, opLine}
 use Rattle.rules.specs.Sizes.{maxDelta, numbers}
-use Rattle.rules.specs.declared.Refusal.{Refusal}
 use Rattle.rules.specs.declared.Refusal.the-variants.{TooMany}
 use Rattle.rules.proofs.Deltas.{op-long}
 use Rattle.rules.proofs.Ops.{Number}
-use Rattle.listing_read.specs.Unlist.{Delta, Faulty, Line, LineRead, NoLine, NotInForm, Unlisted, judged, readLine, unlist}
+use Rattle.listing_read.specs.Unlist.{Line, LineRead, NoLine, NotInForm, Unlisted, judged, readLine, unlist}
 use Rattle.listing_read.proofs.Lines.{line-read}
-use Rattle.listing_read.proofs.Relisted.{LineIs, line-is, starts-then}
+use Rattle.listing_read.proofs.Relisted.{line-is, starts-then}
 use Rattle.listing_line.specs.Told.{LineTold}
 use Rattle.delta_make.specs.Making.{AllBack, AtStage, Back, Begun, Counted, Ended, Failed, Holds, LineTaken, Outcome, badAt, longestLine, madeOf, noFeed, readMade, storedAt}
 use Rattle.delta_make.specs.declared.Stage.{Stage}

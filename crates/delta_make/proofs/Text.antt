@@ -1,18 +1,17 @@
 -- What a text of lines gives, whatever stands behind the lines of its operations; where a line ends; how long it is. Assumes nothing.
-use Prim.Native.Nat.{ℕ, zero, suc, _+_, _-_, _/_, _%_, _≤_, _<_}
-use mathlib.Core.Path.{_≡_, refl, ap, sym, _∙_, subst}
-use mathlib.Core.Bool.{Bool, true, false, _&&_, not, true≢false}
+use Prim.Native.Nat.{ℕ, zero, suc, _+_, _-_, _/_, _%_, _≤_}
+use mathlib.Core.Path.{_≡_, refl, ap, sym, _∙_}
+use mathlib.Core.Bool.{Bool, true, false, not}
 use mathlib.Core.List.{List, [], _∷_, _++_, append-assoc, append-nil}
 use native.Mathlib.Omega.{arith}
-use lib.Dec.{eqb, leb, ltb}
+use lib.Dec.{eqb, leb}
 use lib.ListN.{length, drop, length-append}
-use borrow.Author.Tests.{eq-eqb, leb-true, ne-eqb}
+use borrow.Author.Tests.{leb-true, ne-eqb}
 use Rattle.fields.specs.Blocks.{flat}
 use Rattle.fields.specs.Choice.{all, pick}
 use Rattle.fields.specs.Numbers.{AreBytes, Bytes}
 use Rattle.fields.specs.Order.{startsWith}
-use Rattle.fields.proofs.Choice.{all-from, all-in, and-assoc, and-intro, and-left, and-right}
-use Rattle.fields.proofs.Ordered.{starts-own}
+use Rattle.fields.proofs.Choice.{all-from, all-in, and-intro, and-left, and-right}
 use Rattle.rules.specs.Delta.{Op, NodeOp, KeyValueOp, SetMaxVersionOp, deltaBytes, opBytes, readDelta, sizeOf}
 use Rattle.rules.specs.Listing.{ascii, decimal, endLine, hexDigit, lineFeed, opLine, plain, shownByte, shownBytes, statusText}
 use Rattle.rules.specs.Sizes.{maxKey, maxValue}
@@ -21,12 +20,11 @@ use Rattle.rules.specs.declared.Status.the-variants.{Set, Delete, Ttl}
 use Rattle.rules.proofs.Ops.{Number, SmallOp}
 use Rattle.rules.proofs.Sending.{size-max, size-node, size-record}
 use Rattle.listing_text.proofs.Texts.{decimal-long, decimal-some, shown-long}
-use Rattle.listing_read.specs.Unlist.{All, BadLine, Line, LineRead, Lines, NoLine, NotInForm, atEnd, isDigit, isGraphic, judged, ofLines, onLine, readLine, readLines}
-use Rattle.listing_read.specs.Unlist.{unlist, withLine, word}
-use Rattle.listing_read.proofs.Lines.{BytesOp, line-read, line-some, no-line}
+use Rattle.listing_read.specs.Unlist.{All, BadLine, Lines, NoLine, NotInForm, atEnd, isDigit, isGraphic, judged, ofLines, onLine, readLine, readLines}
+use Rattle.listing_read.specs.Unlist.{unlist, withLine}
+use Rattle.listing_read.proofs.Lines.{BytesOp, line-some}
 use Rattle.listing_read.proofs.Pieces.{number-readable, text-readable, word-read}
-use Rattle.listing_read.proofs.Relisted.{LineIs, line-is, starts-then}
-use Rattle.delta_make.specs.Making.{AllBack, Back, noFeed}
+use Rattle.delta_make.specs.Making.{AllBack, noFeed}
 
 -- ---- the lines of the operations, then the rest
 

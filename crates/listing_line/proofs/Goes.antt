@@ -1,18 +1,18 @@
 -- How reading a line goes on: by a word, a number, a key or a value, to the line's end, and what is answered then. Assumes nothing.
 use Prim.Native.Nat.{ℕ, _+_, _≤_}
 use mathlib.Core.Path.{_≡_, refl, ap, sym, _∙_, subst}
-use mathlib.Core.Bool.{Bool, true, false, not}
+use mathlib.Core.Bool.{Bool, true, false}
 use mathlib.Core.List.{[], _∷_, _++_}
 use native.Mathlib.Omega.{arith}
 use lib.Dec.{T, leb}
-use lib.ListN.{length, drop, take, length-append}
+use lib.ListN.{length, drop, take}
 use lib.Seq.{take-at}
 use borrow.Author.Tests.{le-leb}
 use Rattle.fields.specs.Choice.{pick}
 use Rattle.fields.specs.Numbers.{Bytes}
 use Rattle.fields.specs.Order.{sameBytes, startsWith}
 use Rattle.fields.specs.Parts.{put}
-use Rattle.fields.proofs.Ordered.{same-false, same-true, starts-own}
+use Rattle.fields.proofs.Ordered.{same-false, same-true}
 use Rattle.rules.specs.Delta.{NodeOp, Op, SetMaxVersionOp, opBytes, sizeOf}
 use Rattle.rules.specs.Given.{Gives, given}
 use Rattle.rules.proofs.Sending.{size-max, size-node, size-record}

@@ -3,7 +3,7 @@
 ghost use mathlib.Core.Path.{_≡_};
 ghost use Prim.Native.Nat.{_≤_};
 ghost use lib.ListN.{length, drop};
-ghost use Rattle.rules.specs.Delta.{NodeOp, SetMaxVersionOp};
+ghost use Rattle.rules.specs.Delta.{NodeOp};
 ghost use Rattle.rules.specs.Sizes.{maxKey, maxValue};
 ghost use Rattle.delta_write.specs.Written.{keyValue};
 ghost use Rattle.listing_read.specs.Unlist.{afterGc, afterId, afterKey, afterMax, afterStatus, afterVersion, closed, numberForm, printed, readLine, status};

@@ -1,12 +1,12 @@
 -- Whichever lines are accepted are listed again unchanged: what was read as an operation's line is that operation's line, and a text whose lines are all
 -- read is the listing of the delta that they tell. Assumes nothing.
-use Prim.Native.Nat.{ℕ, zero, suc, _+_, _-_, _^_, _≤_, _<_}
+use Prim.Native.Nat.{ℕ, zero, suc, _+_, _-_, _^_, _≤_}
 use mathlib.Core.Path.{_≡_, refl, ap, sym, _∙_, subst, subst₂}
 use mathlib.Core.Bool.{Bool, true, false, _&&_}
 use mathlib.Core.List.{List, [], _∷_, _++_, append-assoc, append-nil}
 use native.Mathlib.Omega.{arith}
 use lib.Dec.{leb}
-use lib.ListN.{length, drop, take, length-append, take-append-drop}
+use lib.ListN.{length, drop, length-append, take-append-drop}
 use borrow.Author.Tests.{leb-true, ltb-true}
 use Rattle.fields.specs.Blocks.{flat}
 use Rattle.fields.specs.Choice.{all, pick}
@@ -25,7 +25,7 @@ use Rattle.rules.specs.declared.Status.{Status}
 use Rattle.rules.specs.declared.Status.the-variants.{Set, Delete, Ttl}
 use Rattle.rules.proofs.Deltas.{AllSmall, op-long}
 use Rattle.rules.proofs.Ops.{Number, SmallOp, read-written}
-use Rattle.listing_read.specs.Unlist.{All, BadLine, Delta, Form, Line, LineRead, Lines, NoLine, NotInForm, Unlisted, afterGc, afterId, afterKey}
+use Rattle.listing_read.specs.Unlist.{All, BadLine, Delta, Form, Line, LineRead, Lines, NoLine, NotInForm, afterGc, afterId, afterKey}
 use Rattle.listing_read.specs.Unlist.{afterMax, afterStatus, afterVersion, atEnd, closed, front, isByte, judged, numberForm, ofLines, onLine, printed}
 use Rattle.listing_read.specs.Unlist.{readLine, readLines, status, textForm, unlist, withLine, word}
 use Rattle.listing_read.proofs.Lines.{BytesOp}

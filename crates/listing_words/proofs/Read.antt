@@ -1,6 +1,6 @@
 -- Laws of what stands at the front of a text: how far a test goes, what digits are worth, what a shown text stands for, and that what code answers is what
 -- the reader of listings goes by. Assumes nothing.
-use Prim.Native.Nat.{ℕ, zero, suc, _+_, _-_, _*_, _^_, _≤_, _<_}
+use Prim.Native.Nat.{ℕ, suc, _+_, _-_, _*_, _^_, _≤_, _<_}
 use mathlib.Core.Path.{_≡_, refl, ap, sym, _∙_, subst}
 use mathlib.Core.Bool.{Bool, true, false, _&&_}
 use mathlib.Core.List.{[], _∷_, _++_, append-assoc, append-nil}
@@ -9,7 +9,7 @@ use native.Mathlib.Omega.{arith}
 use lib.Dec.{eqb, leb, ltb}
 use lib.ListN.{length, drop, take, getD, set, length-append, drop-of-length-le, length-drop}
 use lib.Seq.{drop-cons, length-take-le, take-at, take-suc-set}
-use borrow.Author.Tests.{eq-eqb, eqb-true, le-leb, le-ltb, leb-true, lt-leb, lt-ltb, ltb-false, ltb-true, ne-eqb}
+use borrow.Author.Tests.{eqb-true, le-leb, le-ltb, leb-true, lt-leb, lt-ltb, ltb-false, ltb-true}
 use Rattle.fields.specs.Choice.{_∈_, all, here, pick}
 use Rattle.fields.specs.Numbers.{Bytes}
 use Rattle.fields.specs.Order.{sameBytes}
@@ -87,9 +87,6 @@ front-take p (b ∷ l) = go (p b) (front-take p l)
     go false h = refl
 
 -- ---- numbers
-
-pub digit-yes : (b : ℕ) → 48 ≤ b → b ≤ 57 → isDigit b ≡ true
-digit-yes b h g = and-intro (leb 48 b) (leb b 57) (le-leb 48 b h) (le-leb b 57 g)
 
 pub digit-low : (b : ℕ) → b < 48 → isDigit b ≡ false
 digit-low b h = and-no (leb 48 b) (leb b 57) (lt-leb 48 b h)

@@ -8,7 +8,7 @@ ghost use lib.ListN.{length, drop, take};
 ghost use Rattle.fields.specs.Order.{sameBytes};
 ghost use Rattle.rules.specs.Listing.{decimal, shownBytes};
 ghost use Rattle.rules.specs.Sizes.{maxValue};
-ghost use Rattle.listing_read.specs.Unlist.{front, hexValue, isDigit, isGraphic, unshown};
+ghost use Rattle.listing_read.specs.Unlist.{hexValue, isDigit, isGraphic, unshown};
 ghost use Rattle.listing_words.specs.Words.{countOf, digitsAt, grown, numberAt, pieceOf, textAt, textFits};
 
 // The largest number.
@@ -232,9 +232,9 @@ fn is_shown(text: &[u8], piece: &[u8]) -> bool
     requires { ⌜ length (now text) ≤ maxValue ⌝ }
     ensures { λ r. ⌜ r ≡ sameBytes (shownBytes (now (text .entry))) (now (piece .entry)) ⌝ }
 {
-    let mut own = [0u8; LONGEST];
-    let n = listing_text::put_shown(&mut own, 0, text);
-    fields::same(&own[..n], piece)
+    let mut shown = [0u8; LONGEST];
+    let n = listing_text::put_shown(&mut shown, 0, text);
+    fields::same(&shown[..n], piece)
 }
 
 // The key or value at the front, as it is shown; its bytes at the front of `out`, whose length is the most that it may have.

@@ -1,12 +1,12 @@
 -- `delta_make::is_end` meets its contract: the end line is printed, and compared. Assumes nothing.
 use Prim.Native.Nat.{ℕ, _≤_}
-use mathlib.Core.Path.{_≡_, ap, sym, _∙_}
+use mathlib.Core.Path.{ap, sym, _∙_}
 use mathlib.Core.List.{List, _++_}
 use native.Mathlib.Omega.{arith}
 use lib.ListN.{length, length-append, replicate}
 use lib.Seq.{length-take-le}
 use Rattle.fields.specs.Order.{sameBytes}
-use Rattle.rules.specs.Listing.{ascii, decimal, endLine, lineFeed}
+use Rattle.rules.specs.Listing.{ascii, endLine, lineFeed}
 use Rattle.listing_text.specs.Texts.{TextFits, numbered}
 use Rattle.listing_text.proofs.Texts.{Put, decimal-long, fits-first, fits-three, fits-two, three}
 use Rattle.listing_words.proofs.Read.{put-front, put-within}

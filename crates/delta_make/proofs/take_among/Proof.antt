@@ -1,6 +1,6 @@
 -- `delta_make::take_among` meets its contract: too long a line, a whole line, or a byte more. Assumes nothing.
 use Prim.Native.Nat.{_+_, _≤_}
-use mathlib.Core.Path.{_≡_, sym}
+use mathlib.Core.Path.{sym}
 use native.Mathlib.Omega.{arith}
 use lib.ListN.{length, length-set, set}
 use lib.Seq.{length-take-le}

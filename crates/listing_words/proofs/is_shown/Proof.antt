@@ -1,6 +1,6 @@
 -- `listing_words::is_shown` meets its contract. Assumes nothing.
 use Prim.Native.Nat.{ℕ, _≤_}
-use mathlib.Core.Path.{_≡_, ap, sym, _∙_}
+use mathlib.Core.Path.{ap, sym, _∙_}
 use mathlib.Core.List.{List}
 use native.Mathlib.Omega.{arith}
 use lib.ListN.{length, replicate, length-replicate}
@@ -31,8 +31,8 @@ slice-aggregate-put-shown c = search needs
 put-shown-requires : tie.Need-put-shown-requires
 put-shown-requires c κs = let s = c .before .before .before in omega (arith, room (s .args .text .now) (s .pre))
 
-array-share-prefix-own : tie.Need-array-share-prefix-own
-array-share-prefix-own c = within (c .before)
+array-share-prefix-shown : tie.Need-array-share-prefix-shown
+array-share-prefix-shown c = within (c .before)
 
 slice-aggregate-same : tie.Need-slice-aggregate-same
 slice-aggregate-same c = sym (length-take-le _ _ (within (c .before .before)))
@@ -54,7 +54,7 @@ is-shown-spec =
     (tie.spec
     slice-aggregate-put-shown
     put-shown-requires
-    array-share-prefix-own
+    array-share-prefix-shown
     slice-aggregate-same
     same-requires
     returns)

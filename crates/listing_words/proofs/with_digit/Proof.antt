@@ -6,7 +6,7 @@ use native.Mathlib.Omega.{arith}
 use lib.Dec.{leb}
 use borrow.Author.Needs.{needs}
 use borrow.Author.Tests.{le-ltb, leb-true, lt-ltb}
-use Rattle.fields.proofs.Choice.{and-left, and-right}
+use Rattle.fields.proofs.Choice.{and-left}
 use Rattle.listing_read.specs.Unlist.{isDigit}
 use Rattle.listing_words.specs.Words.{grown}
 use Rattle.listing_words.specs.declared.Value.the-variants as value
@@ -15,9 +15,6 @@ use Rattle.listing_words.proofs.with_digit.Tie as tie
 
 least : (b : ℕ) → isDigit b ≡ true → 48 ≤ b
 least b h = leb-true 48 b (and-left (leb 48 b) (leb b 57) h)
-
-most : (b : ℕ) → isDigit b ≡ true → b ≤ 57
-most b h = leb-true b 57 (and-right (leb 48 b) (leb b 57) h)
 
 over : (v b : ℕ) → 1844674407370955161 < v → value.Not ≡ grown v b
 unfolding grown
