@@ -75,6 +75,10 @@ Holds t m line delta =
     length t < numbers
     → (longestLine ≤ length line) × (maxDelta ≤ length delta) × AtStage (m .stage) t (m .held) (m .ops) (m .bytes) line delta
 
+-- a piece was taken in, behind whatever text was there
+abbrev pub Taking : (piece : Bytes) (making : Making) (line delta : Bytes) (after : Making) (line-left delta-left : Bytes) → Type 0
+Taking piece m line delta r line-left delta-left = (t : Bytes) → Holds t m line delta → Holds (t ++ piece) r line-left delta-left
+
 abbrev pub badAt : (line : ℕ) → Making
 badAt n = record { stage = Bad n; held = 0; ops = 0; bytes = 0 }
 

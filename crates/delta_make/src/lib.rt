@@ -2,7 +2,7 @@
 // two counts. Every line is judged; of a delta over 16,384 bytes what fits is stored, and the counts go on.
 ghost use Prim.Native.Nat.{_+_, _≤_, _<_};
 ghost use mathlib.Core.Path.{_≡_};
-ghost use mathlib.Core.List.{[], _∷_, _++_};
+ghost use mathlib.Core.List.{[], _∷_};
 ghost use lib.ListN.{length};
 ghost use Rattle.fields.specs.Numbers.{Bytes};
 ghost use Rattle.fields.specs.Order.{sameBytes};
@@ -12,7 +12,7 @@ ghost use Rattle.rules.specs.Sizes.{maxDelta, numbers};
 ghost use Rattle.listing_read.specs.Unlist.{unlist};
 ghost use Rattle.listing_text.specs.Texts.{TextFits, putText};
 ghost use Rattle.delta_make.specs.declared.Stage.the-variants.{Lines};
-ghost use Rattle.delta_make.specs.Making.{Holds, LineTaken, Outcome, badAt, badLine, longestLine, readMade, storedAt};
+ghost use Rattle.delta_make.specs.Making.{Holds, LineTaken, Outcome, Taking, badAt, badLine, longestLine, readMade, storedAt};
 use rules::DeltaRead;
 use rules::Refusal;
 use rules::sizes;
@@ -143,7 +143,7 @@ fn take_line(line: &[u8], ops: usize, bytes: usize, delta: &mut [u8]) -> Making
 
 // A byte of a line.
 fn take_among(making: Making, byte: u8, line: &mut [u8], delta: &mut [u8]) -> Making
-    ensures { λ r. ⌜ (making .stage ≡ Lines → (t : Bytes) → Holds t making (now (line .entry)) (now (delta .entry)) → Holds (t ++ (byte ∷ [])) r (now (line .exit)) (now (delta .exit))) ⌝ }
+    ensures { λ r. ⌜ (making .stage ≡ Lines → Taking (byte ∷ []) making (now (line .entry)) (now (delta .entry)) r (now (line .exit)) (now (delta .exit))) ⌝ }
 {
     let held = making.held;
     let ops = making.ops;
@@ -165,7 +165,7 @@ fn take_among(making: Making, byte: u8, line: &mut [u8], delta: &mut [u8]) -> Ma
 
 // A byte of the text.
 fn take_byte(making: Making, byte: u8, line: &mut [u8], delta: &mut [u8]) -> Making
-    ensures { λ r. ⌜ ((t : Bytes) → Holds t making (now (line .entry)) (now (delta .entry)) → Holds (t ++ (byte ∷ [])) r (now (line .exit)) (now (delta .exit))) ⌝ }
+    ensures { λ r. ⌜ Taking (byte ∷ []) making (now (line .entry)) (now (delta .entry)) r (now (line .exit)) (now (delta .exit)) ⌝ }
 {
     let stage = making.stage;
     match stage {
@@ -179,7 +179,7 @@ fn take_byte(making: Making, byte: u8, line: &mut [u8], delta: &mut [u8]) -> Mak
 
 // The next piece of a text.
 pub fn take_in(making: Making, piece: &[u8], line: &mut [u8], delta: &mut [u8]) -> Making
-    ensures { λ r. ⌜ ((t : Bytes) → Holds t making (now (line .entry)) (now (delta .entry)) → Holds (t ++ now (piece .entry)) r (now (line .exit)) (now (delta .exit))) ⌝ }
+    ensures { λ r. ⌜ Taking (now (piece .entry)) making (now (line .entry)) (now (delta .entry)) r (now (line .exit)) (now (delta .exit)) ⌝ }
 {
     let mut taken = making;
     let mut i: usize = 0;

@@ -1,8 +1,10 @@
 -- What stands at the front of a text, as code answers it: a number, a key or a value, and how many bytes it took. proofs/Read.antt shows that they are
 -- what the reader of listings goes by (`Unlist.printed`).
-use Prim.Native.Nat.{ℕ, _+_, _-_, _*_, _^_}
-use mathlib.Core.Bool.{Bool, _&&_}
-use lib.ListN.{length}
+use Prim.Native.Nat.{ℕ, _+_, _-_, _*_, _^_, _≤_}
+use mathlib.Core.Path.{_≡_}
+use mathlib.Core.Bool.{Bool, true, _&&_}
+use mathlib.Core.List.{_∷_}
+use lib.ListN.{length, drop, take}
 use lib.Dec.{ltb}
 use Rattle.fields.specs.Choice.{pick}
 use Rattle.fields.specs.Numbers.{Bytes}
@@ -15,6 +17,7 @@ use Rattle.listing_words.specs.declared.Shown.{Shown}
 use Rattle.listing_words.specs.declared.Shown.the-variants as shown
 use Rattle.listing_words.specs.declared.Value.{Value}
 use Rattle.listing_words.specs.declared.Value.the-variants as value
+use Rattle.listing_words.specs.declared.One.{One}
 use Rattle.listing_words.specs.declared.Count.{Count}
 use Rattle.listing_words.specs.declared.Count.the-variants as count
 
@@ -52,3 +55,21 @@ unfoldable pub textAt : (most : ℕ) (text : Bytes) → Shown
 textAt most l =
     let piece : Bytes = pieceOf l in
     pick (textFits most (unshown piece) && sameBytes (shownBytes (unshown piece)) piece) (shown.Is (length (unshown piece)) (length piece)) shown.Not
+
+-- ---- what is promised of the lent bytes
+
+-- a text that fits stands at the front
+abbrev pub Stored : (most : ℕ) (text out : Bytes) → Type 0
+Stored most t out = textFits most t ≡ true → take (length t) out ≡ t
+
+-- what the byte at `i` stands for, and where the next one stands
+abbrev pub OneAt : (piece : Bytes) (i : ℕ) (one : One) → Type 0
+OneAt l i one = (unshown (drop i l) ≡ one .value ∷ unshown (drop (i + one .took) l)) × (1 ≤ one .took) × (i + one .took ≤ length l)
+
+-- the bytes that a shown text stands for were stored
+abbrev pub Unshows : (piece out : Bytes) (answer : Count) (left : Bytes) → Type 0
+Unshows l out r left = (r ≡ countOf (length out) (unshown l)) × Stored (length out) (unshown l) left
+
+-- the key or value at the front was stored
+abbrev pub TextRead : (text out : Bytes) (answer : Shown) (left : Bytes) → Type 0
+TextRead l out r left = (r ≡ textAt (length out) l) × Stored (length out) (unshown (pieceOf l)) left

@@ -2,14 +2,13 @@
 // zero, below 2^64, with capital hexadecimal digits and no escape that is not needed. That is told by printing what was read, and comparing.
 ghost use mathlib.Core.Path.{_≡_};
 ghost use mathlib.Core.Bool.{true};
-ghost use mathlib.Core.List.{_∷_};
 ghost use Prim.Native.Nat.{_+_, _*_, _≤_, _<_};
-ghost use lib.ListN.{length, drop, take};
+ghost use lib.ListN.{length};
 ghost use Rattle.fields.specs.Order.{sameBytes};
 ghost use Rattle.rules.specs.Listing.{decimal, shownBytes};
 ghost use Rattle.rules.specs.Sizes.{maxValue};
-ghost use Rattle.listing_read.specs.Unlist.{hexValue, isDigit, isGraphic, unshown};
-ghost use Rattle.listing_words.specs.Words.{countOf, digitsAt, grown, numberAt, pieceOf, textAt, textFits};
+ghost use Rattle.listing_read.specs.Unlist.{hexValue, isDigit, isGraphic};
+ghost use Rattle.listing_words.specs.Words.{OneAt, TextRead, Unshows, digitsAt, grown, numberAt, pieceOf};
 
 // The largest number.
 const MOST: u64 = 18446744073709551615;
@@ -186,7 +185,7 @@ fn wide(b: u8) -> usize
 // What the byte at `i` stands for: itself, or with `%` what the two behind it say.
 fn one_at(piece: &[u8], i: usize) -> One
     requires { ⌜ i < length (now piece) ⌝ }
-    ensures { λ r. ⌜ (unshown (drop i (now (piece .entry))) ≡ r .value ∷ unshown (drop (i + r .took) (now (piece .entry)))) × (1 ≤ r .took) × (i + r .took ≤ length (now (piece .entry))) ⌝ }
+    ensures { λ r. ⌜ OneAt (now (piece .entry)) i r ⌝ }
 {
     if piece.len() - i < 3 {
         return One {
@@ -208,7 +207,7 @@ fn one_at(piece: &[u8], i: usize) -> One
 
 // The bytes that a shown text stands for, at the front of `out`, if they are bytes and have room there.
 fn unshow(piece: &[u8], out: &mut [u8]) -> Count
-    ensures { λ r. ⌜ (r ≡ countOf (length (now (out .entry))) (unshown (now (piece .entry)))) × (textFits (length (now (out .entry))) (unshown (now (piece .entry))) ≡ true → take (length (unshown (now (piece .entry)))) (now (out .exit)) ≡ unshown (now (piece .entry))) ⌝ }
+    ensures { λ r. ⌜ Unshows (now (piece .entry)) (now (out .entry)) r (now (out .exit)) ⌝ }
 {
     let mut n: usize = 0;
     let mut i: usize = 0;
@@ -240,7 +239,7 @@ fn is_shown(text: &[u8], piece: &[u8]) -> bool
 // The key or value at the front, as it is shown; its bytes at the front of `out`, whose length is the most that it may have.
 pub fn text(text: &[u8], out: &mut [u8]) -> Shown
     requires { ⌜ length (now out) ≤ maxValue ⌝ }
-    ensures { λ r. ⌜ (r ≡ textAt (length (now (out .entry))) (now (text .entry))) × (textFits (length (now (out .entry))) (unshown (pieceOf (now (text .entry)))) ≡ true → take (length (unshown (pieceOf (now (text .entry))))) (now (out .exit)) ≡ unshown (pieceOf (now (text .entry)))) ⌝ }
+    ensures { λ r. ⌜ TextRead (now (text .entry)) (now (out .entry)) r (now (out .exit)) ⌝ }
 {
     let took = graphic_len(text);
     let piece = &text[..took];
