@@ -3,11 +3,12 @@
 
     python3 crates/listing_samples/make.py
 
-writes, beside this file, a file for each sample into data/, their names into args, and into stdout for each the name and its listing. The
-listings come from `listing` below, which was written from document 01 ("Bytes", "Numbers given on refusal", "The listing") and from tickets 1 and 5 of
-the change requests, and shares nothing with the Rattle code or its definitions.
+writes, beside this file, a file for each sample into data/, their names into args, and into stdout for each the name, its listing, and what comes of
+reading that listing back. The listings come from `listing` below, which was written from document 01 ("Bytes", "Numbers given on refusal", "The
+listing") and from tickets 1 and 5 of the change requests; what comes of a listing from `written`, which was written from ticket 7. Both share nothing with
+the Rattle code or its definitions.
 """
-import os, shutil, struct
+import os, re, shutil, struct
 
 SET, DELETE, TTL = 0, 1, 2
 
@@ -91,6 +92,77 @@ def listing(b):
         except Refused as r:
             return 'end=refused code=%d at=%d%s\n' % (r.args[0], place, ''.join(' need=%d' % n for n in r.args[1:]))
     return ''.join(lines) + 'end=ok ops=%d bytes=%d\n' % (len(lines), len(b))
+
+
+# ---- ticket 7: a delta from its listing
+
+NUMBER = rb'(0|[1-9][0-9]*)'
+TEXT = rb'((?:[!-~])*)'
+LINES = [
+    ('node', re.compile(rb'op=node id=' + NUMBER + rb' gc=' + NUMBER + rb' from=' + NUMBER)),
+    ('kv', re.compile(rb'op=kv version=' + NUMBER + rb' status=(set|delete|ttl) key=' + TEXT + rb' value=' + TEXT)),
+    ('max', re.compile(rb'op=max version=' + NUMBER)),
+    ('end', re.compile(rb'end=ok ops=' + NUMBER + rb' bytes=' + NUMBER)),
+]
+
+
+class NotInForm(Exception):
+    pass
+
+
+def unescaped(s, most):
+    """What a shown key or value stands for, if it is shown just so and not too long."""
+    b = re.sub(rb'%([0-9A-F]{2})', lambda m: bytes([int(m.group(1), 16)]), s)
+    if shown(b).encode() != s or len(b) > most:
+        raise NotInForm
+    return b
+
+
+def small(s):
+    if len(s) > 20 or int(s) >= 2 ** 64:
+        raise NotInForm
+    return int(s)
+
+
+def of_line(line):
+    """The line's kind, and the bytes of its operation or the counts of an end line."""
+    for kind, form in LINES:
+        m = form.fullmatch(line)
+        if m and kind == 'node':
+            return kind, node(*map(small, m.groups()))
+        if m and kind == 'kv':
+            status = [b'set', b'delete', b'ttl'].index(m.group(2))
+            return kind, kv(unescaped(m.group(3), 32), unescaped(m.group(4), 64), small(m.group(1)), status)
+        if m and kind == 'max':
+            return kind, most(small(m.group(1)))
+        if m:
+            return kind, m.groups()
+    raise NotInForm
+
+
+def written(text):
+    """The delta's bytes, or the line that is printed where there are none."""
+    at, number, delta = 0, 0, b''
+    try:
+        while True:
+            number += 1
+            end = text.find(b'\n', at)
+            if end < 0:
+                raise NotInForm
+            kind, told = of_line(text[at:end])
+            at = end + 1
+            if kind == 'end':
+                if told != (b'%d' % (number - 1), b'%d' % len(delta)):
+                    raise NotInForm
+                if at < len(text):
+                    number += 1
+                    raise NotInForm
+                break
+            delta += told
+    except NotInForm:
+        return 'end=refused code=16 line=%d\n' % number
+    told = listing(delta)
+    return told if told.startswith('end=refused') else delta
 
 
 # ---- the samples
@@ -231,7 +303,8 @@ def main():
             with open(os.path.join(folder, name), 'wb') as sample:
                 sample.write(delta)
             args.write(name + '\n')
-            told.write(name + '\n' + listing(delta))
+            back = written(listing(delta).encode())
+            told.write(name + '\n' + listing(delta) + (back if isinstance(back, str) else 'made=same\n' if back == delta else 'made=other\n'))
 
 
 if __name__ == '__main__':

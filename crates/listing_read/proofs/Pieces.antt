@@ -12,10 +12,10 @@ use lib.Seq.{drop-at}
 use borrow.Author.Tests.{le-leb, le-ltb, lt-ltb, ne-eqb}
 use Rattle.fields.specs.Choice.{all, here, later, pick}
 use Rattle.fields.specs.Numbers.{AreBytes, Bytes}
-use Rattle.fields.proofs.Choice.{and-intro, and-left, and-right}
+use Rattle.fields.proofs.Choice.{all-in, and-intro, and-left, and-right}
 use Rattle.fields.proofs.Ordered.{same-self, starts-own}
 use Rattle.rules.specs.Listing.{decimal, digits, hexDigit, plain, shownByte, shownBytes}
-use Rattle.listing_read.specs.Unlist.{Form, LineRead, front, hexValue, isDigit, isGraphic, numberForm, printed, textForm, unshown, valueFrom, word}
+use Rattle.listing_read.specs.Unlist.{Form, LineRead, front, hexValue, isByte, isDigit, isGraphic, numberForm, printed, textForm, unshown, valueFrom, word}
 
 -- ---- at the front of a text
 
@@ -149,4 +149,4 @@ shown-graphic [] h = refl
 shown-graphic (b ∷ t) h = byte-graphic b (h b (here refl)) (shownBytes t) (shown-graphic t (λ x m. h x (later m)))
 
 pub text-readable : (most : ℕ) (t : Bytes) → AreBytes t → length t ≤ most → Readable (textForm most) t
-text-readable most t h g = record { own = shown-graphic t h; back = shown-back t h; fit = le-leb (length t) most g }
+text-readable most t h g = record { own = shown-graphic t h; back = shown-back t h; fit = and-intro (leb (length t) most) (all isByte t) (le-leb (length t) most g) (all-in isByte t (λ x m. lt-ltb x 256 (h x m))) }

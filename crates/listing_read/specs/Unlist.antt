@@ -5,7 +5,7 @@ use mathlib.Core.Bool.{Bool, _&&_}
 use mathlib.Core.List.{List, [], _∷_}
 use lib.ListN.{length, drop}
 use lib.Dec.{eqb, leb, ltb}
-use Rattle.fields.specs.Choice.{pick}
+use Rattle.fields.specs.Choice.{all, pick}
 use Rattle.fields.specs.Numbers.{Bytes}
 use Rattle.fields.specs.Order.{sameBytes, startsWith}
 use Rattle.rules.specs.Sizes.{maxKey, maxValue}
@@ -74,8 +74,12 @@ unshown (a ∷ []) = a ∷ []
 unshown (a ∷ b ∷ []) = a ∷ b ∷ []
 unshown (a ∷ b ∷ c ∷ l) = pick (eqb a 37) ((hexValue b * 16 + hexValue c) ∷ unshown l) (a ∷ unshown (b ∷ c ∷ l))
 
+-- of two digits that are none, more than a byte may come
+abbrev pub isByte : (b : ℕ) → Bool
+isByte b = ltb b 256
+
 abbrev pub textForm : (most : ℕ) → Form Bytes
-textForm most = record { within = isGraphic; value = unshown; print = shownBytes; fits = λ t. leb (length t) most }
+textForm most = record { within = isGraphic; value = unshown; print = shownBytes; fits = λ t. leb (length t) most && all isByte t }
 
 -- ---- the line of an operation
 
