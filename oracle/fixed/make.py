@@ -687,6 +687,124 @@ def fence():
             yield apply(node(1, told, start), kv(b"b", b"2", most + 2))
 
 
+def guard():
+    """A guarded table: own (10,3) against a last_gc and a max below, at and above 10, step 1 before the guard; own (10,10), where it is down."""
+    for most in (3, 10):
+        for told, start, reach in ((9, 0, 9), (9, 0, 10), (9, 0, 11), (10, 0, 9), (11, 0, 9), (9, 0, 3), (9, most + 1, most + 2)):
+            yield "make 2"
+            yield "add 1"
+            yield apply(node(1, 10), kv(b"a", b"1", most))
+            yield apply(node(1, told, start), kv(b"b", b"2", reach))
+
+
+# ---- nets: P is hub 0 and owns node 1, F, G and H follow it
+
+P, F, G, H = range(4)
+A, B = "x61", "x62"
+
+
+def net(*modes):
+    for hub, mode in reversed(list(enumerate(modes))):
+        yield f"hub {hub}"
+        yield f"make {mode}"
+        yield "add 1"
+
+
+def hears(hub, *others):
+    """Prompt exchanges at the largest MTU: the hub's own digest, another's delta, applied."""
+    for other in others:
+        yield f"hub {hub}"
+        yield "digest - 0 34"
+        yield f"hub {other}"
+        yield "compute @digest 16384 - 0 0 16384"
+        yield f"hub {hub}"
+        yield "apply @delta 9 1"
+
+
+def sets(*keys):
+    yield f"hub {P}"
+    for key in keys:
+        yield f"write 1 {key} x31 0 9"
+
+
+def deletes(key):
+    yield f"hub {P}"
+    yield f"delete 1 {key} 9"
+    yield "gc 9 0"
+
+
+def shown(key, *hubs):
+    for hub in hubs:
+        yield f"hub {hub}"
+        yield f"get 1 {key}"
+        yield "digest - 0 34"
+
+
+def triangle():
+    """G hears P, then F, who has not heard of the removal, then P. A plain G ends at P's own pair and shows b; a fenced or guarded one does not."""
+    for mode in (0, 1, 2):
+        yield from net(mode, mode, mode)
+        yield from sets(A, B)
+        yield from hears(F, P)
+        yield from deletes(B)
+        yield from hears(G, P, F, P)
+        yield from shown(B, G, P)
+
+
+def line():
+    """P, F and G in a line, F hears both: what it lost to P's reset comes back from G. In both ways, for each hears its neighbour."""
+    for mode in (0, 1, 2):
+        yield from net(mode, mode, mode)
+        yield from sets(A, B)
+        yield from hears(F, P)
+        yield from hears(G, F)
+        yield from deletes(B)
+        yield from hears(F, P, G, P)
+        yield from hears(G, F, F)
+        yield from shown(B, F, G, P)
+
+
+def relay():
+    """A plain relay F takes b from H, who is behind, and hands it on: G, fenced or guarded, hears F alone and ends at P's own pair with b."""
+    for mode in (1, 2):
+        yield from net(mode, 0, mode, mode)
+        yield from sets(A, B)
+        yield from hears(H, P)
+        yield from deletes(B)
+        yield from hears(F, P, H, P)
+        yield from hears(G, F, F)
+        yield from shown(B, G, P)
+
+
+def owner():
+    """P sets a, then b, and F hears it. P is restored with b lost: hub 2 has the very bytes that P had before. It gives version 2 again, to c, and F never hears of it."""
+    for mode in (0, 1, 2):
+        yield from net(mode, mode, mode)
+        yield from sets(A)
+        yield f"hub {G}"
+        yield f"write 1 {A} x31 0 9"
+        yield from sets(B)
+        yield from hears(F, P)
+        yield f"hub {G}"
+        yield "write 1 x63 x31 0 9"
+        yield from hears(F, G)
+        yield from shown(B, F, G)
+        yield from shown("x63", F, G)
+
+
+def behind():
+    """G is reset to (2,1) by P, and from then on hears only F, at (0,2): a fenced G is left behind, a guarded one is at (2,2), as P is."""
+    for mode in (0, 1, 2):
+        yield from net(mode, mode, mode)
+        yield from sets(A)
+        yield f"write 1 {B} x31 2 9"
+        yield from hears(F, P)
+        yield f"hub {P}"
+        yield "gc 9 0"
+        yield from hears(G, P, F, F)
+        yield from shown(B, G, P)
+
+
 def exchange():
     """Two hubs: digest, delta, applied, until the follower has all; late and repeated deltas; a reset after removal."""
     def round_trip(mtu, ties, now=9):
@@ -755,7 +873,7 @@ def bad_tables():
     good = table(slot(7, [one, two], 2))
     broken = (table(slot(7, [one, two], 1)), table(slot(7, [one, record(b"b", b"2", 1)], 5)), table(slot(7, [record(b"a", b"1", 0), two], 5)),
               table(slot(7, [two, one], 5)), table(slot(7, [], 0), slot(6, [], 0)), good[:-1], good[:-1] + b"\1",
-              table(slot(7, [one, two], 2), mode=2), good[:AREA] + b"\0\1" + good[AREA + 2:], good[:AREA])
+              table(slot(7, [one, two], 2), mode=3), good[:AREA] + b"\0\1" + good[AREA + 2:], good[:AREA])
     for data in broken:
         yield f"table {x(data)}"
         yield from CALLS
@@ -776,7 +894,7 @@ def malformed():
         yield f"get 1 {key}"
     for numbers in ("", ",", "1,", ",1", "1,,2", "1,:", "--"):
         yield f"digest {numbers} 0 34 0"
-    yield from ("", " ", "add", "add 1 ", "add  1", " add 1", "add 1 2", "Add 1", "adds 1", "ad 1", "new 0", "make", "hub", "hub 2", "hub :", "dump 0",
+    yield from ("", " ", "add", "add 1 ", "add  1", " add 1", "add 1 2", "Add 1", "adds 1", "ad 1", "new 0", "make", "hub", "hub 4", "hub :", "dump 0",
                 "readdelta", "readdelta @delt", "table @", "gc 1", "digest - 0 34", "digest - 0 34 -1", "digest - 0 34 0 0", "readdigest x0000", "readdigest x0000 x",
                 "compute x0000 100 - 0 0 100", "compute x0000 100 - 0 0 100 +1")
     yield "add 2"
@@ -787,7 +905,8 @@ SCRIPTS = {
     "removal": removal, "removed": removed, "bad-memories": bad_memories,
     "digests": digests, "digest-reading": digest_reading, "editions": editions, "delta-reading": delta_reading, "lacking": lacking, "delta-lengths": delta_lengths, "asking": asking,
     "from": from_where, "in-line": in_line,
-    "cuts": cuts, "longest-record": longest_record, "verdicts": verdicts, "taking": taking, "room-counts": room, "fence": fence, "exchange": exchange,
+    "cuts": cuts, "longest-record": longest_record, "verdicts": verdicts, "taking": taking, "room-counts": room, "fence": fence, "guard": guard, "exchange": exchange,
+    "net-triangle": triangle, "net-line": line, "net-relay": relay, "net-owner": owner, "net-behind": behind,
     "bad-tables": bad_tables, "malformed": malformed,
 }
 

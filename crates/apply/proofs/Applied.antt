@@ -166,10 +166,12 @@ module _ (e : Entry) (b : List ℕ) (r : Bool) (b₁ : List ℕ) (g : Grown e r 
 roomy-is : (m : Mode) (l : List Rec) → waysOf m .roomy l ≡ hasRoom l
 roomy-is modes.Plain l = refl
 roomy-is modes.Fenced l = refl
+roomy-is modes.Guarded l = refl
 
 pub reads-is : (m : Mode) (s : List ℕ) → waysOf m .reads s ≡ rule.readDelta s
 reads-is modes.Plain s = refl
 reads-is modes.Fenced s = refl
+reads-is modes.Guarded s = refl
 
 -- ---- a node's answer, by the status
 

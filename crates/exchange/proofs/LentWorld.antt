@@ -12,8 +12,8 @@ use Rattle.rules.specs.Local.{Outcome, call, gc, localBeat, offer}
 use Rattle.rules.specs.Digest.{writeDigest}
 use Rattle.rules.specs.Compute.{compute}
 use Rattle.rules.specs.Apply.{Ways, apply, waysOf}
-use Rattle.rules.specs.Whole.{Whole, decodeWhole, encodeWhole, obeysWhole}
-use Rattle.rules.specs.Lent.{TableAndList, both, fromTable, lentApply, lentApplyAs, lentCompute, onTable, onWhole, storedApply, storedIn}
+use Rattle.rules.specs.Whole.{Whole, encodeWhole, obeysWhole}
+use Rattle.rules.specs.Lent.{TableAndList, fromTable, lentApply, lentCompute, onTable, onWhole, storedApply, storedIn}
 use Rattle.rules.specs.World.{Applying, Arriving, Beating, Computing, DeltaSent, DigestSent, Digesting, Event, Exchange, Followers, Idle, Offering, Publishers, Removing, Sending, Side, World, Writing, after, afterDelta, afterDigest, calls, computedFor, appliedTo, freshTable, givenIn, happen, nthSent, onExchange, onSent, onSide, possible, sentAfter, sentOn, start}
 use Rattle.rules.specs.declared.Answer.{Answer}
 use Rattle.rules.specs.declared.Answer.the-variants as plain
@@ -23,14 +23,14 @@ use Rattle.rules.specs.declared.Written.the-variants as written
 use Rattle.rules.specs.declared.Computed.{Computed}
 use Rattle.rules.specs.declared.Computed.the-variants as computed
 use Rattle.rules.specs.declared.Applied.{Applied}
-use Rattle.rules.specs.declared.Applied.the-variants as applied
 use Rattle.rules.specs.declared.Mode.{Mode}
 use Rattle.rules.specs.declared.Refusal.the-variants.{BadTable}
 use Rattle.rules.proofs.Keeps.{mode-lawful}
 use Rattle.rules.proofs.Moments.{InOrder, moment-start, next-event}
 use Rattle.rules.proofs.Obeys.{facts-table}
-use Rattle.table.proofs.Wholes.{decode-encode-whole, valid-encode-whole, without-memory}
-use Rattle.exchange.specs.LentWorld.{LentWorld, inMode, lentAfter, lentApplied, lentCalls, lentComputed, lentHappen, lentSentOn, lentStart, onLent, onWay, tableIn, waysIn}
+use Rattle.table.proofs.Encoded.{apply-whole, from-whole, on-whole, whole-whole}
+use Rattle.table.proofs.Wholes.{decode-encode-whole, without-memory}
+use Rattle.exchange.specs.LentWorld.{LentWorld, inMode, lentAfter, lentApplied, lentCalls, lentComputed, lentHappen, lentSentOn, lentStart, onLent, onWay, waysIn}
 
 -- ---- a call on the bytes of a table that obeys, in any mode
 
@@ -42,27 +42,16 @@ module _ (m : Mode) (t : Table) (o : obeys t ≡ true) where
   whole-is = without-memory m t o
 
   pub on-encoded : {A : Type 0} (bad : A) (rule : Table → Outcome A) → onTable bad rule (inMode m t) ≡ storedIn whole (rule t)
-  unfolding onTable
-  on-encoded {A} bad rule =
-      ap (λ (b : Bool). pick b (storedIn (decodeWhole (inMode m t)) (rule (tableIn (inMode m t)))) (given bad (inMode m t))) (valid-encode-whole whole whole-is)
-      ∙ ap (λ (u : Whole). storedIn u (rule (u .table))) (decode-encode-whole whole whole-is)
+  on-encoded bad rule = on-whole whole whole-is bad rule
 
   pub from-encoded : {A : Type 0} (bad : A) (rule : Table → A) → fromTable bad rule (inMode m t) ≡ rule t
-  unfolding fromTable
-  from-encoded bad rule = ap (λ (b : Bool). pick b (rule (tableIn (inMode m t))) bad) (valid-encode-whole whole whole-is) ∙ ap (λ (u : Whole). rule (u .table)) (decode-encode-whole whole whole-is)
+  from-encoded bad rule = from-whole whole whole-is bad rule
 
   pub whole-encoded : {A : Type 0} (bad : A) (rule : Whole → Given A Whole) → onWhole bad rule (inMode m t) ≡ given (rule whole .answer) (encodeWhole (rule whole .lent))
-  unfolding onWhole
-  whole-encoded {A} bad rule =
-      ap (λ (b : Bool). pick b (given (rule (decodeWhole (inMode m t)) .answer) (encodeWhole (rule (decodeWhole (inMode m t)) .lent))) (given bad (inMode m t))) (valid-encode-whole whole whole-is)
-      ∙ ap (λ (u : Whole). given (rule u .answer) (encodeWhole (rule u .lent))) (decode-encode-whole whole whole-is)
+  whole-encoded bad rule = whole-whole whole whole-is bad rule
 
   pub apply-encoded : (delta : List ℕ) (now : ℕ) (list : List ℕ) → lentApply delta now list (inMode m t) ≡ storedApply whole (apply (waysOf m) delta now t list)
-  unfolding lentApplyAs
-  apply-encoded delta now list =
-      ap (λ (b : Bool). pick b (storedApply (decodeWhole (inMode m t)) (apply (waysIn (inMode m t)) delta now (tableIn (inMode m t)) list)) (given (applied.Refused BadTable 0) (both (inMode m t) list)))
-      (valid-encode-whole whole whole-is)
-      ∙ ap (λ (u : Whole). storedApply u (apply (waysOf (u .mode)) delta now (u .table) list)) (decode-encode-whole whole whole-is)
+  apply-encoded delta now list = apply-whole whole whole-is delta now list
 
 -- ---- the bytes of a world of tables, the publisher's in mode pm and the follower's in mode fm
 

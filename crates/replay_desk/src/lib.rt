@@ -1,4 +1,4 @@
-// Two hubs' tables, which one is current, and what `@digest` and `@delta` stand for.
+// Four hubs' tables, which one is current, and what `@digest` and `@delta` stand for.
 use replay_words::print;
 use replay_words::read;
 use replay_words::read::Count;
@@ -12,26 +12,33 @@ use table::layout;
 // Room for a table, good or not: a byte more than a good one has.
 pub const TABLE: usize = layout::TABLE + 1;
 
-// The rooms of the two hubs' tables, one behind the other.
-pub const TABLES: usize = 2 * TABLE;
+// How many hubs there are.
+const HUBS: u64 = 4;
+
+// The rooms of the hubs' tables, one behind the other.
+pub const TABLES: usize = 4 * TABLE;
 
 // The current hub, how many bytes of each hub's room are its lent table, the lengths of the last digest and the last delta, and the output so far.
 pub struct Desk {
     pub hub: u64,
     pub first: usize,
     pub second: usize,
+    pub third: usize,
+    pub fourth: usize,
     pub digest: usize,
     pub delta: usize,
     pub out: usize,
 }
 
 impl Desk {
-    // Both tables are empty.
+    // All tables are empty.
     pub fn new() -> Self {
         Desk {
             hub: 0,
             first: layout::TABLE,
             second: layout::TABLE,
+            third: layout::TABLE,
+            fourth: layout::TABLE,
             digest: 0,
             delta: 0,
             out: 0,
@@ -43,22 +50,44 @@ impl Desk {
         if self.hub == 0 {
             return self.first;
         }
-        self.second
+        if self.hub == 1 {
+            return self.second;
+        }
+        if self.hub == 2 {
+            return self.third;
+        }
+        self.fourth
+    }
+
+    // Where the current table's room begins.
+    fn place(self) -> usize {
+        if self.hub == 0 {
+            return 0;
+        }
+        if self.hub == 1 {
+            return TABLE;
+        }
+        if self.hub == 2 {
+            return 2 * TABLE;
+        }
+        3 * TABLE
     }
 
     // The room of the current table.
     pub fn room(self, tables: &mut [u8]) -> &mut [u8] {
-        if self.hub == 0 {
-            return read::front_mut(tables, TABLE);
-        }
-        read::behind_mut(tables, TABLE)
+        let behind = read::behind_mut(tables, self.place());
+        read::front_mut(behind, TABLE)
     }
 
     fn with_lent(mut self, n: usize) -> Self {
         if self.hub == 0 {
             self.first = n;
-        } else {
+        } else if self.hub == 1 {
             self.second = n;
+        } else if self.hub == 2 {
+            self.third = n;
+        } else {
+            self.fourth = n;
         }
         self
     }
@@ -74,7 +103,7 @@ pub fn turned(before: Desk, line: &[u8]) -> Desk {
     let mut desk = before;
     if verbs::asked(line) == verbs::HUB {
         if let Numeral::Is(n) = read::number(read::word(line, 1)) {
-            if n < 2 {
+            if n < HUBS {
                 desk.hub = n;
             }
         }
@@ -91,7 +120,7 @@ fn hub(desk: Desk, line: &[u8], out: &mut [u8]) -> Desk {
     let Numeral::Is(n) = read::number(read::word(line, 1)) else {
         return desk;
     };
-    if n < 2 {
+    if n < HUBS {
         return done(desk, out);
     }
     desk
@@ -114,6 +143,9 @@ fn make_table(desk: Desk, room: &mut [u8], word: &[u8], out: &mut [u8]) -> Desk 
     }
     if n == 1 {
         return new_table(desk, Mode::Fenced, room, out);
+    }
+    if n == 2 {
+        return new_table(desk, Mode::Guarded, room, out);
     }
     let next = replay_tell::answer(out, desk.out, Answer::Refused(Refusal::BadTable));
     desk.with_out(next)

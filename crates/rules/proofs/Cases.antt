@@ -25,7 +25,7 @@ use Rattle.rules.specs.declared.Mode.the-variants.{Plain}
 use Rattle.rules.specs.Digest.{NodeDigest}
 use Rattle.rules.specs.Delta.{Op, sizeOf, statusByte, NodeDelta, Part, partsOf, maxOf, opBytes, recsOf, textBytes}
 use Rattle.rules.specs.Compute.{fromOf, deltaFor, allOps, byVersion, cut, keyValueOps, ordered, queue, sooner, stale, staleNodes, toldOf}
-use Rattle.rules.specs.Apply.{Taken, applyNode, deltaStatus, fencedWays, newerOf, outcome, plainWays, statusOf, takeAll, takes}
+use Rattle.rules.specs.Apply.{Taken, applyNode, deltaStatus, fencedWays, guardedWays, newerOf, outcome, plainWays, statusOf, takeAll, takes}
 use Rattle.rules.specs.declared.Answer.{Answer}
 use Rattle.rules.specs.declared.Beat.{Beat}
 use Rattle.rules.specs.declared.Status.{Status}
@@ -79,6 +79,10 @@ applied n d = told (applyNode plainWays 1000 d n)
 -- by a node of a fenced table
 abbrev fenced : Node → NodeDelta → List ℕ
 fenced n d = told (applyNode fencedWays 1000 d n)
+
+-- and of a guarded one
+abbrev guarded : Node → NodeDelta → List ℕ
+guarded n d = told (applyNode guardedWays 1000 d n)
 
 -- a tombstone of version 3 that starts at 100, under a grace of 50: last_gc afterwards, and the versions held
 abbrev tombstone : Rec
@@ -235,6 +239,16 @@ cases =
     ∷ case (fenced (node 10 3 (live 2 ∷ [])) (delta 11 0 (kv 1 5 Set ∷ []) 5)) (2 ∷ 0 ∷ 11 ∷ 5 ∷ 5 ∷ [])
     ∷ case (fenced (node 10 12 []) (delta 0 12 (kv 1 13 Set ∷ []) 13)) (1 ∷ 7 ∷ 10 ∷ 13 ∷ 13 ∷ [])
     ∷ case (fenced (node 10 10 []) (delta 0 10 (kv 1 13 Set ∷ []) 13)) (1 ∷ 7 ∷ 10 ∷ 13 ∷ 13 ∷ [])
+    -- a guarded node answers Fenced to a delta whose last_gc and max are below its own last_gc, and takes one that reaches it
+    ∷ case (guarded (node 10 3 (live 2 ∷ [])) (delta 9 3 (kv 1 9 Set ∷ []) 9)) (5 ∷ 7 ∷ 10 ∷ 3 ∷ 2 ∷ [])
+    ∷ case (guarded (node 10 3 (live 2 ∷ [])) (delta 0 3 (kv 1 10 Set ∷ []) 10)) (1 ∷ 7 ∷ 10 ∷ 10 ∷ 10 ∷ 2 ∷ [])
+    ∷ case (guarded (node 10 3 (live 2 ∷ [])) (delta 9 0 [] 3)) (5 ∷ 7 ∷ 10 ∷ 3 ∷ 2 ∷ [])
+    ∷ case (guarded (node 10 3 (live 2 ∷ [])) (delta 0 4 (kv 1 5 Set ∷ []) 5)) (0 ∷ 7 ∷ 10 ∷ 3 ∷ 2 ∷ [])
+    ∷ case (guarded (node 10 3 (live 2 ∷ [])) (delta 10 3 (kv 1 5 Set ∷ []) 5)) (1 ∷ 7 ∷ 10 ∷ 5 ∷ 5 ∷ 2 ∷ [])
+    ∷ case (guarded (node 10 10 []) (delta 0 10 (kv 1 13 Set ∷ []) 13)) (1 ∷ 7 ∷ 10 ∷ 13 ∷ 13 ∷ [])
+    -- A hub at (2,1), to which its neighbour at (0,2) sends the scheduled record of version 2: a fenced one is left behind, a guarded one is at (2,2)
+    ∷ case (fenced (node 2 1 (live 1 ∷ [])) (delta 0 1 (kv 2 2 Ttl ∷ []) 2)) (5 ∷ 7 ∷ 2 ∷ 1 ∷ 1 ∷ [])
+    ∷ case (guarded (node 2 1 (live 1 ∷ [])) (delta 0 1 (kv 2 2 Ttl ∷ []) 2)) (1 ∷ 7 ∷ 2 ∷ 2 ∷ 1 ∷ [])
     -- the one write: the same under Set; a new value under Set starts at no time; under TTL it starts at the time, the same value too
     ∷ case (wrote 0 [] 7) (0 ∷ 1 ∷ 0 ∷ 0 ∷ [])
     ∷ case (wrote 0 (5 ∷ []) 7) (0 ∷ 2 ∷ 0 ∷ 0 ∷ [])

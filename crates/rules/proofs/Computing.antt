@@ -1,6 +1,6 @@
 -- What computing sends of an honest node is an honest delta, from any version on and wherever it is cut: a Node alone, the first of the stale
 -- records, or a SetMaxVersion where there are none. The sender need not be the publisher, and the digest may be any.
-use Prim.Native.Nat.{_<_, _≤_, max, ℕ}
+use Prim.Native.Nat.{_<_, _≤_, ℕ}
 use mathlib.Core.Bool.{Bool, false, true}
 use mathlib.Core.List.{List, [], _∷_}
 use mathlib.Core.Logic.{_⊎_, inl, inr}
@@ -15,7 +15,7 @@ use Rattle.rules.proofs.Sending.{carried, nodeDelta}
 use Rattle.rules.proofs.Stale.{Rising, cut-off, rising-stale, rising-take, stale-from, stale-in, take-in, top-is, top-within, topOf}
 use Rattle.rules.specs.Compute.{fromOf, stale}
 use Rattle.rules.specs.Delta.{NodeDelta}
-use Rattle.rules.specs.Demand3.{Holds}
+use Rattle.rules.specs.Demand3.{Holds, reach}
 use Rattle.rules.specs.Node.{KeyValue, Node}
 
 -- a delta with this from, for any count of the records above it
@@ -24,10 +24,10 @@ module _ (h : List KeyValue) (num : Numbered h) (n : Node) (ok : HonestNode h n)
   hon = ok .honest
 
   -- what a shorter reach makes of a record
-  sooner : (m : ℕ) → m ≤ n .max → (s : KeyValue) → Holds n s → Current h (max (n .last-gc) m) s
+  sooner : (m : ℕ) → m ≤ n .max → (s : KeyValue) → Holds n s → Current h (reach (n .last-gc) m) s
   sooner m b s x = at (hon .current s x)
     where
-      at : Current h (max (n .last-gc) (n .max)) s → Current h (max (n .last-gc) m) s
+      at : Current h (reach (n .last-gc) (n .max)) s → Current h (reach (n .last-gc) m) s
       at (inl l) = inl l
       at (inr y) = inr (record { kv = y .kv; told = y .told; same = y .same; above = let a = y .above in omega arith })
 

@@ -9,10 +9,10 @@ use mathlib.Core.Option.{some}
 use mathlib.Core.Path.{_≡_, ap, subst, subst₂}
 use Rattle.rules.proofs.Closing.{after-append, closing}
 use Rattle.rules.proofs.EachNode.{at, orFresh}
-use Rattle.rules.proofs.Keeps.{fenced-lawful, plain-lawful}
+use Rattle.rules.proofs.Keeps.{fenced-lawful, guarded-lawful, plain-lawful}
 use Rattle.rules.proofs.Moments.{InOrder, Moment, moment, moment-claims, run-rises}
 use Rattle.rules.proofs.Obeys.{facts-table}
-use Rattle.rules.specs.Apply.{Lawful, Ways, fencedWays, plainWays}
+use Rattle.rules.specs.Apply.{Lawful, Ways, fencedWays, guardedWays, plainWays}
 use Rattle.rules.specs.Demand3.{AllRise, Claims, Demand3, Holds, NotBegun, Rises, Sound, allQuiet, holdings, wholes}
 use Rattle.rules.specs.Node.{KeyValue, Node}
 use Rattle.rules.specs.Table.{nodeOf, obeys}
@@ -78,3 +78,7 @@ demand3 = demand3-as plainWays plain-lawful
 -- of fenced ones, to which deltas may come late, again and in any order, also within the counted exchanges
 pub demand3-fenced : (is : List ℕ) → obeys (freshTable is) ≡ true → Demand3 fencedWays is
 demand3-fenced = demand3-as fencedWays fenced-lawful
+
+-- and of guarded ones, to which they may come too
+pub demand3-guarded : (is : List ℕ) → obeys (freshTable is) ≡ true → Demand3 guardedWays is
+demand3-guarded = demand3-as guardedWays guarded-lawful

@@ -114,7 +114,7 @@ module _ (i : ℕ) (t : Table) where
       go none q = unbeaten
       go (some n) q = beaten-set j n (offerOf (n .heartbeat) h .heartbeat) q
 
-  removed : (due : ℕ → Rec → Bool) → nodeAt i (removeAll due t) ≡ remove (due i) (nodeAt i t)
+  pub removed : (due : ℕ → Rec → Bool) → nodeAt i (removeAll due t) ≡ remove (due i) (nodeAt i t)
   unfolding remove lastGc keep
   removed due = ap orFresh (node-remove due i t) ∙ go (nodeOf i t)
     where

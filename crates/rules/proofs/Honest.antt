@@ -16,7 +16,7 @@ use Rattle.fields.specs.Order.{sameBytes}
 use Rattle.rules.proofs.History.{Newer, newer-grows}
 use Rattle.rules.proofs.Records.{Sorted, gc-below, gc-covers, gc-rises, sorted-keep}
 use Rattle.rules.specs.Delta.{NodeDelta}
-use Rattle.rules.specs.Demand3.{Holds, Last}
+use Rattle.rules.specs.Demand3.{Holds, Last, reach}
 use Rattle.rules.specs.Node.{KeyValue, Node, Rec, fresh, goes, lastGc, remove, scheduled, withHeartbeat}
 use Rattle.rules.specs.declared.Heartbeat.{Heartbeat}
 
@@ -31,14 +31,14 @@ abbrev pub Current : List KeyValue → ℕ → KeyValue → Type 0
 Current h n s = Last h s ⊎ Newer h n (s .key)
 
 -- Records `has` under last_gc g and max m, complete above `from`. Neither number is above what was given. Each record was given, and is not above
--- m. Each record is the last that its key was given, or its key was given a version above both g and m (after a reset g may exceed m). What a
+-- m. Each record is the last that its key was given, or its key was given a version above both g and m (`reach`). What a
 -- key was given last, above from and up to m, stands here, or is scheduled and at or below g.
 pub record Honest (h : List KeyValue) (from g m : ℕ) (has : KeyValue → Type 0) : Type 0 where
   pub gc-low : g ≤ length h
   pub max-low : m ≤ length h
   pub told : (s : KeyValue) → has s → s ∈ h
   pub within : (s : KeyValue) → has s → s .version ≤ m
-  pub current : (s : KeyValue) → has s → Current h (max g m) s
+  pub current : (s : KeyValue) → has s → Current h (reach g m) s
   pub brings : (s : KeyValue) → s ∈ h → Last h s → from < s .version → s .version ≤ m → has s ⊎ Removed g s
 
 -- a node: from 0, and one record a key
@@ -82,7 +82,7 @@ module _ (h : List KeyValue) (w : KeyValue) (next : w .version ≡ suc (length h
         brings = λ s n l a b. brings s (in-cons n) l a b;
       }
     where
-      current : (s : KeyValue) (b : Bool) → sameBytes (s .key) (w .key) ≡ b → Current h (max g m) s → Current (w ∷ h) (max g m) s
+      current : (s : KeyValue) (b : Bool) → sameBytes (s .key) (w .key) ≡ b → Current h (reach g m) s → Current (w ∷ h) (reach g m) s
       current s b q (inr n) = inr (newer-grows w n)
       current s true q (inl l) =
           inr (record { kv = w; told = here refl; same = sym (same-true _ _ q); above = let a = x .gc-low in let b = x .max-low in omega arith })
@@ -154,7 +154,7 @@ module _ (h : List KeyValue) (n : Node) (ok : HonestNode h n) where
         was : (s : KeyValue) → Has s → Holds n s
         was s x = (x .0, keep-from _ _ (x .1) .0, x .2)
 
-        current : (s : KeyValue) → Current h (max (n .last-gc) (n .max)) s → Current h (max gc (n .max)) s
+        current : (s : KeyValue) → Current h (reach (n .last-gc) (n .max)) s → Current h (reach gc (n .max)) s
         current s (inl l) = inl l
         current s (inr x) =
             let a = gc-within (max (n .last-gc) (n .max)) (omega arith) (omega arith) in

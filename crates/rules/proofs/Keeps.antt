@@ -19,7 +19,7 @@ use Rattle.rules.proofs.Obeys.{OkNode, OkRec}
 use Rattle.rules.proofs.Received.{OkDelta}
 use Rattle.rules.proofs.Records.{Above, Sorted, gc-below, keyOf, sorted-keep, sorted-store, store-from}
 use Rattle.rules.proofs.Taking.{Came, From, came, left, not-both, reset, sorted-take, take-from, takes-above, took}
-use Rattle.rules.specs.Apply.{Lawful, Ways, applyNode, fencedWays, outcome, plainWays, stamp, startAt, takeAll, takes, waysOf}
+use Rattle.rules.specs.Apply.{Lawful, Ways, applyNode, fencedWays, guardedWays, outcome, plainWays, stamp, startAt, takeAll, takes, waysOf}
 use Rattle.rules.specs.Delta.{NodeDelta}
 use Rattle.rules.specs.Local.{gc}
 use Rattle.rules.specs.Node.{Call, Change, Decision, Deleting, DeletingAfterTtl, Give, KeyValue, Leave, Node, Rec, Refuse, Setting, SettingTtl, act, allowed, beat, beats, brought, decide, due, find, fresh, fullFor, goes, lastGc, offerOf, remove, sameStatus, scheduled, store, unlessSame, wish, withHeartbeat, write}
@@ -297,9 +297,36 @@ fenced-lawful = record { reads-so = λ b ops e. e; few = λ l e. leb-true (lengt
         go true p false q e = let y = ltb-false gc g q in omega arith
         go false p b q e = let y = ltb-false m g p in omega arith
 
+-- a guarded table fences off nothing that the step of demand 3 allows (Step)
+pub guarded-least : (g m gc x : ℕ) → g ≤ max m (max gc x) → guardedWays .fence g m gc x ≡ false
+guarded-least g m gc x h = go (ltb m g) refl (ltb gc g) refl (ltb x g) refl
+  where
+    go : (a : Bool) → ltb m g ≡ a → (b : Bool) → ltb gc g ≡ b → (c : Bool) → ltb x g ≡ c → guardedWays .fence g m gc x ≡ false
+    go true p true q true r = let y = ltb-true m g p in let z = ltb-true gc g q in let u = ltb-true x g r in absurd (omega arith)
+    go true p true q false r = simp (p, q, r)
+    go true p false q c r = simp (p, q)
+    go false p b q c r = simp p
+
+-- and all else
+pub guarded-lawful : Lawful guardedWays
+guarded-lawful = record { reads-so = λ b ops e. e; few = λ l e. leb-true (length l) maxRecords e; lets = stands-open; safe = λ e. keeps-off }
+  where
+    stands-open : (g m gc x : ℕ) → g ≤ max m gc → guardedWays .fence g m gc x ≡ false
+    stands-open g m gc x h = guarded-least g m gc x (omega arith)
+
+    keeps-off : (g m gc x : ℕ) → guardedWays .fence g m gc x ≡ false → g ≤ max m (max gc x)
+    keeps-off g m gc x e = go (ltb m g) refl (ltb gc g) refl (ltb x g) refl
+      where
+        go : (a : Bool) → ltb m g ≡ a → (b : Bool) → ltb gc g ≡ b → (c : Bool) → ltb x g ≡ c → g ≤ max m (max gc x)
+        go true p true q true r = let shut : guardedWays .fence g m gc x ≡ true = simp (p, q, r) in absurd (true≢false (sym shut ∙ e))
+        go true p true q false r = let y = ltb-false x g r in omega arith
+        go true p false q c r = let y = ltb-false gc g q in omega arith
+        go false p b q c r = let y = ltb-false m g p in omega arith
+
 pub mode-lawful : (m : Mode) → Lawful (waysOf m)
 mode-lawful mode.Plain = plain-lawful
 mode-lawful mode.Fenced = fenced-lawful
+mode-lawful mode.Guarded = guarded-lawful
 
 module _ (held gc now : ℕ) where
   take-differ : (m : ℕ) (ss : List KeyValue) (l : List Rec) → Sorted l → Differ l → Strict m ss → ((x : Rec) → x ∈ l → versionOf x ≤ max held m) → Differ (takeAll held gc now ss l)

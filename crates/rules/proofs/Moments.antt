@@ -114,14 +114,14 @@ read-once (NodeOp n g f ∷ ops) s c = go (partAt n (partsOf ops)) refl (read-on
 read-once (KeyValueOp r ∷ ops) s c = read-once ops (c .0) (c .2)
 read-once (SetMaxVersionOp m ∷ ops) s c = read-once ops (c .0) (c .2)
 
-clock-fits : (c : Call) → timeOf c < numbers → ClockFits c
+pub clock-fits : (c : Call) → timeOf c < numbers → ClockFits c
 clock-fits (Setting v) h = tt
 clock-fits (SettingTtl v now) h = h
 clock-fits (Deleting now) h = h
 clock-fits (DeletingAfterTtl now) h = h
 
 -- a call keeps the table rules
-kept : (t u : Table) → (obeys t ≡ true → obeys u ≡ true) → OkTable t → OkTable u
+pub kept : (t u : Table) → (obeys t ≡ true → obeys u ≡ true) → OkTable t → OkTable u
 kept t u f ok = table-facts u (f (facts-table t ok))
 
 -- one of all deltas that were ever computed, or nothing

@@ -1,6 +1,6 @@
 -- The publisher's node beside all that it gave to its keys: an honest node that has got to the last version given. Each write, each removal and
 -- each heartbeat keeps this. And what demand 3 claims of the publisher's node and any honest node beside it.
-use Prim.Native.Nat.{_+_, _<_, _≤_, max, suc, ℕ}
+use Prim.Native.Nat.{_+_, _<_, _≤_, suc, ℕ}
 use mathlib.Core.Bool.{Bool, false≢true}
 use mathlib.Core.List.{List, [], _∷_}
 use mathlib.Core.Logic.{_⊎_, inl, inr}
@@ -12,7 +12,7 @@ use Rattle.fields.specs.Choice.{_∈_, here, later}
 use Rattle.rules.proofs.History.{Numbered, numbered-grows, numbered-none}
 use Rattle.rules.proofs.Honest.{Current, Honest, HonestNode, Removed, fresh-honest, node-beat, node-remove}
 use Rattle.rules.proofs.Records.{keyOf, sorted-store, store-from, store-new, store-old}
-use Rattle.rules.specs.Demand3.{Claims, Holds, Last}
+use Rattle.rules.specs.Demand3.{Claims, Holds, Last, reach}
 use Rattle.rules.specs.Node.{Change, KeyValue, Node, Rec, fresh, remove, scheduled, store, withHeartbeat, write}
 use Rattle.rules.specs.World.{givenBy}
 use Rattle.rules.specs.declared.Heartbeat.{Heartbeat}
@@ -30,7 +30,7 @@ publisher-fresh = record { numbered = numbered-none; node = fresh-honest []; top
 pub all-current : (h : List KeyValue) (n : Node) → Numbered h → HonestNode h n → n .max ≡ length h → (s : KeyValue) → Holds n s → Last h s
 all-current h n num ok top s x = at (ok .honest .current s x)
   where
-    at : Current h (max (n .last-gc) (n .max)) s → Last h s
+    at : Current h (reach (n .last-gc) (n .max)) s → Last h s
     at (inl l) = l
     at (inr y) = let a = y .above in let b = num .high (y .kv) (y .told) in absurd (omega arith)
 

@@ -17,7 +17,7 @@ use Rattle.rules.proofs.Records.{Sorted, keyOf}
 use Rattle.rules.proofs.Taking.{Applies, Came, From, came, left, reset, sorted-take, take-from, take-new, take-old, takes-above, takes-high, takes-or-not, took}
 use Rattle.rules.specs.Apply.{Ways, applyNode, outcome, stamp, takeAll, takes}
 use Rattle.rules.specs.Delta.{NodeDelta}
-use Rattle.rules.specs.Demand3.{Holds, Last}
+use Rattle.rules.specs.Demand3.{Holds, Last, reach}
 use Rattle.rules.specs.Node.{KeyValue, Node, Rec}
 use Rattle.rules.specs.declared.DeltaStatus.the-variants.{Apply, ApplyAfterReset}
 
@@ -26,7 +26,7 @@ module _ (h : List KeyValue) (num : Numbered h) (now : ℕ) (d : NodeDelta) (x :
   alone : (s : KeyValue) → s ∈ h → s .version ≤ d .max → Last h s → (t : KeyValue) → t ∈ d .recs → t .key ≡ s .key → t ≡ s
   alone s m b l t n k = at (x .current t n)
     where
-      at : Current h (max (d .last-gc) (d .max)) t → t ≡ s
+      at : Current h (reach (d .last-gc) (d .max)) t → t ≡ s
       at (inl u) = num .one t s (x .told t n) m (let a = u s m (sym k) in let c = l t (x .told t n) k in omega arith)
       at (inr y) = let a = l (y .kv) (y .told) (y .same ∙ k) in let c = y .above in absurd (omega arith)
 
@@ -49,10 +49,10 @@ module _ (h : List KeyValue) (num : Numbered h) (now : ℕ) (d : NodeDelta) (x :
     taken-within f r (inr m) = f r (m .0)
 
     -- a record that is taken is its key's last, or the last is above both numbers of the node afterwards
-    new-current : gc ≤ max (d .last-gc) (d .max) → (s : KeyValue) → s ∈ d .recs → Current h (max gc (d .max)) s
+    new-current : gc ≤ max (d .last-gc) (d .max) → (s : KeyValue) → s ∈ d .recs → Current h (reach gc (d .max)) s
     new-current b s m = at (x .current s m)
       where
-        at : Current h (max (d .last-gc) (d .max)) s → Current h (max gc (d .max)) s
+        at : Current h (reach (d .last-gc) (d .max)) s → Current h (reach gc (d .max)) s
         at (inl y) = inl y
         at (inr y) = inr (record { kv = y .kv; told = y .told; same = y .same; above = let a = y .above in omega arith })
 
@@ -93,7 +93,7 @@ module _ (h : List KeyValue) (num : Numbered h) (now : ℕ) (d : NodeDelta) (x :
         from r m = take-from 0 (d .last-gc) now (d .recs) [] tt m
 
         Now : KeyValue → Type 0
-        Now s = Current h (max (d .last-gc) (d .max)) s
+        Now s = Current h (reach (d .last-gc) (d .max)) s
 
         current : (r : Rec) → Out 0 (d .last-gc) [] r → Now (r .kv)
         current r (inl s) = subst (λ (y : Rec). Now (y .kv)) (sym (s .3)) (new-current 0 (d .last-gc) [] (omega arith) (s .0) (s .1))
@@ -125,24 +125,24 @@ module _ (h : List KeyValue) (num : Numbered h) (now : ℕ) (d : NodeDelta) (x :
         from r m = take-from (n .max) (n .last-gc) now (d .recs) (n .recs) (ok .sorted) m
 
         Now : KeyValue → Type 0
-        Now s = Current h (max (n .last-gc) (d .max)) s
+        Now s = Current h (reach (n .last-gc) (d .max)) s
 
         -- an old record whose key was given a version above both numbers: the delta brings the last of them, or ends before it
-        old : (r : Rec) → ((s : KeyValue) → s ∈ d .recs → takes (n .max) (n .last-gc) s ≡ true → s .key ≡ keyOf r → ⊥) → Newer h (max (n .last-gc) (n .max)) (keyOf r) → Newer h (max (n .last-gc) (d .max)) (keyOf r)
+        old : (r : Rec) → ((s : KeyValue) → s ∈ d .recs → takes (n .max) (n .last-gc) s ≡ true → s .key ≡ keyOf r → ⊥) → Newer h (reach (n .last-gc) (n .max)) (keyOf r) → Newer h (reach (n .last-gc) (d .max)) (keyOf r)
         old r gone y = at (latest (keyOf r) h)
           where
-            at : ((s : KeyValue) → s ∈ h → s .key ≡ keyOf r → ⊥) ⊎ Latest h (keyOf r) → Newer h (max (n .last-gc) (d .max)) (keyOf r)
+            at : ((s : KeyValue) → s ∈ h → s .key ≡ keyOf r → ⊥) ⊎ Latest h (keyOf r) → Newer h (reach (n .last-gc) (d .max)) (keyOf r)
             at (inl f) = absurd (f (y .kv) (y .told) (y .same))
             at (inr v) = by (leb (v .kv .version) (d .max)) refl
               where
-                high : max (n .last-gc) (n .max) < v .kv .version
+                high : reach (n .last-gc) (n .max) < v .kv .version
                 high = let e = y .above in let f = v .last (y .kv) (y .told) (y .same ∙ sym (v .same)) in omega arith
 
-                by : (c : Bool) → leb (v .kv .version) (d .max) ≡ c → Newer h (max (n .last-gc) (d .max)) (keyOf r)
+                by : (c : Bool) → leb (v .kv .version) (d .max) ≡ c → Newer h (reach (n .last-gc) (d .max)) (keyOf r)
                 by false q = record { kv = v .kv; told = v .told; same = v .same; above = let e = high in let f = leb-false (v .kv .version) (d .max) q in omega arith }
                 by true q = to (x .brings (v .kv) (v .told) (v .last) (let e = high in omega arith) (leb-true _ _ q))
                   where
-                    to : (v .kv ∈ d .recs) ⊎ Removed (d .last-gc) (v .kv) → Newer h (max (n .last-gc) (d .max)) (keyOf r)
+                    to : (v .kv ∈ d .recs) ⊎ Removed (d .last-gc) (v .kv) → Newer h (reach (n .last-gc) (d .max)) (keyOf r)
                     to (inl o) = absurd (gone (v .kv) o (takes-high (n .max) (n .last-gc) (v .kv) (let e = high in omega arith) (let e = high in omega arith)) (v .same))
                     to (inr o) = let e = high in let f = o .1 in absurd (omega arith)
 
@@ -150,7 +150,7 @@ module _ (h : List KeyValue) (num : Numbered h) (now : ℕ) (d : NodeDelta) (x :
         current r (inl s) = subst (λ (y : Rec). Now (y .kv)) (sym (s .3)) (new-current (n .max) (n .last-gc) (n .recs) (omega arith) (s .0) (s .1))
         current r (inr m) = by (hon .current (r .kv) (r, m .0, refl))
           where
-            by : Current h (max (n .last-gc) (n .max)) (r .kv) → Now (r .kv)
+            by : Current h (reach (n .last-gc) (n .max)) (r .kv) → Now (r .kv)
             by (inl l) = inl l
             by (inr o) = inr (old r (m .1) o)
 

@@ -76,6 +76,7 @@ codeOf node.Fenced = 5
 abbrev pub modeOf : Mode → ℕ
 modeOf mode.Plain = 0
 modeOf mode.Fenced = 1
+modeOf mode.Guarded = 2
 
 -- the number and the values of an answer, and with 9 the bytes that are lacking
 pub record Told : Type 0 where

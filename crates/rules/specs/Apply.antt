@@ -47,9 +47,20 @@ plainWays = record { reads = readDelta; roomy = λ l. leb (length l) maxRecords;
 abbrev pub fencedWays : Ways
 fencedWays = record { reads = readDelta; roomy = λ l. leb (length l) maxRecords; fence = λ ownGc ownMax gc max. ltb ownMax ownGc && ltb gc ownGc; late = true }
 
+-- in a net: such a node lets through a delta that knows everything up to the node's own last_gc, though its sender has not removed as much
+abbrev pub guardedWays : Ways
+guardedWays =
+    record {
+      reads = readDelta;
+      roomy = λ l. leb (length l) maxRecords;
+      fence = λ ownGc ownMax gc max. ltb ownMax ownGc && (ltb gc ownGc && ltb max ownGc);
+      late = true;
+    }
+
 abbrev pub waysOf : Mode → Ways
 waysOf mode.Plain = plainWays
 waysOf mode.Fenced = fencedWays
+waysOf mode.Guarded = guardedWays
 
 -- What any ways keep to. A delta is refused, or read as document 01 reads it; and what has room has room by document 01. So a table keeps the
 -- rules that it obeys (number 14). No delta is fenced off whose last_gc, or the node's own max, is as high as the node's own last_gc; so the closing count

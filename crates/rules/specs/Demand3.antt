@@ -1,6 +1,6 @@
 -- Demand 3: what is claimed of the world at every moment of every run, and how many whole exchanges end it once it is quiet. The theorems that these
 -- claims hold are in proofs/Demand3.
-use Prim.Native.Nat.{ℕ, suc, _+_, _≤_, _<_}
+use Prim.Native.Nat.{ℕ, suc, max, _+_, _≤_, _<_}
 use mathlib.Core.Path.{_≡_}
 use mathlib.Core.Logic.{_⊎_}
 use mathlib.Core.Bool.{Bool, true, false, not, _&&_}
@@ -35,6 +35,11 @@ Holds n s = (r : Rec) × (r ∈ n .recs) × (r .kv ≡ s)
 -- no later version was given to its key
 abbrev pub Last : (given : List KeyValue) (kv : KeyValue) → Type 0
 Last h s = (t : KeyValue) → t ∈ h → t .key ≡ s .key → t .version ≤ s .version
+
+-- Of which versions a node or a delta with this last_gc and this max knows: up to the larger of the two, for after a reset last_gc may exceed max. The
+-- invariant that the claims rest on (proofs/Honest) says that an older record stands only where its key was given a version above this.
+abbrev pub reach : (last-gc max : ℕ) → ℕ
+reach g m = max g m
 
 -- What is claimed of a node: p is the publisher's, which gave h so far, and f the follower's. The follower's max never passes the publisher's;
 -- where they are equal, both hold the same Set records, and every record of the follower carries the last version that its key was given.

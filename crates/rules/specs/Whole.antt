@@ -16,7 +16,7 @@ use Rattle.rules.specs.Table.{Table, numbersOf, obeys}
 use Rattle.rules.specs.Memory.{Removed, Memory, memoryObeys}
 use Rattle.rules.specs.Layout.{tableWidth, encode, decode}
 use Rattle.rules.specs.declared.Mode.{Mode}
-use Rattle.rules.specs.declared.Mode.the-variants.{Plain, Fenced}
+use Rattle.rules.specs.declared.Mode.the-variants.{Plain, Fenced, Guarded}
 
 -- a table with its mode and its memory
 pub record Whole : Type 0 where
@@ -41,7 +41,8 @@ obeysWhole w = obeys (w .table) && memoryObeys (numbersOf (w .table)) (w .memory
 -- the mode that a number stands for
 abbrev pub modeOfByte : ℕ → Mode
 modeOfByte zero = Plain
-modeOfByte (suc n) = Fenced
+modeOfByte (suc zero) = Fenced
+modeOfByte (suc (suc n)) = Guarded
 
 -- a removed node: number, heartbeat
 abbrev pub removedWidths : List ℕ

@@ -1,5 +1,4 @@
 // The types of document 01 that code and definitions share. What they mean stands in specs/.
-ghost use Prim.Native.Nat.{ℕ};
 ghost use mathlib.Core.Path.{_≡_};
 ghost use Rattle.rules.specs.Answers.{numberOf, needOf, codeOf, modeOf};
 ghost use Rattle.rules.specs.Node.{freshHeader, offerOf};
@@ -122,11 +121,13 @@ pub enum Mode {
     Plain,
     // A node that is in a reset is fenced against deltas that are older.
     Fenced,
+    // The same, but for a delta that reaches the node's own last_gc: it knows everything that the reset may have taken away.
+    Guarded,
 }
 
 impl Mode {
     // The largest byte that stands for one.
-    pub const LAST: usize = 1;
+    pub const LAST: usize = 2;
 
     // The byte that stands for it in a table.
     pub fn byte(self) -> usize
@@ -135,17 +136,20 @@ impl Mode {
         match self {
             Mode::Plain => 0,
             Mode::Fenced => 1,
+            Mode::Guarded => 2,
         }
     }
 
-    // The mode that a byte stands for; one above 1 is read as fenced, and who can meet it looks at it first.
+    // The mode that a byte stands for; one above 2 is read as guarded, and who can meet it looks at it first.
     pub fn of_byte(n: usize) -> Self
         ensures { λ r. ⌜ r ≡ modeOfByte n ⌝ }
     {
-        if n == 0 {
-            return Mode::Plain;
+        match n {
+            0 => Mode::Plain,
+            1 => Mode::Fenced,
+            2 => Mode::Guarded,
+            _ => Mode::Guarded,
         }
-        Mode::Fenced
     }
 }
 
@@ -161,18 +165,20 @@ pub enum DeltaStatus {
     Fenced,
 }
 
-// Whether a node of a table in this mode is fenced against a delta with this last_gc.
-fn is_fenced(mode: Mode, own_last_gc: u64, own_max: u64, last_gc: u64) -> bool
-    ensures { λ r. ⌜ ((max : ℕ) → r ≡ waysOf mode .fence «own_last_gc» «own_max» «last_gc» max) ⌝ }
+// Whether a node of a table in this mode is fenced against a delta with this last_gc and max.
+fn is_fenced(mode: Mode, own_last_gc: u64, own_max: u64, last_gc: u64, max: u64) -> bool
+    ensures { λ r. ⌜ r ≡ waysOf mode .fence «own_last_gc» «own_max» «last_gc» max ⌝ }
 {
+    if own_last_gc <= own_max {
+        return false;
+    }
+    if own_last_gc <= last_gc {
+        return false;
+    }
     match mode {
         Mode::Plain => false,
-        Mode::Fenced => {
-            if own_last_gc <= own_max {
-                return false;
-            }
-            last_gc < own_last_gc
-        }
+        Mode::Fenced => true,
+        Mode::Guarded => max < own_last_gc,
     }
 }
 
@@ -186,7 +192,7 @@ fn check_newer(own_max: u64, max: u64) -> DeltaStatus
     DeltaStatus::Reject
 }
 
-// The three steps of document 01, "Applying to a node", by the numbers alone; between the first and the second the fence of a fenced table.
+// The three steps of document 01, "Applying to a node", by the numbers alone; between the first and the second the fence of a fenced or guarded table.
 pub fn check_delta_status(
     mode: Mode,
     own_last_gc: u64,
@@ -200,7 +206,7 @@ pub fn check_delta_status(
     if own_max < from {
         return DeltaStatus::Reject;
     }
-    if is_fenced(mode, own_last_gc, own_max, last_gc) {
+    if is_fenced(mode, own_last_gc, own_max, last_gc, max) {
         return DeltaStatus::Fenced;
     }
     if last_gc <= own_last_gc {

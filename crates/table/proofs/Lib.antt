@@ -9,3 +9,4 @@ pub mod Rows
 pub mod Changed
 pub mod Laid
 pub mod Memories
+pub mod Encoded

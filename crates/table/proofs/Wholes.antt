@@ -31,7 +31,7 @@ use Rattle.rules.specs.Memory.{Memory, Removed, apart, memoryObeys, removed, re
 use Rattle.rules.specs.Layout.{tableWidth, encode, decode, valid}
 use Rattle.rules.specs.Whole.{Whole, withTable, withMemory, obeysWhole, modeOfByte, removedWidths, removedWidth, removedPlace, removedFields, encodeRemoved, decodeRemoved, tailWidths, tailWidth, tailFields, encodeTail, decodeTail, decodeMemory, wholeWidths, wholeWidth, wholeFields, areaOf, tailOf, encodeWhole, decodeWhole, validWhole}
 use Rattle.rules.specs.declared.Mode.{Mode}
-use Rattle.rules.specs.declared.Mode.the-variants.{Plain, Fenced}
+use Rattle.rules.specs.declared.Mode.the-variants.{Plain, Fenced, Guarded}
 use Rattle.rules.proofs.Refusing.{whole-bytes}
 use Rattle.rules.proofs.Memories.{OkMemory, facts-memory, no-memory, whole-memory, whole-table}
 use Rattle.table.specs.Tests.{modeIn, removedIn, tailTests, tailGood, wholeGood}
@@ -101,6 +101,7 @@ module _ (m : Mode) (mem : Memory) where
       small : (m : Mode) → modeOf m < 256
       small Plain = omega arith
       small Fenced = omega arith
+      small Guarded = omega arith
 
   pub tail-mode : decodeTail (encodeTail m mem) ≡ m
   tail-mode = ap modeOfByte mode-in ∙ back m
@@ -108,6 +109,7 @@ module _ (m : Mode) (mem : Memory) where
       back : (m : Mode) → modeOfByte (modeOf m) ≡ m
       back Plain = refl
       back Fenced = refl
+      back Guarded = refl
 
   module _ (few : length mem ≤ maxRemoved) where
     pub removed-in : removedIn (encodeTail m mem) ≡ length mem
@@ -138,15 +140,17 @@ module _ (m : Mode) (mem : Memory) where
       let none-held : apart held (removedNumbers mem) ≡ true = memory-apart held mem (facts-memory held mem o) in
       rw (tailGood, mode-in, modes m, ap allZero (tail-field 1 (omega arith)) ∙ all-zero 1, removed-in (o .few), le-leb (length mem) maxRemoved (o .few), tail-free (o .few), back, o .differs, none-held)
     where
-      modes : (m : Mode) → leb (modeOf m) 1 ≡ true
+      modes : (m : Mode) → leb (modeOf m) 2 ≡ true
       modes Plain = refl
       modes Fenced = refl
+      modes Guarded = refl
 
 -- a number that stands for a mode
-mode-back : (n : ℕ) → n ≤ 1 → modeOf (modeOfByte n) ≡ n
+mode-back : (n : ℕ) → n ≤ 2 → modeOf (modeOfByte n) ≡ n
 mode-back zero h = refl
 mode-back (suc zero) h = refl
-mode-back (suc (suc n)) h = absurd (omega arith)
+mode-back (suc (suc zero)) h = refl
+mode-back (suc (suc (suc n))) h = absurd (omega arith)
 
 -- ---- the whole
 

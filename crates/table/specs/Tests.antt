@@ -98,10 +98,10 @@ modeIn b = natOf (part (offset tailWidths 0) 1 b)
 abbrev pub removedIn : (tail : Bytes) → ℕ
 removedIn b = natOf (part (offset tailWidths 2) 1 b)
 
--- a mode of the two, no profile, at most 16 removed nodes, zeros behind them, no node twice, none that is held
+-- a mode of the three, no profile, at most 16 removed nodes, zeros behind them, no node twice, none that is held
 abbrev pub tailTests : (held : List ℕ) (tail : Bytes) → List Bool
 tailTests held b =
-    leb (modeIn b) 1
+    leb (modeIn b) 2
     ∷ allZero (part (offset tailWidths 1) 1 b)
     ∷ leb (removedIn b) maxRemoved
     ∷ allZero (part (removedPlace (removedIn b)) ((maxRemoved - removedIn b) * removedWidth) b)

@@ -81,7 +81,7 @@ pub fn table(random: &mut Random, nodes: &[Node]) -> Vec<u8> {
 /// None where the table has nothing that could be broken in the way that chance asked for.
 fn break_table(random: &mut Random, nodes: &[Node]) -> Option<Vec<u8>> {
     let mut nodes = nodes.to_vec();
-    let mode = random.below(2) as u8;
+    let mode = random.below(3) as u8;
     let at = if nodes.is_empty() { 0 } else { random.place(nodes.len()) };
     let record_at = nodes.get(at).map_or(0, |node| random.place(node.records.len().max(1)));
     let node_start = 1 + at * NODE_BYTES;

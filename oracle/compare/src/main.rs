@@ -134,7 +134,7 @@ fn differing_of(sides: &Sides, batch: &[Vec<String>]) -> usize {
 }
 
 /// Lines that bring both tables back to empty, between two scripts that are answered by one start.
-const BETWEEN: [&str; 4] = ["hub 1", "new", "hub 0", "new"];
+const BETWEEN: [&str; 8] = ["hub 3", "new", "hub 2", "new", "hub 1", "new", "hub 0", "new"];
 
 /// The scripts behind one another. A made line is a call: one that is none would be `malformed` on both sides and show nothing.
 fn joined(batch: &[Vec<String>]) -> Vec<String> {

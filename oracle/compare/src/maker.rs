@@ -38,7 +38,7 @@ impl Maker {
         let nodes = (0..nodes).map(|_| pieces::node(&mut random)).collect();
         let keys = (0..keys).map(|_| pieces::key(&mut random)).collect();
         let values = (0..4).map(|_| pieces::value(&mut random)).collect();
-        let mode = if random.once_in(2) { table::FENCED } else { table::PLAIN };
+        let mode = *random.pick(&[table::PLAIN, table::PLAIN, table::FENCED, table::GUARDED]);
         let lines = ["hub 1".to_string(), format!("make {mode}"), "hub 0".to_string(), format!("make {mode}")];
         Maker { random, lines: lines.to_vec(), hub: 0, held: Default::default(), nodes, keys, values, clock: 10, mode, told: 0 }
     }

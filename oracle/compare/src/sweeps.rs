@@ -161,14 +161,18 @@ fn verdicts() -> Vec<String> {
     lines
 }
 
-/// The same in a fenced table, with a record before the max.
+/// The same in a fenced table and in a guarded one, with a record before the max.
 fn fence() -> Vec<String> {
+    [table::FENCED, table::GUARDED].into_iter().flat_map(fence_of).collect()
+}
+
+fn fence_of(mode: u8) -> Vec<String> {
     let mut lines = Vec::new();
     for own in 0..16 {
         for case in 0..64 {
             let (last_gc, max) = (own / 4, own % 4);
             let held = Node { number: 1, heartbeat: 7, max, last_gc, records: vec![] };
-            lines.push(format!("table {}", hex(&table::encode(&[held], table::FENCED))));
+            lines.push(format!("table {}", hex(&table::encode(&[held], mode))));
             let (last_gc, from, max) = (case / 16, case / 4 % 4, case % 4);
             lines.push(apply(&[node(last_gc, from), record("a", max, SET), Op::SetMax { max }]));
             lines.push(apply(&[node(last_gc, from), Op::SetMax { max }]));

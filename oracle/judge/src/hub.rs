@@ -415,11 +415,13 @@ impl Hub {
         }
     }
 
-    /// Whether a fenced table answers Fenced. Where the delta is from the future step 1 comes first, and the original rejects it.
+    /// Whether a fenced or guarded table answers Fenced. Where the delta is from the future step 1 comes first, and the original rejects it.
     fn fences(&self, node: &NodeState, delta: &NodeDelta) -> bool {
         let (own_max, own_last_gc) = (node.max_version(), node.last_gc_version());
         let future = delta.from_version_excluded > own_max;
-        self.mode == table::FENCED && !future && own_last_gc > own_max && delta.last_gc_version < own_last_gc
+        let older = own_last_gc > own_max && delta.last_gc_version < own_last_gc;
+        let reaches = self.mode == table::GUARDED && delta.max_version >= own_last_gc;
+        self.mode != table::PLAIN && !future && older && !reaches
     }
 
     /// Layer: Unknown where the original passes over a node in silence, Room, Fenced, 8. Original: status and change.
@@ -505,7 +507,7 @@ impl Hub {
         let all: HashSet<u64> =
             nodes.iter().map(|node| node.number).chain(removed.iter().map(|&(number, _)| number)).collect();
         let apart = all.len() == nodes.len() + removed.len();
-        let good = ascending && apart && nodes.iter().all(obeys) && mode <= table::FENCED;
+        let good = ascending && apart && nodes.iter().all(obeys) && mode <= table::GUARDED;
         (good && table::encode_with(&nodes, mode, &removed) == bytes).then_some((nodes, mode, removed))
     }
 }

@@ -3,13 +3,22 @@
 use script::Verdict;
 
 use crate::delta::NodeDelta;
-use crate::table::{MOST_RECORDS, Node, Record, Status, Table};
+use crate::table::{MOST_RECORDS, Mode, Node, Record, Status, Table};
 
-fn status(fenced: bool, node: &Node, delta: &NodeDelta) -> Verdict {
+fn fenced(mode: Mode, node: &Node, delta: &NodeDelta) -> bool {
+    let older = node.last_gc > node.max && delta.last_gc < node.last_gc;
+    match mode {
+        Mode::Plain => false,
+        Mode::Fenced => older,
+        Mode::Guarded => older && delta.max < node.last_gc,
+    }
+}
+
+fn status(mode: Mode, node: &Node, delta: &NodeDelta) -> Verdict {
     if delta.from > node.max {
         return Verdict::Reject;
     }
-    if fenced && node.last_gc > node.max && delta.last_gc < node.last_gc {
+    if fenced(mode, node, delta) {
         return Verdict::Fenced;
     }
     if delta.last_gc > node.last_gc && delta.last_gc > node.max {
@@ -37,11 +46,11 @@ fn outcome(node: &Node, delta: &NodeDelta, reset: bool, now: u64) -> Node {
 }
 
 fn apply_one(table: &mut Table, delta: &NodeDelta, now: u64) -> Verdict {
-    let fenced = table.fenced;
+    let mode = table.mode;
     let Some(node) = table.nodes.get_mut(&delta.number) else {
         return Verdict::Unknown;
     };
-    let verdict = status(fenced, node, delta);
+    let verdict = status(mode, node, delta);
     if verdict == Verdict::Reject || verdict == Verdict::Fenced {
         return verdict;
     }

@@ -58,18 +58,45 @@ pub struct Node {
     pub records: BTreeMap<Vec<u8>, Record>,
 }
 
+/// Document 01's, ticket 3's, and that of nets.
+#[derive(Clone, Copy, Default)]
+pub enum Mode {
+    #[default]
+    Plain,
+    Fenced,
+    Guarded,
+}
+
+impl Mode {
+    fn of_byte(byte: u8) -> Option<Mode> {
+        match byte {
+            layout::PLAIN => Some(Mode::Plain),
+            layout::FENCED => Some(Mode::Fenced),
+            layout::GUARDED => Some(Mode::Guarded),
+            _ => None,
+        }
+    }
+
+    fn byte(self) -> u8 {
+        match self {
+            Mode::Plain => layout::PLAIN,
+            Mode::Fenced => layout::FENCED,
+            Mode::Guarded => layout::GUARDED,
+        }
+    }
+}
+
 #[derive(Clone, Default)]
 pub struct Table {
     pub nodes: BTreeMap<u64, Node>,
-    /// Ticket 3's mode; else document 01's.
-    pub fenced: bool,
+    pub mode: Mode,
     /// Ticket 2's removed nodes with their last heartbeats, the longest remembered first.
     pub removed: Vec<(u64, u64)>,
 }
 
 impl Table {
     pub fn in_mode(mode: u8) -> Table {
-        Table { fenced: mode == layout::FENCED, ..Table::default() }
+        Table { mode: Mode::of_byte(mode).expect("the runner asks for modes alone"), ..Table::default() }
     }
 
     pub fn to_bytes(&self) -> Vec<u8> {
@@ -87,8 +114,7 @@ impl Table {
             last_gc: node.last_gc,
             records: node.records.iter().map(record).collect(),
         };
-        let mode = if self.fenced { layout::FENCED } else { layout::PLAIN };
-        layout::encode_with(&self.nodes.iter().map(node).collect::<Vec<_>>(), mode, &self.removed)
+        layout::encode_with(&self.nodes.iter().map(node).collect::<Vec<_>>(), self.mode.byte(), &self.removed)
     }
 
     /// None: number 14.
@@ -104,11 +130,7 @@ impl Table {
             table.nodes.insert(number, node);
         }
         walk.zeros((MOST_NODES - count) * layout::NODE_BYTES)?;
-        table.fenced = match walk.byte()? {
-            layout::PLAIN => false,
-            layout::FENCED => true,
-            _ => return None,
-        };
+        table.mode = Mode::of_byte(walk.byte()?)?;
         walk.zeros(1)?;
         let count = walk.count(MOST_REMOVED)?;
         for _ in 0..count {

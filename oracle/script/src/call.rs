@@ -1,5 +1,8 @@
 //! Words to calls.
 
+/// How many tables there are.
+pub const HUBS: usize = 4;
+
 /// A byte string of a script: written out, or what the last digest or delta writing wrote.
 #[derive(Clone, Debug, PartialEq, Eq)]
 pub enum Bytes {
@@ -104,7 +107,7 @@ impl Call {
         let call = match verb {
             "new" => Call::New { mode: 0 },
             "make" => Call::New { mode: w.number()? },
-            "hub" => Call::Hub(w.size().filter(|&hub| hub < 2)?),
+            "hub" => Call::Hub(w.size().filter(|&hub| hub < HUBS)?),
             "add" => Call::Add { node: w.number()? },
             "remove" => Call::Remove { node: w.number()? },
             "removed" => Call::Removed { node: w.number()? },
@@ -170,7 +173,7 @@ mod tests {
             Call::parse("write 18446744073709551615 x x00ff 3 7"),
             Some(Call::Write { node: u64::MAX, key: vec![], value: vec![0, 255], status: 3, now: 7 })
         );
-        let calls = ["", "write 1 x x 0", "write 1 x x x 0 0", "write 1 x x -1 0", "get 1 xA0", "get 1 x0", "hub 2"];
+        let calls = ["", "write 1 x x 0", "write 1 x x x 0 0", "write 1 x x -1 0", "get 1 xA0", "get 1 x0", "hub 4"];
         let numbers = ["add -1", "add +1", "add :", "add  1", "digest +1 0 2 0", "digest - 0 2"];
         for wrong in calls.into_iter().chain(numbers) {
             assert_eq!(Call::parse(wrong), None, "{wrong:?}");

@@ -2,7 +2,8 @@
 
 use std::io::{BufRead, Write};
 
-use crate::table::{FENCED, PLAIN, checksum};
+use crate::call::HUBS;
+use crate::table::{GUARDED, PLAIN, checksum};
 use crate::{Answer, Bytes, Call};
 
 /// One lent table and who answers for it. Calls come with their bytes written out; `new`, `hub`, `table` and
@@ -17,7 +18,7 @@ pub trait Side {
 }
 
 struct Desk<S> {
-    hubs: [S; 2],
+    hubs: [S; HUBS],
     current: usize,
     last_digest: Vec<u8>,
     last_delta: Vec<u8>,
@@ -25,7 +26,7 @@ struct Desk<S> {
 
 impl<S: Side> Desk<S> {
     fn new() -> Self {
-        Desk { hubs: [S::new(PLAIN), S::new(PLAIN)], current: 0, last_digest: Vec::new(), last_delta: Vec::new() }
+        Desk { hubs: [(); HUBS].map(|()| S::new(PLAIN)), current: 0, last_digest: Vec::new(), last_delta: Vec::new() }
     }
 
     fn write_out(&self, bytes: &mut Bytes) {
@@ -46,7 +47,7 @@ impl<S: Side> Desk<S> {
             _ => {}
         }
         let answer = match &call {
-            Call::New { mode } if *mode > u64::from(FENCED) => Answer::Refused(14),
+            Call::New { mode } if *mode > u64::from(GUARDED) => Answer::Refused(14),
             Call::New { mode } => {
                 self.hubs[self.current] = S::new(*mode as u8);
                 Answer::Done

@@ -22,6 +22,7 @@ pub const TABLE_BYTES: usize = AREA_BYTES + TAIL_BYTES;
 /// The modes of a table.
 pub const PLAIN: u8 = 0;
 pub const FENCED: u8 = 1;
+pub const GUARDED: u8 = 2;
 
 /// Status bytes, in the table and in a delta.
 pub const SET: u8 = 0;

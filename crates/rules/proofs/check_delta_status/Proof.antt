@@ -43,11 +43,11 @@ is-fenced-requires : tie.Need-is-fenced-requires
 is-fenced-requires c κs = search needs
 
 returns-2 : tie.Need-returns-2
-returns-2 c = off _ _ _ _ _ _ (omega arith) (sym (c .before .is-fenced .ensures _) ∙ c .if2 .taken)
+returns-2 c = off _ _ _ _ _ _ (omega arith) (sym (c .before .is-fenced .ensures) ∙ c .if2 .taken)
 
 -- behind the fence
 let-in : (c : tie.Else2) → let a = c .before .before .before .args in waysOf (a .mode) .fence (a .own-last-gc) (a .own-max) (a .last-gc) (a .max) ≡ false
-let-in c = sym (c .before .is-fenced .ensures _) ∙ c .if2 .left
+let-in c = sym (c .before .is-fenced .ensures) ∙ c .if2 .left
 
 check-newer-requires : tie.Need-check-newer-requires
 check-newer-requires c κs = search needs

@@ -1,0 +1,233 @@
+-- A net of lent bytes goes as the net of tables goes: whatever happens, its bytes are valid, each hub's in its mode, and the tables in them are those of that net.
+-- What a hub remembers of removed nodes stands in its bytes and is no part of the net. So every law of nets is a law of the bytes, and of the calls by their
+-- promises.
+use Prim.Native.Nat.{ℕ, suc, zero}
+use mathlib.Core.Bool.{Bool, false, true}
+use mathlib.Core.List.{List, [], _∷_}
+use mathlib.Core.Path.{_∙_, _≡_, ap, refl, subst, sym}
+use lib.Dec.{eqb}
+use borrow.Author.Tests.{eq-eqb, eqb-true, ltb-true}
+use Rattle.fields.proofs.Choice.{in-none}
+use Rattle.fields.specs.Choice.{_∈_, here, later, pick}
+use Rattle.net.proofs.Moments.{Moment, moment-begin, moment-event, moments, one-more}
+use Rattle.net.proofs.Pairs.{pairs-rise}
+use Rattle.net.proofs.Safe.{net-sound}
+use Rattle.net.specs.LentNet.{LentNet, LentSafe, lentAfter, lentBegin, lentCalls, lentHappen, lentRestored, lentTaken, planIn, tablesIn, tablesOf}
+use Rattle.net.specs.Net.{Adding, Arriving, Beating, Computing, Dropping, Event, Net, NetSound, Offering, Plan, Ready, Removing, Restoring, Saving, Writing, after, allGoOn, begin, calls, happen, placed, possible, restored}
+use Rattle.rules.proofs.Calls.{none-obeys}
+use Rattle.rules.proofs.Keeps.{mode-lawful}
+use Rattle.rules.proofs.Memories.{add-keeps-whole, remove-keeps-whole, same-nodes}
+use Rattle.rules.proofs.Moments.{numbers-beat, numbers-call, numbers-offer}
+use Rattle.rules.proofs.Obeys.{OkTable, facts-table}
+use Rattle.rules.proofs.Refusing.{whole-bytes}
+use Rattle.rules.proofs.Tables.{applied-table, numbers-each, numbers-remove}
+use Rattle.rules.specs.Apply.{Ways, apply, applyNode, waysOf}
+use Rattle.rules.specs.Compute.{compute}
+use Rattle.rules.specs.Delta.{partsOf}
+use Rattle.rules.specs.Demand3.{AllRise}
+use Rattle.rules.specs.Given.{Given, given}
+use Rattle.rules.specs.Lent.{addWhole, fromTable, lentApply, lentNew, onTable, onWhole, removeWhole}
+use Rattle.rules.specs.Local.{Outcome, call, gc, localBeat, offer}
+use Rattle.rules.specs.Node.{KeyValue, due}
+use Rattle.rules.specs.Table.{Table, numbersOf, obeys}
+use Rattle.rules.specs.Whole.{Whole, decodeWhole, encodeWhole, obeysWhole, validWhole, withTable}
+use Rattle.rules.specs.World.{DeltaSent, DigestSent, Exchange, Idle, appliedTo, nthSent, sentAfter}
+use Rattle.rules.specs.declared.Answer.the-variants as plain
+use Rattle.rules.specs.declared.Computed.{Computed}
+use Rattle.rules.specs.declared.Computed.the-variants as computed
+use Rattle.rules.specs.declared.Mode.{Mode}
+use Rattle.rules.specs.declared.Offered.the-variants as offered
+use Rattle.rules.specs.declared.Refusal.the-variants.{BadTable}
+use Rattle.table.proofs.Encoded.{apply-whole, from-whole, on-whole, whole-whole}
+use Rattle.table.proofs.Wholes.{decode-encode-whole, valid-encode-whole, whole-obeys, without-memory}
+
+-- ---- bytes of a table in a mode
+
+pub record In (m : Mode) (b : List ℕ) : Type 0 where
+  pub valid : validWhole b ≡ true
+  pub mode-is : decodeWhole b .mode ≡ m
+
+-- and the table is this one
+abbrev pub Holds : Mode → Table → List ℕ → Type 0
+Holds m t b = In m b × (decodeWhole b .table ≡ t)
+
+-- the bytes of a whole that obeys
+encoded : (w : Whole) → obeysWhole w ≡ true → Holds (w .mode) (w .table) (encodeWhole w)
+encoded w o =
+    let d = decode-encode-whole w o in
+    (record { valid = valid-encode-whole w o; mode-is = ap (λ (u : Whole). u .mode) d }, ap (λ (u : Whole). u .table) d)
+
+new-in : (m : Mode) → Holds m [] (lentNew m)
+unfolding lentNew
+new-in m = encoded (record { mode = m; memory = []; table = [] }) (without-memory m [] none-obeys)
+
+numbers-apply : (ways : Ways) (delta : List ℕ) (now : ℕ) (t : Table) (answers : List ℕ) → numbersOf (apply ways delta now t answers .table) ≡ numbersOf t
+numbers-apply ways delta now t answers =
+    applied-table ways delta now t answers (λ u. numbersOf u ≡ numbersOf t) refl (λ ops q. numbers-each (applyNode ways now) (partsOf ops) t)
+
+-- what the calls leave of them
+module _ (m : Mode) (b : List ℕ) (i : In m b) where
+  abbrev w : Whole
+  w = decodeWhole b
+
+  abbrev t : Table
+  t = w .table
+
+  abbrev ok : obeysWhole w ≡ true
+  ok = whole-obeys b (i .valid)
+
+  -- what holds of a call on the bytes of the whole holds of it on these
+  these : {A : Type 0} (f : List ℕ → A) (a : A) (P : A → Type 0) → f (encodeWhole w) ≡ a → P a → P (f b)
+  these f a P e p = subst P (sym e ∙ ap f (whole-bytes b (i .valid))) p
+
+  -- in the same mode
+  leaves : (u : Whole) → obeysWhole u ≡ true → u .mode ≡ w .mode → Holds m (u .table) (encodeWhole u)
+  leaves u o e = let h = encoded u o in (record { valid = h .0 .valid; mode-is = h .0 .mode-is ∙ e ∙ i .mode-is }, h .1)
+
+  -- with the same nodes
+  same-held : (u : Table) → obeys u ≡ true → numbersOf u ≡ numbersOf t → Holds m u (encodeWhole (withTable u w))
+  same-held u o e = leaves (withTable u w) (same-nodes w ok u o e) refl
+
+  on-table : {A : Type 0} (bad : A) (rule : Table → Outcome A) → obeys (rule t .table) ≡ true → numbersOf (rule t .table) ≡ numbersOf t → Holds m (rule t .table) (onTable bad rule b .lent)
+  on-table bad rule o e = these (onTable bad rule) _ (λ g. Holds m (rule t .table) (g .lent)) (on-whole w ok bad rule) (same-held (rule t .table) o e)
+
+  on-the-whole : {A : Type 0} (bad : A) (rule : Whole → Given A Whole) → obeysWhole (rule w .lent) ≡ true → rule w .lent .mode ≡ w .mode → Holds m (rule w .lent .table) (onWhole bad rule b .lent)
+  on-the-whole bad rule o e = these (onWhole bad rule) _ (λ g. Holds m (rule w .lent .table) (g .lent)) (whole-whole w ok bad rule) (leaves (rule w .lent) o e)
+
+  pub from-table : {A : Type 0} (bad : A) (rule : Table → A) → fromTable bad rule b ≡ rule t
+  from-table bad rule = these (fromTable bad rule) _ (λ a. a ≡ rule t) (from-whole w ok bad rule) refl
+
+  on-apply : (delta : List ℕ) (now : ℕ) (answers : List ℕ) → obeys (apply (waysOf m) delta now t answers .table) ≡ true → Holds m (apply (waysOf m) delta now t answers .table) (lentApply delta now answers b .lent .table)
+  on-apply delta now answers o =
+      these (lentApply delta now answers) _ (λ g. Holds m u (g .lent .table)) (apply-whole w ok delta now answers)
+      (subst (λ (k : Mode). Holds m u (encodeWhole (withTable (apply (waysOf k) delta now t answers .table) w))) (sym (i .mode-is)) (same-held u o (numbers-apply (waysOf m) delta now t answers)))
+    where
+      u : Table
+      u = apply (waysOf m) delta now t answers .table
+
+  pub taken : (now : ℕ) (answers : List ℕ) (d : Exchange) → obeys (appliedTo (waysOf m) now answers d t) ≡ true → Holds m (appliedTo (waysOf m) now answers d t) (lentTaken now answers d b)
+  taken now answers Idle o = (i, refl)
+  taken now answers (DigestSent d) o = (i, refl)
+  taken now answers (DeltaSent d) o = on-apply d now answers o
+
+  again : (k : ℕ) (ls : List (List ℕ)) → ((l : List ℕ) → l ∈ ls → In m l) → Holds m (restored (placed k (tablesOf ls)) t) (lentRestored (placed k ls) b)
+  unfolding placed tablesOf
+  again k [] f = (i, refl)
+  again zero (l ∷ ls) f = (f l (here refl), refl)
+  again (suc k) (l ∷ ls) f = again k ls (λ a n. f a (later n))
+
+-- ---- a net of them
+
+module _ (owner : ℕ → ℕ) (modes : ℕ → Mode) where
+  abbrev plan : Plan
+  plan = planIn owner modes
+
+  -- every hub's bytes, and those that it saved, are of tables in its mode
+  pub record Good (l : LentNet) : Type 0 where
+    pub hubs : (x : ℕ) → In (modes x) (l .hubs x)
+    pub saved : (x : ℕ) (b : List ℕ) → b ∈ l .saved x → In (modes x) b
+
+  -- they are, and the tables are those of this net
+  abbrev pub Same : Net → LentNet → Type 0
+  Same w l = Good l × (tablesIn l ≡ w)
+
+  module _ (l : LentNet) (g : Good l) where
+    abbrev net : Net
+    net = tablesIn l
+
+    -- the table that a hub gets obeys
+    pub obeyed : (x : ℕ) (h : ℕ → List KeyValue) (u : Table) → Moment owner (record { hubs = λ y. pick (eqb y x) u (net .hubs y); given = h; sent = l .sent; saved = net .saved }) → obeys u ≡ true
+    obeyed x h u m = facts-table u (subst (λ (c : Bool). OkTable (pick c u (net .hubs x))) (eq-eqb x x refl) (m .tables x .obeyed))
+
+    -- one hub's bytes are others
+    pub on-hub : (h : ℕ → List KeyValue) (x : ℕ) (u : Table) (b : List ℕ) → Holds (modes x) u b → Same (record { hubs = λ y. pick (eqb y x) u (net .hubs y); given = h; sent = l .sent; saved = net .saved }) (record { hubs = λ y. pick (eqb y x) b (l .hubs y); given = h; sent = l .sent; saved = l .saved })
+    on-hub h x u b i =
+        let a : (y : ℕ) → decodeWhole (pick (eqb y x) b (l .hubs y)) .table ≡ pick (eqb y x) u (net .hubs y) = λ y. is y (eqb y x) in
+        (record { hubs = λ y. in-mode y (eqb y x) refl; saved = g .saved }, λ z. record { hubs = λ y. a y z; given = h; sent = l .sent; saved = net .saved })
+      where
+        is : (y : ℕ) (c : Bool) → decodeWhole (pick c b (l .hubs y)) .table ≡ pick c u (net .hubs y)
+        is y true = i .1
+        is y false = refl
+
+        in-mode : (y : ℕ) (c : Bool) → eqb y x ≡ c → In (modes y) (pick c b (l .hubs y))
+        in-mode y true q = subst (λ (k : ℕ). In (modes k) b) (sym (eqb-true y x q)) (i .0)
+        in-mode y false q = g .hubs y
+
+    calls-lent : (e : Event) → possible owner e net ≡ true → Moment owner (calls plan e net) → Same (calls plan e net) (lentCalls e l)
+    unfolding addWhole removeWhole gc tablesOf
+    calls-lent (Writing x i k c) p m = on-hub _ x _ _ (on-table (modes x) (l .hubs x) (g .hubs x) (plain.Refused BadTable) (call c i k) (obeyed x _ _ m) (numbers-call c i k _))
+    calls-lent (Beating x i) p m = on-hub _ x _ _ (on-table (modes x) (l .hubs x) (g .hubs x) (plain.Refused BadTable) (localBeat i) (obeyed x _ _ m) (numbers-beat i _))
+    calls-lent (Offering x i h) p m = on-hub _ x _ _ (on-table (modes x) (l .hubs x) (g .hubs x) (offered.Refused BadTable) (offer i h) (obeyed x _ _ m) (numbers-offer i h _))
+    calls-lent (Removing x now grace) p m = on-hub _ x _ _ (on-table (modes x) (l .hubs x) (g .hubs x) (plain.Refused BadTable) (gc now grace) (obeyed x _ _ m) (numbers-remove (λ i. due now grace) _))
+    calls-lent (Adding x i) p m = on-hub _ x _ _ (on-the-whole (modes x) (l .hubs x) (g .hubs x) (plain.Refused BadTable) (addWhole i) (add-keeps-whole _ (ok (modes x) (l .hubs x) (g .hubs x)) i (ltb-true _ _ p)) refl)
+    calls-lent (Dropping x i) p m = on-hub _ x _ _ (on-the-whole (modes x) (l .hubs x) (g .hubs x) (plain.Refused BadTable) (removeWhole i) (remove-keeps-whole _ (ok (modes x) (l .hubs x) (g .hubs x)) i) refl)
+    calls-lent (Computing x edition digest excluded ties mtu place d) p m = (
+      record { hubs = g .hubs; saved = g .saved },
+      ap (λ (o : Given Computed (List ℕ)). record { hubs = net .hubs; given = l .given; sent = sentAfter place (o .lent) (o .answer) (l .sent); saved = net .saved })
+          (from-table (modes x) (l .hubs x) (g .hubs x) (given (computed.Refused BadTable) d) (λ t. compute edition excluded ties mtu place digest t d)),
+    )
+    calls-lent (Arriving x k now answers) p m = on-hub _ x _ _ (taken (modes x) (l .hubs x) (g .hubs x) now answers (nthSent k (l .sent)) (obeyed x _ _ m))
+    calls-lent (Saving x) p m =
+        let a : (y : ℕ) → tablesOf (pick (eqb y x) (l .hubs x ∷ l .saved x) (l .saved y)) ≡ pick (eqb y x) (net .hubs x ∷ net .saved x) (net .saved y) = λ y. is y (eqb y x) in
+        (record { hubs = g .hubs; saved = λ y. kept y (eqb y x) refl }, λ z. record { hubs = net .hubs; given = l .given; sent = l .sent; saved = λ y. a y z })
+      where
+        is : (y : ℕ) (c : Bool) → tablesOf (pick c (l .hubs x ∷ l .saved x) (l .saved y)) ≡ pick c (net .hubs x ∷ net .saved x) (net .saved y)
+        is y true = refl
+        is y false = refl
+
+        kept : (y : ℕ) (c : Bool) → eqb y x ≡ c → (b : List ℕ) → b ∈ pick c (l .hubs x ∷ l .saved x) (l .saved y) → In (modes y) b
+        kept y true q b n = subst (λ (k : ℕ). In (modes k) b) (sym (eqb-true y x q)) (one-more (In (modes x)) (l .hubs x) (l .saved x) (g .hubs x) (g .saved x) b n)
+        kept y false q b n = g .saved y b n
+    calls-lent (Restoring x k) p m = on-hub _ x _ _ (again (modes x) (l .hubs x) (g .hubs x) k (l .saved x) (g .saved x))
+
+    -- what happens, if the net of tables keeps what holds at every moment
+    pub happen-lent : (e : Event) → Moment owner (happen plan e net) → Same (happen plan e net) (lentHappen owner e l)
+    unfolding lentHappen happen
+    happen-lent e = go (possible owner e net) refl
+      where
+        go : (b : Bool) → possible owner e net ≡ b → Moment owner (pick b (calls plan e net) net) → Same (pick b (calls plan e net) net) (pick b (lentCalls e l) l)
+        go true q m = calls-lent e q m
+        go false q m = (g, refl)
+
+  pub begin-lent : Same begin (lentBegin modes)
+  unfolding tablesOf
+  begin-lent =
+      let a : (x : ℕ) → decodeWhole (lentNew (modes x)) .table ≡ [] = λ x. new-in (modes x) .1 in
+      (record { hubs = λ x. new-in (modes x) .0; saved = λ x b n. absurd (in-none n) }, λ z. record { hubs = λ x. a x z; given = λ i. []; sent = []; saved = λ x. [] })
+
+  module _ (late : (x : ℕ) → waysOf (modes x) .late ≡ true) where
+    pub ready : Ready plan
+    ready = record { lawful = λ x. mode-lawful (modes x); late = late }
+
+    pub after-lent : (es : List Event) (l : LentNet) → Good l → Moment owner (tablesIn l) → Same (after plan es (tablesIn l)) (lentAfter owner es l)
+    unfolding lentAfter after
+    after-lent [] l g ok = (g, refl)
+    after-lent (e ∷ es) l g ok =
+        let m = moment-event plan (tablesIn l) ok ready e in
+        let r = happen-lent l g e m in
+        let s = after-lent es (lentHappen owner e l) (r .0) (subst (Moment owner) (sym (r .1)) m) in
+        (s .0, s .1 ∙ ap (after plan es) (r .1))
+
+    -- at every moment of every run, the bytes are those of the net of tables
+    pub lent-run : (es : List Event) → Same (after plan es begin) (lentAfter owner es (lentBegin modes))
+    lent-run es =
+        let b = begin-lent in
+        let r = after-lent es (lentBegin modes) (b .0) (subst (Moment owner) (sym (b .1)) (moment-begin owner)) in
+        (r .0, r .1 ∙ ap (after plan es) (b .1))
+
+    pub lent-safe : LentSafe owner modes
+    lent-safe =
+        record {
+          at-every-moment =
+              λ es.
+              let r = lent-run es in
+              record { valid = λ x. r .0 .hubs x .valid; mode-stays = λ x. r .0 .hubs x .mode-is; sound = subst (NetSound plan) (sym (r .1)) (net-sound plan ready es) };
+          between-moments = λ es fs g x. rise es fs g x;
+        }
+      where
+        rise : (es fs : List Event) → allGoOn fs ≡ true → (x : ℕ) → AllRise (tablesIn (lentAfter owner es (lentBegin modes)) .hubs x) (tablesIn (lentAfter owner fs (lentAfter owner es (lentBegin modes))) .hubs x)
+        rise es fs g x =
+            let r = lent-run es in
+            let l : LentNet = lentAfter owner es (lentBegin modes) in
+            let s = after-lent fs l (r .0) (subst (Moment owner) (sym (r .1)) (moments plan ready es begin (moment-begin owner))) in
+            subst (λ (w : Net). AllRise (tablesIn l .hubs x) (w .hubs x)) (sym (s .1)) (pairs-rise plan fs (tablesIn l) g x)

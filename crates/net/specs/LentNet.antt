@@ -1,0 +1,109 @@
+-- A net in lent bytes: the bytes of every hub's table, and whatever the hubs' calls do to them. What happens is given by the definitions that the entry points
+-- promise (Lent of `rules`) and by nothing else. The events are those of a net of tables (Net). Each table has a mode, chosen when it was made and
+-- kept in its bytes; a delta that arrives is applied in the ways of that mode. The theorem is in proofs/LentNet.
+use Prim.Native.Nat.{ℕ}
+use mathlib.Core.Path.{_≡_}
+use mathlib.Core.Bool.{true}
+use mathlib.Core.List.{List, [], _∷_}
+use mathlib.Core.Option.{Option, none, some}
+use lib.Dec.{eqb}
+use Rattle.fields.specs.Numbers.{Bytes}
+use Rattle.fields.specs.Choice.{pick}
+use Rattle.rules.specs.Node.{KeyValue}
+use Rattle.rules.specs.Table.{Table, nodeOf}
+use Rattle.rules.specs.Apply.{waysOf}
+use Rattle.rules.specs.Whole.{decodeWhole, validWhole}
+use Rattle.rules.specs.Lent.{lentAdd, lentRemoveNode, lentCall, lentGc, lentOffer, lentBeat, lentCompute, lentApply, lentNew}
+use Rattle.rules.specs.World.{Exchange, Idle, DigestSent, DeltaSent, givenIn, sentAfter, nthSent}
+use Rattle.rules.specs.Demand3.{AllRise}
+use Rattle.rules.specs.declared.Mode.{Mode}
+use Rattle.net.specs.Net.{Plan, Net, NetSound, Event, Writing, Beating, Offering, Removing, Adding, Dropping, Computing, Arriving, Saving, Restoring, placed, possible, allGoOn}
+
+-- The bytes of each hub's table; what the owner of each node gave to it so far, the newest first; the bytes of every delta that a hub ever computed; the
+-- bytes of the tables that each hub saved, the newest first. No call looks at what was given.
+pub record LentNet : Type 0 where
+  pub hubs : ℕ → Bytes
+  pub given : ℕ → List KeyValue
+  pub sent : List Bytes
+  pub saved : ℕ → List Bytes
+
+-- new tables, each in its mode
+abbrev pub lentBegin : (modes : ℕ → Mode) → LentNet
+lentBegin modes = record { hubs = λ x. lentNew (modes x); given = λ i. []; sent = []; saved = λ x. [] }
+
+-- ---- the tables that stand in the bytes
+
+unfoldable pub tablesOf : List Bytes → List Table
+tablesOf [] = []
+tablesOf (l ∷ ls) = decodeWhole l .table ∷ tablesOf ls
+
+abbrev pub tablesIn : (net : LentNet) → Net
+tablesIn w = record { hubs = λ x. decodeWhole (w .hubs x) .table; given = w .given; sent = w .sent; saved = λ x. tablesOf (w .saved x) }
+
+-- ---- what happens
+
+-- the bytes of one hub's table are others
+abbrev pub withBytes : (hub : ℕ) (table : Bytes) (net : LentNet) → LentNet
+withBytes x l w = record { hubs = λ y. pick (eqb y x) l (w .hubs y); given = w .given; sent = w .sent; saved = w .saved }
+
+-- only a delta
+abbrev pub lentTaken : (now : ℕ) (answers : Bytes) (way : Exchange) (table : Bytes) → Bytes
+lentTaken now answers Idle l = l
+lentTaken now answers (DigestSent d) l = l
+lentTaken now answers (DeltaSent b) l = lentApply b now answers l .lent .table
+
+abbrev pub lentRestored : (old : Option Bytes) (table : Bytes) → Bytes
+lentRestored none l = l
+lentRestored (some old) l = old
+
+-- what a write gives is told by the bytes that it finds
+abbrev pub lentCalls : (event : Event) (net : LentNet) → LentNet
+lentCalls (Writing x i k c) w =
+    record {
+      hubs = λ y. pick (eqb y x) (lentCall c i k (w .hubs x) .lent) (w .hubs y);
+      given = λ j. pick (eqb j i) (givenIn k c (nodeOf i (decodeWhole (w .hubs x) .table)) (w .given j)) (w .given j);
+      sent = w .sent;
+      saved = w .saved;
+    }
+lentCalls (Beating x i) w = withBytes x (lentBeat i (w .hubs x) .lent) w
+lentCalls (Offering x i h) w = withBytes x (lentOffer i h (w .hubs x) .lent) w
+lentCalls (Removing x now grace) w = withBytes x (lentGc now grace (w .hubs x) .lent) w
+lentCalls (Adding x i) w = withBytes x (lentAdd i (w .hubs x) .lent) w
+lentCalls (Dropping x i) w = withBytes x (lentRemoveNode i (w .hubs x) .lent) w
+lentCalls (Computing x edition digest excluded ties mtu place d) w =
+    record {
+      hubs = w .hubs;
+      given = w .given;
+      sent = sentAfter place (lentCompute edition excluded ties mtu place digest d (w .hubs x) .lent) (lentCompute edition excluded ties mtu place digest d (w .hubs x) .answer) (w .sent);
+      saved = w .saved;
+    }
+lentCalls (Arriving x k now answers) w = withBytes x (lentTaken now answers (nthSent k (w .sent)) (w .hubs x)) w
+lentCalls (Saving x) w = record { hubs = w .hubs; given = w .given; sent = w .sent; saved = λ y. pick (eqb y x) (w .hubs x ∷ w .saved x) (w .saved y) }
+lentCalls (Restoring x k) w = withBytes x (lentRestored (placed k (w .saved x)) (w .hubs x)) w
+
+-- an event that is not possible changes nothing
+unfoldable pub lentHappen : (owner : ℕ → ℕ) (event : Event) (net : LentNet) → LentNet
+lentHappen owner e w = pick (possible owner e (tablesIn w)) (lentCalls e w) w
+
+unfoldable pub lentAfter : (owner : ℕ → ℕ) (events : List Event) (net : LentNet) → LentNet
+lentAfter owner [] w = w
+lentAfter owner (e ∷ es) w = lentAfter owner es (lentHappen owner e w)
+
+-- ---- what is claimed
+
+-- whoever owns which node, and the ways of each hub's mode
+abbrev pub planIn : (owner : ℕ → ℕ) (modes : ℕ → Mode) → Plan
+planIn owner modes = record { owner = owner; ways = λ x. waysOf (modes x) }
+
+-- every hub's bytes are a valid table (no call is answered 14) in the mode that it began with, and the tables are as claimed of a net
+pub record LentSound (owner : ℕ → ℕ) (modes : ℕ → Mode) (w : LentNet) : Type 0 where
+  pub valid : (x : ℕ) → validWhole (w .hubs x) ≡ true
+  pub mode-stays : (x : ℕ) → decodeWhole (w .hubs x) .mode ≡ modes x
+  pub sound : NetSound (planIn owner modes) (tablesIn w)
+
+pub record LentSafe (owner : ℕ → ℕ) (modes : ℕ → Mode) : Type 0 where
+  pub at-every-moment : (es : List Event) → LentSound owner modes (lentAfter owner es (lentBegin modes))
+  pub between-moments : (es fs : List Event)
+      → allGoOn fs ≡ true
+      → (x : ℕ)
+      → AllRise (decodeWhole (lentAfter owner es (lentBegin modes) .hubs x) .table) (decodeWhole (lentAfter owner fs (lentAfter owner es (lentBegin modes)) .hubs x) .table)

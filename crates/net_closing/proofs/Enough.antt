@@ -1,0 +1,50 @@
+-- An exchange in which nothing is refused, no node answers Room and the MTU is as large as the sender's table is one of which nothing is cut.
+use Prim.Native.Nat.{_≤_, ℕ}
+use mathlib.Core.Bool.{true}
+use mathlib.Core.List.{[]}
+use mathlib.Core.Option.{Option, some}
+use mathlib.Core.Path.{_≡_, ap}
+use native.Mathlib.Omega.{arith}
+use lib.Dec.{ltb}
+use Rattle.net.proofs.Moments.{Moment}
+use Rattle.net.specs.Net.{Net, Plan}
+use Rattle.net_closing.proofs.Exchange.{its-part, made-for}
+use Rattle.net_closing.proofs.Wide.{wide-brings, wide-uncut}
+use Rattle.net_closing.specs.Closing.{Asked, Heard, HeardWhole, opsIn, weight}
+use Rattle.rules.proofs.EachNode.{orFresh}
+use Rattle.rules.specs.Apply.{Lawful, apply}
+use Rattle.rules.specs.Compute.{compute}
+use Rattle.rules.specs.Delta.{deltaBytes}
+use Rattle.rules.specs.Demand3.{noRoom, wroteDelta}
+use Rattle.rules.specs.Digest.{digestBytes, digestOf}
+use Rattle.rules.specs.Node.{Node}
+use Rattle.rules.specs.Sizes.{numbers}
+use Rattle.rules.specs.Table.{nodeOf}
+
+pub wide-heard : (plan : Plan) → ((x : ℕ) → Lawful (plan .ways x)) → (w : Net) → Moment (plan .owner) w → (i x y : ℕ) (q : Asked) (n : Node)
+    → nodeOf i (w .hubs x) ≡ some n
+    → wroteDelta (compute (q .edition) [] (q .ties) (q .mtu) (q .place) (digestBytes (q .edition) (digestOf [] (w .hubs x))) (w .hubs y) (q .datagram) .answer) ≡ true
+    → ltb (q .now) numbers ≡ true
+    → noRoom (apply (plan .ways x) (deltaBytes (opsIn q x y w)) (q .now) (w .hubs x) (q .answers) .answer) (apply (plan .ways x) (deltaBytes (opsIn q x y w)) (q .now) (w .hubs x) (q .answers) .list) ≡ true
+    → weight (w .hubs y) ≤ q .mtu
+    → HeardWhole plan i x y w q
+wide-heard plan lawful w ok i x y q n has wrote clock roomy wide =
+    record {
+      heard = heard;
+      uncut =
+          λ m e d k.
+          let r = made-for (q .ties) (q .mtu) (w .hubs x) (w .hubs y) (ok .tables y .obeyed .ascending) i n has d (its-part plan lawful w ok i x y q heard d k) in
+          let z = ap (λ (o : Option Node). orFresh o .max) e in
+          wide-uncut (q .ties) (q .mtu) (w .hubs x) (w .hubs y) (ok .tables y .obeyed .ascending) wide i n m has e (let a = r .3 in omega arith) d k;
+    }
+  where
+    heard : Heard plan i x y w q
+    heard =
+        record {
+          node = n;
+          has = has;
+          wrote = wrote;
+          clock = clock;
+          roomy = roomy;
+          brings = λ m e late. wide-brings (q .ties) (q .mtu) (w .hubs x) (w .hubs y) (ok .tables y .obeyed .ascending) wide i n m has e late;
+        }

@@ -1,0 +1,11 @@
+pub mod Node
+pub mod Exchange
+pub mod Calm
+pub mod Chains
+pub mod Static
+pub mod Rounds
+pub mod Wide
+pub mod Ends
+pub mod Owner
+pub mod Enough
+pub mod LentClosing

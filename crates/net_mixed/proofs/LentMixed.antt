@@ -1,0 +1,100 @@
+-- A mixed net of lent bytes goes as the mixed net of tables goes, so that it stays sound too.
+use Prim.Native.Nat.{ℕ}
+use mathlib.Core.Bool.{Bool, false, not, true, _&&_}
+use mathlib.Core.List.{List, [], _∷_}
+use mathlib.Core.Path.{_∙_, _≡_, ap, refl, subst, sym}
+use lib.Dec.{eqb, ltb}
+use Rattle.fields.specs.Choice.{pick}
+use Rattle.net.proofs.LentNet.{Good, begin-lent, from-table, happen-lent, obeyed, on-hub, taken}
+use Rattle.net.specs.LentNet.{LentNet, LentSound, lentCalls, lentHappen, lentTaken, planIn, tablesIn, withBytes}
+use Rattle.net.specs.Net.{Computing, Net, NetSound, Plan, happen, withTable}
+use Rattle.net_mixed.proofs.Mixed.{Fine, fine-doing, fine-start, mixed-sound}
+use Rattle.net_mixed.specs.LentMixed.{LentMixed, castIn, lentDoing, lentRun, lentStart, mixedIn}
+use Rattle.net_mixed.specs.Mixed.{Asking, Cast, Doing, Hearing, Mixed, Ordinary, Right, allowed, doing, flightsAfter, mayAsk, run, start}
+use Rattle.rules.specs.Compute.{compute}
+use Rattle.rules.specs.Given.{Given, given}
+use Rattle.rules.specs.Lent.{lentCompute}
+use Rattle.rules.specs.Sizes.{numbers}
+use Rattle.rules.specs.World.{Exchange, afterDelta, appliedTo, sentAfter}
+use Rattle.rules.specs.declared.Computed.{Computed}
+use Rattle.rules.specs.declared.Computed.the-variants as computed
+use Rattle.rules.specs.declared.Mode.{Mode}
+use Rattle.rules.specs.declared.Refusal.the-variants.{BadTable}
+
+module _ (owner : ℕ → ℕ) (modes : ℕ → Mode) (source : (hub node : ℕ) → ℕ) (steady : (hub node : ℕ) → Bool) where
+  abbrev c : Cast
+  c = castIn owner modes source steady
+
+  abbrev plan : Plan
+  plan = planIn owner modes
+
+  -- the bytes are valid, each hub's in its mode, and the tables in them are those of this mixed net
+  abbrev Same : Mixed → LentMixed → Type 0
+  Same v w = Good owner modes (w .net) × (mixedIn w ≡ v)
+
+  with-flights : (f : ℕ → Exchange) (l : LentNet) (v : Net) → Good owner modes l × (tablesIn l ≡ v) → Same (record { net = v; flights = f }) (record { net = l; flights = f })
+  with-flights f l v s = (s .0, ap (λ (n : Net). record { net = n; flights = f }) (s .1))
+
+  doing-lent : (e : Doing) (w : LentMixed) → Good owner modes (w .net) → Fine c (doing c e (mixedIn w)) → Same (doing c e (mixedIn w)) (lentDoing c e w)
+  unfolding doing lentDoing
+  doing-lent (Ordinary e) w g ok = go (allowed c e (tablesIn (w .net))) ok
+    where
+      go : (b : Bool) → Fine c (pick b (record { net = happen plan e (tablesIn (w .net)); flights = flightsAfter e (w .flights) }) (mixedIn w)) → Same (pick b (record { net = happen plan e (tablesIn (w .net)); flights = flightsAfter e (w .flights) }) (mixedIn w)) (pick b (record { net = lentHappen owner e (w .net); flights = flightsAfter e (w .flights) }) w)
+      go true fine = with-flights (flightsAfter e (w .flights)) (lentHappen owner e (w .net)) _ (happen-lent owner modes (w .net) g e (fine .moment))
+      go false fine = (g, refl)
+  doing-lent (Asking x y edition digest excluded ties mtu place l) w g ok = go (mayAsk c x y excluded (tablesIn (w .net) .hubs y))
+    where
+      net : Net
+      net = tablesIn (w .net)
+
+      next : Given Computed (List ℕ) → Mixed
+      next o =
+          record {
+            net = record { hubs = tablesIn (w .net) .hubs; given = w .net .given; sent = sentAfter place (o .lent) (o .answer) (w .net .sent); saved = tablesIn (w .net) .saved };
+            flights = λ z. pick (eqb z x) (afterDelta place (o .lent) (o .answer) (w .flights x)) (w .flights z);
+          }
+
+      made : lentCompute edition excluded ties mtu place digest l (w .net .hubs y) ≡ compute edition excluded ties mtu place digest (tablesIn (w .net) .hubs y) l
+      made = from-table (modes y) (w .net .hubs y) (g .hubs y) (given (computed.Refused BadTable) l) (λ t. compute edition excluded ties mtu place digest t l)
+
+      lentNext : LentMixed
+      lentNext =
+          record {
+            net = lentCalls (Computing y edition digest excluded ties mtu place l) (w .net);
+            flights =
+                λ z.
+                pick (eqb z x)
+                (afterDelta place (lentCompute edition excluded ties mtu place digest l (w .net .hubs y) .lent) (lentCompute edition excluded ties mtu place digest l (w .net .hubs y) .answer) (w .flights x))
+                (w .flights z);
+          }
+
+      go : (b : Bool) → Same (pick b (next (compute edition excluded ties mtu place digest (tablesIn (w .net) .hubs y) l)) (mixedIn w)) (pick b lentNext w)
+      go true = (record { hubs = g .hubs; saved = g .saved }, ap next made)
+      go false = (g, refl)
+  doing-lent (Hearing x now l) w g ok = go (not (plan .ways x .late) && ltb now numbers) ok
+    where
+      u : Mixed
+      u = record { net = withTable x (appliedTo (plan .ways x) now l (w .flights x) (tablesIn (w .net) .hubs x)) (tablesIn (w .net)); flights = w .flights }
+
+      go : (b : Bool) → Fine c (pick b u (mixedIn w)) → Same (pick b u (mixedIn w)) (pick b (record { net = withBytes x (lentTaken now l (w .flights x) (w .net .hubs x)) (w .net); flights = w .flights }) w)
+      go true fine =
+          with-flights (w .flights) (withBytes x (lentTaken now l (w .flights x) (w .net .hubs x)) (w .net)) _
+          (on-hub owner modes (w .net) g _ x _ _ (taken (modes x) (w .net .hubs x) (g .hubs x) now l (w .flights x) (obeyed owner modes (w .net) g x _ _ (fine .moment))))
+      go false fine = (g, refl)
+
+  run-lent : Right c → (es : List Doing) (w : LentMixed) → Good owner modes (w .net) → Fine c (mixedIn w) → Same (run c es (mixedIn w)) (lentRun c es w)
+  unfolding run lentRun
+  run-lent right [] w g ok = (g, refl)
+  run-lent right (e ∷ es) w g ok =
+      let fine = fine-doing c right e (mixedIn w) ok in
+      let r = doing-lent e w g fine in
+      let s = run-lent right es (lentDoing c e w) (r .0) (subst (Fine c) (sym (r .1)) fine) in
+      (s .0, s .1 ∙ ap (run c es) (r .1))
+
+  -- every hub's bytes stay a valid table in its mode, and the claims hold of the tables in them, plain hubs' too
+  pub lent-mixed-sound : Right c → (es : List Doing) → LentSound owner modes (lentRun c es (lentStart modes) .net)
+  lent-mixed-sound right es =
+      let b = with-flights (lentStart modes .flights) (lentStart modes .net) _ (begin-lent owner modes) in
+      let r = run-lent right es (lentStart modes) (b .0) (subst (Fine c) (sym (b .1)) (fine-start c)) in
+      let is : mixedIn (lentRun c es (lentStart modes)) ≡ run c es start = r .1 ∙ ap (run c es) (b .1) in
+      record { valid = λ x. r .0 .hubs x .valid; mode-stays = λ x. r .0 .hubs x .mode-is; sound = subst (λ (m : Mixed). NetSound plan (m .net)) (sym is) (mixed-sound c right es) }

@@ -1,0 +1,86 @@
+//! What stands in the bytes of a table and of a delta, read after docs/FORMAT.md.
+
+use script::table::{KEY, NODE_BYTES, NODE_HEAD_BYTES, RECORD_BYTES, SET, VALUE};
+
+fn number(bytes: &[u8], at: usize) -> u64 {
+    u64::from_le_bytes(bytes[at..at + 8].try_into().expect("eight bytes"))
+}
+
+#[derive(Clone, Copy, PartialEq, Eq, PartialOrd, Ord)]
+pub struct Pair {
+    pub last_gc: u64,
+    pub max: u64,
+}
+
+#[derive(PartialEq, Eq)]
+pub struct Record<'a> {
+    pub key: &'a [u8],
+    pub value: &'a [u8],
+    pub version: u64,
+    pub set: bool,
+}
+
+fn slot(table: &[u8], place: usize) -> &[u8] {
+    &table[1 + place * NODE_BYTES..][..NODE_BYTES]
+}
+
+/// Of the node in this slot.
+pub fn pair(table: &[u8], place: usize) -> Pair {
+    let slot = slot(table, place);
+    Pair { last_gc: number(slot, 24), max: number(slot, 16) }
+}
+
+pub fn records(table: &[u8], place: usize) -> impl Iterator<Item = Record<'_>> {
+    let slot = slot(table, place);
+    (0..usize::from(slot[32])).map(move |at| {
+        let record = &slot[NODE_HEAD_BYTES + at * RECORD_BYTES..][..RECORD_BYTES];
+        let (key, value) = (usize::from(record[0]), usize::from(record[1 + KEY]));
+        let behind = 2 + KEY + VALUE;
+        Record {
+            key: &record[1..1 + key],
+            value: &record[2 + KEY..2 + KEY + value],
+            version: number(record, behind),
+            set: record[behind + 8] == SET,
+        }
+    })
+}
+
+/// The node in this slot becomes a fresh one, as removing and adding it again makes it.
+pub fn freshen(table: &mut [u8], place: usize) {
+    table[1 + place * NODE_BYTES + 8..1 + (place + 1) * NODE_BYTES].fill(0);
+}
+
+/// A node delta's numbers.
+pub struct Part {
+    pub number: u64,
+    pub last_gc: u64,
+    pub from: u64,
+    pub max: u64,
+}
+
+/// The parts of a delta that the port wrote.
+pub fn parts(delta: &[u8]) -> Vec<Part> {
+    let mut parts: Vec<Part> = Vec::new();
+    let mut at = 0;
+    while at < delta.len() {
+        match delta[at] {
+            0 => {
+                let [number, last_gc, from] = [1, 9, 17].map(|place| number(delta, at + place));
+                parts.push(Part { number, last_gc, from, max: 0 });
+                at += 25;
+            }
+            1 => {
+                let len = |at: usize| usize::from(delta[at]) + 256 * usize::from(delta[at + 1]);
+                at += 3 + len(at + 1);
+                at += 2 + len(at);
+                parts.last_mut().expect("a Node first").max = number(delta, at);
+                at += 9;
+            }
+            _ => {
+                parts.last_mut().expect("a Node first").max = number(delta, at + 1);
+                at += 9;
+            }
+        }
+    }
+    parts
+}
