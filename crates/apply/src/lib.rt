@@ -274,7 +274,7 @@ pub fn apply_good(table: &mut [u8], mode: Mode, delta: &[u8], clock: u64, answer
 }
 
 // The mode that stands in a table's bytes.
-fn mode_of(table: &[u8]) -> Mode
+pub fn mode_of(table: &[u8]) -> Mode
     requires { ⌜ length (now table) ≡ wholeWidth ⌝ }
     ensures { λ r. ⌜ r ≡ decodeWhole (now (table .entry)) .mode ⌝ }
 {

@@ -80,7 +80,7 @@ fn heartbeat_in(area: &[u8], number: u64) -> Heartbeat
 }
 
 // Adds a fresh node to a good table with its memory, which forgets it.
-fn add_known(table: &mut [u8], number: u64) -> Answer
+pub fn add_known(table: &mut [u8], number: u64) -> Answer
     requires { ⌜ validWhole (now table) ≡ true ⌝ }
     ensures { λ r. ⌜ Gives (storedWhole (addWhole number (decodeWhole (now (table .entry))))) r (now (table .exit)) ⌝ }
 {
@@ -94,7 +94,7 @@ fn add_known(table: &mut [u8], number: u64) -> Answer
 }
 
 // Removes a node from a good table with its memory, which remembers it with the heartbeat that it had.
-fn remove_known(table: &mut [u8], number: u64) -> Answer
+pub fn remove_known(table: &mut [u8], number: u64) -> Answer
     requires { ⌜ validWhole (now table) ≡ true ⌝ }
     ensures { λ r. ⌜ Gives (storedWhole (removeWhole number (decodeWhole (now (table .entry))))) r (now (table .exit)) ⌝ }
 {

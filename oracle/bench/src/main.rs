@@ -17,11 +17,16 @@ use std::hint::black_box;
 use std::time::Instant;
 
 use judge::timed::{self, Timed};
+use kevdarosh::Answer;
 use script::table::AREA_BYTES;
 
 use crate::inputs::{NODES, RECORDS};
+use crate::port::Port;
 
 const ROUNDS: usize = 400;
+
+/// What a call of an owned table may take.
+const OWNED: Aim = Aim::Times(0.75);
 
 const NOW: u64 = 1_000;
 const GRACE: u64 = 50;
@@ -162,12 +167,12 @@ fn lookup(rows: &mut Rows) {
     let original = Timed::of(&table);
     for asked in &keys {
         let value = original.get(&asked.name, &asked.key).expect("a key that is held").as_bytes();
-        for good in [false, true] {
-            let start = port::find(&table, asked.number, &asked.key, good);
-            assert_eq!(&table[start..start + value.len()], value);
+        for owned in [false, true] {
+            assert!(Port::of(&table, owned).holds(asked.number, &asked.key, value));
         }
     }
-    for (name, good, aim) in [("lookup", false, Aim::None), ("lookup, good table", true, Aim::Times(1.0))] {
+    for (name, owned, aim) in [("lookup", false, Aim::None), ("lookup, owned table", true, OWNED)] {
+        let port = Port::of(&table, owned);
         rows.measure(
             name,
             "",
@@ -175,7 +180,7 @@ fn lookup(rows: &mut Rows) {
             || gets(&original, &keys),
             || {
                 over(&keys, |asked| {
-                    black_box(port::find(black_box(&table), asked.number, black_box(&asked.key), good));
+                    black_box(black_box(&port).get(asked.number, black_box(&asked.key)));
                 })
             },
         );
@@ -183,10 +188,10 @@ fn lookup(rows: &mut Rows) {
 }
 
 /// Sets of all keys, with values of the turn.
-fn sets(rows: &mut Rows, name: &'static str, good: bool, aim: Aim, turns: usize) {
+fn sets(rows: &mut Rows, name: &'static str, owned: bool, aim: Aim, turns: usize) {
     let keys = asked(&inputs::all());
-    let mut table = inputs::full();
-    let mut original = Timed::of(&table);
+    let mut original = Timed::of(&inputs::full());
+    let mut port = Port::of(&inputs::full(), owned);
     let (mut turn, mut other) = (0, 0);
     rows.measure(
         name,
@@ -202,19 +207,19 @@ fn sets(rows: &mut Rows, name: &'static str, good: bool, aim: Aim, turns: usize)
             other = (other + 1) % turns;
             over(&keys, |asked| {
                 let value = black_box(&asked.values[other]);
-                black_box(port::write(&mut table, asked.number, black_box(&asked.key), value, good));
+                black_box(port.set(asked.number, black_box(&asked.key), value));
             })
         },
     );
-    assert_eq!(original.table(), table, "{name}: the tables differ");
-    assert_eq!(table != inputs::full(), turns > 1, "{name}: whether anything changed");
+    assert_eq!(original.table(), port.bytes(), "{name}: the tables differ");
+    assert_eq!(port.bytes() != inputs::full(), turns > 1, "{name}: whether anything changed");
 }
 
 /// Sets of keys that a half full table lacks, up to a full one.
-fn new_keys(rows: &mut Rows, name: &'static str, good: bool, aim: Aim) {
+fn new_keys(rows: &mut Rows, name: &'static str, owned: bool, aim: Aim) {
     let keys = asked(&inputs::others());
     let before = inputs::table(&inputs::half(), inputs::in_order);
-    let (mut original, mut table) = (Timed::of(&before), before.clone());
+    let (mut original, mut port) = (Timed::of(&before), Port::of(&before, owned));
     rows.measure(
         name,
         "",
@@ -226,27 +231,27 @@ fn new_keys(rows: &mut Rows, name: &'static str, good: bool, aim: Aim) {
             })
         },
         || {
-            table.copy_from_slice(&before);
+            port = Port::of(&before, owned);
             over(&keys, |asked| {
                 let value = black_box(&asked.values[0]);
-                black_box(port::write(&mut table, asked.number, black_box(&asked.key), value, good));
+                black_box(port.set(asked.number, black_box(&asked.key), value));
             })
         },
     );
-    assert_eq!(original.table(), table, "{name}: the tables differ");
-    assert_eq!(usize::from(table[1 + 32]), RECORDS, "{name}: all keys are held");
+    assert_eq!(original.table(), port.bytes(), "{name}: the tables differ");
+    assert_eq!(usize::from(port.bytes()[1 + 32]), RECORDS, "{name}: all keys are held");
 }
 
 /// Deletes of all keys.
-fn deletes(rows: &mut Rows, name: &'static str, good: bool) {
+fn deletes(rows: &mut Rows, name: &'static str, owned: bool, aim: Aim) {
     let keys = asked(&inputs::all());
     let before = inputs::full();
-    let (mut original, mut table) = (Timed::of(&before), before.clone());
+    let (mut original, mut port) = (Timed::of(&before), Port::of(&before, owned));
     timed::clock(NOW);
     rows.measure(
         name,
         "",
-        Aim::None,
+        aim,
         || {
             original = Timed::of(&before);
             over(&keys, |asked| {
@@ -254,25 +259,25 @@ fn deletes(rows: &mut Rows, name: &'static str, good: bool) {
             })
         },
         || {
-            table.copy_from_slice(&before);
+            port = Port::of(&before, owned);
             over(&keys, |asked| {
-                black_box(port::delete(&mut table, asked.number, black_box(&asked.key), NOW, good));
+                black_box(port.delete(asked.number, black_box(&asked.key), NOW));
             })
         },
     );
-    assert_eq!(original.table(), table, "{name}: the tables differ");
+    assert_eq!(original.table(), port.bytes(), "{name}: the tables differ");
 }
 
 /// A removal that finds nothing to remove.
-fn removal(rows: &mut Rows, name: &'static str, good: bool) {
+fn removal(rows: &mut Rows, name: &'static str, owned: bool, aim: Aim) {
     const CALLS: usize = 16;
-    let mut table = inputs::full();
-    let mut original = Timed::of(&table);
+    let mut original = Timed::of(&inputs::full());
+    let mut port = Port::of(&inputs::full(), owned);
     timed::clock(NOW);
     rows.measure(
         name,
         "",
-        Aim::None,
+        aim,
         || {
             repeat(CALLS, || {
                 original.remove(black_box(GRACE));
@@ -280,12 +285,12 @@ fn removal(rows: &mut Rows, name: &'static str, good: bool) {
         },
         || {
             repeat(CALLS, || {
-                port::remove(&mut table, NOW, black_box(GRACE), good);
+                black_box(port.remove(NOW, black_box(GRACE)));
             })
         },
     );
-    assert_eq!(original.table(), table, "{name}: the tables differ");
-    assert_eq!(table, inputs::full(), "{name}: something was removed");
+    assert_eq!(original.table(), port.bytes(), "{name}: the tables differ");
+    assert_eq!(port.bytes(), inputs::full(), "{name}: something was removed");
 }
 
 fn digests(rows: &mut Rows) {
@@ -293,27 +298,30 @@ fn digests(rows: &mut Rows) {
     let table = inputs::full();
     let original = Timed::of(&table);
     let mut datagram = vec![0; 1_024];
-    let size = port::write_digest(&table, &mut datagram);
+    let size = Port::of(&table, false).write_digest(&mut datagram);
     let digest = datagram[..size].to_vec();
     let mut written = Vec::new();
     original.write_digest(&mut written);
     assert_eq!(timed::digest_01(&written), digest);
-    rows.measure(
-        "digest made and written",
-        "",
-        Aim::None,
-        || {
-            repeat(CALLS, || {
-                written.clear();
-                original.write_digest(black_box(&mut written));
-            })
-        },
-        || {
-            repeat(CALLS, || {
-                black_box(port::write_digest(black_box(&table), black_box(&mut datagram)));
-            })
-        },
-    );
+    for (name, owned, aim) in [("digest made and written", false, Aim::None), ("digest made and written, owned table", true, OWNED)] {
+        let port = Port::of(&table, owned);
+        rows.measure(
+            name,
+            "",
+            aim,
+            || {
+                repeat(CALLS, || {
+                    written.clear();
+                    original.write_digest(black_box(&mut written));
+                })
+            },
+            || {
+                repeat(CALLS, || {
+                    black_box(black_box(&port).write_digest(black_box(&mut datagram)));
+                })
+            },
+        );
+    }
     let bytes = timed::digest_bytes(&digest);
     assert_eq!(timed::read_digest(&bytes), port::read_digest(&digest));
     rows.measure(
@@ -338,7 +346,7 @@ const NO_DIGEST: [u8; 2] = [0, 0];
 /// The delta of a table for an empty digest, by the port. The original must make the same.
 fn delta_of(table: &[u8]) -> (Vec<u8>, usize) {
     let mut datagram = vec![0; 16_384];
-    let size = port::compute(table, &NO_DIGEST, &TIES, &mut datagram, false);
+    let size = Port::of(table, false).compute(&NO_DIGEST, &TIES, &mut datagram);
     datagram.truncate(size);
     let nodes = timed::read_delta(&timed::delta_bytes(&datagram));
     let mut stream = Vec::new();
@@ -370,7 +378,7 @@ fn delta_read(rows: &mut Rows) {
 }
 
 /// Computes and writes under an MTU of 16,384 bytes.
-fn computing(rows: &mut Rows, name: &'static str, table: &[u8], good: bool, aim: Aim) {
+fn computing(rows: &mut Rows, name: &'static str, table: &[u8], owned: bool, aim: Aim) {
     const CALLS: usize = 4;
     let (delta, nodes) = delta_of(table);
     assert!(delta.len() > 16_384 - 111, "{name}: the delta is full");
@@ -379,6 +387,7 @@ fn computing(rows: &mut Rows, name: &'static str, table: &[u8], good: bool, aim:
     let mtu = timed::mtu(nodes);
     let mut stream = Vec::new();
     let mut datagram = vec![0; 16_384];
+    let port = Port::of(table, owned);
     rows.measure(
         name,
         "",
@@ -392,7 +401,7 @@ fn computing(rows: &mut Rows, name: &'static str, table: &[u8], good: bool, aim:
         || {
             repeat(CALLS, || {
                 let datagram = black_box(&mut datagram);
-                black_box(port::compute(black_box(table), &NO_DIGEST, &TIES, datagram, good));
+                black_box(black_box(&port).compute(&NO_DIGEST, &TIES, datagram));
             })
         },
     );
@@ -404,16 +413,18 @@ fn nothing_stale(rows: &mut Rows) {
     const CALLS: usize = 16;
     let table = inputs::full();
     let mut datagram = vec![0; 16_384];
-    let size = port::write_digest(&table, &mut datagram);
+    let ports = [false, true].map(|owned| Port::of(&table, owned));
+    let size = ports[0].write_digest(&mut datagram);
     let bytes = datagram[..size].to_vec();
     let original = Timed::of(&table);
     let digest = timed::digest_held(&bytes);
     let mut stream = Vec::new();
     original.compute(&digest, timed::mtu(0), &mut stream);
     assert_eq!(timed::read_delta(&stream), 0);
-    let mut compute = |good: bool| {
+    let mut compute = |owned: bool| {
+        let port = &ports[usize::from(owned)];
         repeat(CALLS, || {
-            black_box(port::compute(black_box(&table), black_box(&bytes), &TIES, black_box(&mut datagram), good));
+            black_box(black_box(port).compute(black_box(&bytes), &TIES, black_box(&mut datagram)));
         })
     };
     let rust = || {
@@ -428,19 +439,18 @@ fn nothing_stale(rows: &mut Rows) {
         })
     };
     rows.measure("compute, nothing stale", " (beside the port's check)", Aim::Times(1.1), check, || compute(false));
-    rows.measure("compute, nothing stale, good table", "", Aim::None, rust, || compute(true));
-    assert_eq!(port::compute(&table, &bytes, &TIES, &mut datagram, false), 0);
+    rows.measure("compute, nothing stale, owned table", "", OWNED, rust, || compute(true));
+    assert_eq!(ports[0].compute(&bytes, &TIES, &mut datagram), 0);
 }
 
 /// Reads a delta of 16,384 bytes and applies it to a table, which is made anew for each batch.
-fn applying(rows: &mut Rows, name: &'static str, before: &[u8], delta: &[u8], answer: u8, good: bool, aim: Aim) {
+fn applying(rows: &mut Rows, name: &'static str, before: &[u8], delta: &[u8], answer: Answer, owned: bool, aim: Aim) {
     const CALLS: usize = 4;
     let stream = timed::delta_bytes(delta);
-    let nodes = timed::read_delta(&stream);
     timed::clock(NOW);
     let mut originals: Vec<Timed> = Vec::new();
-    let mut tables: Vec<Vec<u8>> = vec![before.to_vec(); CALLS];
-    let mut answers = [9; NODES as usize];
+    let mut ports: Vec<Port> = Vec::new();
+    let mut same = true;
     rows.measure(
         name,
         "",
@@ -454,39 +464,37 @@ fn applying(rows: &mut Rows, name: &'static str, before: &[u8], delta: &[u8], an
             })
         },
         || {
-            for table in &mut tables {
-                table.copy_from_slice(before);
-            }
+            ports = (0..CALLS).map(|_| Port::of(before, owned)).collect();
             time(CALLS, || {
-                for table in &mut tables {
-                    black_box(port::apply(table, black_box(delta), NOW, black_box(&mut answers), good));
+                for port in &mut ports {
+                    same &= port.apply(black_box(delta), NOW, answer);
                 }
             })
         },
     );
-    for (original, table) in originals.iter().zip(&tables) {
-        assert_eq!(&original.table(), table, "{name}: the tables differ");
+    for (original, port) in originals.iter().zip(&ports) {
+        assert_eq!(original.table(), port.bytes(), "{name}: the tables differ");
     }
-    assert!(answers[..nodes].iter().all(|&code| code == answer), "{name}: {answers:?}");
+    assert!(same, "{name}: other answers");
 }
 
-const REJECT: u8 = 0;
-const APPLY: u8 = 1;
+const REJECT: Answer = Answer::Reject;
+const APPLY: Answer = Answer::Apply;
 
 fn deepest_compute(table: &[u8]) -> usize {
     let mut datagram = vec![0; 16_384];
+    let port = Port::of(table, false);
     stack::deepest(|| {
-        black_box(port::compute(table, &NO_DIGEST, &TIES, &mut datagram, false));
+        black_box(port.compute(&NO_DIGEST, &TIES, &mut datagram));
     })
 }
 
 fn deepest_apply(before: &[u8], delta: &[u8]) -> usize {
-    let mut table = before.to_vec();
-    let mut answers = [9; NODES as usize];
+    let mut port = Port::of(before, false);
     let deepest = stack::deepest(|| {
-        black_box(port::apply(&mut table, delta, NOW, &mut answers, false));
+        black_box(port.apply(delta, NOW, APPLY));
     });
-    assert_ne!(table, before, "the delta was not applied");
+    assert_ne!(port.bytes(), before, "the delta was not applied");
     deepest
 }
 
@@ -498,31 +506,31 @@ fn main() {
     check(&mut rows);
     lookup(&mut rows);
     sets(&mut rows, "set, changed", false, Aim::None, 2);
-    sets(&mut rows, "set, changed, good table", true, Aim::Times(1.0), 2);
+    sets(&mut rows, "set, changed, owned table", true, OWNED, 2);
     sets(&mut rows, "set, same", false, Aim::None, 1);
-    sets(&mut rows, "set, same, good table", true, Aim::Times(1.0), 1);
+    sets(&mut rows, "set, same, owned table", true, OWNED, 1);
     new_keys(&mut rows, "set, new key", false, Aim::None);
-    new_keys(&mut rows, "set, new key, good table", true, Aim::Times(1.0));
-    deletes(&mut rows, "delete", false);
-    deletes(&mut rows, "delete, good table", true);
-    removal(&mut rows, "removal, nothing to remove", false);
-    removal(&mut rows, "removal, nothing to remove, good table", true);
+    new_keys(&mut rows, "set, new key, owned table", true, OWNED);
+    deletes(&mut rows, "delete", false, Aim::None);
+    deletes(&mut rows, "delete, owned table", true, OWNED);
+    removal(&mut rows, "removal, nothing to remove", false, Aim::None);
+    removal(&mut rows, "removal, nothing to remove, owned table", true, OWNED);
     digests(&mut rows);
     delta_read(&mut rows);
     computing(&mut rows, "compute 16,384 bytes", &full, false, Aim::Times(0.2));
-    computing(&mut rows, "compute 16,384 bytes, good table", &full, true, Aim::None);
+    computing(&mut rows, "compute 16,384 bytes, owned table", &full, true, OWNED);
     computing(&mut rows, "compute 16,384 bytes, versions scattered", &scattered, false, Aim::None);
     nothing_stale(&mut rows);
     let (delta, _) = delta_of(&full);
     applying(&mut rows, "apply 16,384 bytes to a fresh table", &fresh, &delta, APPLY, false, Aim::Times(0.2));
     applying(
         &mut rows,
-        "apply 16,384 bytes to a fresh table, good table and delta",
+        "apply 16,384 bytes to a fresh table, owned table",
         &fresh,
         &delta,
         APPLY,
         true,
-        Aim::None,
+        OWNED,
     );
     let mut fenced = fresh.clone();
     fenced[AREA_BYTES] = 1;

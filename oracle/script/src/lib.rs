@@ -9,5 +9,5 @@ mod run;
 pub mod table;
 
 pub use answer::{Answer, DigestEntry, Verdict};
-pub use call::{Bytes, Call, hex, parse_hex};
+pub use call::{Bytes, Call, HUBS, hex, parse_hex};
 pub use run::{Side, answer_script};

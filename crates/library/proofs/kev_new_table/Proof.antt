@@ -1,0 +1,64 @@
+-- `library::kev_new_table` meets its contract: the mode of the number, where it stands for one. Assumes nothing.
+use Prim.Native.Nat.{ℕ}
+use mathlib.Core.Path.{ap, subst, _∙_}
+use mathlib.Core.List.{List}
+use Rattle.rules.specs.Answers.{answerTold}
+use Rattle.rules.specs.Given.{Given, Tells}
+use Rattle.rules.specs.declared.Answer.{Answer}
+use Rattle.answers.specs.Shown.{numberShown}
+use Rattle.library.proofs.Numbers.{no-mode, made-in}
+use borrow.Author.Needs.{needs}
+use Rattle.library.proofs.kev_new_table.Statement.{statement}
+use Rattle.library.proofs.kev_new_table.Tie as tie
+
+of-byte-requires : tie.Need-of-byte-requires
+of-byte-requires c κs = search needs
+
+byte-requires : tie.Need-byte-requires
+byte-requires c κs = search needs
+
+number-requires : tie.Need-number-requires
+number-requires c κs = search needs
+
+returns : tie.Need-returns
+unfolding answerTold
+returns c =
+    let t = c .before in
+    let y = t .before in
+    let m = y .before in
+    let a = c .before .before .before .before .before .args in
+    let g = no-mode (a .mode) (a .table .now) (m .of-byte .result) (m .of-byte .ensures) (y .byte .result) (y .byte .ensures) (t .if1 .taken) in
+    (c .number .ensures ∙ ap (λ (a : Answer). numberShown (answerTold a)) (g .0), g .1)
+
+new-table-requires : tie.Need-new-table-requires
+new-table-requires c κs = search needs
+
+number-requires-2 : tie.Need-number-requires-2
+number-requires-2 c κs = search needs
+
+same-length : tie.Need-same-length
+same-length c = search needs
+
+returns-2 : tie.Need-returns-2
+returns-2 c =
+    let w = c .before .before .before .new-table in
+    let t = c .before .before .before .before .before in
+    let y = t .before in
+    let m = y .before in
+    let a = c .before .before .before .before .before .before .before .before .before .args in
+    let q = made-in (a .mode) (a .table .now) (m .of-byte .result) (m .of-byte .ensures) (y .byte .result) (y .byte .ensures) (t .if1 .left) in
+    let e = subst (λ (o : Given Answer (List ℕ)). Tells answerTold o (w .result) (w .last .0)) q (w .ensures) in
+    (c .number2 .ensures ∙ ap numberShown (e .0), e .1)
+
+pub kev-new-table-spec : {M : Type 1} → statement M
+kev-new-table-spec =
+    tie.close
+    (tie.spec
+    of-byte-requires
+    byte-requires
+    number-requires
+    returns
+    new-table-requires
+    number-requires-2
+    same-length
+    returns-2)

@@ -1,0 +1,18 @@
+-- `library::kev_record_at` meets its contract: the call, and what its answer tells. Assumes nothing.
+use mathlib.Core.Path.{ap, _∙_}
+use Rattle.answers.specs.Shown.{recordShown}
+use borrow.Author.Needs.{needs}
+use Rattle.library.proofs.kev_record_at.Statement.{statement}
+use Rattle.library.proofs.kev_record_at.Tie as tie
+
+record-at-requires : tie.Need-record-at-requires
+record-at-requires c κs = search needs
+
+record-requires : tie.Need-record-requires
+record-requires c κs = search needs
+
+returns : tie.Need-returns
+returns c = c .record .ensures ∙ ap recordShown (c .before .record-at .ensures)
+
+pub kev-record-at-spec : {M : Type 1} → statement M
+kev-record-at-spec = tie.close (tie.spec record-at-requires record-requires returns)

@@ -1,0 +1,330 @@
+// The same calls on a table that `kev_check` accepts, without the check. Every call keeps the rules, so a table that was made by `kev_new_table` or accepted
+// once, and that nothing but these calls changed since, is such a table. Nobody checks a foreign caller: what is promised for other bytes is nothing.
+use answers::KevApplied;
+use answers::KevComputed;
+use answers::KevCount;
+use answers::KevFound;
+use answers::KevHeader;
+use answers::KevNode;
+use answers::KevRecord;
+use inspect_text::Text;
+use local_node::Kind;
+use rules::Applied;
+use rules::DeltaRead;
+use rules::Heartbeat;
+use rules::Refusal;
+use table::layout;
+ghost use mathlib.Core.Bool.{true};
+ghost use mathlib.Core.Path.{_≡_};
+ghost use Rattle.rules.specs.Answers.{answerTold, offeredTold, listedTold, writtenTold, computedTold, appliedTold};
+ghost use Rattle.rules.specs.Given.{Gives};
+ghost use Rattle.rules.specs.Node.{Deleting, DeletingAfterTtl, beats};
+ghost use Rattle.rules.specs.Whole.{validWhole};
+ghost use Rattle.rules.specs.Lent.{lentAdd, lentRemoveNode, lentCall, lentWrite, lentGc, lentOffer, lentBeat};
+ghost use Rattle.rules.specs.Lent.{lentPrefixed, lentDigest, lentCompute, both, lentApply};
+ghost use Rattle.lookup.specs.Lookup.{lentFind};
+ghost use Rattle.lookup.specs.Told.{foundTold};
+ghost use Rattle.inspect.specs.Look.{lentNodeCount, lentNodeNumber, lentNodeHeader, lentRecordCount, lentReadRecord, lentRecordByKey};
+ghost use Rattle.inspect.specs.Told.{countTold, nodeNumberTold, nodeHeaderTold, recordReadTold};
+ghost use Rattle.inspect_text.specs.Texts.{lentTextFound};
+ghost use Rattle.inspect_text.specs.declared.Text.the-variants.{Key, Value};
+ghost use Rattle.answers.specs.Shown.{shownAs, numberShown, countShown, nodeShown, foundShown, headerShown, recordShown};
+ghost use Rattle.answers.specs.Shown.{computedShown, appliedShown};
+
+// ---- the table and its nodes
+
+// A fresh node with this number; one held already stays: 4.
+#[no_mangle]
+pub extern "C" fn kev_good_add_node(table: &mut [u8], number: u64) -> u64
+    requires { ⌜ validWhole (now table) ≡ true ⌝ }
+    ensures { λ r. ⌜ Gives (shownAs answerTold numberShown (lentAdd number (now (table .entry)))) r (now (table .exit)) ⌝ }
+{
+    answers::number(nodes::add_known(table, number))
+}
+
+// The node with this number goes: 2.
+#[no_mangle]
+pub extern "C" fn kev_good_remove_node(table: &mut [u8], number: u64) -> u64
+    requires { ⌜ validWhole (now table) ≡ true ⌝ }
+    ensures { λ r. ⌜ Gives (shownAs answerTold numberShown (lentRemoveNode number (now (table .entry)))) r (now (table .exit)) ⌝ }
+{
+    answers::number(nodes::remove_known(table, number))
+}
+
+// ---- local calls
+
+// The key's record takes this value under the wanted status, 0 Set or 2 TTL: 10, 2, 1, 5, 6.
+#[no_mangle]
+pub extern "C" fn kev_good_write(
+    table: &mut [u8],
+    number: u64,
+    key: &[u8],
+    value: &[u8],
+    wanted: u64,
+    clock: u64,
+) -> u64
+    requires { ⌜ validWhole (now table) ≡ true ⌝ }
+    ensures { λ r. ⌜ Gives (shownAs answerTold numberShown (lentWrite wanted (now (value .entry)) clock number (now (key .entry)) (now (table .entry))))
+        r (now (table .exit)) ⌝ }
+{
+    answers::number(local::write_good(
+        &mut table[..layout::AREA],
+        number,
+        key,
+        value,
+        local::wanted(wanted),
+        clock,
+    ))
+}
+
+// The key's record is emptied, hidden and scheduled: 2, 1, 3, 6.
+#[no_mangle]
+pub extern "C" fn kev_good_delete(table: &mut [u8], number: u64, key: &[u8], clock: u64) -> u64
+    requires { ⌜ validWhole (now table) ≡ true ⌝ }
+    ensures { λ r. ⌜ Gives (shownAs answerTold numberShown (lentCall (Deleting clock) number (now (key .entry)) (now (table .entry))))
+        r (now (table .exit)) ⌝ }
+{
+    answers::number(local::call_good(
+        &mut table[..layout::AREA],
+        number,
+        Kind::Deleting,
+        key,
+        b"",
+        clock,
+    ))
+}
+
+// The key's record keeps its value and is scheduled: 2, 1, 3, 6.
+#[no_mangle]
+pub extern "C" fn kev_good_delete_after_ttl(
+    table: &mut [u8],
+    number: u64,
+    key: &[u8],
+    clock: u64,
+) -> u64
+    requires { ⌜ validWhole (now table) ≡ true ⌝ }
+    ensures { λ r. ⌜ Gives (shownAs answerTold numberShown (lentCall (DeletingAfterTtl clock) number (now (key .entry)) (now (table .entry))))
+        r (now (table .exit)) ⌝ }
+{
+    answers::number(local::call_good(
+        &mut table[..layout::AREA],
+        number,
+        Kind::DeletingAfterTtl,
+        key,
+        b"",
+        clock,
+    ))
+}
+
+// The scheduled records whose grace is over go, of all nodes.
+#[no_mangle]
+pub extern "C" fn kev_good_remove_scheduled(table: &mut [u8], clock: u64, grace: u64) -> u64
+    requires { ⌜ validWhole (now table) ≡ true ⌝ }
+    ensures { λ r. ⌜ Gives (shownAs answerTold numberShown (lentGc clock grace (now (table .entry)))) r (now (table .exit)) ⌝ }
+{
+    removal::remove_good(&mut table[..layout::AREA], clock, grace);
+    0
+}
+
+// A heartbeat that was heard of; the count is 1 where it was news: 2.
+#[no_mangle]
+pub extern "C" fn kev_good_offer_heartbeat(
+    table: &mut [u8],
+    number: u64,
+    heartbeat: u64,
+) -> KevCount
+    requires { ⌜ validWhole (now table) ≡ true ⌝ }
+    ensures { λ r. ⌜ Gives (shownAs offeredTold countShown (lentOffer number (beats heartbeat) (now (table .entry)))) r (now (table .exit)) ⌝ }
+{
+    answers::news(heartbeat::offer_good(&mut table[..layout::AREA], number, Heartbeat(heartbeat)))
+}
+
+// The node's own heartbeat rises by one: 2, 6.
+#[no_mangle]
+pub extern "C" fn kev_good_local_beat(table: &mut [u8], number: u64) -> u64
+    requires { ⌜ validWhole (now table) ≡ true ⌝ }
+    ensures { λ r. ⌜ Gives (shownAs answerTold numberShown (lentBeat number (now (table .entry)))) r (now (table .exit)) ⌝ }
+{
+    answers::number(heartbeat::beat_good(&mut table[..layout::AREA], number))
+}
+
+// ---- readings
+
+// Where the value of the key stands in the table: 2, 1.
+#[no_mangle]
+pub extern "C" fn kev_good_find(table: &[u8], number: u64, key: &[u8]) -> KevFound
+    requires { ⌜ validWhole (now table) ≡ true ⌝ }
+    ensures { λ r. ⌜ r ≡ foundShown (foundTold (lentFind number (now (key .entry)) (now (table .entry)))) ⌝ }
+{
+    answers::found(lookup::find_good(&table[..layout::AREA], number, key))
+}
+
+// The places of the node's records whose keys begin with the prefix, a byte each; the count is how many: 2, 1, 8.
+#[no_mangle]
+pub extern "C" fn kev_good_list_prefix(
+    table: &[u8],
+    number: u64,
+    prefix: &[u8],
+    out: &mut [u8],
+) -> KevCount
+    requires { ⌜ validWhole (now table) ≡ true ⌝ }
+    ensures { λ r. ⌜ Gives (shownAs listedTold countShown (lentPrefixed number (now (prefix .entry)) (now (out .entry)) (now (table .entry))))
+        r (now (out .exit)) ⌝ }
+{
+    answers::hits(prefix::list_good(&table[..layout::AREA], number, prefix, out))
+}
+
+// How many nodes the table holds.
+#[no_mangle]
+pub extern "C" fn kev_good_node_count(table: &[u8]) -> KevCount
+    requires { ⌜ validWhole (now table) ≡ true ⌝ }
+    ensures { λ r. ⌜ r ≡ countShown (countTold (lentNodeCount (now (table .entry)))) ⌝ }
+{
+    answers::count(inspect::node_count_good(&table[..layout::AREA]))
+}
+
+// The number of the node in place `i`: 8.
+#[no_mangle]
+pub extern "C" fn kev_good_node_number(table: &[u8], i: usize) -> KevNode
+    requires { ⌜ validWhole (now table) ≡ true ⌝ }
+    ensures { λ r. ⌜ r ≡ nodeShown (nodeNumberTold (lentNodeNumber i (now (table .entry)))) ⌝ }
+{
+    answers::node(inspect::node_number_good(&table[..layout::AREA], i))
+}
+
+// Heartbeat, max and last_gc of a node: 2.
+#[no_mangle]
+pub extern "C" fn kev_good_node_header(table: &[u8], number: u64) -> KevHeader
+    requires { ⌜ validWhole (now table) ≡ true ⌝ }
+    ensures { λ r. ⌜ r ≡ headerShown (nodeHeaderTold (lentNodeHeader number (now (table .entry)))) ⌝ }
+{
+    answers::header(inspect::node_header_good(&table[..layout::AREA], number))
+}
+
+// How many records a node has, tombstones counted: 2.
+#[no_mangle]
+pub extern "C" fn kev_good_record_count(table: &[u8], number: u64) -> KevCount
+    requires { ⌜ validWhole (now table) ≡ true ⌝ }
+    ensures { λ r. ⌜ r ≡ countShown (countTold (lentRecordCount number (now (table .entry)))) ⌝ }
+{
+    answers::count(inspect::record_count_good(&table[..layout::AREA], number))
+}
+
+// The record in place `j` of a node: 2, 8.
+#[no_mangle]
+pub extern "C" fn kev_good_record_at(table: &[u8], number: u64, j: usize) -> KevRecord
+    requires { ⌜ validWhole (now table) ≡ true ⌝ }
+    ensures { λ r. ⌜ r ≡ recordShown (recordReadTold (lentReadRecord number j (now (table .entry)))) ⌝ }
+{
+    answers::record(inspect::record_at_good(&table[..layout::AREA], number, j))
+}
+
+// The record of a key, hidden or not: 2, 1.
+#[no_mangle]
+pub extern "C" fn kev_good_record_by_key(table: &[u8], number: u64, key: &[u8]) -> KevRecord
+    requires { ⌜ validWhole (now table) ≡ true ⌝ }
+    ensures { λ r. ⌜ r ≡ recordShown (recordReadTold (lentRecordByKey number (now (key .entry)) (now (table .entry)))) ⌝ }
+{
+    answers::record(inspect::record_by_key_good(&table[..layout::AREA], number, key))
+}
+
+// Where the key of the record in place `j` of a node stands in the table: 2, 8.
+#[no_mangle]
+pub extern "C" fn kev_good_key_at(table: &[u8], number: u64, j: usize) -> KevFound
+    requires { ⌜ validWhole (now table) ≡ true ⌝ }
+    ensures { λ r. ⌜ r ≡ foundShown (foundTold (lentTextFound Key number j (now (table .entry)))) ⌝ }
+{
+    answers::found(inspect_text::find_text_good(&table[..layout::AREA], number, j, Text::Key))
+}
+
+// The same of its value, hidden or not: 2, 8.
+#[no_mangle]
+pub extern "C" fn kev_good_value_at(table: &[u8], number: u64, j: usize) -> KevFound
+    requires { ⌜ validWhole (now table) ≡ true ⌝ }
+    ensures { λ r. ⌜ r ≡ foundShown (foundTold (lentTextFound Value number j (now (table .entry)))) ⌝ }
+{
+    answers::found(inspect_text::find_text_good(&table[..layout::AREA], number, j, Text::Value))
+}
+
+// ---- digests and deltas
+
+// The table's digest without the excluded nodes, into the datagram from the place on; the count is its bytes: 20, 8.
+#[no_mangle]
+pub extern "C" fn kev_good_write_digest(
+    table: &[u8],
+    edition: u64,
+    excluded: &[u64],
+    datagram: &mut [u8],
+    place: usize,
+) -> KevCount
+    requires { ⌜ validWhole (now table) ≡ true ⌝ }
+    ensures { λ r. ⌜ Gives (shownAs writtenTold countShown (lentDigest edition (now (excluded .entry)) place (now (datagram .entry)) (now (table .entry))))
+        r (now (datagram .exit)) ⌝ }
+{
+    answers::bytes(digest_write::write_good(
+        &table[..layout::AREA],
+        edition,
+        excluded,
+        datagram,
+        place,
+    ))
+}
+
+// The delta for a digest, into the datagram from the place on: 20, 7, 8, 15, 9, 13.
+#[no_mangle]
+pub extern "C" fn kev_good_compute(
+    table: &[u8],
+    edition: u64,
+    digest: &[u8],
+    mtu: usize,
+    excluded: &[u64],
+    ties: &[u64],
+    datagram: &mut [u8],
+    place: usize,
+) -> KevComputed
+    requires { ⌜ validWhole (now table) ≡ true ⌝ }
+    ensures { λ r. ⌜ Gives
+        (shownAs computedTold computedShown
+        (lentCompute edition (now (excluded .entry)) (now (ties .entry)) mtu place (now (digest .entry)) (now (datagram .entry)) (now (table .entry))))
+        r (now (datagram .exit)) ⌝ }
+{
+    answers::computed(compute::compute_good(
+        &table[..layout::AREA],
+        edition,
+        digest,
+        mtu,
+        excluded,
+        ties,
+        datagram,
+        place,
+    ))
+}
+
+// A delta taken into the table, an answer for each node delta: 13, 9, 1, 10, 11, 12, 8.
+#[no_mangle]
+pub extern "C" fn kev_good_apply(
+    table: &mut [u8],
+    delta: &[u8],
+    clock: u64,
+    answers: &mut [u8],
+) -> KevApplied
+    requires { ⌜ validWhole (now table) ≡ true ⌝ }
+    ensures { λ r. ⌜ Gives (shownAs appliedTold appliedShown (lentApply (now (delta .entry)) clock (now (answers .entry)) (now (table .entry))))
+        r (both (now (table .exit)) (now (answers .exit))) ⌝ }
+{
+    let read = delta_read::read_delta(delta);
+    match read {
+        DeltaRead::Refused { why, at } => answers::applied(Applied::Refused { why, at }),
+        DeltaRead::Good { ops: _, nodes } => {
+            if answers.len() < nodes {
+                return answers::applied(Applied::Refused {
+                    why: Refusal::NoPlace,
+                    at: 0,
+                });
+            }
+            let mode = apply::mode_of(table);
+            apply::apply_good(&mut table[..layout::AREA], mode, delta, clock, answers);
+            answers::applied(Applied::Nodes(nodes))
+        }
+    }
+}

@@ -1,0 +1,370 @@
+// The library that a hub links: every call as a C function, for a caller in C or Rust. A slice is a pointer and a length, an answer a number or a struct by
+// value (crate `answers`). These take any bytes, and each promises what the call of its name promises, in the number and the values of its answer. The
+// functions of `good` are the same calls on a table that `kev_check` accepts, without the check. The header is include/kevdarosh.h.
+use answers::KevApplied;
+use answers::KevComputed;
+use answers::KevCount;
+use answers::KevDelta;
+use answers::KevDigest;
+use answers::KevEntry;
+use answers::KevExchanged;
+use answers::KevFound;
+use answers::KevHeader;
+use answers::KevHeartbeat;
+use answers::KevNode;
+use answers::KevRecord;
+use inspect_text::Text;
+use rules::Heartbeat;
+use rules::Mode;
+use rules::Refusal;
+ghost use mathlib.Core.Path.{_≡_};
+ghost use Rattle.rules.specs.Answers.{answerTold, offeredTold, rememberedTold, listedTold, writtenTold, computedTold, readTold, appliedTold};
+ghost use Rattle.rules.specs.Given.{Gives};
+ghost use Rattle.rules.specs.Node.{Deleting, DeletingAfterTtl, beats};
+ghost use Rattle.rules.specs.Delta.{deltaRead};
+ghost use Rattle.rules.specs.Listing.{listDelta};
+ghost use Rattle.rules.specs.Lent.{lentAdd, lentRemoveNode, lentRemoved, lentCall, lentWrite, lentGc, lentOffer, lentBeat};
+ghost use Rattle.rules.specs.Lent.{lentPrefixed, lentDigest, lentCompute, both, lentApply};
+ghost use Rattle.lookup.specs.Lookup.{lentFind};
+ghost use Rattle.lookup.specs.Told.{foundTold};
+ghost use Rattle.inspect.specs.Look.{lentNodeCount, lentNodeNumber, lentNodeHeader, lentRecordCount, lentReadRecord, lentRecordByKey};
+ghost use Rattle.inspect.specs.Told.{countTold, nodeNumberTold, nodeHeaderTold, recordReadTold};
+ghost use Rattle.inspect_text.specs.Texts.{lentTextFound};
+ghost use Rattle.inspect_text.specs.declared.Text.the-variants.{Key, Value};
+ghost use Rattle.digest_read.specs.Held.{digestIn};
+ghost use Rattle.digest_read.specs.Told.{digestTold};
+ghost use Rattle.exchange.specs.Exchanging.{allFour, exchangedTold, lending, lentExchange};
+ghost use Rattle.answers.specs.Shown.{shownAs, numberShown, countShown, nodeShown, heartbeatShown, foundShown, headerShown, recordShown};
+ghost use Rattle.answers.specs.Shown.{digestShown, entryShown, computedShown, deltaShown, appliedShown, exchangedShown};
+ghost use Rattle.library.specs.Numbers.{checkNumber, madeBy};
+
+pub mod good;
+
+// ---- the check
+
+// 0 where the bytes are a table that obeys the rules, else 14.
+#[no_mangle]
+pub extern "C" fn kev_check(table: &[u8]) -> u64
+    ensures { λ r. ⌜ r ≡ checkNumber (now (table .entry)) ⌝ }
+{
+    if table_check::check_table(table) {
+        return 0;
+    }
+    Refusal::BadTable.number()
+}
+
+// The slice becomes an empty table in the mode of this number: 14 where that is the number of none, or the slice is not as long as a table.
+#[no_mangle]
+pub extern "C" fn kev_new_table(table: &mut [u8], mode: usize) -> u64
+    ensures { λ r. ⌜ Gives (shownAs answerTold numberShown (madeBy mode (now (table .entry)))) r (now (table .exit)) ⌝ }
+{
+    let chosen = Mode::of_byte(mode);
+    if chosen.byte() != mode {
+        return Refusal::BadTable.number();
+    }
+    answers::number(nodes::new_table(table, chosen))
+}
+
+// ---- the table and its nodes
+
+// A fresh node with this number; one held already stays: 14, 4.
+#[no_mangle]
+pub extern "C" fn kev_add_node(table: &mut [u8], number: u64) -> u64
+    ensures { λ r. ⌜ Gives (shownAs answerTold numberShown (lentAdd number (now (table .entry)))) r (now (table .exit)) ⌝ }
+{
+    answers::number(nodes::add_node(table, number))
+}
+
+// The node with this number goes: 14, 2.
+#[no_mangle]
+pub extern "C" fn kev_remove_node(table: &mut [u8], number: u64) -> u64
+    ensures { λ r. ⌜ Gives (shownAs answerTold numberShown (lentRemoveNode number (now (table .entry)))) r (now (table .exit)) ⌝ }
+{
+    answers::number(nodes::remove_node(table, number))
+}
+
+// The last heartbeat of a node that was removed, where it is remembered: 14.
+#[no_mangle]
+pub extern "C" fn kev_last_heartbeat(table: &[u8], number: u64) -> KevHeartbeat
+    ensures { λ r. ⌜ r ≡ heartbeatShown (rememberedTold (lentRemoved number (now (table .entry)))) ⌝ }
+{
+    answers::heartbeat(nodes::last_heartbeat(table, number))
+}
+
+// ---- local calls
+
+// The key's record takes this value under the wanted status, 0 Set or 2 TTL: 14, 10, 2, 1, 5, 6.
+#[no_mangle]
+pub extern "C" fn kev_write(
+    table: &mut [u8],
+    number: u64,
+    key: &[u8],
+    value: &[u8],
+    wanted: u64,
+    clock: u64,
+) -> u64
+    ensures { λ r. ⌜ Gives (shownAs answerTold numberShown (lentWrite wanted (now (value .entry)) clock number (now (key .entry)) (now (table .entry))))
+        r (now (table .exit)) ⌝ }
+{
+    answers::number(local::write(table, number, key, value, local::wanted(wanted), clock))
+}
+
+// The key's record is emptied, hidden and scheduled: 14, 2, 1, 3, 6.
+#[no_mangle]
+pub extern "C" fn kev_delete(table: &mut [u8], number: u64, key: &[u8], clock: u64) -> u64
+    ensures { λ r. ⌜ Gives (shownAs answerTold numberShown (lentCall (Deleting clock) number (now (key .entry)) (now (table .entry))))
+        r (now (table .exit)) ⌝ }
+{
+    answers::number(local::delete(table, number, key, clock))
+}
+
+// The key's record keeps its value and is scheduled: 14, 2, 1, 3, 6.
+#[no_mangle]
+pub extern "C" fn kev_delete_after_ttl(table: &mut [u8], number: u64, key: &[u8], clock: u64) -> u64
+    ensures { λ r. ⌜ Gives (shownAs answerTold numberShown (lentCall (DeletingAfterTtl clock) number (now (key .entry)) (now (table .entry))))
+        r (now (table .exit)) ⌝ }
+{
+    answers::number(local::delete_after_ttl(table, number, key, clock))
+}
+
+// The scheduled records whose grace is over go, of all nodes: 14.
+#[no_mangle]
+pub extern "C" fn kev_remove_scheduled(table: &mut [u8], clock: u64, grace: u64) -> u64
+    ensures { λ r. ⌜ Gives (shownAs answerTold numberShown (lentGc clock grace (now (table .entry)))) r (now (table .exit)) ⌝ }
+{
+    answers::number(removal::remove_scheduled(table, clock, grace))
+}
+
+// A heartbeat that was heard of; the count is 1 where it was news: 14, 2.
+#[no_mangle]
+pub extern "C" fn kev_offer_heartbeat(table: &mut [u8], number: u64, heartbeat: u64) -> KevCount
+    ensures { λ r. ⌜ Gives (shownAs offeredTold countShown (lentOffer number (beats heartbeat) (now (table .entry)))) r (now (table .exit)) ⌝ }
+{
+    answers::news(heartbeat::offer_heartbeat(table, number, Heartbeat(heartbeat)))
+}
+
+// The node's own heartbeat rises by one: 14, 2, 6.
+#[no_mangle]
+pub extern "C" fn kev_local_beat(table: &mut [u8], number: u64) -> u64
+    ensures { λ r. ⌜ Gives (shownAs answerTold numberShown (lentBeat number (now (table .entry)))) r (now (table .exit)) ⌝ }
+{
+    answers::number(heartbeat::local_beat(table, number))
+}
+
+// ---- readings
+
+// Where the value of the key stands in the table: 14, 2, 1.
+#[no_mangle]
+pub extern "C" fn kev_find(table: &[u8], number: u64, key: &[u8]) -> KevFound
+    ensures { λ r. ⌜ r ≡ foundShown (foundTold (lentFind number (now (key .entry)) (now (table .entry)))) ⌝ }
+{
+    answers::found(lookup::find(table, number, key))
+}
+
+// The places of the node's records whose keys begin with the prefix, a byte each; the count is how many: 14, 2, 1, 8.
+#[no_mangle]
+pub extern "C" fn kev_list_prefix(
+    table: &[u8],
+    number: u64,
+    prefix: &[u8],
+    out: &mut [u8],
+) -> KevCount
+    ensures { λ r. ⌜ Gives (shownAs listedTold countShown (lentPrefixed number (now (prefix .entry)) (now (out .entry)) (now (table .entry))))
+        r (now (out .exit)) ⌝ }
+{
+    answers::hits(prefix::list_prefix(table, number, prefix, out))
+}
+
+// How many nodes the table holds: 14.
+#[no_mangle]
+pub extern "C" fn kev_node_count(table: &[u8]) -> KevCount
+    ensures { λ r. ⌜ r ≡ countShown (countTold (lentNodeCount (now (table .entry)))) ⌝ }
+{
+    answers::count(inspect::node_count(table))
+}
+
+// The number of the node in place `i`: 14, 8.
+#[no_mangle]
+pub extern "C" fn kev_node_number(table: &[u8], i: usize) -> KevNode
+    ensures { λ r. ⌜ r ≡ nodeShown (nodeNumberTold (lentNodeNumber i (now (table .entry)))) ⌝ }
+{
+    answers::node(inspect::node_number(table, i))
+}
+
+// Heartbeat, max and last_gc of a node: 14, 2.
+#[no_mangle]
+pub extern "C" fn kev_node_header(table: &[u8], number: u64) -> KevHeader
+    ensures { λ r. ⌜ r ≡ headerShown (nodeHeaderTold (lentNodeHeader number (now (table .entry)))) ⌝ }
+{
+    answers::header(inspect::node_header(table, number))
+}
+
+// How many records a node has, tombstones counted: 14, 2.
+#[no_mangle]
+pub extern "C" fn kev_record_count(table: &[u8], number: u64) -> KevCount
+    ensures { λ r. ⌜ r ≡ countShown (countTold (lentRecordCount number (now (table .entry)))) ⌝ }
+{
+    answers::count(inspect::record_count(table, number))
+}
+
+// The record in place `j` of a node: 14, 2, 8.
+#[no_mangle]
+pub extern "C" fn kev_record_at(table: &[u8], number: u64, j: usize) -> KevRecord
+    ensures { λ r. ⌜ r ≡ recordShown (recordReadTold (lentReadRecord number j (now (table .entry)))) ⌝ }
+{
+    answers::record(inspect::record_at(table, number, j))
+}
+
+// The record of a key, hidden or not: 14, 2, 1.
+#[no_mangle]
+pub extern "C" fn kev_record_by_key(table: &[u8], number: u64, key: &[u8]) -> KevRecord
+    ensures { λ r. ⌜ r ≡ recordShown (recordReadTold (lentRecordByKey number (now (key .entry)) (now (table .entry)))) ⌝ }
+{
+    answers::record(inspect::record_by_key(table, number, key))
+}
+
+// Where the key of the record in place `j` of a node stands in the table: 14, 2, 8.
+#[no_mangle]
+pub extern "C" fn kev_key_at(table: &[u8], number: u64, j: usize) -> KevFound
+    ensures { λ r. ⌜ r ≡ foundShown (foundTold (lentTextFound Key number j (now (table .entry)))) ⌝ }
+{
+    answers::found(inspect_text::find_text(table, number, j, Text::Key))
+}
+
+// The same of its value, hidden or not: 14, 2, 8.
+#[no_mangle]
+pub extern "C" fn kev_value_at(table: &[u8], number: u64, j: usize) -> KevFound
+    ensures { λ r. ⌜ r ≡ foundShown (foundTold (lentTextFound Value number j (now (table .entry)))) ⌝ }
+{
+    answers::found(inspect_text::find_text(table, number, j, Text::Value))
+}
+
+// ---- digests and deltas
+
+// The table's digest without the excluded nodes, into the datagram from the place on; the count is its bytes: 14, 20, 8.
+#[no_mangle]
+pub extern "C" fn kev_write_digest(
+    table: &[u8],
+    edition: u64,
+    excluded: &[u64],
+    datagram: &mut [u8],
+    place: usize,
+) -> KevCount
+    ensures { λ r. ⌜ Gives (shownAs writtenTold countShown (lentDigest edition (now (excluded .entry)) place (now (datagram .entry)) (now (table .entry))))
+        r (now (datagram .exit)) ⌝ }
+{
+    answers::bytes(digest_write::write_digest(table, edition, excluded, datagram, place))
+}
+
+// The delta for a digest, into the datagram from the place on: 14, 20, 7, 8, 15, 9, 13.
+#[no_mangle]
+pub extern "C" fn kev_compute(
+    table: &[u8],
+    edition: u64,
+    digest: &[u8],
+    mtu: usize,
+    excluded: &[u64],
+    ties: &[u64],
+    datagram: &mut [u8],
+    place: usize,
+) -> KevComputed
+    ensures { λ r. ⌜ Gives
+        (shownAs computedTold computedShown
+        (lentCompute edition (now (excluded .entry)) (now (ties .entry)) mtu place (now (digest .entry)) (now (datagram .entry)) (now (table .entry))))
+        r (now (datagram .exit)) ⌝ }
+{
+    answers::computed(compute::compute(
+        table,
+        edition,
+        digest,
+        mtu,
+        excluded,
+        ties,
+        datagram,
+        place,
+    ))
+}
+
+// A delta taken into the table, an answer for each node delta: 14, 13, 9, 1, 10, 11, 12, 8.
+#[no_mangle]
+pub extern "C" fn kev_apply(
+    table: &mut [u8],
+    delta: &[u8],
+    clock: u64,
+    answers: &mut [u8],
+) -> KevApplied
+    ensures { λ r. ⌜ Gives (shownAs appliedTold appliedShown (lentApply (now (delta .entry)) clock (now (answers .entry)) (now (table .entry))))
+        r (both (now (table .exit)) (now (answers .exit))) ⌝ }
+{
+    answers::applied(apply::apply(table, delta, clock, answers))
+}
+
+// How many nodes a digest tells of, and where the bytes behind it begin: 20, 9, 13.
+#[no_mangle]
+pub extern "C" fn kev_read_digest(edition: u64, digest: &[u8]) -> KevDigest
+    ensures { λ r. ⌜ r ≡ digestShown (digestTold (digestIn edition (now (digest .entry)))) ⌝ }
+{
+    answers::digest(digest_read::read_digest(edition, digest))
+}
+
+// What a digest tells of the node in place `i`, in the order of their numbers: 20, 9, 13, 8.
+#[no_mangle]
+pub extern "C" fn kev_digest_entry(edition: u64, digest: &[u8], i: usize) -> KevEntry
+    ensures { λ r. ⌜ r ≡ entryShown i (digestIn edition (now (digest .entry)) .read) (digestIn edition (now (digest .entry)) .entries) ⌝ }
+{
+    answers::entry(digest_read::read_digest(edition, digest), i)
+}
+
+// The verdict on a delta: 13, 9, 1, 10, 11, 12.
+#[no_mangle]
+pub extern "C" fn kev_read_delta(delta: &[u8]) -> KevDelta
+    ensures { λ r. ⌜ r ≡ deltaShown (readTold (deltaRead (now (delta .entry)))) ⌝ }
+{
+    answers::delta(delta_read::read_delta(delta))
+}
+
+// The listing of a delta, refused ones too, at the front of the buffer; the count is its bytes: 8.
+#[no_mangle]
+pub extern "C" fn kev_list_delta(delta: &[u8], out: &mut [u8]) -> KevCount
+    ensures { λ r. ⌜ Gives (shownAs writtenTold countShown (listDelta (now (delta .entry)) (now (out .entry)))) r (now (out .exit)) ⌝ }
+{
+    answers::bytes(listing::list_delta(delta, out))
+}
+
+// One exchange of two tables: the follower's digest, the publisher's delta for it, the delta applied: 14, 20, 8, 7, 15.
+#[no_mangle]
+pub extern "C" fn kev_exchange(
+    publisher: &[u8],
+    follower: &mut [u8],
+    edition: u64,
+    mtu: usize,
+    unasked: &[u64],
+    unsent: &[u64],
+    ties: &[u64],
+    clock: u64,
+    digest: &mut [u8],
+    delta: &mut [u8],
+    answers: &mut [u8],
+) -> KevExchanged
+    ensures { λ r. ⌜ Gives
+        (shownAs exchangedTold exchangedShown
+        (lentExchange
+        (lending edition (now (unasked .entry)) (now (unsent .entry)) (now (ties .entry)) mtu clock
+        (now (digest .entry)) (now (delta .entry)) (now (answers .entry)))
+        (now (publisher .entry)) (now (follower .entry))))
+        r (allFour (now (follower .exit)) (now (digest .exit)) (now (delta .exit)) (now (answers .exit))) ⌝ }
+{
+    answers::exchanged(exchange::exchange(
+        publisher,
+        follower,
+        edition,
+        mtu,
+        unasked,
+        unsent,
+        ties,
+        clock,
+        digest,
+        delta,
+        answers,
+    ))
+}

@@ -1,0 +1,413 @@
+/* Kevdarosh: tables of versioned keys for hubs, and their gossip by digest and delta. For C11 and C++.
+ *
+ * A table is KEV_TABLE bytes of the caller's; there is no heap, no state and no operating system behind these functions. Every call
+ * takes any bytes, ends, and either does what its page says or refuses by a number and changes nothing: docs/RULES.md has the rules,
+ * docs/FORMAT.md every byte. Each function is proved to meet a contract that says this.
+ *
+ * What is answered. The number is 0 where the call was accepted; else it is one of those named at the function, asked in that order.
+ * A number is never a count: where a call has more to tell, it returns a struct whose first field is the number. Values come back by
+ * value, and a value that an answer has not is 0.
+ *
+ * What the caller owes. A pointer with its length is that many bytes or numbers which may be read, and written where it is not const;
+ * with a length of 0 the pointer may be anything that is not null. Parts lent to one call do not overlap if one of them is written.
+ * Nobody else writes to them while the call runs. Calls on different memory may run at the same time.
+ *
+ * The functions kev_good_.. are the same calls without the check of 14, for a table that every call kept: it was made by kev_new_table,
+ * or kev_check accepted it, and nothing but these functions wrote to it since. On other bytes they promise nothing.
+ */
+#ifndef KEVDAROSH_H
+#define KEVDAROSH_H
+
+#include <stddef.h>
+#include <stdint.h>
+
+#ifdef __cplusplus
+extern "C" {
+#endif
+
+/* ---- sizes */
+
+#define KEV_TABLE 29964   /* bytes of a table */
+#define KEV_NODES 8       /* nodes of a table, at most */
+#define KEV_RECORDS 32    /* records of a node, at most, tombstones counted */
+#define KEV_KEY 32        /* bytes of a key, at most */
+#define KEV_VALUE 64      /* bytes of a value, at most */
+#define KEV_DIGEST 258    /* bytes of a digest, at most */
+#define KEV_MTU_LEAST 100 /* the smallest MTU */
+#define KEV_DELTA 16384   /* the largest MTU, and the longest delta */
+#define KEV_LISTING 81979 /* bytes of a listing, at most */
+#define KEV_MODE_AT 29705 /* the byte of a table that says its mode */
+
+/* ---- modes of a table */
+
+#define KEV_PLAIN 0   /* for deltas that arrive before the next digest is written */
+#define KEV_FENCED 1  /* late deltas cannot bring back what was deleted */
+#define KEV_GUARDED 2 /* the same, and in a net no hub is left behind */
+
+/* ---- editions of a digest */
+
+#define KEV_V0 0 /* a count, then the entries */
+#define KEV_V1 1 /* the entries alone */
+
+/* ---- statuses of a record */
+
+#define KEV_SET 0
+#define KEV_DELETE 1
+#define KEV_TTL 2
+
+/* ---- answers to a node delta */
+
+#define KEV_REJECT 0  /* from the future, or nothing new */
+#define KEV_APPLY 1   /* taken */
+#define KEV_RESET 2   /* the node began afresh, then taken */
+#define KEV_ROOM 3    /* over 32 keys: the node stays as it is */
+#define KEV_UNKNOWN 4 /* the table has no such node */
+#define KEV_LATE 5    /* older than the reset that a fenced or guarded node is in: it stays as it is */
+
+/* ---- numbers of refusals */
+
+#define KEV_TOO_LONG 1         /* a key over 32 bytes, a value over 64 */
+#define KEV_NO_NODE 2          /* no such node */
+#define KEV_NO_KEY 3           /* no such key to delete */
+#define KEV_NINTH_NODE 4       /* a ninth node */
+#define KEV_NODE_FULL 5        /* a 33rd key */
+#define KEV_EXHAUSTED 6        /* a version or heartbeat is 2^64-1 and must rise */
+#define KEV_BAD_MTU 7          /* an MTU below 100 or above 16,384 */
+#define KEV_NO_PLACE 8         /* a place past the end, or too little room behind it */
+#define KEV_CUT 9              /* the bytes end inside a field */
+#define KEV_BAD_TAG 10         /* a tag or status above 2, or a wanted status that is neither Set nor TTL */
+#define KEV_OUT_OF_ORDER 11    /* an operation before its Node, or versions that do not rise */
+#define KEV_NODE_TWICE 12      /* a node twice in a delta */
+#define KEV_TOO_MANY 13        /* over eight nodes, or a delta over 16,384 bytes */
+#define KEV_BAD_TABLE 14       /* the table breaks a rule */
+#define KEV_BAD_TIES 15        /* not one tie for each node */
+#define KEV_BAD_EDITION 20     /* no such edition of a digest */
+
+/* ---- answers */
+
+struct kev_count {
+    uint64_t number;
+    size_t count;
+};
+
+/* Found is 1 where the node is remembered. */
+struct kev_heartbeat {
+    uint64_t number;
+    size_t found;
+    uint64_t heartbeat;
+};
+
+struct kev_node {
+    uint64_t number;
+    uint64_t node;
+};
+
+/* A text in the caller's table: found is 1, and it is the len bytes from table + start on (see kev_text). */
+struct kev_found {
+    uint64_t number;
+    size_t found;
+    size_t start;
+    size_t len;
+};
+
+struct kev_header {
+    uint64_t number;
+    uint64_t heartbeat;
+    uint64_t max;
+    uint64_t last_gc;
+};
+
+struct kev_record {
+    uint64_t number;
+    size_t found;
+    size_t key_len;
+    size_t value_len;
+    uint64_t version;
+    size_t status;
+    uint64_t start; /* when it was scheduled; 0 under Set */
+};
+
+struct kev_digest {
+    uint64_t number;
+    size_t count;
+    size_t rest;
+    size_t need; /* with 9, how many bytes the field lacks in which the bytes end */
+};
+
+struct kev_entry {
+    uint64_t number;
+    uint64_t node;
+    uint64_t heartbeat;
+    uint64_t last_gc;
+    uint64_t max;
+};
+
+struct kev_computed {
+    uint64_t number;
+    size_t ops;
+    size_t bytes;
+    size_t need; /* with 9, how many bytes the digest's field lacks */
+};
+
+struct kev_delta {
+    uint64_t number;
+    size_t ops;
+    size_t nodes;
+    size_t at;   /* of a refused delta, the place of the faulty operation's tag */
+    size_t need; /* with 9, how many bytes its field lacks */
+};
+
+struct kev_applied {
+    uint64_t number;
+    size_t nodes;
+    size_t at;   /* of a refused delta, the place of the faulty operation's tag */
+    size_t need; /* with 9, how many bytes its field lacks */
+};
+
+struct kev_exchanged {
+    uint64_t number;
+    size_t ops;
+    size_t bytes;
+    size_t nodes;
+    size_t step; /* refused by: 1 the digest, 2 the delta, 3 applying */
+};
+
+/* The first byte of a text that was found in this table. */
+static inline const uint8_t *kev_text(const uint8_t *table, struct kev_found text) {
+    return table + text.start;
+}
+
+/* ---- the table and its nodes */
+
+/* Whether the bytes are a table that obeys the rules: 0, or 14.
+ * Numbers: 14. */
+uint64_t kev_check(const uint8_t *table, size_t table_len);
+
+/* The bytes become an empty table in this mode (KEV_PLAIN, KEV_FENCED, KEV_GUARDED), whatever stood there. 14 where table_len is not
+ * KEV_TABLE, or the number is that of no mode.
+ * Numbers: 14. */
+uint64_t kev_new_table(uint8_t *table, size_t table_len, size_t mode);
+
+/* Adds a fresh node. One that is held already stays as it is.
+ * Numbers: 14, 4. */
+uint64_t kev_add_node(uint8_t *table, size_t table_len, uint64_t node);
+
+/* Removes a node and its records. The table remembers it with its last heartbeat, the last sixteen that were removed.
+ * Numbers: 14, 2. */
+uint64_t kev_remove_node(uint8_t *table, size_t table_len, uint64_t node);
+
+/* The last heartbeat of a node that was removed. Found is 0 where the table does not remember it, as where it holds the node.
+ * Numbers: 14. */
+struct kev_heartbeat kev_last_heartbeat(const uint8_t *table, size_t table_len, uint64_t node);
+
+/* ---- local calls, by the owner of a node */
+
+/* The key's record takes this value and a new version, under the wanted status, KEV_SET or KEV_TTL. Where it has both already,
+ * nothing changes. A record under TTL is scheduled from the clock on; under Set the clock is not looked at.
+ * Numbers: 14, 10, 2, 1, 5, 6. */
+uint64_t kev_write(
+    uint8_t *table, size_t table_len, uint64_t node, const uint8_t *key, size_t key_len, const uint8_t *value,
+    size_t value_len, uint64_t wanted, uint64_t clock);
+
+/* The key's record is emptied and hidden, and scheduled from the clock on: a tombstone.
+ * Numbers: 14, 2, 1, 3, 6. */
+uint64_t kev_delete(
+    uint8_t *table, size_t table_len, uint64_t node, const uint8_t *key, size_t key_len, uint64_t clock);
+
+/* The key's record keeps its value and is scheduled from the clock on.
+ * Numbers: 14, 2, 1, 3, 6. */
+uint64_t kev_delete_after_ttl(
+    uint8_t *table, size_t table_len, uint64_t node, const uint8_t *key, size_t key_len, uint64_t clock);
+
+/* Of every node, the scheduled records whose grace is over go.
+ * Numbers: 14. */
+uint64_t kev_remove_scheduled(uint8_t *table, size_t table_len, uint64_t clock, uint64_t grace);
+
+/* A heartbeat that was heard of. The count is 1 where it was news, else 0.
+ * Numbers: 14, 2. */
+struct kev_count kev_offer_heartbeat(uint8_t *table, size_t table_len, uint64_t node, uint64_t heartbeat);
+
+/* The node's own heartbeat rises by one.
+ * Numbers: 14, 2, 6. */
+uint64_t kev_local_beat(uint8_t *table, size_t table_len, uint64_t node);
+
+/* ---- readings */
+
+/* The value of a key. Found is 0 where there is no such key, or its record is hidden.
+ * Numbers: 14, 2, 1. */
+struct kev_found kev_find(const uint8_t *table, size_t table_len, uint64_t node, const uint8_t *key, size_t key_len);
+
+/* The records that are not hidden and whose keys begin with the prefix: their places in the node, a byte each, in key order at
+ * the front of out. The count is how many. KEV_RECORDS places are always enough.
+ * Numbers: 14, 2, 1, 8. */
+struct kev_count kev_list_prefix(
+    const uint8_t *table, size_t table_len, uint64_t node, const uint8_t *prefix, size_t prefix_len, uint8_t *out,
+    size_t out_len);
+
+/* How many nodes the table holds.
+ * Numbers: 14. */
+struct kev_count kev_node_count(const uint8_t *table, size_t table_len);
+
+/* The number of the node in place i; they ascend.
+ * Numbers: 14, 8. */
+struct kev_node kev_node_number(const uint8_t *table, size_t table_len, size_t i);
+
+/* Heartbeat, max and last_gc of a node.
+ * Numbers: 14, 2. */
+struct kev_header kev_node_header(const uint8_t *table, size_t table_len, uint64_t node);
+
+/* How many records a node has, tombstones counted.
+ * Numbers: 14, 2. */
+struct kev_count kev_record_count(const uint8_t *table, size_t table_len, uint64_t node);
+
+/* The record in place j of a node, hidden or not; their keys ascend.
+ * Numbers: 14, 2, 8. */
+struct kev_record kev_record_at(const uint8_t *table, size_t table_len, uint64_t node, size_t j);
+
+/* The record of a key, hidden or not. Found is 0 where there is none.
+ * Numbers: 14, 2, 1. */
+struct kev_record kev_record_by_key(
+    const uint8_t *table, size_t table_len, uint64_t node, const uint8_t *key, size_t key_len);
+
+/* The key of the record in place j of a node.
+ * Numbers: 14, 2, 8. */
+struct kev_found kev_key_at(const uint8_t *table, size_t table_len, uint64_t node, size_t j);
+
+/* The value of the record in place j of a node, hidden or not.
+ * Numbers: 14, 2, 8. */
+struct kev_found kev_value_at(const uint8_t *table, size_t table_len, uint64_t node, size_t j);
+
+/* ---- digests and deltas */
+
+/* The table's digest in this edition (KEV_V0, KEV_V1) without the excluded nodes, into the datagram from the place on. The count is its bytes, KEV_DIGEST at most.
+ * Numbers: 14, 20, 8. */
+struct kev_count kev_write_digest(
+    const uint8_t *table, size_t table_len, uint64_t edition, const uint64_t *excluded, size_t excluded_len,
+    uint8_t *datagram, size_t datagram_len, size_t place);
+
+/* How many nodes the digest at the front of the bytes tells of, and where the bytes behind it begin. A digest of KEV_V1 is all the bytes.
+ * Numbers: 20, 9, 13. */
+struct kev_digest kev_read_digest(uint64_t edition, const uint8_t *digest, size_t digest_len);
+
+/* What a digest tells of the node in place i, in the order of their numbers.
+ * Numbers: 20, 9, 13, 8. */
+struct kev_entry kev_digest_entry(uint64_t edition, const uint8_t *digest, size_t digest_len, size_t i);
+
+/* The delta for a peer's digest of this edition, of at most mtu bytes, without the excluded nodes, into the datagram from the place on, where mtu
+ * bytes must be free. Ties are one number for each node of the table: of two nodes with as much to tell the smaller goes first.
+ * Numbers: 14, 20, 7, 8, 15, 9, 13. */
+struct kev_computed kev_compute(
+    const uint8_t *table, size_t table_len, uint64_t edition, const uint8_t *digest, size_t digest_len, size_t mtu,
+    const uint64_t *excluded, size_t excluded_len, const uint64_t *ties, size_t ties_len, uint8_t *datagram,
+    size_t datagram_len, size_t place);
+
+/* The verdict on a delta: its operations and node deltas.
+ * Numbers: 13, 9, 1, 10, 11, 12. */
+struct kev_delta kev_read_delta(const uint8_t *delta, size_t delta_len);
+
+/* Takes a peer's delta into the table, at the receiver's clock. For each node delta an answer (KEV_REJECT and on), a byte each, at
+ * the front of answers; nodes is how many. KEV_NODES places are always enough.
+ * Numbers: 14, 13, 9, 1, 10, 11, 12, 8. */
+struct kev_applied kev_apply(
+    uint8_t *table, size_t table_len, const uint8_t *delta, size_t delta_len, uint64_t clock, uint8_t *answers,
+    size_t answers_len);
+
+/* The listing of a delta in words, a line for each operation, or the one line of a refused delta. The count is its bytes.
+ * KEV_LISTING bytes are always enough.
+ * Numbers: 8. */
+struct kev_count kev_list_delta(const uint8_t *delta, size_t delta_len, uint8_t *out, size_t out_len);
+
+/* One exchange of two tables in one memory: the follower's digest without the unasked nodes, the publisher's delta for it without
+ * the unsent ones, the delta applied. Refused, it wrote nothing.
+ * Numbers: 14, 20, 8, 7, 15. */
+struct kev_exchanged kev_exchange(
+    const uint8_t *publisher, size_t publisher_len, uint8_t *follower, size_t follower_len, uint64_t edition,
+    size_t mtu, const uint64_t *unasked, size_t unasked_len, const uint64_t *unsent, size_t unsent_len,
+    const uint64_t *ties, size_t ties_len, uint64_t clock, uint8_t *digest, size_t digest_len, uint8_t *delta,
+    size_t delta_len, uint8_t *answers, size_t answers_len);
+
+/* ---- the same calls on a table that every call kept: no check, and so no 14 */
+
+/* Numbers: 4. */
+uint64_t kev_good_add_node(uint8_t *table, size_t table_len, uint64_t node);
+
+/* Numbers: 2. */
+uint64_t kev_good_remove_node(uint8_t *table, size_t table_len, uint64_t node);
+
+/* Numbers: 10, 2, 1, 5, 6. */
+uint64_t kev_good_write(
+    uint8_t *table, size_t table_len, uint64_t node, const uint8_t *key, size_t key_len, const uint8_t *value,
+    size_t value_len, uint64_t wanted, uint64_t clock);
+
+/* Numbers: 2, 1, 3, 6. */
+uint64_t kev_good_delete(
+    uint8_t *table, size_t table_len, uint64_t node, const uint8_t *key, size_t key_len, uint64_t clock);
+
+/* Numbers: 2, 1, 3, 6. */
+uint64_t kev_good_delete_after_ttl(
+    uint8_t *table, size_t table_len, uint64_t node, const uint8_t *key, size_t key_len, uint64_t clock);
+
+/* Numbers: none. */
+uint64_t kev_good_remove_scheduled(uint8_t *table, size_t table_len, uint64_t clock, uint64_t grace);
+
+/* Numbers: 2. */
+struct kev_count kev_good_offer_heartbeat(uint8_t *table, size_t table_len, uint64_t node, uint64_t heartbeat);
+
+/* Numbers: 2, 6. */
+uint64_t kev_good_local_beat(uint8_t *table, size_t table_len, uint64_t node);
+
+/* Numbers: 2, 1. */
+struct kev_found kev_good_find(
+    const uint8_t *table, size_t table_len, uint64_t node, const uint8_t *key, size_t key_len);
+
+/* Numbers: 2, 1, 8. */
+struct kev_count kev_good_list_prefix(
+    const uint8_t *table, size_t table_len, uint64_t node, const uint8_t *prefix, size_t prefix_len, uint8_t *out,
+    size_t out_len);
+
+/* Numbers: none. */
+struct kev_count kev_good_node_count(const uint8_t *table, size_t table_len);
+
+/* Numbers: 8. */
+struct kev_node kev_good_node_number(const uint8_t *table, size_t table_len, size_t i);
+
+/* Numbers: 2. */
+struct kev_header kev_good_node_header(const uint8_t *table, size_t table_len, uint64_t node);
+
+/* Numbers: 2. */
+struct kev_count kev_good_record_count(const uint8_t *table, size_t table_len, uint64_t node);
+
+/* Numbers: 2, 8. */
+struct kev_record kev_good_record_at(const uint8_t *table, size_t table_len, uint64_t node, size_t j);
+
+/* Numbers: 2, 1. */
+struct kev_record kev_good_record_by_key(
+    const uint8_t *table, size_t table_len, uint64_t node, const uint8_t *key, size_t key_len);
+
+/* Numbers: 2, 8. */
+struct kev_found kev_good_key_at(const uint8_t *table, size_t table_len, uint64_t node, size_t j);
+
+/* Numbers: 2, 8. */
+struct kev_found kev_good_value_at(const uint8_t *table, size_t table_len, uint64_t node, size_t j);
+
+/* Numbers: 20, 8. */
+struct kev_count kev_good_write_digest(
+    const uint8_t *table, size_t table_len, uint64_t edition, const uint64_t *excluded, size_t excluded_len,
+    uint8_t *datagram, size_t datagram_len, size_t place);
+
+/* Numbers: 20, 7, 8, 15, 9, 13. */
+struct kev_computed kev_good_compute(
+    const uint8_t *table, size_t table_len, uint64_t edition, const uint8_t *digest, size_t digest_len, size_t mtu,
+    const uint64_t *excluded, size_t excluded_len, const uint64_t *ties, size_t ties_len, uint8_t *datagram,
+    size_t datagram_len, size_t place);
+
+/* Numbers: 13, 9, 1, 10, 11, 12, 8. */
+struct kev_applied kev_good_apply(
+    uint8_t *table, size_t table_len, const uint8_t *delta, size_t delta_len, uint64_t clock, uint8_t *answers,
+    size_t answers_len);
+
+#ifdef __cplusplus
+}
+#endif
+
+#endif

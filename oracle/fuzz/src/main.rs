@@ -1,0 +1,164 @@
+//! Random scripts through the library that a hub links, natively and in one process, beside `plain`, the second implementation of document 01.
+//!
+//!     fuzz N SEED     at least N calls of the library; tools/fuzz builds it and runs it
+//!
+//! The scripts are those of `compare beyond` and `compare peers`: random and damaged tables, digests, deltas and lists. Of each call it is asked that
+//! - its answer and the table afterwards equal those of `plain`,
+//! - where it is refused, no lent byte has changed,
+//! - where it is accepted, the check accepts the table that it leaves, and what was not to be written is as it was,
+//! - on a good table, the same call without the check tells and leaves the same,
+//! - now and then, the readings by place give the very table again.
+
+#[allow(dead_code)]
+#[path = "../../compare/src/damage.rs"]
+mod damage;
+#[allow(dead_code)]
+#[path = "../../../rust/kevdarosh/src/ffi.rs"]
+mod ffi;
+#[allow(dead_code)]
+#[path = "../../compare/src/maker.rs"]
+mod maker;
+#[allow(dead_code)]
+#[path = "../../compare/src/pieces.rs"]
+mod pieces;
+mod port;
+#[allow(dead_code)]
+#[path = "../../compare/src/random.rs"]
+mod random;
+#[allow(dead_code)]
+#[path = "../../compare/src/scripts.rs"]
+mod scripts;
+
+use std::collections::BTreeMap;
+use std::process::ExitCode;
+
+use kevdarosh as _;
+use plain::side::Lent;
+use script::{Answer, Bytes, Call, HUBS, Side};
+
+use port::Port;
+
+/// Bytes of a table, for `ffi`.
+pub const TABLE: usize = script::table::TABLE_BYTES;
+
+/// Readings by place are asked once in so many calls of a script.
+const READ_EVERY: u64 = 16;
+
+/// How many calls were made on all tables.
+fn all(port: &[Port; HUBS]) -> u64 {
+    port.iter().map(|port| port.calls).sum()
+}
+
+fn write_out(bytes: &mut Bytes, digest: &[u8], delta: &[u8]) {
+    match bytes {
+        Bytes::Given(_) => {}
+        Bytes::LastDigest => *bytes = Bytes::Given(digest.to_vec()),
+        Bytes::LastDelta => *bytes = Bytes::Given(delta.to_vec()),
+    }
+}
+
+#[derive(Default)]
+struct Run {
+    lines: u64,
+    scripts: u64,
+    answers: BTreeMap<String, u64>,
+}
+
+impl Run {
+    /// One script: the words of a difference, and the line that shows it.
+    fn script(&mut self, lines: &[String], port: &mut [Port; HUBS]) -> Result<(), String> {
+        let mut plain = [(); HUBS].map(|()| Lent::new(0));
+        let (mut current, mut digest, mut delta) = (0, Vec::new(), Vec::new());
+        let calls = all(port);
+        *port = [(); HUBS].map(|()| Port::new(0));
+        port[0].calls += calls;
+        for line in lines {
+            let mut call = Call::parse(line).ok_or_else(|| format!("not a call: {line}"))?;
+            match &mut call {
+                Call::ReadDigest { bytes, .. } | Call::ReadDelta { bytes } | Call::Apply { bytes, .. } | Call::Table { bytes } | Call::Compute { digest: bytes, .. } => {
+                    write_out(bytes, &digest, &delta)
+                }
+                _ => {}
+            }
+            self.lines += 1;
+            match &call {
+                Call::Hub(hub) => current = *hub,
+                Call::New { mode } => {
+                    let refused = port[current].remake(*mode)?;
+                    if !refused {
+                        plain[current] = Lent::new(*mode as u8);
+                    }
+                }
+                Call::Table { bytes: Bytes::Given(bytes) } => {
+                    plain[current].take_table(bytes);
+                    port[current].table = bytes.clone();
+                }
+                Call::Dump => {}
+                call => {
+                    let (want, got) = (plain[current].answer(call), port[current].answer(call)?);
+                    if want != got {
+                        return Err(format!("{line}\n  plain:   {want}\n  library: {got}"));
+                    }
+                    match &got {
+                        Answer::DigestWritten { datagram, start, end } => digest = datagram[*start..*end].to_vec(),
+                        Answer::DeltaWritten { bytes, .. } => delta = bytes.clone(),
+                        _ => {}
+                    }
+                    *self.answers.entry(kind(&got)).or_default() += 1;
+                }
+            }
+            if plain[current].table_bytes() != port[current].table {
+                return Err(format!("{line}\n  the tables differ"));
+            }
+            if self.lines % READ_EVERY == 0 {
+                port[current].read_all().map_err(|what| format!("{line}\n  {what}"))?;
+            }
+        }
+        self.scripts += 1;
+        Ok(())
+    }
+}
+
+fn kind(answer: &Answer) -> String {
+    match answer {
+        Answer::Refused(number) | Answer::RefusedAt(number, _) => format!("refused{number:02}"),
+        Answer::Cut { .. } => "refused09".into(),
+        Answer::Applied(_) => "applied".into(),
+        Answer::DeltaWritten { .. } => "delta-written".into(),
+        Answer::DeltaRead { .. } => "delta-read".into(),
+        Answer::DigestWritten { .. } => "digest-written".into(),
+        other => other.to_string().split(' ').next().unwrap_or_default().into(),
+    }
+}
+
+fn main() -> ExitCode {
+    let words: Vec<u64> = std::env::args().skip(1).filter_map(|word| word.parse().ok()).collect();
+    let [most, seed] = words[..] else {
+        eprintln!("usage: fuzz N SEED");
+        return ExitCode::from(2);
+    };
+    let mut run = Run::default();
+    let mut port = [(); HUBS].map(|()| Port::new(0));
+    let mut told = 0;
+    for index in 0.. {
+        let calls = all(&port);
+        if calls >= most {
+            break;
+        }
+        if calls * 20 / most > told {
+            told = calls * 20 / most;
+            println!("seed={seed} calls={calls} of {most}, scripts={}", run.scripts);
+        }
+        let script = if index % 16 == 15 { scripts::peers(seed, index / 16) } else { scripts::beyond(seed, index) };
+        if let Err(what) = run.script(&script, &mut port) {
+            println!("seed={seed}, script {index}: {what}");
+            for line in &script {
+                println!("  {line}");
+            }
+            return ExitCode::FAILURE;
+        }
+    }
+    let answers: Vec<String> = run.answers.iter().map(|(kind, count)| format!("{kind}={count}")).collect();
+    println!("seed={seed} calls={} scripts={} lines={} answers [{}] differences=0", all(&port), run.scripts, run.lines, answers.join(" "));
+    ExitCode::SUCCESS
+}

@@ -1,0 +1,252 @@
+//! The library's side: each call by its C function, what was lent to it looked at afterwards, and the same call without the check.
+
+use script::table::{AREA_BYTES, Node, REMOVED_BYTES, Record, encode_with};
+use script::{Answer, Bytes, Call, DigestEntry, Verdict};
+
+use crate::ffi::{self, Kept};
+
+/// What stands in lent memory before a call.
+const MARK: u8 = 0xEE;
+/// More places than a call can want.
+const PLACES: u64 = 64;
+
+pub struct Port {
+    pub table: Vec<u8>,
+    /// How many calls of the library were made.
+    pub calls: u64,
+}
+
+fn given(bytes: &Bytes) -> &[u8] {
+    match bytes {
+        Bytes::Given(bytes) => bytes,
+        _ => unreachable!("bytes are written out"),
+    }
+}
+
+fn plain_answer(number: u64) -> Answer {
+    if number == 0 { Answer::Done } else { Answer::Refused(number as u8) }
+}
+
+fn verdict(code: u8) -> Verdict {
+    match code {
+        0 => Verdict::Reject,
+        1 => Verdict::Apply,
+        2 => Verdict::ApplyAfterReset,
+        3 => Verdict::Room,
+        4 => Verdict::Unknown,
+        _ => Verdict::Fenced,
+    }
+}
+
+fn marked(bytes: &[u8]) -> bool {
+    bytes.iter().all(|&byte| byte == MARK)
+}
+
+/// A call that tells an answer and may write to a lent list: what it told, and the list.
+struct Told {
+    number: u64,
+    answer: Answer,
+    list: Vec<u8>,
+}
+
+/// The call on a table in one form or the other.
+fn ask<S: ffi::BytesMut>(table: &mut S, call: &Call) -> Told {
+    let mut list = Vec::new();
+    let (number, answer) = match call {
+        Call::Add { node } => plain(ffi::add_node(table, *node)),
+        Call::Remove { node } => plain(ffi::remove_node(table, *node)),
+        Call::Removed { node } => {
+            let told = ffi::last_heartbeat(table.bytes(), *node);
+            or(told.number, if told.found == 0 { Answer::None } else { Answer::Heartbeat(told.heartbeat) })
+        }
+        Call::Write { node, key, value, status, now } => plain(ffi::write(table, *node, key, value, *status, *now)),
+        Call::Delete { node, key, now } => plain(ffi::delete(table, *node, key, *now)),
+        Call::DeleteTtl { node, key, now } => plain(ffi::delete_after_ttl(table, *node, key, *now)),
+        Call::Beat { node } => plain(ffi::local_beat(table, *node)),
+        Call::Gc { now, grace } => plain(ffi::remove_scheduled(table, *now, *grace)),
+        Call::Offer { node, heartbeat } => {
+            let told = ffi::offer_heartbeat(table, *node, *heartbeat);
+            or(told.number, if told.count == 0 { Answer::No } else { Answer::Yes })
+        }
+        Call::Get { node, key } => {
+            let told = ffi::find(table, *node, key);
+            let value = || table.bytes()[told.start..told.start + told.len].to_vec();
+            or(told.number, if told.found == 0 { Answer::None } else { Answer::Value(value()) })
+        }
+        Call::List { node, prefix, places } => {
+            list = vec![MARK; (*places).min(PLACES) as usize];
+            let told = ffi::list_prefix(table, *node, prefix, &mut list);
+            assert!(marked(&list[told.count..]), "a place behind the hits was written");
+            or(told.number, Answer::Ranks(list[..told.count].iter().map(|&place| place.into()).collect()))
+        }
+        Call::Digest { excluded, place, len, edition } => {
+            list = vec![MARK; *len];
+            let told = ffi::write_digest(table, *edition, excluded, &mut list, *place as usize);
+            let start = (*place).min(*len as u64) as usize;
+            or(told.number, Answer::DigestWritten { datagram: list.clone(), start, end: start + told.count })
+        }
+        Call::Compute { digest, mtu, excluded, ties, place, len, edition } => {
+            list = vec![MARK; *len];
+            let told = ffi::compute(table, *edition, given(digest), *mtu as usize, excluded, ties, &mut list, *place as usize);
+            let start = (*place).min(*len as u64) as usize;
+            assert!(marked(&list[..start]) && marked(&list[start + told.bytes..]), "a byte outside the delta was written");
+            assert_eq!(told.number == 9, told.need > 0, "need");
+            or_cut(told.number, told.need, Answer::DeltaWritten { ops: told.ops, bytes: list[start..start + told.bytes].to_vec() })
+        }
+        Call::Apply { bytes, now, places } => {
+            list = vec![MARK; (*places).min(PLACES) as usize];
+            let told = ffi::apply(table, given(bytes), *now, &mut list);
+            assert!(marked(&list[told.nodes..]), "a place behind the answers was written");
+            match told.number {
+                0 => (0, Answer::Applied(list[..told.nodes].iter().copied().map(verdict).collect())),
+                9 => (9, Answer::Cut { at: Some(told.at), need: told.need }),
+                number @ (8 | 14) => (number, Answer::Refused(number as u8)),
+                number => (number, Answer::RefusedAt(number as u8, told.at)),
+            }
+        }
+        _ => unreachable!("answered without a table"),
+    };
+    Told { number, answer, list }
+}
+
+fn plain(number: u64) -> (u64, Answer) {
+    (number, plain_answer(number))
+}
+
+fn or_cut(number: u64, need: usize, answer: Answer) -> (u64, Answer) {
+    if number == 9 { (9, Answer::Cut { at: None, need }) } else { or(number, answer) }
+}
+
+fn or(number: u64, answer: Answer) -> (u64, Answer) {
+    (number, if number == 0 { answer } else { plain_answer(number) })
+}
+
+impl Port {
+    pub fn new(mode: usize) -> Port {
+        let mut port = Port { table: vec![MARK; crate::TABLE], calls: 1 };
+        assert_eq!(ffi::new_table(&mut port.table, mode), 0);
+        port
+    }
+
+    /// A table made in a mode: whether it was refused.
+    pub fn remake(&mut self, mode: u64) -> Result<bool, String> {
+        // A table that was given may have another length; making wants a table's.
+        let mut table = vec![MARK; crate::TABLE];
+        self.calls += 1;
+        match ffi::new_table(&mut table, mode as usize) {
+            0 => {
+                self.table = table;
+                Ok(false)
+            }
+            14 if marked(&table) => Ok(true),
+            number => Err(format!("make {mode}: {number}")),
+        }
+    }
+
+    pub fn answer(&mut self, call: &Call) -> Result<Answer, String> {
+        match call {
+            Call::ReadDigest { bytes, edition } => return Ok(self.read_digest(given(bytes), *edition)),
+            Call::ReadDelta { bytes } => return Ok(self.read_delta(given(bytes))),
+            _ => {}
+        }
+        let before = self.table.clone();
+        let told = ask(&mut &mut self.table[..], call);
+        self.calls += 2;
+        let good = ffi::check(&before) == 0;
+        if told.number != 0 && (self.table != before || !marked(&told.list)) {
+            return Err(format!("{call:?}: refused with {}, and something has changed", told.number));
+        }
+        if told.number == 14 && good || told.number != 14 && !good {
+            return Err(format!("{call:?}: answered {} to a table that is{} good", told.number, if good { "" } else { " not" }));
+        }
+        if good {
+            self.calls += 2;
+            if ffi::check(&self.table) != 0 {
+                return Err(format!("{call:?}: it leaves a table that the check refuses"));
+            }
+            let mut kept = Kept::checked(&before).map_err(|number| format!("{number} of a good table"))?;
+            let other = ask(&mut kept, call);
+            if other.answer != told.answer || other.list != told.list || ffi::Bytes::bytes(&kept) != &self.table[..] {
+                return Err(format!("{call:?}: without the check it gives {}, and {} with it", other.answer, told.answer));
+            }
+        }
+        Ok(told.answer)
+    }
+
+    fn read_digest(&mut self, bytes: &[u8], edition: u64) -> Answer {
+        let told = ffi::read_digest(edition, bytes);
+        self.calls += 2 + told.count as u64;
+        let entries = (0..told.count).map(|i| ffi::digest_entry(edition, bytes, i)).map(|entry| {
+            assert_eq!(entry.number, 0);
+            DigestEntry { node: entry.node, heartbeat: entry.heartbeat, last_gc: entry.last_gc, max: entry.max }
+        });
+        let entries = entries.collect();
+        let past = ffi::digest_entry(edition, bytes, told.count).number;
+        if told.number != 0 {
+            assert_eq!((told.number, told.count, told.rest), (past, 0, 0));
+            return or_cut(told.number, told.need, Answer::Done).1;
+        }
+        assert_eq!(past, 8);
+        Answer::Digest { entries, rest: bytes.len() - told.rest }
+    }
+
+    fn read_delta(&mut self, bytes: &[u8]) -> Answer {
+        self.calls += 2;
+        let told = ffi::read_delta(bytes);
+        let mut out = vec![MARK; 81_979];
+        let listed = ffi::list_delta(bytes, &mut out);
+        assert_eq!(listed.number, 0);
+        let text = &out[..listed.count];
+        let last = text[..text.len() - 1].rsplit(|&byte| byte == b'\n').next().map(String::from_utf8_lossy).unwrap_or_default();
+        if told.number != 0 {
+            assert_eq!((told.ops, told.nodes), (0, 0));
+            assert!(last.starts_with(&format!("end=refused code={} at={}", told.number, told.at)), "{last}");
+            if told.number == 9 {
+                assert!(last.ends_with(&format!(" need={}", told.need)), "{last}");
+                return Answer::Cut { at: Some(told.at), need: told.need };
+            }
+            return Answer::RefusedAt(told.number as u8, told.at);
+        }
+        assert_eq!(last, format!("end=ok ops={} bytes={}", told.ops, bytes.len()));
+        Answer::DeltaRead { ops: told.ops, nodes: told.nodes, bytes: bytes.len() }
+    }
+
+    /// The table put together again from its readings by place.
+    pub fn read_all(&mut self) -> Result<(), String> {
+        let table = &self.table[..];
+        let count = ffi::node_count(&table);
+        self.calls += 2;
+        if count.number != 0 {
+            let same = count.number == 14 && ffi::node_number(&table, 0).number == 14 && ffi::check(table) == 14;
+            return if same { Ok(()) } else { Err("readings of a table that is not good".into()) };
+        }
+        let mut nodes = Vec::new();
+        for i in 0..count.count {
+            let number = ffi::node_number(&table, i).node;
+            let header = ffi::node_header(&table, number);
+            let records = ffi::record_count(&table, number).count;
+            self.calls += 3 + 4 * records as u64;
+            let text = |found: ffi::Found| table[found.start..found.start + found.len].to_vec();
+            let records: Vec<Record> = (0..records)
+                .map(|j| {
+                    let (record, key) = (ffi::record_at(&table, number, j), text(ffi::key_at(&table, number, j)));
+                    let by_key = ffi::record_by_key(&table, number, &key);
+                    assert_eq!((by_key.found, by_key.version, by_key.start), (1, record.version, record.start));
+                    let value = text(ffi::value_at(&table, number, j));
+                    Record { key, value, version: record.version, status: record.status as u8, start: record.start }
+                })
+                .collect();
+            nodes.push(Node { number, heartbeat: header.heartbeat, max: header.max, last_gc: header.last_gc, records });
+        }
+        let tail = &table[AREA_BYTES..];
+        let number = |bytes: &[u8]| u64::from_le_bytes(bytes.try_into().expect("eight bytes"));
+        let removed: Vec<(u64, u64)> = tail[3..]
+            .chunks(REMOVED_BYTES)
+            .take(tail[2].into())
+            .map(|place| number(&place[..8]))
+            .map(|node| (node, ffi::last_heartbeat(table, node).heartbeat))
+            .collect();
+        self.calls += removed.len() as u64;
+        if encode_with(&nodes, tail[0], &removed) == table { Ok(()) } else { Err("the readings are not those of the table".into()) }
+    }
+}

@@ -1,0 +1,96 @@
+//! Tables of versioned keys for hubs, and their gossip by digest and delta.
+//!
+//! This is a thin and safe layer over `libkevdarosh.a`, in which every function is proved to meet its contract. There is no heap, no thread, no state and no
+//! operating system behind it. A call either does what it says or is refused by a [`Refusal`] and changes nothing.
+//!
+//! ```
+//! use kevdarosh::{DIGEST, Edition, Mode, OwnedTable};
+//!
+//! # fn main() -> Result<(), Box<dyn std::error::Error>> {
+//! // A publisher owns node 7 and sets a reading; a follower knows the node and no more.
+//! let mut publisher = OwnedTable::new(Mode::Guarded);
+//! publisher.add_node(7)?;
+//! publisher.set(7, b"total", b"004127.3 kWh")?;
+//! let mut follower = OwnedTable::new(Mode::Guarded);
+//! follower.add_node(7)?;
+//!
+//! // "What have you got?", "this is news to you", and the follower takes it.
+//! let (mut digest, mut delta) = ([0; DIGEST], [0; 1_400]);
+//! let n = follower.compute_digest(Edition::V0, &[], &mut digest)?;
+//! let sent = publisher.compute_partial_delta_respecting_mtu(Edition::V0, &digest[..n], 1_400, &[], &[0], &mut delta)?;
+//! let answers = follower.apply_delta(&delta[..sent.bytes], 1_000)?;
+//!
+//! assert!(answers.changed());
+//! assert_eq!(follower.get(7, b"total")?, Some(&b"004127.3 kWh"[..]));
+//! # Ok(())
+//! # }
+//! ```
+//!
+//! A lookup borrows from the table, nodes and records are iterators:
+//!
+//! ```
+//! # use kevdarosh::{Mode, OwnedTable, Status};
+//! # fn main() -> Result<(), kevdarosh::Refusal> {
+//! let mut table = OwnedTable::new(Mode::Plain);
+//! table.add_node(12)?;
+//! table.set(12, b"flow.day", b"11")?;
+//! table.set(12, b"flow.night", b"3")?;
+//! table.set(12, b"total", b"88")?;
+//! table.delete(12, b"flow.night", 500)?;
+//!
+//! let node = table.node_state(12)?;
+//! assert_eq!(node.max_version(), 4);
+//! assert_eq!(node.iter_prefix(b"flow.")?.map(|record| record.key).collect::<Vec<_>>(), [b"flow.day"]);
+//! assert_eq!(node.get_versioned(b"flow.night")?.map(|record| record.status), Some(Status::Deleted));
+//! # Ok(())
+//! # }
+//! ```
+//!
+//! Bytes that are lent are checked in each call:
+//!
+//! ```
+//! # use kevdarosh::{LentTable, Mode, Refusal, TABLE};
+//! let mut bytes = vec![0; TABLE];
+//! let mut table = LentTable::new_in(&mut bytes, Mode::Plain).unwrap();
+//! table.add_node(7).unwrap();
+//! bytes[0] = 9; // a table of nine nodes
+//! let refused = LentTable::over(&mut bytes).add_node(8).unwrap_err();
+//! assert_eq!((refused, refused.number()), (Refusal::BadTable, 14));
+//! ```
+//!
+//! docs/MOVING.md of the repository takes an engineer from each call of chitchat's `NodeState` and `ClusterState` to its own here.
+
+#![no_std]
+#![deny(unsafe_code)]
+#![warn(missing_docs)]
+
+mod ffi;
+mod refusal;
+mod table;
+mod wire;
+
+pub use refusal::{ExchangeRefused, Fault, Refusal, Step};
+pub use table::{Answer, Answers, Computed, Header, LentTable, Mode, NodeState, OwnedTable, Record, Status, Table, TableView};
+pub use wire::{Datagrams, DeltaRead, Digest, Edition, Exchanged, NodeDigest, exchange, list_delta, read_delta};
+
+/// Bytes of a table.
+pub const TABLE: usize = 29_964;
+/// Nodes of a table, at most.
+pub const NODES: usize = 8;
+/// Records of a node, at most, tombstones counted.
+pub const RECORDS: usize = 32;
+/// Bytes of a key, at most.
+pub const KEY: usize = 32;
+/// Bytes of a value, at most.
+pub const VALUE: usize = 64;
+/// Bytes of a digest, at most.
+pub const DIGEST: usize = 258;
+/// The smallest MTU.
+pub const MTU_LEAST: usize = 100;
+/// The largest MTU, and the longest delta.
+pub const DELTA: usize = 16_384;
+/// Bytes of a delta's listing, at most.
+pub const LISTING: usize = 81_979;
+
+/// The byte of a table that says its mode.
+const MODE_AT: usize = 29_705;

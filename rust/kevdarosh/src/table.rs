@@ -1,0 +1,411 @@
+//! Tables, their nodes and records.
+
+use crate::ffi::{self, Bytes, BytesMut, Kept};
+use crate::refusal::{Fault, Refusal, accepted, refusal};
+use crate::wire::Edition;
+use crate::{NODES, RECORDS, TABLE};
+
+/// How a table takes deltas that come late. It is chosen when the table is made, and stays in its bytes.
+#[derive(Clone, Copy, Debug, PartialEq, Eq)]
+#[non_exhaustive]
+pub enum Mode {
+    /// As chitchat does: for deltas that arrive before the next digest is written.
+    Plain,
+    /// A late delta cannot bring back what was deleted: for links that deliver late, twice or out of order.
+    Fenced,
+    /// The same, and in a net of hubs a hub that hears others than the owner is not left behind.
+    Guarded,
+}
+
+impl Mode {
+    const fn number(self) -> usize {
+        match self {
+            Mode::Plain => 0,
+            Mode::Fenced => 1,
+            Mode::Guarded => 2,
+        }
+    }
+}
+
+/// How a record stands to deletion.
+#[derive(Clone, Copy, Debug, PartialEq, Eq)]
+pub enum Status {
+    /// It stays.
+    Set,
+    /// A tombstone: hidden, without a value, and removed after the grace.
+    Deleted,
+    /// It can be read, and is removed after the grace.
+    DeleteAfterTtl,
+}
+
+impl Status {
+    fn of(byte: usize) -> Status {
+        match byte {
+            0 => Status::Set,
+            1 => Status::Deleted,
+            _ => Status::DeleteAfterTtl,
+        }
+    }
+}
+
+/// What a node has beside its records.
+#[derive(Clone, Copy, Debug, PartialEq, Eq)]
+pub struct Header {
+    /// How often its owner has beaten.
+    pub heartbeat: u64,
+    /// The highest version that it has heard of.
+    pub max_version: u64,
+    /// The highest version that was removed.
+    pub last_gc_version: u64,
+}
+
+/// A record, its texts being those very bytes of the table.
+#[derive(Clone, Copy, Debug, PartialEq, Eq)]
+pub struct Record<'a> {
+    /// Its key.
+    pub key: &'a [u8],
+    /// Its value, empty in a tombstone.
+    pub value: &'a [u8],
+    /// Its version in the node.
+    pub version: u64,
+    /// How it stands to deletion.
+    pub status: Status,
+    /// Since when it is scheduled for removal, 0 where it is not.
+    pub start: u64,
+}
+
+impl Record<'_> {
+    /// Whether a lookup finds it.
+    pub fn is_hidden(&self) -> bool {
+        self.status == Status::Deleted
+    }
+}
+
+/// What was answered to a delta's part for one node.
+#[derive(Clone, Copy, Debug, PartialEq, Eq)]
+#[non_exhaustive]
+pub enum Answer {
+    /// From the future, or nothing new.
+    Reject,
+    /// Taken.
+    Apply,
+    /// The node began afresh, then the part was taken.
+    ApplyAfterReset,
+    /// Over 32 keys: the node stays as it is.
+    Room,
+    /// The table has no such node.
+    Unknown,
+    /// Older than the reset that the fenced or guarded node is in: it stays as it is.
+    Fenced,
+}
+
+/// The answers to a delta, one for each node in it, in its order.
+#[derive(Clone, Copy, Debug, PartialEq, Eq)]
+pub struct Answers {
+    codes: [u8; NODES],
+    count: usize,
+}
+
+impl Answers {
+    /// Each answer.
+    pub fn iter(&self) -> impl Iterator<Item = Answer> + '_ {
+        self.codes[..self.count].iter().map(|code| match code {
+            0 => Answer::Reject,
+            1 => Answer::Apply,
+            2 => Answer::ApplyAfterReset,
+            3 => Answer::Room,
+            4 => Answer::Unknown,
+            _ => Answer::Fenced,
+        })
+    }
+
+    /// Whether anything was taken.
+    pub fn changed(&self) -> bool {
+        self.iter().any(|answer| matches!(answer, Answer::Apply | Answer::ApplyAfterReset))
+    }
+}
+
+/// A delta that was computed: its operations, and its bytes at the front of the datagram.
+#[derive(Clone, Copy, Debug, PartialEq, Eq)]
+pub struct Computed {
+    /// How many operations.
+    pub ops: usize,
+    /// How many bytes.
+    pub bytes: usize,
+}
+
+/// A table: eight nodes of 32 records.
+///
+/// [`OwnedTable`] keeps its bytes private, so its calls go without the check of the whole table; [`LentTable`] and [`TableView`] are over bytes of yours, good
+/// or not, and check them in each call.
+#[derive(Clone)]
+pub struct Table<S> {
+    store: S,
+}
+
+/// A table that keeps its own bytes. It is 29,964 bytes large: put it where there is room, as in a `static` or a `Box`.
+pub type OwnedTable = Table<Kept>;
+
+/// A table over bytes that are lent to it. Each call checks them, and answers [`Refusal::BadTable`] where they are no table.
+pub type LentTable<'a> = Table<&'a mut [u8]>;
+
+/// A table over bytes that are lent for reading.
+pub type TableView<'a> = Table<&'a [u8]>;
+
+impl OwnedTable {
+    /// An empty table.
+    pub fn new(mode: Mode) -> OwnedTable {
+        match Kept::new(mode.number()) {
+            Ok(store) => Table { store },
+            // A mode of ours has a number that the library knows.
+            Err(_) => unreachable!("the library knows every mode"),
+        }
+    }
+
+    /// The table of these bytes, as they were stored: [`Refusal::BadTable`] where they are no table that obeys the rules.
+    pub fn from_bytes(bytes: &[u8]) -> Result<OwnedTable, Refusal> {
+        Kept::checked(bytes).map(|store| Table { store }).map_err(refusal)
+    }
+}
+
+impl<'a> LentTable<'a> {
+    /// A table over these bytes, as they are.
+    pub fn over(bytes: &'a mut [u8]) -> LentTable<'a> {
+        Table { store: bytes }
+    }
+
+    /// Makes these [`TABLE`] bytes an empty table.
+    pub fn new_in(bytes: &'a mut [u8], mode: Mode) -> Result<LentTable<'a>, Refusal> {
+        accepted(ffi::new_table(bytes, mode.number()))?;
+        Ok(Table { store: bytes })
+    }
+}
+
+impl<'a> TableView<'a> {
+    /// A view of these bytes, as they are.
+    pub fn over(bytes: &'a [u8]) -> TableView<'a> {
+        Table { store: bytes }
+    }
+}
+
+/// Calls that read.
+impl<S: Bytes> Table<S> {
+    /// The bytes, to be stored or sent: a table on disk is its bytes.
+    pub fn as_bytes(&self) -> &[u8] {
+        self.store.bytes()
+    }
+
+    /// How the table takes late deltas.
+    pub fn mode(&self) -> Result<Mode, Refusal> {
+        accepted(if S::GOOD { 0 } else { ffi::check(self.store.bytes()) })?;
+        Ok(match self.store.bytes()[crate::MODE_AT] {
+            0 => Mode::Plain,
+            1 => Mode::Fenced,
+            _ => Mode::Guarded,
+        })
+    }
+
+    /// The numbers of the nodes, ascending.
+    pub fn nodes(&self) -> Result<impl Iterator<Item = u64> + '_, Refusal> {
+        let answer = ffi::node_count(&self.store);
+        accepted(answer.number)?;
+        Ok((0..answer.count).map(|i| ffi::node_number(&self.store, i).node))
+    }
+
+    /// A node, to read it: [`Refusal::NoNode`].
+    pub fn node_state(&self, node: u64) -> Result<NodeState<'_, S>, Refusal> {
+        let answer = ffi::node_header(&self.store, node);
+        accepted(answer.number)?;
+        let header = Header { heartbeat: answer.heartbeat, max_version: answer.max, last_gc_version: answer.last_gc };
+        Ok(NodeState { table: self, node, header })
+    }
+
+    /// The value of a key, as those very bytes of the table; none where there is no such key, or its record is deleted.
+    pub fn get(&self, node: u64, key: &[u8]) -> Result<Option<&[u8]>, Refusal> {
+        let answer = ffi::find(&self.store, node, key);
+        accepted(answer.number)?;
+        Ok((answer.found != 0).then(|| self.text(answer)))
+    }
+
+    /// The last heartbeat of a node that was removed; none where the table does not remember it. It remembers the last sixteen.
+    pub fn last_heartbeat_if_deleted(&self, node: u64) -> Result<Option<u64>, Refusal> {
+        let answer = ffi::last_heartbeat(self.store.bytes(), node);
+        accepted(answer.number)?;
+        Ok((answer.found != 0).then_some(answer.heartbeat))
+    }
+
+    /// The table's digest without the excluded nodes, in this edition, at the front of the datagram: how many bytes. [`crate::DIGEST`] bytes are always enough.
+    pub fn compute_digest(&self, edition: Edition, excluded: &[u64], datagram: &mut [u8]) -> Result<usize, Refusal> {
+        let answer = ffi::write_digest(&self.store, edition.number(), excluded, datagram, 0);
+        accepted(answer.number)?;
+        Ok(answer.count)
+    }
+
+    /// The delta for a peer's digest of this edition, of at most `mtu` bytes, without the excluded nodes, at the front of the datagram. Of two nodes with as much to tell the
+    /// one with the smaller tie goes first: one number for each node of the table, random ones for a fair share.
+    pub fn compute_partial_delta_respecting_mtu(
+        &self,
+        edition: Edition,
+        digest: &[u8],
+        mtu: usize,
+        excluded: &[u64],
+        ties: &[u64],
+        datagram: &mut [u8],
+    ) -> Result<Computed, Fault> {
+        let answer = ffi::compute(&self.store, edition.number(), digest, mtu, excluded, ties, datagram, 0);
+        Fault::unless(answer.number, 0, answer.need)?;
+        Ok(Computed { ops: answer.ops, bytes: answer.bytes })
+    }
+
+    fn text(&self, found: ffi::Found) -> &[u8] {
+        &self.store.bytes()[found.start..found.start + found.len]
+    }
+
+    /// The record in place `j` of a node that has so many.
+    fn record(&self, node: u64, j: usize) -> Record<'_> {
+        let record = ffi::record_at(&self.store, node, j);
+        Record {
+            key: self.text(ffi::key_at(&self.store, node, j)),
+            value: self.text(ffi::value_at(&self.store, node, j)),
+            version: record.version,
+            status: Status::of(record.status),
+            start: record.start,
+        }
+    }
+}
+
+/// Calls that change the table. A refused one changes nothing.
+impl<S: BytesMut> Table<S> {
+    /// Adds a fresh node, and forgets that it was removed; one that is held already stays as it is: [`Refusal::NinthNode`].
+    pub fn add_node(&mut self, node: u64) -> Result<(), Refusal> {
+        accepted(ffi::add_node(&mut self.store, node))
+    }
+
+    /// Removes a node and its records, and remembers it with its last heartbeat: [`Refusal::NoNode`].
+    pub fn remove_node(&mut self, node: u64) -> Result<(), Refusal> {
+        accepted(ffi::remove_node(&mut self.store, node))
+    }
+
+    /// The key's record takes this value. Where it has it already, nothing changes, and no version is given.
+    pub fn set(&mut self, node: u64, key: &[u8], value: &[u8]) -> Result<(), Refusal> {
+        accepted(ffi::write(&mut self.store, node, key, value, 0, 0))
+    }
+
+    /// The same, and the record is scheduled for removal from this time on.
+    pub fn set_with_ttl(&mut self, node: u64, key: &[u8], value: &[u8], clock: u64) -> Result<(), Refusal> {
+        accepted(ffi::write(&mut self.store, node, key, value, 2, clock))
+    }
+
+    /// The key's record becomes a tombstone, which is removed after the grace: [`Refusal::NoKey`].
+    pub fn delete(&mut self, node: u64, key: &[u8], clock: u64) -> Result<(), Refusal> {
+        accepted(ffi::delete(&mut self.store, node, key, clock))
+    }
+
+    /// The key's record keeps its value and is removed after the grace: [`Refusal::NoKey`].
+    pub fn delete_after_ttl(&mut self, node: u64, key: &[u8], clock: u64) -> Result<(), Refusal> {
+        accepted(ffi::delete_after_ttl(&mut self.store, node, key, clock))
+    }
+
+    /// Removes what was scheduled a grace ago, of all nodes.
+    pub fn gc_keys_marked_for_deletion(&mut self, clock: u64, grace: u64) -> Result<(), Refusal> {
+        accepted(ffi::remove_scheduled(&mut self.store, clock, grace))
+    }
+
+    /// The node's own heartbeat rises by one.
+    pub fn inc_heartbeat(&mut self, node: u64) -> Result<(), Refusal> {
+        accepted(ffi::local_beat(&mut self.store, node))
+    }
+
+    /// A heartbeat that was heard of: whether it was news. The first one of a node is not.
+    pub fn try_set_heartbeat(&mut self, node: u64, heartbeat: u64) -> Result<bool, Refusal> {
+        let answer = ffi::offer_heartbeat(&mut self.store, node, heartbeat);
+        accepted(answer.number)?;
+        Ok(answer.count != 0)
+    }
+
+    /// Takes a peer's delta, at the receiver's clock.
+    pub fn apply_delta(&mut self, delta: &[u8], clock: u64) -> Result<Answers, Fault> {
+        let mut codes = [0; NODES];
+        let answer = ffi::apply(&mut self.store, delta, clock, &mut codes);
+        Fault::unless(answer.number, answer.at, answer.need)?;
+        Ok(Answers { codes, count: answer.nodes })
+    }
+}
+
+/// A node of a table, to read it.
+pub struct NodeState<'a, S> {
+    table: &'a Table<S>,
+    node: u64,
+    header: Header,
+}
+
+impl<'a, S: Bytes> NodeState<'a, S> {
+    /// Its number.
+    pub fn number(&self) -> u64 {
+        self.node
+    }
+
+    /// Heartbeat, max and last_gc.
+    pub fn header(&self) -> Header {
+        self.header
+    }
+
+    /// How often its owner has beaten.
+    pub fn heartbeat(&self) -> u64 {
+        self.header.heartbeat
+    }
+
+    /// The highest version that it has heard of.
+    pub fn max_version(&self) -> u64 {
+        self.header.max_version
+    }
+
+    /// The highest version that was removed.
+    pub fn last_gc_version(&self) -> u64 {
+        self.header.last_gc_version
+    }
+
+    /// The value of a key; none where there is no such key, or its record is deleted: [`Refusal::TooLong`].
+    pub fn get(&self, key: &[u8]) -> Result<Option<&'a [u8]>, Refusal> {
+        self.table.get(self.node, key)
+    }
+
+    /// Whether [`NodeState::get`] finds the key.
+    pub fn contains_key(&self, key: &[u8]) -> Result<bool, Refusal> {
+        self.get(key).map(|value| value.is_some())
+    }
+
+    /// The record of a key, deleted or not.
+    pub fn get_versioned(&self, key: &[u8]) -> Result<Option<Record<'a>>, Refusal> {
+        let answer = ffi::record_by_key(&self.table.store, self.node, key);
+        accepted(answer.number)?;
+        Ok(if answer.found == 0 { None } else { self.key_values_including_deleted().find(|record| record.key == key) })
+    }
+
+    /// All records, deleted ones too, in key order.
+    pub fn key_values_including_deleted(&self) -> impl Iterator<Item = Record<'a>> + use<'a, S> {
+        let (table, node) = (self.table, self.node);
+        (0..ffi::record_count(&table.store, node).count).map(move |j| table.record(node, j))
+    }
+
+    /// The keys and values that are not deleted, in key order.
+    pub fn key_values(&self) -> impl Iterator<Item = (&'a [u8], &'a [u8])> + use<'a, S> {
+        self.key_values_including_deleted().filter(|record| !record.is_hidden()).map(|record| (record.key, record.value))
+    }
+
+    /// How many keys are not deleted.
+    pub fn num_key_values(&self) -> usize {
+        self.key_values().count()
+    }
+
+    /// The records that are not deleted and whose keys begin with the prefix, in key order: [`Refusal::TooLong`].
+    pub fn iter_prefix(&self, prefix: &[u8]) -> Result<impl Iterator<Item = Record<'a>> + use<'a, S>, Refusal> {
+        let mut places = [0; RECORDS];
+        let answer = ffi::list_prefix(&self.table.store, self.node, prefix, &mut places);
+        accepted(answer.number)?;
+        let (table, node) = (self.table, self.node);
+        Ok(places.into_iter().take(answer.count).map(move |j| table.record(node, j.into())))
+    }
+}
+
+const _: () = assert!(size_of::<OwnedTable>() == TABLE);

@@ -1,0 +1,146 @@
+//! Digests and deltas as bytes.
+
+use crate::ffi;
+use crate::refusal::{ExchangeRefused, Fault, Refusal, Step, accepted};
+
+/// The editions of a digest, chitchat's `ProtocolVersion`.
+#[derive(Clone, Copy, Debug, PartialEq, Eq, Default)]
+pub enum Edition {
+    /// A count, then the entries.
+    #[default]
+    V0,
+    /// The entries alone, to the end of the bytes.
+    V1,
+}
+
+impl Edition {
+    pub(crate) const fn number(self) -> u64 {
+        match self {
+            Edition::V0 => 0,
+            Edition::V1 => 1,
+        }
+    }
+}
+
+/// What a digest tells of a node.
+#[derive(Clone, Copy, Debug, PartialEq, Eq)]
+pub struct NodeDigest {
+    /// The node's number.
+    pub node: u64,
+    /// Its heartbeat.
+    pub heartbeat: u64,
+    /// Its last_gc.
+    pub last_gc_version: u64,
+    /// Its max.
+    pub max_version: u64,
+}
+
+/// A digest that was read from the front of a peer's bytes.
+#[derive(Clone, Copy, Debug)]
+pub struct Digest<'a> {
+    edition: Edition,
+    bytes: &'a [u8],
+    count: usize,
+    rest: usize,
+}
+
+impl<'a> Digest<'a> {
+    /// Reads the digest at the front of the bytes: [`Refusal::Cut`], [`Refusal::TooMany`].
+    pub fn read(edition: Edition, bytes: &'a [u8]) -> Result<Digest<'a>, Fault> {
+        let answer = ffi::read_digest(edition.number(), bytes);
+        Fault::unless(answer.number, 0, answer.need)?;
+        Ok(Digest { edition, bytes, count: answer.count, rest: answer.rest })
+    }
+
+    /// How many nodes it tells of.
+    pub fn len(&self) -> usize {
+        self.count
+    }
+
+    /// Whether it tells of none.
+    pub fn is_empty(&self) -> bool {
+        self.count == 0
+    }
+
+    /// What it tells, in the order of the nodes' numbers.
+    pub fn nodes(&self) -> impl Iterator<Item = NodeDigest> + use<'a> {
+        let (edition, bytes) = (self.edition.number(), self.bytes);
+        (0..self.count).map(move |i| {
+            let entry = ffi::digest_entry(edition, bytes, i);
+            NodeDigest { node: entry.node, heartbeat: entry.heartbeat, last_gc_version: entry.last_gc, max_version: entry.max }
+        })
+    }
+
+    /// The bytes behind it.
+    pub fn rest(&self) -> &'a [u8] {
+        &self.bytes[self.rest..]
+    }
+}
+
+/// What a delta holds.
+#[derive(Clone, Copy, Debug, PartialEq, Eq)]
+pub struct DeltaRead {
+    /// How many operations.
+    pub ops: usize,
+    /// How many nodes.
+    pub nodes: usize,
+}
+
+/// The verdict on a delta, as applying it would give.
+pub fn read_delta(delta: &[u8]) -> Result<DeltaRead, Fault> {
+    let answer = ffi::read_delta(delta);
+    Fault::unless(answer.number, answer.at, answer.need)?;
+    Ok(DeltaRead { ops: answer.ops, nodes: answer.nodes })
+}
+
+/// The listing of a delta in words at the front of the buffer, or the one line of a refused delta: how many bytes. [`crate::LISTING`] bytes are always enough.
+pub fn list_delta(delta: &[u8], out: &mut [u8]) -> Result<usize, Refusal> {
+    let answer = ffi::list_delta(delta, out);
+    accepted(answer.number)?;
+    Ok(answer.count)
+}
+
+/// What an exchange came to.
+#[derive(Clone, Copy, Debug, PartialEq, Eq)]
+pub struct Exchanged {
+    /// The delta's operations.
+    pub ops: usize,
+    /// Its bytes.
+    pub bytes: usize,
+    /// How many nodes were answered.
+    pub nodes: usize,
+}
+
+/// The two datagrams and the answers of an [`exchange`].
+pub struct Datagrams<'a> {
+    /// For the digest: [`crate::DIGEST`] bytes are enough.
+    pub digest: &'a mut [u8],
+    /// For the delta: as many bytes as the MTU.
+    pub delta: &'a mut [u8],
+    /// A place for each node of the publisher.
+    pub answers: &'a mut [u8],
+}
+
+/// One exchange between two tables in one memory, given by their bytes: the follower's digest in this edition without the unasked nodes, the publisher's delta for it without
+/// the unsent ones, the delta applied. Refused, it wrote nothing.
+pub fn exchange(
+    publisher: &[u8],
+    follower: &mut [u8],
+    edition: Edition,
+    mtu: usize,
+    [unasked, unsent, ties]: [&[u64]; 3],
+    clock: u64,
+    datagrams: Datagrams<'_>,
+) -> Result<Exchanged, ExchangeRefused> {
+    let Datagrams { digest, delta, answers } = datagrams;
+    let answer = ffi::exchange(publisher, follower, edition.number(), mtu, unasked, unsent, ties, clock, digest, delta, answers);
+    accepted(answer.number).map_err(|refusal| ExchangeRefused {
+        step: match answer.step {
+            1 => Step::Digest,
+            2 => Step::Delta,
+            _ => Step::Applying,
+        },
+        refusal,
+    })?;
+    Ok(Exchanged { ops: answer.ops, bytes: answer.bytes, nodes: answer.nodes })
+}

@@ -1,0 +1,182 @@
+//! Every call of the crate, on an owned and on a lent table; the refusals by number.
+
+use kevdarosh::{Answer, DIGEST, Datagrams, Digest, Edition, Fault, LISTING, LentTable, Mode, OwnedTable, Refusal, Status, Step, TABLE, TableView, exchange, list_delta, read_delta};
+
+/// The same story for both kinds of table.
+macro_rules! story {
+    ($table:expr) => {{
+        let mut table = $table;
+        assert_eq!(table.mode(), Ok(Mode::Fenced));
+        assert_eq!(table.node_state(7).err(), Some(Refusal::NoNode));
+        for node in [7, 3, 12] {
+            table.add_node(node).unwrap();
+        }
+        assert_eq!(table.nodes().unwrap().collect::<Vec<_>>(), [3, 7, 12]);
+        table.set(7, b"total", b"1").unwrap();
+        table.set(7, b"total", b"1").unwrap();
+        table.set_with_ttl(7, b"tariff", b"night", 10).unwrap();
+        table.set(7, b"", b"").unwrap();
+        table.delete(7, b"total", 20).unwrap();
+        table.delete_after_ttl(7, b"", 20).unwrap();
+        assert_eq!(table.delete(7, b"absent", 20), Err(Refusal::NoKey));
+        assert_eq!(table.set(7, &[b'k'; 33], b""), Err(Refusal::TooLong));
+        assert_eq!(table.set(7, b"k", &[b'v'; 65]), Err(Refusal::TooLong));
+        assert_eq!(table.set(8, b"k", b"v"), Err(Refusal::NoNode));
+        assert_eq!(table.try_set_heartbeat(7, 5), Ok(false));
+        assert_eq!(table.try_set_heartbeat(7, 6), Ok(true));
+        table.inc_heartbeat(7).unwrap();
+        table.try_set_heartbeat(3, u64::MAX).unwrap();
+        assert_eq!(table.inc_heartbeat(3), Err(Refusal::Exhausted));
+        {
+            let node = table.node_state(7).unwrap();
+            assert_eq!((node.number(), node.heartbeat(), node.max_version(), node.last_gc_version()), (7, 7, 5, 0));
+            assert_eq!(node.get(b"total"), Ok(None));
+            assert_eq!(node.get(b"tariff"), Ok(Some(&b"night"[..])));
+            assert_eq!(node.get(b""), Ok(Some(&b""[..])));
+            assert_eq!((node.contains_key(b"total"), node.contains_key(b"tariff")), (Ok(false), Ok(true)));
+            assert_eq!(node.get(&[0; 33]), Err(Refusal::TooLong));
+            let total = node.get_versioned(b"total").unwrap().unwrap();
+            assert_eq!((total.status, total.version, total.start, total.value, total.is_hidden()), (Status::Deleted, 4, 20, &b""[..], true));
+            assert_eq!(node.get_versioned(b"absent"), Ok(None));
+            assert_eq!(node.key_values_including_deleted().map(|record| record.key).collect::<Vec<_>>(), [&b""[..], b"tariff", b"total"]);
+            assert_eq!(node.key_values().collect::<Vec<_>>(), [(&b""[..], &b""[..]), (b"tariff", b"night")]);
+            assert_eq!(node.num_key_values(), 2);
+            assert_eq!(node.iter_prefix(b"t").unwrap().map(|record| record.status).collect::<Vec<_>>(), [Status::DeleteAfterTtl]);
+            assert_eq!(node.iter_prefix(&[0; 33]).err(), Some(Refusal::TooLong));
+        }
+        table.gc_keys_marked_for_deletion(59, 40).unwrap();
+        assert_eq!(table.node_state(7).unwrap().last_gc_version(), 2);
+        assert_eq!(table.last_heartbeat_if_deleted(12), Ok(None));
+        table.remove_node(12).unwrap();
+        assert_eq!((table.last_heartbeat_if_deleted(12), table.last_heartbeat_if_deleted(7)), (Ok(Some(0)), Ok(None)));
+        assert_eq!(table.remove_node(12), Err(Refusal::NoNode));
+        for node in 20..26 {
+            table.add_node(node).unwrap();
+        }
+        assert_eq!(table.add_node(26), Err(Refusal::NinthNode));
+        for key in 0..31u8 {
+            let _ = table.set(20, &[key], b"");
+        }
+        table.set(20, &[31], b"").unwrap();
+        assert_eq!(table.set(20, &[32], b""), Err(Refusal::NodeFull));
+
+        // a digest and a delta, and what is at fault in them
+        let (mut digest, mut delta) = ([0; DIGEST], [0; 1_400]);
+        let bytes = table.compute_digest(Edition::V0, &[], &mut digest).unwrap();
+        assert_eq!(table.compute_digest(Edition::V0, &[], &mut digest[..bytes - 1]), Err(Refusal::NoPlace));
+        let read = Digest::read(Edition::V0, &digest).unwrap();
+        assert_eq!((read.len(), read.is_empty(), read.rest().len()), (8, false, DIGEST - bytes));
+        assert_eq!(read.nodes().map(|node| (node.node, node.max_version)).take(3).collect::<Vec<_>>(), [(3, 0), (7, 5), (20, 32)]);
+        let fault = |refusal, at, need| Fault { refusal, at, need };
+        assert_eq!(Digest::read(Edition::V0, &[1]).err(), Some(fault(Refusal::Cut, 0, 1)));
+        assert_eq!(Digest::read(Edition::V0, &[9, 0]).err(), Some(fault(Refusal::TooMany, 0, 0)));
+        assert_eq!(Digest::read(Edition::V1, &[0; 33]).err(), Some(fault(Refusal::Cut, 0, 7)));
+        assert_eq!(Digest::read(Edition::V1, &[0; 9 * 32]).err(), Some(fault(Refusal::TooMany, 0, 0)));
+        assert_eq!(Digest::read(Edition::V1, &digest[2..bytes]).unwrap().nodes().collect::<Vec<_>>(), read.nodes().collect::<Vec<_>>());
+        let mut second = [0; DIGEST];
+        assert_eq!(table.compute_digest(Edition::V1, &[], &mut second), Ok(bytes - 2));
+        assert_eq!(second[..bytes - 2], digest[2..bytes]);
+        let ties = [0; 8];
+        let mut compute = |digest: &[u8], mtu: usize, ties: &[u64]| table.compute_partial_delta_respecting_mtu(Edition::V0, digest, mtu, &[3], ties, &mut delta);
+        assert_eq!(compute(&[0, 0], 99, &ties), Err(fault(Refusal::BadMtu, 0, 0)));
+        assert_eq!(compute(&[0, 0], 1_401, &ties), Err(fault(Refusal::NoPlace, 0, 0)));
+        assert_eq!(compute(&[0, 0], 1_400, &ties[1..]), Err(fault(Refusal::BadTies, 0, 0)));
+        assert_eq!(compute(&[0], 1_400, &ties), Err(fault(Refusal::Cut, 0, 1)));
+        let sent = compute(&[0, 0], 1_400, &ties).unwrap();
+        assert_eq!(read_delta(&delta[..sent.bytes]).unwrap().ops, sent.ops);
+        let mut text = vec![0; LISTING];
+        let listed = list_delta(&delta[..sent.bytes], &mut text).unwrap();
+        assert!(text[..listed].starts_with(b"op=node id="));
+        assert_eq!(list_delta(&delta[..sent.bytes], &mut [0; 3]), Err(Refusal::NoPlace));
+        for (bytes, refusal, at) in [(&[3][..], Refusal::BadTag, 0), (&[0; 50], Refusal::NodeTwice, 25), (&[2; 9], Refusal::OutOfOrder, 0), (&[0; 16_385], Refusal::TooMany, 0)] {
+            let fault = fault(refusal, at, 0);
+            assert_eq!((read_delta(bytes).err(), table.apply_delta(bytes, 0).err()), (Some(fault), Some(fault)));
+        }
+        let answers = table.apply_delta(&delta[..sent.bytes], 0).unwrap();
+        assert!(!answers.changed() && answers.iter().all(|answer| answer == Answer::Reject));
+        table.as_bytes().to_vec()
+    }};
+}
+
+#[test]
+fn an_owned_and_a_lent_table_do_the_same() {
+    let owned = story!(OwnedTable::new(Mode::Fenced));
+    let mut bytes = vec![1; TABLE];
+    assert_eq!(LentTable::new_in(&mut bytes[1..], Mode::Plain).err(), Some(Refusal::BadTable));
+    let lent = story!(LentTable::new_in(&mut bytes, Mode::Fenced).unwrap());
+    assert!(owned == lent, "the tables differ");
+    assert!(OwnedTable::from_bytes(&lent).unwrap().as_bytes() == lent);
+    assert_eq!(TableView::over(&lent).get(7, b"tariff"), Ok(None));
+}
+
+#[test]
+fn bytes_that_are_no_table_are_refused() {
+    let mut bytes = OwnedTable::new(Mode::Plain).as_bytes().to_vec();
+    assert_eq!(OwnedTable::from_bytes(&bytes[1..]).err(), Some(Refusal::BadTable));
+    bytes[TABLE - 1] = 1;
+    assert_eq!(OwnedTable::from_bytes(&bytes).err(), Some(Refusal::BadTable));
+    assert_eq!(TableView::over(&bytes).nodes().err(), Some(Refusal::BadTable));
+    assert_eq!(TableView::over(&bytes).mode(), Err(Refusal::BadTable));
+}
+
+#[test]
+fn an_exchange_in_one_call() {
+    let mut publisher = OwnedTable::new(Mode::Plain);
+    publisher.add_node(7).unwrap();
+    publisher.set(7, b"total", b"1").unwrap();
+    let mut follower = vec![0; TABLE];
+    LentTable::new_in(&mut follower, Mode::Plain).unwrap().add_node(7).unwrap();
+    let (mut digest, mut delta, mut answers) = ([0; DIGEST], [0; 1_400], [9; 8]);
+    let mut run = |mtu: usize, ties: &[u64]| {
+        let datagrams = Datagrams { digest: &mut digest, delta: &mut delta, answers: &mut answers };
+        exchange(publisher.as_bytes(), &mut follower, Edition::V1, mtu, [&[], &[], ties], 5, datagrams)
+    };
+    let refused = run(1_400, &[]).unwrap_err();
+    assert_eq!((refused.step, refused.refusal), (Step::Delta, Refusal::BadTies));
+    assert_eq!(refused.to_string(), "the delta: not one tie for each node of the table");
+    assert_eq!(run(1_400, &[0]).map(|done| (done.ops, done.nodes)), Ok((2, 1)));
+    assert_eq!(answers[0], 1);
+    assert_eq!(TableView::over(&follower).get(7, b"total"), Ok(Some(&b"1"[..])));
+}
+
+#[test]
+fn modes_stay_in_the_bytes() {
+    for mode in [Mode::Plain, Mode::Fenced, Mode::Guarded] {
+        let table = OwnedTable::new(mode);
+        assert_eq!(table.mode(), Ok(mode));
+        assert_eq!(OwnedTable::from_bytes(table.as_bytes()).unwrap().mode(), Ok(mode));
+        assert_eq!(TableView::over(table.as_bytes()).mode(), Ok(mode));
+    }
+}
+
+#[test]
+fn a_late_delta_is_fenced() {
+    let (mut digest, mut late, mut delta) = ([0; DIGEST], [0; 200], [0; 200]);
+    let mut publisher = OwnedTable::new(Mode::Plain);
+    let mut follower = OwnedTable::new(Mode::Fenced);
+    publisher.add_node(7).unwrap();
+    follower.add_node(7).unwrap();
+    publisher.set(7, b"a", b"1").unwrap();
+    publisher.set(7, b"b", b"1").unwrap();
+    let n = follower.compute_digest(Edition::V0, &[], &mut digest).unwrap();
+    let held = publisher.compute_partial_delta_respecting_mtu(Edition::V0, &digest[..n], 200, &[], &[0], &mut late).unwrap();
+    publisher.delete(7, b"b", 0).unwrap();
+    publisher.gc_keys_marked_for_deletion(10, 5).unwrap();
+    publisher.set(7, b"c", &[b'x'; 60]).unwrap();
+    let sent = publisher.compute_partial_delta_respecting_mtu(Edition::V0, &digest[..n], 100, &[], &[0], &mut delta).unwrap();
+    assert_eq!(follower.apply_delta(&delta[..sent.bytes], 10).unwrap().iter().collect::<Vec<_>>(), [Answer::ApplyAfterReset]);
+    assert_eq!(follower.apply_delta(&late[..held.bytes], 10).unwrap().iter().collect::<Vec<_>>(), [Answer::Fenced]);
+    assert_eq!(follower.get(7, b"b"), Ok(None));
+}
+
+#[test]
+fn numbers_and_words() {
+    assert_eq!(Refusal::ALL.iter().map(|refusal| refusal.number()).collect::<Vec<_>>(), (1..=15).chain([20]).collect::<Vec<_>>());
+    for refusal in Refusal::ALL {
+        assert_eq!(Refusal::of_number(refusal.number()), Some(*refusal));
+        assert!(!refusal.to_string().is_empty());
+    }
+    assert_eq!(Refusal::of_number(0), None);
+    let error: &dyn std::error::Error = &Fault { refusal: Refusal::Cut, at: 3, need: 2 };
+    assert_eq!(error.to_string(), "the bytes end inside a field, at byte 3, 2 bytes are lacking");
+}

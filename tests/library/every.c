@@ -1,0 +1,350 @@
+/* Every function of include/kevdarosh.h, and every number. Lent memory is on the heap, exactly as long as it is said to be, so that valgrind and the
+ * sanitizers see what goes beyond it; what a refused call could have changed is compared with a copy. Prints how many checks held. */
+#include "kevdarosh.h"
+
+#include <stdbool.h>
+#include <stdio.h>
+#include <stdlib.h>
+#include <string.h>
+
+static unsigned long held = 0, failed = 0;
+static bool seen[21];
+
+static void check_at(bool ok, const char *what, int line) {
+    if (ok) { held++; return; }
+    failed++;
+    fprintf(stderr, "every.c:%d: %s\n", line, what);
+}
+#define CHECK(condition) check_at((condition), #condition, __LINE__)
+
+static uint64_t given(uint64_t number) {
+    if (number < 21) seen[number] = true;
+    return number;
+}
+#define GIVES(number, call) CHECK(given(call) == (number))
+
+/* Memory of its own, exactly so long. */
+struct lent { uint8_t *at; size_t len; uint8_t *was; };
+static struct lent lend(size_t len) {
+    struct lent l = {malloc(len ? len : 1), len, malloc(len ? len : 1)};
+    if (!l.at || !l.was) abort();
+    memset(l.at, 0xEE, len);
+    memset(l.was, 0xEE, len);
+    return l;
+}
+static void mark(struct lent l) { memcpy(l.was, l.at, l.len); }
+static bool same(struct lent l) { return memcmp(l.was, l.at, l.len) == 0; }
+static void give_back(struct lent l) { free(l.at); free(l.was); }
+
+#define T(l) (l).at, (l).len
+static const uint64_t none[1] = {0};
+static const uint8_t nothing[1] = {0};
+#define TEXT(s) (const uint8_t *)(s), sizeof(s) - 1
+#define NO_NUMBERS none, 0
+#define NO_BYTES nothing, 0
+static const char long_key[] = "123456789012345678901234567890123";
+static const char long_value[] = "12345678901234567890123456789012345678901234567890123456789012345";
+
+/* The same call with and without the check must tell the same and leave the same. */
+#define BOTH(table, call, good)                                            \
+    do {                                                                   \
+        struct lent checked_ = (table), other_ = lend((table).len), t;     \
+        memcpy(other_.at, checked_.at, checked_.len);                      \
+        t = checked_;                                                      \
+        uint64_t told_ = given(call);                                      \
+        t = other_;                                                        \
+        CHECK(told_ == given(good));                                       \
+        CHECK(memcmp(other_.at, checked_.at, checked_.len) == 0);          \
+        CHECK(kev_check(T(checked_)) == 0);                                \
+        give_back(other_);                                                 \
+    } while (0)
+
+static void put64(uint8_t *at, uint64_t n) { for (int i = 0; i < 8; i++) at[i] = (uint8_t)(n >> (8 * i)); }
+
+static void local_calls(void) {
+    struct lent table = lend(KEV_TABLE), brief = lend(KEV_TABLE - 1);
+    GIVES(KEV_BAD_TABLE, kev_new_table(T(brief), KEV_PLAIN));
+    CHECK(same(brief));
+    GIVES(KEV_BAD_TABLE, kev_new_table(T(table), 3));
+    GIVES(KEV_BAD_TABLE, kev_new_table(T(table), (size_t)-1));
+    CHECK(same(table));
+    GIVES(KEV_BAD_TABLE, kev_check(T(table)));
+    GIVES(0, kev_new_table(T(table), KEV_GUARDED));
+    CHECK(table.at[KEV_MODE_AT] == KEV_GUARDED);
+    GIVES(0, kev_new_table(T(table), KEV_FENCED));
+    CHECK(table.at[KEV_MODE_AT] == KEV_FENCED);
+    GIVES(0, kev_new_table(T(table), KEV_PLAIN));
+    GIVES(0, kev_check(T(table)));
+    for (uint64_t node = 10; node < 18; node++) BOTH(table, kev_add_node(T(t), node), kev_good_add_node(T(t), node));
+    BOTH(table, kev_add_node(T(t), 10), kev_good_add_node(T(t), 10));
+    mark(table);
+    GIVES(KEV_NINTH_NODE, kev_add_node(T(table), 99));
+    GIVES(KEV_NINTH_NODE, kev_good_add_node(T(table), 99));
+    GIVES(KEV_NO_NODE, kev_remove_node(T(table), 99));
+    CHECK(same(table));
+    GIVES(0, kev_offer_heartbeat(T(table), 17, 33).number);
+    CHECK(kev_last_heartbeat(T(table), 17).number == 0 && kev_last_heartbeat(T(table), 17).found == 0);
+    BOTH(table, kev_remove_node(T(t), 17), kev_good_remove_node(T(t), 17));
+    BOTH(table, kev_remove_node(T(t), 17), kev_good_remove_node(T(t), 17));
+    struct kev_heartbeat last = kev_last_heartbeat(T(table), 17);
+    CHECK(last.number == 0 && last.found == 1 && last.heartbeat == 33);
+    BOTH(table, kev_add_node(T(t), 17), kev_good_add_node(T(t), 17));
+    CHECK(kev_last_heartbeat(T(table), 17).found == 0);
+    BOTH(table, kev_remove_node(T(t), 17), kev_good_remove_node(T(t), 17));
+
+    BOTH(table, kev_write(T(t), 10, TEXT("total"), TEXT("41"), KEV_SET, 5), kev_good_write(T(t), 10, TEXT("total"), TEXT("41"), KEV_SET, 5));
+    BOTH(table, kev_write(T(t), 10, TEXT("tariff"), TEXT("night"), KEV_TTL, 5), kev_good_write(T(t), 10, TEXT("tariff"), TEXT("night"), KEV_TTL, 5));
+    BOTH(table, kev_write(T(t), 10, TEXT("tall"), NO_BYTES, KEV_SET, 5), kev_good_write(T(t), 10, TEXT("tall"), NO_BYTES, KEV_SET, 5));
+    mark(table);
+    GIVES(0, kev_write(T(table), 10, TEXT("total"), TEXT("41"), KEV_SET, 9));
+    GIVES(KEV_BAD_TAG, kev_write(T(table), 99, TEXT("total"), TEXT("42"), KEV_DELETE, 5));
+    GIVES(KEV_BAD_TAG, kev_good_write(T(table), 10, TEXT("total"), TEXT("42"), 3, 5));
+    GIVES(KEV_NO_NODE, kev_write(T(table), 99, TEXT("total"), TEXT("42"), KEV_SET, 5));
+    GIVES(KEV_TOO_LONG, kev_write(T(table), 10, TEXT(long_key), TEXT("42"), KEV_SET, 5));
+    GIVES(KEV_TOO_LONG, kev_write(T(table), 10, TEXT("total"), TEXT(long_value), KEV_SET, 5));
+    GIVES(KEV_NO_KEY, kev_delete(T(table), 10, TEXT("absent"), 5));
+    GIVES(KEV_NO_KEY, kev_delete_after_ttl(T(table), 10, TEXT("absent"), 5));
+    GIVES(KEV_NO_NODE, kev_delete(T(table), 99, TEXT("total"), 5));
+    GIVES(KEV_TOO_LONG, kev_delete_after_ttl(T(table), 10, TEXT(long_key), 5));
+    CHECK(same(table));
+    BOTH(table, kev_delete(T(t), 10, TEXT("tall"), 6), kev_good_delete(T(t), 10, TEXT("tall"), 6));
+    BOTH(table, kev_delete_after_ttl(T(t), 10, TEXT("total"), 6), kev_good_delete_after_ttl(T(t), 10, TEXT("total"), 6));
+
+    struct kev_count news = kev_offer_heartbeat(T(table), 11, 7);
+    CHECK(news.number == 0 && news.count == 0);
+    BOTH(table, kev_offer_heartbeat(T(t), 11, 8).count, kev_good_offer_heartbeat(T(t), 11, 8).count);
+    GIVES(KEV_NO_NODE, kev_offer_heartbeat(T(table), 99, 8).number);
+    BOTH(table, kev_local_beat(T(t), 11), kev_good_local_beat(T(t), 11));
+    GIVES(KEV_NO_NODE, kev_local_beat(T(table), 99));
+    GIVES(0, kev_offer_heartbeat(T(table), 11, UINT64_MAX).number);
+    mark(table);
+    GIVES(KEV_EXHAUSTED, kev_local_beat(T(table), 11));
+    CHECK(same(table));
+
+    char key[2] = "a";
+    for (int i = 0; i < KEV_RECORDS; i++) {
+        key[0] = (char)('A' + i);
+        GIVES(0, kev_write(T(table), 12, (const uint8_t *)key, 1, TEXT("v"), KEV_SET, 0));
+    }
+    mark(table);
+    GIVES(KEV_NODE_FULL, kev_write(T(table), 12, TEXT("one more"), TEXT("v"), KEV_SET, 0));
+    GIVES(KEV_NODE_FULL, kev_good_write(T(table), 12, TEXT("one more"), TEXT("v"), KEV_SET, 0));
+    CHECK(same(table));
+
+    struct kev_found f = kev_find(T(table), 10, TEXT("total"));
+    CHECK(f.number == 0 && f.found == 1 && f.len == 2 && memcmp(kev_text(table.at, f), "41", 2) == 0);
+    struct kev_found g = kev_good_find(T(table), 10, TEXT("total"));
+    CHECK(memcmp(&f, &g, sizeof f) == 0);
+    f = kev_find(T(table), 10, TEXT("tall"));
+    CHECK(f.number == 0 && f.found == 0 && f.start == 0 && f.len == 0);
+    GIVES(KEV_NO_NODE, kev_find(T(table), 99, TEXT("tall")).number);
+    GIVES(KEV_TOO_LONG, kev_find(T(table), 10, TEXT(long_key)).number);
+    struct lent places = lend(2), few = lend(1);
+    struct kev_count hits = kev_list_prefix(T(table), 10, TEXT("t"), T(places));
+    CHECK(hits.number == 0 && hits.count == 2 && places.at[0] == 1 && places.at[1] == 2);
+    hits = kev_good_list_prefix(T(table), 10, TEXT("t"), T(places));
+    CHECK(hits.number == 0 && hits.count == 2);
+    GIVES(KEV_NO_PLACE, kev_list_prefix(T(table), 10, NO_BYTES, T(few)).number);
+    CHECK(same(few));
+    GIVES(KEV_TOO_LONG, kev_list_prefix(T(table), 10, TEXT(long_key), T(few)).number);
+    GIVES(KEV_NO_NODE, kev_list_prefix(T(table), 99, NO_BYTES, T(few)).number);
+    CHECK(kev_node_count(T(table)).count == 7 && kev_good_node_count(T(table)).count == 7);
+    CHECK(kev_node_number(T(table), 6).node == 16 && kev_good_node_number(T(table), 6).node == 16);
+    GIVES(KEV_NO_PLACE, kev_node_number(T(table), 7).number);
+    GIVES(KEV_NO_PLACE, kev_good_node_number(T(table), (size_t)-1).number);
+    struct kev_header h = kev_node_header(T(table), 10), k = kev_good_node_header(T(table), 10);
+    CHECK(h.number == 0 && h.max == 5 && h.last_gc == 0 && h.heartbeat == 0 && memcmp(&h, &k, sizeof h) == 0);
+    GIVES(KEV_NO_NODE, kev_node_header(T(table), 99).number);
+    CHECK(kev_record_count(T(table), 10).count == 3 && kev_good_record_count(T(table), 10).count == 3);
+    GIVES(KEV_NO_NODE, kev_record_count(T(table), 99).number);
+    struct kev_record r = kev_record_at(T(table), 10, 0), s = kev_good_record_at(T(table), 10, 0);
+    CHECK(r.number == 0 && r.found == 1 && r.key_len == 4 && r.value_len == 0 && r.version == 4 && r.status == KEV_DELETE && r.start == 6);
+    CHECK(memcmp(&r, &s, sizeof r) == 0);
+    GIVES(KEV_NO_PLACE, kev_record_at(T(table), 10, 3).number);
+    GIVES(KEV_NO_NODE, kev_record_at(T(table), 99, 0).number);
+    r = kev_record_by_key(T(table), 10, TEXT("tariff"));
+    s = kev_good_record_by_key(T(table), 10, TEXT("tariff"));
+    CHECK(r.found == 1 && r.status == KEV_TTL && r.start == 5 && memcmp(&r, &s, sizeof r) == 0);
+    r = kev_record_by_key(T(table), 10, TEXT("absent"));
+    CHECK(r.number == 0 && r.found == 0 && r.version == 0);
+    GIVES(KEV_TOO_LONG, kev_record_by_key(T(table), 10, TEXT(long_key)).number);
+    GIVES(KEV_NO_NODE, kev_record_by_key(T(table), 99, TEXT("a")).number);
+    f = kev_key_at(T(table), 10, 1);
+    CHECK(f.found == 1 && f.len == 6 && memcmp(kev_text(table.at, f), "tariff", 6) == 0);
+    f = kev_good_key_at(T(table), 10, 2);
+    CHECK(f.found == 1 && f.len == 5 && memcmp(kev_text(table.at, f), "total", 5) == 0);
+    f = kev_value_at(T(table), 10, 1);
+    CHECK(f.found == 1 && f.len == 5 && memcmp(kev_text(table.at, f), "night", 5) == 0);
+    f = kev_good_value_at(T(table), 10, 0);
+    CHECK(f.found == 1 && f.len == 0);
+    GIVES(KEV_NO_PLACE, kev_key_at(T(table), 10, 3).number);
+    GIVES(KEV_NO_NODE, kev_value_at(T(table), 99, 0).number);
+    BOTH(table, kev_remove_scheduled(T(t), 100, 50), kev_good_remove_scheduled(T(t), 100, 50));
+    CHECK(kev_record_count(T(table), 10).count == 0 && kev_node_header(T(table), 10).last_gc == 5);
+
+    /* 14 of every call on a table */
+    table.at[0] = 9;
+    mark(table);
+    struct lent out = lend(KEV_DELTA);
+    GIVES(KEV_BAD_TABLE, kev_add_node(T(table), 1));
+    GIVES(KEV_BAD_TABLE, kev_remove_node(T(table), 10));
+    GIVES(KEV_BAD_TABLE, kev_last_heartbeat(T(table), 10).number);
+    GIVES(KEV_BAD_TABLE, kev_write(T(table), 10, TEXT("a"), TEXT("b"), 3, 0));
+    GIVES(KEV_BAD_TABLE, kev_delete(T(table), 10, TEXT("a"), 0));
+    GIVES(KEV_BAD_TABLE, kev_delete_after_ttl(T(table), 10, TEXT("a"), 0));
+    GIVES(KEV_BAD_TABLE, kev_remove_scheduled(T(table), 0, 0));
+    GIVES(KEV_BAD_TABLE, kev_offer_heartbeat(T(table), 10, 1).number);
+    GIVES(KEV_BAD_TABLE, kev_local_beat(T(table), 10));
+    GIVES(KEV_BAD_TABLE, kev_find(T(table), 10, TEXT("a")).number);
+    GIVES(KEV_BAD_TABLE, kev_list_prefix(T(table), 10, TEXT("a"), T(out)).number);
+    GIVES(KEV_BAD_TABLE, kev_node_count(T(table)).number);
+    GIVES(KEV_BAD_TABLE, kev_node_number(T(table), 0).number);
+    GIVES(KEV_BAD_TABLE, kev_node_header(T(table), 10).number);
+    GIVES(KEV_BAD_TABLE, kev_record_count(T(table), 10).number);
+    GIVES(KEV_BAD_TABLE, kev_record_at(T(table), 10, 0).number);
+    GIVES(KEV_BAD_TABLE, kev_record_by_key(T(table), 10, TEXT("a")).number);
+    GIVES(KEV_BAD_TABLE, kev_key_at(T(table), 10, 0).number);
+    GIVES(KEV_BAD_TABLE, kev_value_at(T(table), 10, 0).number);
+    GIVES(KEV_BAD_TABLE, kev_write_digest(T(table), KEV_V0, NO_NUMBERS, T(out), 0).number);
+    GIVES(KEV_BAD_TABLE, kev_compute(T(table), KEV_V0, NO_BYTES, 0, NO_NUMBERS, NO_NUMBERS, T(out), 0).number);
+    GIVES(KEV_BAD_TABLE, kev_apply(T(table), NO_BYTES, 0, T(out)).number);
+    GIVES(KEV_BAD_TABLE, kev_check(nothing, 0));
+    CHECK(same(table) && same(out));
+    give_back(table), give_back(brief), give_back(places), give_back(few), give_back(out);
+}
+
+static void peers(void) {
+    struct lent a = lend(KEV_TABLE), b = lend(KEV_TABLE), digest = lend(KEV_DIGEST), delta = lend(1400), answers = lend(KEV_NODES);
+    static const uint64_t ties[2] = {0, 1}, one[1] = {7};
+    GIVES(0, kev_new_table(T(a), KEV_FENCED));
+    GIVES(0, kev_new_table(T(b), KEV_FENCED));
+    for (uint64_t node = 7; node < 9; node++) { GIVES(0, kev_add_node(T(a), node)); GIVES(0, kev_add_node(T(b), node)); }
+    GIVES(0, kev_write(T(a), 7, TEXT("total"), TEXT("41"), KEV_SET, 0));
+    GIVES(0, kev_write(T(a), 8, TEXT("flow"), TEXT("3"), KEV_SET, 0));
+
+    struct kev_count d = kev_write_digest(T(b), KEV_V0, NO_NUMBERS, T(digest), 0);
+    CHECK(d.number == 0 && d.count == 66);
+    struct kev_count e = kev_good_write_digest(T(b), KEV_V0, one, 1, T(digest), 10);
+    CHECK(e.number == 0 && e.count == 34);
+    mark(digest);
+    GIVES(KEV_NO_PLACE, kev_write_digest(T(b), KEV_V0, NO_NUMBERS, T(digest), 193).number);
+    GIVES(KEV_NO_PLACE, kev_good_write_digest(T(b), KEV_V0, NO_NUMBERS, T(digest), KEV_DIGEST + 1).number);
+    CHECK(same(digest));
+    d = kev_write_digest(T(b), KEV_V0, NO_NUMBERS, T(digest), 0);
+    struct kev_digest read = kev_read_digest(KEV_V0, T(digest));
+    CHECK(read.number == 0 && read.count == 2 && read.rest == 66);
+    struct kev_entry entry = kev_digest_entry(KEV_V0, T(digest), 1);
+    CHECK(entry.number == 0 && entry.node == 8 && entry.max == 0 && entry.last_gc == 0 && entry.heartbeat == 0);
+    GIVES(KEV_NO_PLACE, kev_digest_entry(KEV_V0, T(digest), 2).number);
+    GIVES(KEV_NO_PLACE, kev_digest_entry(KEV_V0, T(digest), 8).number);
+    GIVES(KEV_CUT, kev_read_digest(KEV_V0, digest.at, 1).number);
+    GIVES(KEV_CUT, kev_digest_entry(KEV_V0, digest.at, 65, 0).number);
+    static const uint8_t nine[2] = {9, 0};
+    GIVES(KEV_TOO_MANY, kev_read_digest(KEV_V0, nine, 2).number);
+    GIVES(KEV_TOO_MANY, kev_digest_entry(KEV_V0, nine, 2, 0).number);
+    CHECK(kev_read_digest(KEV_V0, digest.at, 1).need == 1 && kev_read_digest(KEV_V0, digest.at, 65).need == 1);
+    CHECK(kev_read_digest(KEV_V1, digest.at + 2, 64).count == 2 && kev_digest_entry(KEV_V1, digest.at + 2, 64, 1).node == 8);
+    GIVES(KEV_CUT, kev_read_digest(KEV_V1, digest.at, 33).number);
+    mark(digest);
+    GIVES(KEV_BAD_EDITION, kev_read_digest(2, T(digest)).number);
+    GIVES(KEV_BAD_EDITION, kev_digest_entry(2, T(digest), 0).number);
+    GIVES(KEV_BAD_EDITION, kev_write_digest(T(b), 2, NO_NUMBERS, T(digest), 0).number);
+    GIVES(KEV_BAD_EDITION, kev_good_write_digest(T(b), UINT64_MAX, NO_NUMBERS, T(digest), 0).number);
+    CHECK(same(digest));
+    CHECK(kev_good_write_digest(T(b), KEV_V1, NO_NUMBERS, T(digest), 0).count == 64);
+    d = kev_write_digest(T(b), KEV_V0, NO_NUMBERS, T(digest), 0);
+
+    mark(delta);
+    GIVES(KEV_BAD_MTU, kev_compute(T(a), KEV_V0, digest.at, d.count, 99, NO_NUMBERS, ties, 2, T(delta), 0).number);
+    GIVES(KEV_BAD_MTU, kev_good_compute(T(a), KEV_V0, digest.at, d.count, KEV_DELTA + 1, NO_NUMBERS, ties, 2, T(delta), 0).number);
+    GIVES(KEV_NO_PLACE, kev_compute(T(a), KEV_V0, digest.at, d.count, 1400, NO_NUMBERS, ties, 2, T(delta), 1).number);
+    GIVES(KEV_BAD_TIES, kev_compute(T(a), KEV_V0, digest.at, d.count, 1400, NO_NUMBERS, ties, 1, T(delta), 0).number);
+    GIVES(KEV_CUT, kev_compute(T(a), KEV_V0, digest.at, 1, 1400, NO_NUMBERS, ties, 2, T(delta), 0).number);
+    GIVES(KEV_TOO_MANY, kev_compute(T(a), KEV_V0, nine, 2, 1400, NO_NUMBERS, ties, 2, T(delta), 0).number);
+    GIVES(KEV_BAD_EDITION, kev_compute(T(a), 2, digest.at, d.count, 1400, NO_NUMBERS, ties, 2, T(delta), 0).number);
+    GIVES(KEV_BAD_EDITION, kev_good_compute(T(a), 2, digest.at, d.count, 1400, NO_NUMBERS, ties, 2, T(delta), 0).number);
+    CHECK(kev_compute(T(a), KEV_V0, digest.at, 1, 1400, NO_NUMBERS, ties, 2, T(delta), 0).need == 1);
+    CHECK(same(delta));
+    struct kev_computed c = kev_good_compute(T(a), KEV_V0, digest.at, d.count, 1000, one, 1, ties, 2, T(delta), 400);
+    CHECK(c.number == 0 && c.ops == 2 && c.bytes > 0);
+    c = kev_compute(T(a), KEV_V0, digest.at, d.count, 1400, NO_NUMBERS, ties, 2, T(delta), 0);
+    CHECK(c.number == 0 && c.ops == 4);
+    struct kev_delta v = kev_read_delta(delta.at, c.bytes);
+    CHECK(v.number == 0 && v.ops == 4 && v.nodes == 2 && v.at == 0);
+    struct lent listing = lend(KEV_LISTING), brief = lend(10);
+    struct kev_count text = kev_list_delta(delta.at, c.bytes, T(listing));
+    CHECK(text.number == 0 && memcmp(listing.at, "op=node id=7 gc=0 from=0\n", 25) == 0);
+    GIVES(KEV_NO_PLACE, kev_list_delta(delta.at, c.bytes, T(brief)).number);
+    CHECK(same(brief));
+
+    /* a delta at fault, of each kind */
+    struct lent bad = lend(KEV_DELTA + 1);
+    mark(b), mark(answers);
+    struct { uint64_t number; size_t at; size_t len; uint8_t bytes[60]; } faults[] = {
+        {KEV_CUT, 0, 12, {0}},
+        {KEV_TOO_LONG, 25, 30, {[25] = 1, [26] = 33}},
+        {KEV_BAD_TAG, 0, 1, {3}},
+        {KEV_OUT_OF_ORDER, 0, 9, {2, 5}},
+        {KEV_NODE_TWICE, 25, 50, {0}},
+    };
+    for (size_t i = 0; i < sizeof faults / sizeof *faults; i++) {
+        struct kev_delta f = kev_read_delta(faults[i].bytes, faults[i].len);
+        CHECK(given(f.number) == faults[i].number && f.at == faults[i].at && f.ops == 0 && f.nodes == 0);
+        size_t need = f.number == KEV_CUT ? 5 : 0;
+        CHECK(f.need == need);
+        struct kev_applied p = kev_apply(T(b), faults[i].bytes, faults[i].len, 5, T(answers));
+        CHECK(p.number == faults[i].number && p.at == faults[i].at && p.nodes == 0 && p.need == need);
+        p = kev_good_apply(T(b), faults[i].bytes, faults[i].len, 5, T(answers));
+        CHECK(p.number == faults[i].number && p.at == faults[i].at && p.nodes == 0 && p.need == need);
+    }
+    GIVES(KEV_TOO_MANY, kev_read_delta(T(bad)).number);
+    GIVES(KEV_TOO_MANY, kev_apply(T(b), T(bad), 5, T(answers)).number);
+    GIVES(KEV_NO_PLACE, kev_apply(T(b), delta.at, c.bytes, 5, answers.at, 1).number);
+    GIVES(KEV_NO_PLACE, kev_good_apply(T(b), delta.at, c.bytes, 5, answers.at, 1).number);
+    CHECK(same(b) && same(answers));
+    BOTH(b, kev_apply(T(t), delta.at, c.bytes, 5, T(answers)).number, kev_good_apply(T(t), delta.at, c.bytes, 5, T(answers)).number);
+    CHECK(answers.at[0] == KEV_APPLY && answers.at[1] == KEV_APPLY && answers.at[2] == 0xEE);
+    struct kev_applied again = kev_apply(T(b), delta.at, c.bytes, 5, T(answers));
+    CHECK(again.number == 0 && again.nodes == 2 && answers.at[0] == KEV_REJECT);
+
+    /* a version of 2^64-1 cannot rise */
+    static uint8_t highest[25 + 9] = {0};
+    put64(highest + 1, 7);
+    put64(highest + 17, 1);
+    highest[25] = 2;
+    put64(highest + 26, UINT64_MAX);
+    CHECK(kev_apply(T(b), highest, sizeof highest, 5, T(answers)).number == 0 && answers.at[0] == KEV_APPLY);
+    GIVES(KEV_EXHAUSTED, kev_write(T(b), 7, TEXT("new"), TEXT("1"), KEV_SET, 0));
+    GIVES(KEV_EXHAUSTED, kev_good_delete(T(b), 7, TEXT("total"), 0));
+
+    struct lent c2 = lend(KEV_TABLE);
+    GIVES(0, kev_new_table(T(c2), KEV_PLAIN));
+    GIVES(0, kev_add_node(T(c2), 7));
+    mark(c2), mark(digest), mark(delta), mark(answers);
+    struct kev_exchanged x = kev_exchange(T(a), T(c2), KEV_V0, 1400, NO_NUMBERS, NO_NUMBERS, ties, 1, 5, T(digest), T(delta), T(answers));
+    CHECK(given(x.number) == KEV_BAD_TIES && x.step == 2 && x.ops == 0);
+    x = kev_exchange(T(a), T(c2), KEV_V0, 99, NO_NUMBERS, NO_NUMBERS, ties, 2, 5, T(digest), T(delta), T(answers));
+    CHECK(x.number == KEV_BAD_MTU && x.step == 2);
+    x = kev_exchange(T(a), T(c2), KEV_V0, 1400, NO_NUMBERS, NO_NUMBERS, ties, 2, 5, digest.at, 3, T(delta), T(answers));
+    CHECK(x.number == KEV_NO_PLACE && x.step == 1);
+    x = kev_exchange(T(a), T(c2), KEV_V0, 1400, NO_NUMBERS, NO_NUMBERS, ties, 2, 5, T(digest), T(delta), answers.at, 1);
+    CHECK(x.number == KEV_NO_PLACE && x.step == 3);
+    x = kev_exchange(T(a), c2.at, 3, KEV_V0, 1400, NO_NUMBERS, NO_NUMBERS, ties, 2, 5, T(digest), T(delta), T(answers));
+    CHECK(x.number == KEV_BAD_TABLE && x.step == 1);
+    x = kev_exchange(T(a), T(c2), 2, 1400, NO_NUMBERS, NO_NUMBERS, ties, 2, 5, T(digest), T(delta), T(answers));
+    CHECK(given(x.number) == KEV_BAD_EDITION);
+    CHECK(same(c2) && same(digest) && same(delta) && same(answers));
+    x = kev_exchange(T(a), T(c2), KEV_V0, 1400, NO_NUMBERS, NO_NUMBERS, ties, 2, 5, T(digest), T(delta), T(answers));
+    CHECK(x.number == 0 && x.nodes == 2 && x.ops == 4 && x.step == 0 && answers.at[0] == KEV_APPLY && answers.at[1] == KEV_UNKNOWN);
+    CHECK(kev_check(T(c2)) == 0);
+    give_back(a), give_back(b), give_back(digest), give_back(delta), give_back(answers), give_back(listing), give_back(brief), give_back(bad), give_back(c2);
+}
+
+int main(void) {
+    local_calls();
+    peers();
+    for (int number = 0; number < 16; number++) CHECK(seen[number]);
+    CHECK(seen[KEV_BAD_EDITION]);
+    printf("every.c: %lu checks held, %lu failed\n", held, failed);
+    return failed ? 1 : 0;
+}
