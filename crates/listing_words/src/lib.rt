@@ -49,6 +49,13 @@ pub struct One {
     pub took: usize,
 }
 
+// Whether the piece is what is printed.
+fn is_same(printed: &[u8], piece: &[u8]) -> bool
+    ensures { λ r. ⌜ r ≡ sameBytes (now (printed .entry)) (now (piece .entry)) ⌝ }
+{
+    fields::same(printed, piece)
+}
+
 // ---- numbers
 
 fn is_digit(b: u8) -> bool
@@ -120,7 +127,7 @@ fn is_decimal(value: u64, piece: &[u8]) -> bool
 {
     let mut own = [0u8; 20];
     let n = listing_text::put_decimal(&mut own, 0, value);
-    fields::same(&own[..n], piece)
+    is_same(&own[..n], piece)
 }
 
 // The number at the front, as it is printed.
@@ -233,7 +240,7 @@ fn is_shown(text: &[u8], piece: &[u8]) -> bool
 {
     let mut shown = [0u8; LONGEST];
     let n = listing_text::put_shown(&mut shown, 0, text);
-    fields::same(&shown[..n], piece)
+    is_same(&shown[..n], piece)
 }
 
 // The key or value at the front, as it is shown; its bytes at the front of `out`, whose length is the most that it may have.

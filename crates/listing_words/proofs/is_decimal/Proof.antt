@@ -32,17 +32,17 @@ put-decimal-requires c κs = omega (arith, room (c .before .before .args .value)
 array-share-prefix-own : tie.Need-array-share-prefix-own
 array-share-prefix-own c = within (c .before)
 
-slice-aggregate-same : tie.Need-slice-aggregate-same
-slice-aggregate-same c = sym (length-take-le _ _ (within (c .before .before)))
+slice-aggregate-is-same : tie.Need-slice-aggregate-is-same
+slice-aggregate-is-same c = sym (length-take-le _ _ (within (c .before .before)))
 
-same-requires : tie.Need-same-requires
-same-requires c κs = search needs
+is-same-requires : tie.Need-is-same-requires
+is-same-requires c κs = search needs
 
 returns : tie.Need-returns
 returns c =
     let call = c .before .before .before in
     let a = call .before .before .before .args in
-    c .same .ensures
+    c .is-same .ensures
     ∙ ap (λ (x : List ℕ). sameBytes x (a .piece .now)) (put-front (decimal (a .value)) own _ _ (room (a .value)) (call .put-decimal .ensures))
 
 pub is-decimal-spec : {M : Type 1} → statement M
@@ -52,6 +52,6 @@ is-decimal-spec =
     slice-aggregate-put-decimal
     put-decimal-requires
     array-share-prefix-own
-    slice-aggregate-same
-    same-requires
+    slice-aggregate-is-same
+    is-same-requires
     returns)

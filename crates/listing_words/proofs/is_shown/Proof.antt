@@ -34,18 +34,18 @@ put-shown-requires c κs = let s = c .before .before .before in omega (arith, ro
 array-share-prefix-shown : tie.Need-array-share-prefix-shown
 array-share-prefix-shown c = within (c .before)
 
-slice-aggregate-same : tie.Need-slice-aggregate-same
-slice-aggregate-same c = sym (length-take-le _ _ (within (c .before .before)))
+slice-aggregate-is-same : tie.Need-slice-aggregate-is-same
+slice-aggregate-is-same c = sym (length-take-le _ _ (within (c .before .before)))
 
-same-requires : tie.Need-same-requires
-same-requires c κs = search needs
+is-same-requires : tie.Need-is-same-requires
+is-same-requires c κs = search needs
 
 returns : tie.Need-returns
 returns c =
     let call = c .before .before .before in
     let s = call .before .before .before .before in
     let a = s .args in
-    c .same .ensures
+    c .is-same .ensures
     ∙ ap (λ (x : List ℕ). sameBytes x (a .piece .now)) (put-front (shownBytes (a .text .now)) own _ _ (room (a .text .now) (s .pre)) (call .put-shown .ensures))
 
 pub is-shown-spec : {M : Type 1} → statement M
@@ -55,6 +55,6 @@ is-shown-spec =
     slice-aggregate-put-shown
     put-shown-requires
     array-share-prefix-shown
-    slice-aggregate-same
-    same-requires
+    slice-aggregate-is-same
+    is-same-requires
     returns)
