@@ -1,5 +1,5 @@
-//! The port and the original Rust side by side, in one process and on the same inputs. Prints the table of
-//! docs/SPEED.md.
+//! The port and the original Rust side by side, in one process and on the same inputs. Prints the tables of
+//! docs/SPEED.md: the calls of an owned table, then all others.
 //!
 //! A row has two sides. Each runs a batch of calls between two looks at the clock, so that the clock's cost does not
 //! count, and the two take turns, so that load on the machine hits both; the row shows the medians. Before a row is timed both sides do
@@ -10,6 +10,7 @@
 //! the time.
 
 mod inputs;
+mod local;
 mod port;
 mod stack;
 
@@ -18,15 +19,16 @@ use std::time::Instant;
 
 use judge::timed::{self, Timed};
 use kevdarosh::Answer;
-use script::table::AREA_BYTES;
+use script::table::{AREA_BYTES, FENCED, GUARDED};
 
 use crate::inputs::{NODES, RECORDS};
 use crate::port::Port;
 
 const ROUNDS: usize = 400;
 
-/// What a call of an owned table may take.
-const OWNED: Aim = Aim::Times(0.75);
+const OWNED: Aim = Aim::Owned;
+/// What a call of an owned table may take, in times of the original's.
+const OWNED_MOST: f64 = 0.75;
 
 const NOW: u64 = 1_000;
 const GRACE: u64 = 50;
@@ -36,6 +38,8 @@ const TIES: [u64; NODES as usize] = [0; NODES as usize];
 enum Aim {
     /// So many times the other side's time.
     Times(f64),
+    /// `OWNED_MOST` times the original's: a row of the owned table.
+    Owned,
     /// No aim: shown beside the others.
     None,
 }
@@ -45,7 +49,8 @@ struct Row {
     aim: Aim,
     /// What the port stands beside, where that is not the same call of the Rust.
     beside: &'static str,
-    rust: f64,
+    /// None where the original's call is not at hand.
+    rust: Option<f64>,
     port: f64,
 }
 
@@ -71,6 +76,18 @@ fn over(keys: &[Asked], call: impl FnMut(&Asked)) -> f64 {
     time(keys.len(), || keys.iter().for_each(call))
 }
 
+/// The medians of batches that take turns, each round in the other direction.
+fn by_turns<const SIDES: usize>(batches: [&mut dyn FnMut() -> f64; SIDES]) -> [f64; SIDES] {
+    let mut times: [Vec<f64>; SIDES] = std::array::from_fn(|_| Vec::new());
+    for round in 0..ROUNDS {
+        for step in 0..SIDES {
+            let side = if round % 2 == 0 { step } else { SIDES - 1 - step };
+            times[side].push((batches[side])());
+        }
+    }
+    times.map(|mut times| median(&mut times))
+}
+
 #[derive(Default)]
 struct Rows(Vec<Row>);
 
@@ -83,26 +100,42 @@ impl Rows {
         mut rust: impl FnMut() -> f64,
         mut port: impl FnMut() -> f64,
     ) {
-        let (mut rusts, mut ports) = (Vec::new(), Vec::new());
-        for round in 0..ROUNDS {
-            if round % 2 == 0 {
-                rusts.push(rust());
-                ports.push(port());
-            } else {
-                ports.push(port());
-                rusts.push(rust());
-            }
-        }
-        self.0.push(Row { name, aim, beside, rust: median(&mut rusts), port: median(&mut ports) });
+        let [rust, port] = by_turns([&mut rust, &mut port]);
+        self.0.push(Row { name, aim, beside, rust: Some(rust), port });
     }
 
-    fn print(&self) {
+    /// A call of an owned table where the Rust's batch does more than the call: `more` is a batch of that alone, and its time is taken off.
+    fn measure_less(
+        &mut self,
+        name: &'static str,
+        mut rust: impl FnMut() -> f64,
+        mut more: impl FnMut() -> f64,
+        mut port: impl FnMut() -> f64,
+    ) {
+        let [rust, more, port] = by_turns([&mut rust, &mut more, &mut port]);
+        self.0.push(Row { name, aim: OWNED, beside: "", rust: Some(rust - more), port });
+    }
+
+    /// A call of an owned table for which the original's is not at hand.
+    fn alone(&mut self, name: &'static str, mut port: impl FnMut() -> f64) {
+        let [port] = by_turns([&mut port]);
+        self.0.push(Row { name, aim: OWNED, beside: "", rust: None, port });
+    }
+
+    /// The rows of an owned table, or the others.
+    fn print(&self, owned: bool) {
         println!("| call | Rust ns | port ns | ratio | aim | |");
         println!("|---|---|---|---|---|---|");
-        for Row { name, aim, beside, rust, port } in &self.0 {
+        for Row { name, aim, beside, rust, port } in self.0.iter().filter(|row| matches!(row.aim, Aim::Owned) == owned) {
+            let Some(rust) = rust else {
+                println!("| {name} |  | {port:.0} |  | {OWNED_MOST} | not compared |");
+                continue;
+            };
             let ratio = port / rust;
+            let verdict = |most: f64| (format!("{most}"), if ratio <= most { "met" } else { "MISSED" });
             let (aim, verdict) = match aim {
-                Aim::Times(most) => (format!("{most}"), if ratio <= *most { "met" } else { "MISSED" }),
+                Aim::Times(most) => verdict(*most),
+                Aim::Owned => verdict(OWNED_MOST),
                 Aim::None => (String::new(), ""),
             };
             let digits = if ratio < 1.0 { 3 } else { 2 };
@@ -339,6 +372,23 @@ fn digests(rows: &mut Rows) {
             })
         },
     );
+    // The original's reading makes a map of the entries; the port's gives them one by one, so that they are asked for here.
+    assert_eq!(port::sum_digest(&digest), (0..NODES).map(|node| node + (1 + node) + RECORDS as u64).sum::<u64>());
+    rows.measure(
+        "digest read, its entries gone through, owned table",
+        " (the Rust reads alone)",
+        OWNED,
+        || {
+            repeat(CALLS, || {
+                black_box(timed::read_digest(black_box(&bytes)));
+            })
+        },
+        || {
+            repeat(CALLS, || {
+                black_box(port::sum_digest(black_box(&digest)));
+            })
+        },
+    );
 }
 
 const NO_DIGEST: [u8; 2] = [0, 0];
@@ -515,11 +565,14 @@ fn main() {
     deletes(&mut rows, "delete, owned table", true, OWNED);
     removal(&mut rows, "removal, nothing to remove", false, Aim::None);
     removal(&mut rows, "removal, nothing to remove, owned table", true, OWNED);
+    local::removing(&mut rows);
+    local::rows(&mut rows);
     digests(&mut rows);
     delta_read(&mut rows);
     computing(&mut rows, "compute 16,384 bytes", &full, false, Aim::Times(0.2));
     computing(&mut rows, "compute 16,384 bytes, owned table", &full, true, OWNED);
     computing(&mut rows, "compute 16,384 bytes, versions scattered", &scattered, false, Aim::None);
+    computing(&mut rows, "compute 16,384 bytes, versions scattered, owned table", &scattered, true, OWNED);
     nothing_stale(&mut rows);
     let (delta, _) = delta_of(&full);
     applying(&mut rows, "apply 16,384 bytes to a fresh table", &fresh, &delta, APPLY, false, Aim::Times(0.2));
@@ -532,10 +585,15 @@ fn main() {
         true,
         OWNED,
     );
-    let mut fenced = fresh.clone();
-    fenced[AREA_BYTES] = 1;
+    let [fenced, guarded] = [FENCED, GUARDED].map(|mode| {
+        let mut table = fresh.clone();
+        table[AREA_BYTES] = mode;
+        table
+    });
     applying(&mut rows, "apply 16,384 bytes to a fresh table, fenced", &fenced, &delta, APPLY, false, Aim::Times(0.2));
+    applying(&mut rows, "apply 16,384 bytes to a fresh table, guarded, owned table", &guarded, &delta, APPLY, true, OWNED);
     applying(&mut rows, "apply 16,384 bytes, all rejected", &full, &delta, REJECT, false, Aim::Times(0.2));
+    applying(&mut rows, "apply 16,384 bytes, all rejected, owned table", &full, &delta, REJECT, true, OWNED);
     let (mixed, _) = delta_of(&scattered);
     applying(
         &mut rows,
@@ -546,10 +604,23 @@ fn main() {
         false,
         Aim::None,
     );
+    applying(
+        &mut rows,
+        "apply 16,384 bytes to a fresh table, versions scattered, owned table",
+        &fresh,
+        &mixed,
+        APPLY,
+        true,
+        OWNED,
+    );
     let half = inputs::table(&inputs::half(), inputs::in_order);
     let (newer, _) = delta_of(&inputs::table(&inputs::all(), |record| 100 + inputs::in_order(record)));
     applying(&mut rows, "apply 16,384 bytes to a half full table", &half, &newer, APPLY, false, Aim::None);
-    rows.print();
+    applying(&mut rows, "apply 16,384 bytes to a half full table, owned table", &half, &newer, APPLY, true, OWNED);
+    println!("An owned table:\n");
+    rows.print(true);
+    println!("\nA lent table, and calls without a table:\n");
+    rows.print(false);
 
     let (reset, _) = delta_of(&inputs::with_last_gc(&full, 200));
     let computing = [&full, &scattered].map(|table| deepest_compute(table));

@@ -104,6 +104,13 @@ pub fn read_digest(bytes: &[u8]) -> usize {
     Digest::read(EDITION, bytes).map_or(0, |digest| digest.len())
 }
 
+/// A digest that is read and gone through: the sum of its numbers.
+pub fn sum_digest(bytes: &[u8]) -> u64 {
+    Digest::read(EDITION, bytes).map_or(0, |digest| {
+        digest.nodes().map(|told| told.node + told.heartbeat + told.last_gc_version + told.max_version).sum()
+    })
+}
+
 pub fn read_delta(delta: &[u8]) -> usize {
     kevdarosh::read_delta(delta).map_or(0, |read| read.ops)
 }

@@ -1,0 +1,382 @@
+//! The calls of an owned table that make, change or read one node, and the removal that removes something.
+//!
+//! For most of them `Timed` has no call of the original, but `Raw` has. It makes the node's name in each call, which a caller of the original has anyway:
+//! so a third side makes names and does no more, by turns with the other two, and its time is taken off the Rust's. `Raw` changes node 1 alone. For
+//! listing a prefix and for going through a node's records neither has a call; these rows show the port's time alone.
+
+use std::hint::black_box;
+
+use judge::raw::Raw;
+use judge::timed::{self, Timed};
+use kevdarosh::{Mode, OwnedTable, Record, Status};
+
+use crate::inputs::{self, NODES, RECORDS};
+use crate::port::Port;
+use crate::{Asked, GRACE, NOW, OWNED, Rows, asked, gets, over, repeat, time};
+
+const NODE: u64 = 1;
+const CALLS: usize = 256;
+/// How often a batch goes over the node's 32 keys, or 16 removed nodes.
+const PASSES: usize = 8;
+
+pub(crate) fn rows(rows: &mut Rows) {
+    set_with_ttl(rows);
+    delete_after_ttl(rows);
+    heartbeats(rows);
+    come_and_go(rows, "fresh node removed and added, the last of eight, owned table", NODES - 1);
+    come_and_go(rows, "fresh node removed and added, the first of eight, owned table", 0);
+    remove_full(rows);
+    remembered(rows);
+    versioned(rows);
+    readings(rows);
+}
+
+/// The original and an owned table, with 8 nodes, of which node 1 has 32 records.
+fn both() -> (Raw, Box<OwnedTable>) {
+    timed::clock(NOW);
+    let mut raw = Raw::new();
+    let mut table = Box::new(OwnedTable::new(Mode::Plain));
+    for node in 0..NODES {
+        raw.add(node);
+        table.add_node(node).expect("room for a node");
+    }
+    for record in inputs::all() {
+        let (key, value) = (inputs::key(NODE, record), inputs::value(NODE, record, 0));
+        raw.set(&key, &value);
+        table.set(NODE, key.as_bytes(), value.as_bytes()).expect("room for a record");
+    }
+    (raw, table)
+}
+
+/// Node 1 must be the same on both sides: its numbers, and key, value, version and status of each record. What is scheduled began at `NOW`.
+fn same(name: &str, raw: &mut Raw, table: &OwnedTable) {
+    let node = table.node_state(NODE).expect("node 1");
+    assert_eq!(raw.numbers(), (node.heartbeat(), node.last_gc_version(), node.max_version()), "{name}");
+    let text = |bytes: &[u8]| String::from_utf8(bytes.to_vec()).expect("digits and letters");
+    let told = |record: Record<'_>| {
+        let (status, start) = match record.status {
+            Status::Set => (0, 0),
+            Status::Deleted => (1, NOW),
+            Status::DeleteAfterTtl => (2, NOW),
+        };
+        assert_eq!(record.start, start, "{name}");
+        (text(record.key), text(record.value), record.version, status)
+    };
+    let records: Vec<(String, String, u64, u8)> = node.key_values_including_deleted().map(told).collect();
+    assert_eq!(raw.records(), records, "{name}");
+}
+
+/// The keys of node 1, in an order without a pattern.
+fn keys() -> Vec<Asked> {
+    asked(&inputs::all()).into_iter().filter(|asked| asked.number == NODE).collect()
+}
+
+/// Nanoseconds a name, made as `Raw` does.
+fn name_made() -> f64 {
+    repeat(CALLS, || {
+        black_box(timed::name(black_box(NODE)));
+    })
+}
+
+/// Sets with TTL of all keys, with values of two turns.
+fn set_with_ttl(rows: &mut Rows) {
+    const NAME: &str = "set with TTL, changed, owned table";
+    let keys = keys();
+    let (mut raw, mut table) = both();
+    rows.measure_less(
+        NAME,
+        || {
+            time(PASSES * keys.len(), || {
+                for pass in 0..PASSES {
+                    for asked in &keys {
+                        raw.set_with_ttl(black_box(&asked.key), black_box(&asked.values[pass % 2]));
+                    }
+                }
+            })
+        },
+        name_made,
+        || {
+            time(PASSES * keys.len(), || {
+                for pass in 0..PASSES {
+                    for asked in &keys {
+                        let (key, value) = (black_box(asked.key.as_bytes()), black_box(asked.values[pass % 2].as_bytes()));
+                        black_box(table.set_with_ttl(NODE, key, value, NOW).is_ok());
+                    }
+                }
+            })
+        },
+    );
+    same(NAME, &mut raw, &table);
+}
+
+/// Deletes after TTL of all keys. One that is scheduled already takes a new version each time, as the first did.
+fn delete_after_ttl(rows: &mut Rows) {
+    const NAME: &str = "delete after TTL, owned table";
+    let keys = keys();
+    let (mut raw, mut table) = both();
+    rows.measure_less(
+        NAME,
+        || {
+            time(PASSES * keys.len(), || {
+                for asked in (0..PASSES).flat_map(|_| &keys) {
+                    raw.delete_after_ttl(black_box(&asked.key));
+                }
+            })
+        },
+        name_made,
+        || {
+            time(PASSES * keys.len(), || {
+                for asked in (0..PASSES).flat_map(|_| &keys) {
+                    black_box(table.delete_after_ttl(NODE, black_box(asked.key.as_bytes()), NOW).is_ok());
+                }
+            })
+        },
+    );
+    same(NAME, &mut raw, &table);
+}
+
+/// Local heartbeats, then offered ones: each greater than the one before, and one that is no news.
+fn heartbeats(rows: &mut Rows) {
+    let (mut raw, mut table) = both();
+    rows.measure_less(
+        "local heartbeat, owned table",
+        || repeat(CALLS, || black_box(&mut raw).beat()),
+        name_made,
+        || {
+            repeat(CALLS, || {
+                black_box(black_box(&mut table).inc_heartbeat(black_box(NODE)).is_ok());
+            })
+        },
+    );
+    same("local heartbeat", &mut raw, &table);
+
+    let (first, _, _) = raw.numbers();
+    let (mut told, mut heard) = (first, first);
+    let mut all_news = true;
+    let mut all_heard = true;
+    rows.measure_less(
+        "offered heartbeat, news, owned table",
+        || {
+            repeat(CALLS, || {
+                told += 1;
+                all_news &= raw.offer(black_box(told));
+            })
+        },
+        name_made,
+        || {
+            repeat(CALLS, || {
+                heard += 1;
+                all_heard &= table.try_set_heartbeat(black_box(NODE), black_box(heard)) == Ok(true);
+            })
+        },
+    );
+    assert!(all_news && all_heard, "an offered heartbeat was no news");
+    same("offered heartbeat, news", &mut raw, &table);
+
+    let (mut any_news, mut any_heard) = (false, false);
+    rows.measure_less(
+        "offered heartbeat, no news, owned table",
+        || repeat(CALLS, || any_news |= raw.offer(black_box(first))),
+        name_made,
+        || repeat(CALLS, || any_heard |= table.try_set_heartbeat(black_box(NODE), black_box(first)) != Ok(false)),
+    );
+    assert!(!any_news && !any_heard, "an old heartbeat was news");
+    same("offered heartbeat, no news", &mut raw, &table);
+}
+
+/// The nodes, and what is remembered of this one, must be the same on both sides.
+fn same_nodes(name: &str, raw: &Raw, table: &OwnedTable, node: u64) {
+    assert_eq!(raw.nodes(), table.nodes().map_or(0, Iterator::count), "{name}");
+    assert_eq!(Ok(raw.remembered(node)), table.last_heartbeat_if_deleted(node), "{name}");
+}
+
+/// A fresh node is removed and added again; the time is that of both calls.
+fn come_and_go(rows: &mut Rows, name: &'static str, node: u64) {
+    const PAIRS: usize = 64;
+    let (mut raw, mut table) = both();
+    raw.remove(node);
+    table.remove_node(node).expect("a node that is held");
+    same_nodes(name, &raw, &table, node);
+    raw.add(node);
+    table.add_node(node).expect("room for a node");
+    rows.measure_less(
+        name,
+        || {
+            repeat(PAIRS, || {
+                raw.remove(black_box(node));
+                raw.add(black_box(node));
+            })
+        },
+        || 2.0 * name_made(),
+        || {
+            repeat(PAIRS, || {
+                black_box(table.remove_node(black_box(node)).is_ok());
+                black_box(table.add_node(black_box(node)).is_ok());
+            })
+        },
+    );
+    same(name, &mut raw, &table);
+    same_nodes(name, &raw, &table, node);
+}
+
+/// Node 1 with its 32 records is removed; the tables are made anew for each batch.
+fn remove_full(rows: &mut Rows) {
+    const NAME: &str = "node with 32 records removed, the second of eight, owned table";
+    const TABLES: usize = 4;
+    let mut raws: Vec<Raw> = Vec::new();
+    let mut tables: Vec<Box<OwnedTable>> = Vec::new();
+    rows.measure_less(
+        NAME,
+        || {
+            raws = (0..TABLES).map(|_| both().0).collect();
+            time(TABLES, || raws.iter_mut().for_each(|raw| raw.remove(black_box(NODE))))
+        },
+        name_made,
+        || {
+            tables = (0..TABLES).map(|_| both().1).collect();
+            time(TABLES, || {
+                for table in &mut tables {
+                    black_box(table.remove_node(black_box(NODE)).is_ok());
+                }
+            })
+        },
+    );
+    for (raw, table) in raws.iter().zip(&tables) {
+        assert_eq!(raw.nodes(), NODES as usize - 1, "{NAME}");
+        same_nodes(NAME, raw, table, NODE);
+    }
+}
+
+/// The last heartbeats of 16 removed nodes, the most that a table remembers.
+fn remembered(rows: &mut Rows) {
+    const NAME: &str = "last heartbeat of a removed node, owned table";
+    let (mut raw, mut table) = both();
+    let numbers: Vec<u64> = (0..16).map(|i| if i == 0 { NODES - 1 } else { 100 + i * 7 % 16 }).collect();
+    for &node in &numbers {
+        raw.add(node);
+        table.add_node(node).expect("room for a node");
+        raw.remove(node);
+        table.remove_node(node).expect("a node that is held");
+    }
+    for &node in &numbers {
+        assert!(raw.remembered(node).is_some(), "{NAME}");
+        same_nodes(NAME, &raw, &table, node);
+    }
+    rows.measure_less(
+        NAME,
+        || {
+            time(PASSES * numbers.len(), || {
+                for &node in (0..PASSES).flat_map(|_| &numbers) {
+                    black_box(black_box(&raw).remembered(black_box(node)));
+                }
+            })
+        },
+        name_made,
+        || {
+            time(PASSES * numbers.len(), || {
+                for &node in (0..PASSES).flat_map(|_| &numbers) {
+                    black_box(black_box(&table).last_heartbeat_if_deleted(black_box(node)).ok());
+                }
+            })
+        },
+    );
+}
+
+/// Removal of every second record of all nodes, tombstones whose grace is over. The tables are made anew for each batch.
+pub(crate) fn removing(rows: &mut Rows) {
+    const NAME: &str = "removal of every second record, owned table";
+    const TABLES: usize = 4;
+    let mut before = Port::of(&inputs::full(), true);
+    for asked in &asked(&inputs::others()) {
+        assert!(before.delete(asked.number, &asked.key, NOW - GRACE));
+    }
+    timed::clock(NOW);
+    let mut originals: Vec<Timed> = Vec::new();
+    let mut ports: Vec<Port> = Vec::new();
+    rows.measure(
+        NAME,
+        "",
+        OWNED,
+        || {
+            originals = (0..TABLES).map(|_| Timed::of(before.bytes())).collect();
+            time(TABLES, || originals.iter_mut().for_each(|original| original.remove(black_box(GRACE))))
+        },
+        || {
+            ports = (0..TABLES).map(|_| Port::of(before.bytes(), true)).collect();
+            time(TABLES, || {
+                for port in &mut ports {
+                    black_box(port.remove(NOW, black_box(GRACE)));
+                }
+            })
+        },
+    );
+    for (original, port) in originals.iter().zip(&ports) {
+        assert_eq!(original.table(), port.bytes(), "{NAME}: the tables differ");
+        assert_eq!(usize::from(port.bytes()[1 + 32]), RECORDS / 2, "{NAME}: what is left");
+    }
+}
+
+/// The record of a key with its version, whether it is deleted or not.
+fn record<'a>(table: &'a OwnedTable, node: u64, key: &[u8]) -> Option<Record<'a>> {
+    table.node_state(node).ok()?.get_versioned(key).ok()?
+}
+
+/// `get_versioned` of all keys. The original's `get` is its `get_versioned` and a look at the status.
+fn versioned(rows: &mut Rows) {
+    let keys = asked(&inputs::all());
+    let original = Timed::of(&inputs::full());
+    let table = Box::new(OwnedTable::from_bytes(&inputs::full()).expect("a good table"));
+    for asked in &keys {
+        let value = original.get(&asked.name, &asked.key).map(str::as_bytes);
+        assert_eq!(record(&table, asked.number, asked.key.as_bytes()).map(|record| record.value), value);
+    }
+    rows.measure(
+        "record of a key, owned table",
+        " (beside the Rust's get)",
+        OWNED,
+        || gets(&original, &keys),
+        || {
+            over(&keys, |asked| {
+                black_box(record(black_box(&table), asked.number, black_box(asked.key.as_bytes())));
+            })
+        },
+    );
+}
+
+/// How many records, and the bytes of their keys and values.
+fn sum<'a>(records: impl Iterator<Item = (&'a [u8], &'a [u8])>) -> (usize, usize) {
+    records.fold((0, 0), |(count, bytes), (key, value)| (count + 1, bytes + key.len() + value.len()))
+}
+
+fn all_records(table: &OwnedTable) -> (usize, usize) {
+    table.node_state(NODE).map_or((0, 0), |node| sum(node.key_values()))
+}
+
+fn prefixed(table: &OwnedTable, prefix: &[u8]) -> (usize, usize) {
+    let Ok(node) = table.node_state(NODE) else { return (0, 0) };
+    node.iter_prefix(prefix).map_or((0, 0), |hits| sum(hits.map(|record| (record.key, record.value))))
+}
+
+/// All records of a node, and those of a prefix, with their keys and values.
+fn readings(rows: &mut Rows) {
+    const TIMES: usize = 16;
+    let table = Box::new(OwnedTable::from_bytes(&inputs::full()).expect("a good table"));
+    assert_eq!(all_records(&table).0, RECORDS);
+    rows.alone("32 records of a node gone through, owned table", || {
+        repeat(TIMES, || {
+            black_box(all_records(black_box(&table)));
+        })
+    });
+    let prefixes = [
+        ("prefix listing, 32 hits gone through, owned table", "key-01-", RECORDS),
+        ("prefix listing, 2 hits gone through, owned table", "key-01-3", 2),
+    ];
+    for (name, prefix, hits) in prefixes {
+        assert_eq!(prefixed(&table, prefix.as_bytes()).0, hits);
+        rows.alone(name, || {
+            repeat(TIMES, || {
+                black_box(prefixed(black_box(&table), black_box(prefix.as_bytes())));
+            })
+        });
+    }
+}
