@@ -99,7 +99,8 @@ fn set_with_ttl(rows: &mut Rows) {
             time(PASSES * keys.len(), || {
                 for pass in 0..PASSES {
                     for asked in &keys {
-                        let (key, value) = (black_box(asked.key.as_bytes()), black_box(asked.values[pass % 2].as_bytes()));
+                        let (key, value) =
+                            (black_box(asked.key.as_bytes()), black_box(asked.values[pass % 2].as_bytes()));
                         black_box(table.set_with_ttl(NODE, key, value, NOW).is_ok());
                     }
                 }

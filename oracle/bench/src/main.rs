@@ -126,7 +126,8 @@ impl Rows {
     fn print(&self, owned: bool) {
         println!("| call | Rust ns | port ns | ratio | aim | |");
         println!("|---|---|---|---|---|---|");
-        for Row { name, aim, beside, rust, port } in self.0.iter().filter(|row| matches!(row.aim, Aim::Owned) == owned) {
+        for Row { name, aim, beside, rust, port } in self.0.iter().filter(|row| matches!(row.aim, Aim::Owned) == owned)
+        {
             let Some(rust) = rust else {
                 println!("| {name} |  | {port:.0} |  | {OWNED_MOST} | not compared |");
                 continue;
@@ -336,7 +337,9 @@ fn digests(rows: &mut Rows) {
     let mut written = Vec::new();
     original.write_digest(&mut written);
     assert_eq!(timed::digest_01(&written), digest);
-    for (name, owned, aim) in [("digest made and written", false, Aim::None), ("digest made and written, owned table", true, OWNED)] {
+    for (name, owned, aim) in
+        [("digest made and written", false, Aim::None), ("digest made and written, owned table", true, OWNED)]
+    {
         let port = Port::of(&table, owned);
         rows.measure(
             name,
@@ -576,22 +579,22 @@ fn main() {
     nothing_stale(&mut rows);
     let (delta, _) = delta_of(&full);
     applying(&mut rows, "apply 16,384 bytes to a fresh table", &fresh, &delta, APPLY, false, Aim::Times(0.2));
-    applying(
-        &mut rows,
-        "apply 16,384 bytes to a fresh table, owned table",
-        &fresh,
-        &delta,
-        APPLY,
-        true,
-        OWNED,
-    );
+    applying(&mut rows, "apply 16,384 bytes to a fresh table, owned table", &fresh, &delta, APPLY, true, OWNED);
     let [fenced, guarded] = [FENCED, GUARDED].map(|mode| {
         let mut table = fresh.clone();
         table[AREA_BYTES] = mode;
         table
     });
     applying(&mut rows, "apply 16,384 bytes to a fresh table, fenced", &fenced, &delta, APPLY, false, Aim::Times(0.2));
-    applying(&mut rows, "apply 16,384 bytes to a fresh table, guarded, owned table", &guarded, &delta, APPLY, true, OWNED);
+    applying(
+        &mut rows,
+        "apply 16,384 bytes to a fresh table, guarded, owned table",
+        &guarded,
+        &delta,
+        APPLY,
+        true,
+        OWNED,
+    );
     applying(&mut rows, "apply 16,384 bytes, all rejected", &full, &delta, REJECT, false, Aim::Times(0.2));
     applying(&mut rows, "apply 16,384 bytes, all rejected, owned table", &full, &delta, REJECT, true, OWNED);
     let (mixed, _) = delta_of(&scattered);

@@ -79,7 +79,14 @@ impl Port {
     #[inline]
     pub fn compute(&self, digest: &[u8], ties: &[u64], datagram: &mut [u8]) -> usize {
         let sent = match self {
-            Lent(bytes) => TableView::over(bytes).compute_partial_delta_respecting_mtu(EDITION, digest, 16_384, &[], ties, datagram),
+            Lent(bytes) => TableView::over(bytes).compute_partial_delta_respecting_mtu(
+                EDITION,
+                digest,
+                16_384,
+                &[],
+                ties,
+                datagram,
+            ),
             Owned(table) => table.compute_partial_delta_respecting_mtu(EDITION, digest, 16_384, &[], ties, datagram),
         };
         sent.map_or(0, |sent| sent.bytes)
