@@ -2,7 +2,7 @@
 // zero, below 2^64, with capital hexadecimal digits and no escape that is not needed. That is told by printing what was read, and comparing.
 ghost use mathlib.Core.Path.{_≡_};
 ghost use mathlib.Core.Bool.{true};
-ghost use Prim.Native.Nat.{_+_, _*_, _≤_, _<_};
+ghost use Prim.Native.Nat.{_*_, _≤_, _<_};
 ghost use lib.ListN.{length};
 ghost use Rattle.fields.specs.Order.{sameBytes};
 ghost use Rattle.rules.specs.Listing.{decimal, shownBytes};
