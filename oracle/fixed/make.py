@@ -414,6 +414,8 @@ def editions():
     """Both editions: exactly enough bytes and one too few, 20 before 8 and before the digest's numbers; V1 cut anywhere, 9 before 13, no rest; a repeated node;
     editions confused; computing's order; two hubs that use V1."""
     yield "digest - 0 0 1"
+    yield "digest - 0 4 1"
+    yield "digest - 3 9 1"
     yield "digest - 0 0 2"
     yield "digest - 9 0 2"
     for number in (9, 3, TOP, 0, 7, 256, 4, 1):
@@ -714,9 +716,9 @@ def hears(hub, *others):
     """Prompt exchanges at the largest MTU: the hub's own digest, another's delta, applied."""
     for other in others:
         yield f"hub {hub}"
-        yield "digest - 0 34"
+        yield "digest - 0 34 0"
         yield f"hub {other}"
-        yield "compute @digest 16384 - 0 0 16384"
+        yield "compute @digest 16384 - 0 0 16384 0"
         yield f"hub {hub}"
         yield "apply @delta 9 1"
 
@@ -737,7 +739,7 @@ def shown(key, *hubs):
     for hub in hubs:
         yield f"hub {hub}"
         yield f"get 1 {key}"
-        yield "digest - 0 34"
+        yield "digest - 0 34 0"
 
 
 def triangle():
