@@ -69,22 +69,42 @@ front-there zero l e = omega arith
 front-there (suc n) [] e = absurd (omega arith)
 front-there (suc n) (b ∷ l) e = let q = front-there n l (omega arith) in omega arith
 
--- what is placed, by the answer
-pub bytes-told : (x : Unlisted) (r : Made) (delta : Bytes) (n : ℕ) → Outcome x r delta → r ≡ made.Bytes n → (n ≤ length delta) × (x ≡ Delta (take n delta))
-bytes-told (Delta b) r delta n o e =
-    let size : made.Bytes n ≡ made.Bytes (length b) = sym e ∙ o .0 in
-    let same : n ≡ length b = cc in
-    let front : take n delta ≡ b = ap (λ (k : ℕ). take k delta) same ∙ o .1 in
-    (front-there n delta (ap length front ∙ sym same), ap Delta (sym front))
-bytes-told (NotInForm k) r delta n o e = let z : _≡_ {A = ℕ} 0 1 = cc in absurd (omega arith)
-bytes-told (Faulty why at) r delta n o e = let z : _≡_ {A = ℕ} 0 1 = cc in absurd (omega arith)
+-- ---- the answer
 
-pub line-told : (x : Unlisted) (r : Made) (delta : Bytes) (n : ℕ) → Outcome x r delta → r ≡ made.BadLine n → x ≡ NotInForm n
-line-told (Delta b) r delta n o e = let p : r ≡ made.Bytes (length b) = o .0 in let z : _≡_ {A = ℕ} 0 1 = cc in absurd (omega arith)
-line-told (NotInForm k) r delta n o e = cc
-line-told (Faulty why at) r delta n o e = let z : _≡_ {A = ℕ} 0 1 = cc in absurd (omega arith)
+module _ (x : Unlisted) (r : Made) (delta out : Bytes) (o : Outcome x r delta) where
+  abbrev Told : (n : ℕ) (y : Unlisted) → Type 0
+  Told n y = (n ≤ length delta) × (y ≡ Delta (take n delta))
 
-pub fault-told : (x : Unlisted) (r : Made) (delta : Bytes) (why : Refusal) (at : ℕ) → Outcome x r delta → r ≡ made.Refused why at → x ≡ Faulty why at
-fault-told (Delta b) r delta why at o e = let p : r ≡ made.Bytes (length b) = o .0 in let z : _≡_ {A = ℕ} 0 1 = cc in absurd (omega arith)
-fault-told (NotInForm k) r delta why at o e = let z : _≡_ {A = ℕ} 0 1 = cc in absurd (omega arith)
-fault-told (Faulty other place) r delta why at o e = cc
+  bytes-told : (n : ℕ) → r ≡ made.Bytes n → Told n x
+  bytes-told n e = go x o
+    where
+      go : (y : Unlisted) → Outcome y r delta → Told n y
+      go (Delta b) w =
+          let size : made.Bytes n ≡ made.Bytes (length b) = sym e ∙ w .0 in
+          let same : n ≡ length b = cc in
+          let front : take n delta ≡ b = ap (λ (k : ℕ). take k delta) same ∙ w .1 in
+          (front-there n delta (ap length front ∙ sym same), ap Delta (sym front))
+      go (NotInForm k) w = let z : _≡_ {A = ℕ} 0 1 = cc in absurd (omega arith)
+      go (Faulty why at) w = let z : _≡_ {A = ℕ} 0 1 = cc in absurd (omega arith)
+
+  pub made-within : (n : ℕ) → r ≡ made.Bytes n → n ≤ length delta
+  made-within n e = bytes-told n e .0
+
+  pub made-bytes : (n : ℕ) (answer : Made) (left : Bytes) → r ≡ made.Bytes n → Gives (placed (take n delta) out) answer left → Gives (lentUnlisted x out) answer left
+  made-bytes n answer left e g = subst (λ (y : Unlisted). Gives (lentUnlisted y out) answer left) (sym (bytes-told n e .1)) g
+
+  pub made-line : (n : ℕ) → r ≡ made.BadLine n → Gives (lentUnlisted x out) (made.BadLine n) out
+  made-line n e = go x o
+    where
+      go : (y : Unlisted) → Outcome y r delta → Gives (lentUnlisted y out) (made.BadLine n) out
+      go (Delta b) w = let p : r ≡ made.Bytes (length b) = w .0 in let z : _≡_ {A = ℕ} 0 1 = cc in absurd (omega arith)
+      go (NotInForm k) w = (sym e ∙ w, refl)
+      go (Faulty why at) w = let z : _≡_ {A = ℕ} 0 1 = cc in absurd (omega arith)
+
+  pub made-fault : (why : Refusal) (at : ℕ) → r ≡ made.Refused why at → Gives (lentUnlisted x out) (made.Refused why at) out
+  made-fault why at e = go x o
+    where
+      go : (y : Unlisted) → Outcome y r delta → Gives (lentUnlisted y out) (made.Refused why at) out
+      go (Delta b) w = let p : r ≡ made.Bytes (length b) = w .0 in let z : _≡_ {A = ℕ} 0 1 = cc in absurd (omega arith)
+      go (NotInForm k) w = let z : _≡_ {A = ℕ} 0 1 = cc in absurd (omega arith)
+      go (Faulty other place) w = (sym e ∙ w, refl)
