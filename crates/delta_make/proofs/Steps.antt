@@ -9,11 +9,9 @@ use lib.Dec.{eqb, leb}
 use lib.ListN.{length, drop, getD, set, take}
 use lib.Seq.{drop-cons, drop-length}
 use borrow.Author.Tests.{eq-eqb, le-leb, lt-leb, ne-eqb}
-use Rattle.fields.specs.Choice.{pick}
 use Rattle.fields.specs.Numbers.{Bytes}
 use Rattle.fields.specs.Order.{sameBytes}
 use Rattle.fields.proofs.Choice.{pick-false, pick-true}
-use Rattle.rules.specs.Delta.{Op, opBytes, sizeOf}
 use Rattle.rules.specs.Given.{Given, Gives, given}
 use Rattle.rules.specs.Listing.{endLine}
 use Rattle.rules.specs.Sizes.{top}

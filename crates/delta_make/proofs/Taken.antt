@@ -7,8 +7,8 @@ use native.Mathlib.Decide.{decLe}
 use native.Mathlib.Numerals.{add-one}
 use native.Mathlib.Omega.{arith}
 use lib.Dec.{eqb, leb}
-use lib.ListN.{length, drop, take, getD, set, length-append, length-set}
-use lib.Seq.{length-take-le, take-all, take-at, take-suc, take-suc-set}
+use lib.ListN.{length, drop, take, set, length-append, length-set}
+use lib.Seq.{length-take-le, take-at, take-suc-set}
 use borrow.Author.Tests.{eqb-false, le-leb, leb-true, lt-leb, ne-eqb, not-true}
 use Rattle.fields.specs.Blocks.{flat}
 use Rattle.fields.specs.Choice.{all, pick}
@@ -439,7 +439,7 @@ reads t ops bytes delta r b big e =
     (λ h. e ∙ few-made bytes delta h big ∙ ap (λ (x : Bytes). madeOf bytes (readDelta x)) (k .stored h))
     (λ h. e ∙ many-made bytes delta h))
 
--- ---- the steps as functions promise them
+-- ---- the steps, by what is known of them
 
 shorter : (t : Bytes) (c : ℕ) → length (t ++ (c ∷ [])) < numbers → length t < numbers
 shorter t c h = omega (arith, length-append t (c ∷ []))

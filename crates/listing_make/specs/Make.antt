@@ -1,5 +1,4 @@
 -- A delta made from its whole listing, into lent memory, for every text and all memory.
-use mathlib.Core.List.{List}
 use lib.Dec.{leb}
 use lib.ListN.{length}
 use Rattle.fields.specs.Choice.{pick}
