@@ -1,9 +1,11 @@
 -- A delta made from its whole listing, into lent memory, for every text and all memory.
+use Prim.Native.Nat.{ℕ}
 use lib.Dec.{leb}
 use lib.ListN.{length}
 use Rattle.fields.specs.Choice.{pick}
 use Rattle.fields.specs.Numbers.{Bytes}
 use Rattle.fields.specs.Parts.{put}
+use Rattle.rules.specs.Answers.{numberOf}
 use Rattle.rules.specs.Given.{Given, given}
 use Rattle.rules.specs.declared.Refusal.the-variants.{NoPlace}
 use Rattle.listing_read.specs.Unlist.{Delta, Faulty, NotInForm, Unlisted, unlist}
@@ -22,3 +24,9 @@ lentUnlisted (Faulty why at) out = given (made.Refused why at) out
 
 abbrev pub lentMake : (text out : Bytes) → Given Made Bytes
 lentMake text out = lentUnlisted (unlist text) out
+
+-- the number of an answer
+abbrev pub madeNumber : (answer : Made) → ℕ
+madeNumber (made.Bytes n) = 0
+madeNumber (made.BadLine n) = 16
+madeNumber (made.Refused why at) = numberOf why
