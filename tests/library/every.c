@@ -280,24 +280,25 @@ static void peers(void) {
     CHECK(same(brief));
 
     /* and back: the same bytes, and none behind them; then each kind of refusal, in the order in which they are asked */
-    struct lent again = lend(c.bytes + 3), scant = lend(c.bytes - 1);
-    struct kev_made made = kev_make_delta(listing.at, text.count, T(again));
+    struct lent back = lend(c.bytes + 3), scant = lend(c.bytes - 1);
+    struct kev_made made = kev_make_delta(listing.at, text.count, T(back));
     CHECK(made.number == 0 && made.bytes == c.bytes && made.line == 0 && made.at == 0 && made.need == 0);
-    CHECK(memcmp(again.at, delta.at, c.bytes) == 0 && memcmp(again.at + c.bytes, again.was + c.bytes, 3) == 0);
-    mark(again);
-    made = kev_make_delta(listing.at, text.count - 1, T(again));
+    CHECK(memcmp(back.at, delta.at, c.bytes) == 0 && memcmp(back.at + c.bytes, back.was + c.bytes, 3) == 0);
+    mark(back);
+    made = kev_make_delta(listing.at, text.count - 1, T(back));
     CHECK(given(made.number) == KEV_BAD_LINE && made.line == 5 && made.bytes == 0 && made.at == 0 && made.need == 0);
-    CHECK(kev_make_delta(NO_BYTES, T(again)).line == 1);
-    made = kev_make_delta(TEXT("op=max version=5\nend=ok ops=1 bytes=9\n"), T(again));
+    CHECK(kev_make_delta(NO_BYTES, T(back)).line == 1);
+    made = kev_make_delta(TEXT("op=max version=5\nend=ok ops=1 bytes=9\n"), T(back));
     CHECK(given(made.number) == KEV_OUT_OF_ORDER && made.line == 0 && made.bytes == 0 && made.at == 0 && made.need == 0);
-    made = kev_make_delta(TEXT("op=node id=7 gc=0 from=0\nop=node id=7 gc=0 from=0\nend=ok ops=2 bytes=50\n"), T(again));
+    made = kev_make_delta(TEXT("op=node id=7 gc=0 from=0\nop=node id=7 gc=0 from=0\nend=ok ops=2 bytes=50\n"), T(back));
     CHECK(given(made.number) == KEV_NODE_TWICE && made.at == 25 && made.line == 0 && made.bytes == 0 && made.need == 0);
     made = kev_make_delta(listing.at, text.count, T(scant));
     CHECK(given(made.number) == KEV_NO_PLACE && made.line == 0 && made.bytes == 0 && made.at == 0 && made.need == 0);
+    CHECK(kev_make_delta(TEXT("op=max version=5\nend=ok ops=1 bytes=8\n"), NO_OUT).number == KEV_BAD_LINE);
     CHECK(kev_make_delta(TEXT("op=max version=5\nend=ok ops=1 bytes=9\n"), NO_OUT).number == KEV_OUT_OF_ORDER);
     CHECK(kev_make_delta(TEXT("end=ok ops=0 bytes=0\n"), NO_OUT).number == 0);
-    CHECK(same(again) && same(scant));
-    give_back(again), give_back(scant);
+    CHECK(same(back) && same(scant));
+    give_back(back), give_back(scant);
 
     /* a delta at fault, of each kind */
     struct lent bad = lend(KEV_DELTA + 1);
