@@ -105,16 +105,16 @@ pub fn list_delta(delta: &[u8], out: &mut [u8]) -> Result<usize, Refusal> {
 ///
 /// ```
 /// # use kevdarosh::{Fault, LISTING, ListingRefused, Refusal, list_delta, make_delta};
-/// let text = b"op=node id=7 gc=0 from=0\nop=kv version=1 status=set key=total value=4\nend=ok ops=2 bytes=46\n";
+/// let text = b"op=node id=7 gc=0 from=0\nop=kv version=1 status=set key=total value=4\nend=ok ops=2 bytes=45\n";
 /// let (mut delta, mut listing) = ([0; 1_400], [0; LISTING]);
 /// let bytes = make_delta(text, &mut delta).unwrap();
 /// let listed = list_delta(&delta[..bytes], &mut listing).unwrap();
 /// assert_eq!(&listing[..listed], text);
 ///
 /// // A space too many in the second line; no room for the delta.
-/// let edited = b"op=node id=7 gc=0 from=0\nop=kv  version=1 status=set key=total value=4\nend=ok ops=2 bytes=46\n";
+/// let edited = b"op=node id=7 gc=0 from=0\nop=kv  version=1 status=set key=total value=4\nend=ok ops=2 bytes=45\n";
 /// assert_eq!(make_delta(edited, &mut delta), Err(ListingRefused::Line(2)));
-/// assert_eq!(make_delta(text, &mut [0; 45]), Err(ListingRefused::Delta(Fault { refusal: Refusal::NoPlace, at: 0, need: 0 })));
+/// assert_eq!(make_delta(text, &mut [0; 44]), Err(ListingRefused::Delta(Fault { refusal: Refusal::NoPlace, at: 0, need: 0 })));
 /// ```
 pub fn make_delta(text: &[u8], out: &mut [u8]) -> Result<usize, ListingRefused> {
     let answer = ffi::make_delta(text, out);
