@@ -327,7 +327,7 @@ struct kev_applied kev_apply(
 struct kev_count kev_list_delta(const uint8_t *delta, size_t delta_len, uint8_t *out, size_t out_len);
 
 /* The delta that a listing tells, at the front of out; bytes is its length. The text must be exactly what kev_list_delta gives for it,
- * to the end line with its counts. KEV_DELTA bytes are always enough. The call takes some 17,000 bytes of the stack.
+ * to the end line with its counts. KEV_DELTA bytes are always enough. The call takes some 17,500 bytes of stack.
  * Numbers: 16, 13, 11, 12, 8. */
 struct kev_made kev_make_delta(const uint8_t *text, size_t text_len, uint8_t *out, size_t out_len);
 
