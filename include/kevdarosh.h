@@ -81,6 +81,7 @@ extern "C" {
 #define KEV_TOO_MANY 13        /* over eight nodes, or a delta over 16,384 bytes */
 #define KEV_BAD_TABLE 14       /* the table breaks a rule */
 #define KEV_BAD_TIES 15        /* not one tie for each node */
+#define KEV_BAD_LINE 16        /* a line of a listing is not as it is printed */
 #define KEV_BAD_EDITION 20     /* no such edition of a digest */
 
 /* ---- answers */
@@ -162,6 +163,14 @@ struct kev_applied {
     size_t nodes;
     size_t at;   /* of a refused delta, the place of the faulty operation's tag */
     size_t need; /* with 9, how many bytes its field lacks */
+};
+
+struct kev_made {
+    uint64_t number;
+    size_t bytes;
+    size_t line; /* with 16, the first line that is not as it is printed; the first of a text is 1 */
+    size_t at;   /* of a refused delta, the place of the faulty operation's tag */
+    size_t need; /* as in kev_delta; a listing gives no 9 */
 };
 
 struct kev_exchanged {
@@ -316,6 +325,11 @@ struct kev_applied kev_apply(
  * KEV_LISTING bytes are always enough.
  * Numbers: 8. */
 struct kev_count kev_list_delta(const uint8_t *delta, size_t delta_len, uint8_t *out, size_t out_len);
+
+/* The delta that a listing tells, at the front of out; bytes is its length. The text must be exactly what kev_list_delta gives for it,
+ * to the end line with its counts. KEV_DELTA bytes are always enough. The call takes some 17,500 bytes of stack.
+ * Numbers: 16, 13, 11, 12, 8. */
+struct kev_made kev_make_delta(const uint8_t *text, size_t text_len, uint8_t *out, size_t out_len);
 
 /* One exchange of two tables in one memory: the follower's digest without the unasked nodes, the publisher's delta for it without
  * the unsent ones, the delta applied. Refused, it wrote nothing.

@@ -39,9 +39,11 @@ static void give_back(struct lent l) { free(l.at); free(l.was); }
 #define T(l) (l).at, (l).len
 static const uint64_t none[1] = {0};
 static const uint8_t nothing[1] = {0};
+static uint8_t unwritten[1];
 #define TEXT(s) (const uint8_t *)(s), sizeof(s) - 1
 #define NO_NUMBERS none, 0
 #define NO_BYTES nothing, 0
+#define NO_OUT unwritten, 0
 static const char long_key[] = "123456789012345678901234567890123";
 static const char long_value[] = "12345678901234567890123456789012345678901234567890123456789012345";
 
@@ -277,6 +279,27 @@ static void peers(void) {
     GIVES(KEV_NO_PLACE, kev_list_delta(delta.at, c.bytes, T(brief)).number);
     CHECK(same(brief));
 
+    /* and back: the same bytes, and none behind them; then each kind of refusal, in the order in which they are asked */
+    struct lent back = lend(c.bytes + 3), scant = lend(c.bytes - 1);
+    struct kev_made made = kev_make_delta(listing.at, text.count, T(back));
+    CHECK(made.number == 0 && made.bytes == c.bytes && made.line == 0 && made.at == 0 && made.need == 0);
+    CHECK(memcmp(back.at, delta.at, c.bytes) == 0 && memcmp(back.at + c.bytes, back.was + c.bytes, 3) == 0);
+    mark(back);
+    made = kev_make_delta(listing.at, text.count - 1, T(back));
+    CHECK(given(made.number) == KEV_BAD_LINE && made.line == 5 && made.bytes == 0 && made.at == 0 && made.need == 0);
+    CHECK(kev_make_delta(NO_BYTES, T(back)).line == 1);
+    made = kev_make_delta(TEXT("op=max version=5\nend=ok ops=1 bytes=9\n"), T(back));
+    CHECK(given(made.number) == KEV_OUT_OF_ORDER && made.line == 0 && made.bytes == 0 && made.at == 0 && made.need == 0);
+    made = kev_make_delta(TEXT("op=node id=7 gc=0 from=0\nop=node id=7 gc=0 from=0\nend=ok ops=2 bytes=50\n"), T(back));
+    CHECK(given(made.number) == KEV_NODE_TWICE && made.at == 25 && made.line == 0 && made.bytes == 0 && made.need == 0);
+    made = kev_make_delta(listing.at, text.count, T(scant));
+    CHECK(given(made.number) == KEV_NO_PLACE && made.line == 0 && made.bytes == 0 && made.at == 0 && made.need == 0);
+    CHECK(kev_make_delta(TEXT("op=max version=5\nend=ok ops=1 bytes=8\n"), NO_OUT).number == KEV_BAD_LINE);
+    CHECK(kev_make_delta(TEXT("op=max version=5\nend=ok ops=1 bytes=9\n"), NO_OUT).number == KEV_OUT_OF_ORDER);
+    CHECK(kev_make_delta(TEXT("end=ok ops=0 bytes=0\n"), NO_OUT).number == 0);
+    CHECK(same(back) && same(scant));
+    give_back(back), give_back(scant);
+
     /* a delta at fault, of each kind */
     struct lent bad = lend(KEV_DELTA + 1);
     mark(b), mark(answers);
@@ -343,7 +366,7 @@ static void peers(void) {
 int main(void) {
     local_calls();
     peers();
-    for (int number = 0; number < 16; number++) CHECK(seen[number]);
+    for (int number = 0; number < 17; number++) CHECK(seen[number]);
     CHECK(seen[KEV_BAD_EDITION]);
     printf("every.c: %lu checks held, %lu failed\n", held, failed);
     return failed ? 1 : 0;

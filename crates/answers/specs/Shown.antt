@@ -5,7 +5,7 @@ use mathlib.Core.List.{List, [], _∷_}
 use lib.Dec.{eqb, leb}
 use lib.ListN.{getD}
 use Rattle.fields.specs.Choice.{pick}
-use Rattle.rules.specs.Answers.{Told, numberOf}
+use Rattle.rules.specs.Answers.{Told, needOf, numberOf}
 use Rattle.rules.specs.Given.{Given, given}
 use Rattle.rules.specs.Sizes.{maxNodes}
 use Rattle.rules.specs.declared.Refusal.{Refusal}
@@ -14,6 +14,8 @@ use Rattle.digest_read.specs.Held.{unused}
 use Rattle.digest_read.specs.declared.NodeDigest.{NodeDigest as Place}
 use Rattle.digest_read.specs.declared.DigestRead.{DigestRead}
 use Rattle.digest_read.specs.declared.DigestRead.the-variants as digest
+use Rattle.delta_make.specs.declared.Made.{Made}
+use Rattle.delta_make.specs.declared.Made.the-variants as made
 use Rattle.answers.specs.declared.KevCount.{KevCount}
 use Rattle.answers.specs.declared.KevNode.{KevNode}
 use Rattle.answers.specs.declared.KevHeartbeat.{KevHeartbeat}
@@ -26,6 +28,7 @@ use Rattle.answers.specs.declared.KevComputed.{KevComputed}
 use Rattle.answers.specs.declared.KevDelta.{KevDelta}
 use Rattle.answers.specs.declared.KevApplied.{KevApplied}
 use Rattle.answers.specs.declared.KevExchanged.{KevExchanged}
+use Rattle.answers.specs.declared.KevMade.{KevMade}
 
 -- what a call gives, its answer told and shown
 abbrev pub shownAs : {A B M : Type 0} (told : A → Told) (shown : Told → B) (of : Given A M) → Given B M
@@ -113,6 +116,16 @@ deltaShown t =
 abbrev pub appliedShown : (told : Told) → KevApplied
 appliedShown t =
     record { number = t .number; nodes = valueAt 0 (acceptedValues t); at = valueAt 0 (refusedValues t); need = t .need }
+
+-- a delta made from its listing: 16 has a line, the numbers of a refused delta have a place
+abbrev pub madeShown : (answer : Made) → KevMade
+madeShown (made.Bytes n) = record { number = 0; bytes = n; line = 0; at = 0; need = 0 }
+madeShown (made.BadLine n) = record { number = 16; bytes = 0; line = n; at = 0; need = 0 }
+madeShown (made.Refused why at) = record { number = numberOf why; bytes = 0; line = 0; at = at; need = needOf why }
+
+-- what a call gives, its answer shown
+abbrev pub shownBy : {A B M : Type 0} (shown : A → B) (of : Given A M) → Given B M
+shownBy shown o = given (shown (o .answer)) (o .lent)
 
 -- ---- an exchange
 

@@ -1,5 +1,6 @@
 // What a caller that is not Rattle is told of an answer: the number and the values that stand for it, in a struct that crosses to C by value. The number is 0
 // where the call was accepted, else document 01's number of the refusal; it never shares a field with a count. A value that the answer has not is 0.
+use delta_make::Made;
 use digest_read::Digest;
 use digest_read::DigestRead;
 use exchange::Exchanged;
@@ -26,7 +27,7 @@ ghost use Rattle.inspect.specs.Told.{countTold, nodeNumberTold, nodeHeaderTold,
 ghost use Rattle.digest_read.specs.Told.{digestTold};
 ghost use Rattle.exchange.specs.Exchanging.{exchangedTold, stepCode};
 ghost use Rattle.answers.specs.Shown.{numberShown, countShown, nodeShown, heartbeatShown, foundShown, headerShown, recordShown, noRecord};
-ghost use Rattle.answers.specs.Shown.{digestShown, entryShown, noEntry, computedShown, deltaShown, appliedShown, exchangedShown};
+ghost use Rattle.answers.specs.Shown.{digestShown, entryShown, noEntry, computedShown, deltaShown, appliedShown, exchangedShown, madeShown};
 
 // A count: of nodes, records, hits or bytes; of an offer, 1 where it was news.
 #[repr(C)]
@@ -123,6 +124,16 @@ pub struct KevDelta {
 pub struct KevApplied {
     pub number: u64,
     pub nodes: usize,
+    pub at: usize,
+    pub need: usize,
+}
+
+// How many bytes the delta of a listing has; with 16, the first line that is not in its form; where the delta is refused, as of `KevDelta`.
+#[repr(C)]
+pub struct KevMade {
+    pub number: u64,
+    pub bytes: usize,
+    pub line: usize,
     pub at: usize,
     pub need: usize,
 }
@@ -441,6 +452,35 @@ pub fn applied(taken: Applied) -> KevApplied
         Applied::Refused { why, at } => KevApplied {
             number: why.number(),
             nodes: 0,
+            at,
+            need: why.need(),
+        },
+    }
+}
+
+// The number of a line that is not in its form is 16.
+pub fn made(answer: Made) -> KevMade
+    ensures { λ r. ⌜ r ≡ madeShown answer ⌝ }
+{
+    match answer {
+        Made::Bytes(bytes) => KevMade {
+            number: 0,
+            bytes,
+            line: 0,
+            at: 0,
+            need: 0,
+        },
+        Made::BadLine(line) => KevMade {
+            number: 16,
+            bytes: 0,
+            line,
+            at: 0,
+            need: 0,
+        },
+        Made::Refused { why, at } => KevMade {
+            number: why.number(),
+            bytes: 0,
+            line: 0,
             at,
             need: why.need(),
         },

@@ -1,2 +1,5 @@
-pub mod Text
+pub mod Whole
+pub mod Steps
 pub mod Taken
+pub mod Text
+pub mod Holding

@@ -7,8 +7,8 @@ use native.Mathlib.Decide.{decLe}
 use native.Mathlib.Numerals.{add-one}
 use native.Mathlib.Omega.{arith}
 use lib.Dec.{eqb, leb}
-use lib.ListN.{length, drop, take, getD, set, length-append, length-set}
-use lib.Seq.{length-take-le, take-all, take-at, take-suc, take-suc-set}
+use lib.ListN.{length, drop, take, set, length-append, length-set}
+use lib.Seq.{length-take-le, take-at, take-suc-set}
 use borrow.Author.Tests.{eqb-false, le-leb, leb-true, lt-leb, ne-eqb, not-true}
 use Rattle.fields.specs.Blocks.{flat}
 use Rattle.fields.specs.Choice.{all, pick}
@@ -29,12 +29,13 @@ use Rattle.listing_read.specs.Unlist.{Line, LineRead, NoLine, NotInForm, Unlist
 use Rattle.listing_read.proofs.Lines.{line-read}
 use Rattle.listing_read.proofs.Relisted.{line-is, starts-then}
 use Rattle.listing_line.specs.Told.{LineTold}
-use Rattle.delta_make.specs.Making.{AllBack, AtStage, Back, Begun, Counted, Ended, Failed, Holds, LineTaken, Outcome, badAt, longestLine, madeOf, noFeed, readMade, storedAt}
+use Rattle.delta_make.specs.Making.{Outcome, badAt, longestLine, madeOf, readMade, storedAt}
 use Rattle.delta_make.specs.declared.Stage.{Stage}
 use Rattle.delta_make.specs.declared.Stage.the-variants.{Lines, End, Bad}
 use Rattle.delta_make.specs.declared.Making.{Making}
 use Rattle.delta_make.specs.declared.Made.{Made}
 use Rattle.delta_make.specs.declared.Made.the-variants as made
+use Rattle.delta_make.proofs.Holding.{AllBack, AtStage, Back, Begun, Counted, Ended, Failed, Holds, TakesLine, noFeed}
 use Rattle.delta_make.proofs.Text.{Closed, end-closed, line-closed, lines-count, lines-size, unlist-bad, unlist-behind, unlist-end}
 
 -- ---- the first line feed
@@ -67,7 +68,7 @@ feed-within (a ∷ w) (b ∷ u) x y h g e = feed-within w u x y (omega arith) (r
 
 -- ---- a line that has its line feed
 
-no-size : (o : Op) → sizeOf o ≡ 0 → ⊥
+pub no-size : (o : Op) → sizeOf o ≡ 0 → ⊥
 unfolding sizeOf
 no-size o q = omega (arith, op-long o)
 
@@ -438,7 +439,7 @@ reads t ops bytes delta r b big e =
     (λ h. e ∙ few-made bytes delta h big ∙ ap (λ (x : Bytes). madeOf bytes (readDelta x)) (k .stored h))
     (λ h. e ∙ many-made bytes delta h))
 
--- ---- the steps as functions promise them
+-- ---- the steps, by what is known of them
 
 shorter : (t : Bytes) (c : ℕ) → length (t ++ (c ∷ [])) < numbers → length t < numbers
 shorter t c h = omega (arith, length-append t (c ∷ []))
@@ -499,7 +500,7 @@ module _ (m : Making) (line delta : Bytes) (c : ℕ) where
       )
 
   pub among-line : (r : Making) (left : Bytes) → m .held < length line → c ≡ 10
-      → LineTaken (take (m .held + 1) (set line (m .held) c)) (m .ops) (m .bytes) delta r left → m .stage ≡ Lines → (t : Bytes) → Holds t m line delta
+      → TakesLine (take (m .held + 1) (set line (m .held) c)) (m .ops) (m .bytes) delta r left → m .stage ≡ Lines → (t : Bytes) → Holds t m line delta
       → Holds (t ++ (c ∷ [])) r (set line (m .held) c) left
   among-line r left g q taken e t h small =
       let was = h (shorter t c small) in
@@ -517,12 +518,12 @@ module _ (m : Making) (line delta : Bytes) (c : ℕ) where
 -- a whole line
 module _ (l : Bytes) (ops bytes : ℕ) (delta : Bytes) where
   pub taken-end : (s : Bool) → s ≡ sameBytes (endLine ops bytes) l → s ≡ true
-      → LineTaken l ops bytes delta (record { stage = End; held = 0; ops = ops; bytes = bytes }) delta
+      → TakesLine l ops bytes delta (record { stage = End; held = 0; ops = ops; bytes = bytes }) delta
   taken-end s p q t u memory e small room big b =
       (big, ends-here t u ops bytes delta b (ap (sameBytes (endLine ops bytes)) (sym e) ∙ sym p ∙ q))
 
   pub taken-bad : (r : ℕ) (out : Bytes) (s : Bool) (n : ℕ) (m : Making) → LineTold (readLine l) r out → r ≡ 0 → s ≡ sameBytes (endLine ops bytes) l → s ≡ false
-      → (ops + 1 < numbers → n ≡ ops + 1) → m ≡ badAt n → LineTaken l ops bytes delta m delta
+      → (ops + 1 < numbers → n ≡ ops + 1) → m ≡ badAt n → TakesLine l ops bytes delta m delta
   taken-bad r out s n m told z p q up is t u memory e small room big b =
       let read : LineTold (readLine (u ++ lineFeed)) r out = subst (λ (x : Bytes). LineTold (readLine x) r out) e told in
       let all =
@@ -532,7 +533,7 @@ module _ (l : Bytes) (ops bytes : ℕ) (delta : Bytes) where
 
   pub taken-more : (r : ℕ) (out left : Bytes) (n k : ℕ) → LineTold (readLine l) r out → (r ≡ 0 → ⊥) → (ops + 1 < numbers → n ≡ ops + 1)
       → (bytes + r < numbers → k ≡ bytes + r) → left ≡ storedAt bytes (take r out) delta
-      → LineTaken l ops bytes delta (record { stage = Lines; held = 0; ops = n; bytes = k }) left
+      → TakesLine l ops bytes delta (record { stage = Lines; held = 0; ops = n; bytes = k }) left
   taken-more r out left n k told nz p q w t u memory e small room big b =
       let read : LineTold (readLine (u ++ lineFeed)) r out = subst (λ (x : Bytes). LineTold (readLine x) r out) e told in
       let more = one-more t u ops bytes delta b small r out read nz big n k p q in
@@ -568,20 +569,3 @@ unfolding sizeOf
 told-within (Line o []) r out w = omega (arith, w .0, ap length (w .1), length-take-short r out)
 told-within (Line o (b ∷ l)) r out w = omega arith
 told-within NoLine r out w = omega arith
-
--- ---- a piece
-
--- the next byte of a piece
-pub piece-more : (t piece : Bytes) (i : ℕ) (r : Making) (line delta : Bytes) → i < length piece → Holds ((t ++ take i piece) ++ (getD piece i 0 ∷ [])) r line delta
-    → Holds (t ++ take (i + 1) piece) r line delta
-piece-more t piece i r line delta h g =
-    let e : (t ++ take i piece) ++ (getD piece i 0 ∷ []) ≡ t ++ take (i + 1) piece =
-    append-assoc t (take i piece) (getD piece i 0 ∷ [])
-    ∙ ap (λ (x : Bytes). t ++ x) (sym (take-suc piece i 0 h) ∙ ap (λ (j : ℕ). take j piece) (sym (add-one i))) in
-    subst (λ (x : Bytes). Holds x r line delta) e g
-
-pub piece-none : (t piece : Bytes) (r : Making) (line delta : Bytes) → Holds t r line delta → Holds (t ++ take 0 piece) r line delta
-piece-none t piece r line delta h = subst (λ (x : Bytes). Holds x r line delta) (sym (append-nil t)) h
-
-pub piece-all : (t piece : Bytes) (i : ℕ) (r : Making) (line delta : Bytes) → length piece ≤ i → Holds (t ++ take i piece) r line delta → Holds (t ++ piece) r line delta
-piece-all t piece i r line delta h g = subst (λ (x : Bytes). Holds (t ++ x) r line delta) (take-all i piece h) g

@@ -24,7 +24,7 @@ use Rattle.listing_read.specs.Unlist.{All, BadLine, Lines, NoLine, NotInForm, a
 use Rattle.listing_read.specs.Unlist.{unlist, withLine}
 use Rattle.listing_read.proofs.Lines.{BytesOp, line-some}
 use Rattle.listing_read.proofs.Pieces.{number-readable, text-readable, word-read}
-use Rattle.delta_make.specs.Making.{AllBack, noFeed}
+use Rattle.delta_make.proofs.Holding.{AllBack, noFeed}
 
 -- ---- the lines of the operations, then the rest
 

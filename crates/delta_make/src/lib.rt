@@ -1,18 +1,12 @@
 // A delta made from its listing. The text may come in pieces of any length: what is kept of it is the line that has begun, the delta's bytes so far, and
 // two counts. Every line is judged; of a delta over 16,384 bytes what fits is stored, and the counts go on.
-ghost use Prim.Native.Nat.{_+_, _≤_, _<_};
 ghost use mathlib.Core.Path.{_≡_};
-ghost use mathlib.Core.List.{[], _∷_};
-ghost use lib.ListN.{length};
-ghost use Rattle.fields.specs.Numbers.{Bytes};
 ghost use Rattle.fields.specs.Order.{sameBytes};
 ghost use Rattle.rules.specs.Given.{Gives};
 ghost use Rattle.rules.specs.Listing.{endLine};
-ghost use Rattle.rules.specs.Sizes.{maxDelta, numbers};
-ghost use Rattle.listing_read.specs.Unlist.{unlist};
 ghost use Rattle.listing_text.specs.Texts.{TextFits, putText};
-ghost use Rattle.delta_make.specs.declared.Stage.the-variants.{Lines};
-ghost use Rattle.delta_make.specs.Making.{Holds, LineTaken, Outcome, Taking, badAt, badLine, longestLine, readMade, storedAt};
+ghost use Rattle.delta_make.specs.Making.{amongTaken, badAt, badLine, both, finished, kept, lineTaken, readMade, started};
+ghost use Rattle.delta_make.specs.Making.{storedAt, takenByte, takenIn, upBy};
 use rules::DeltaRead;
 use rules::Refusal;
 use rules::sizes;
@@ -56,7 +50,7 @@ pub enum Made {
 
 // A count that goes on; at its end it stays.
 fn up(n: usize, by: usize) -> usize
-    ensures { λ r. ⌜ (n + by < numbers → r ≡ n + by) ⌝ }
+    ensures { λ r. ⌜ r ≡ upBy n by ⌝ }
 {
     if MOST - by < n {
         return MOST;
@@ -66,7 +60,7 @@ fn up(n: usize, by: usize) -> usize
 
 // Before any text.
 pub fn start() -> Making
-    ensures { λ r. ⌜ ((line delta : Bytes) → longestLine ≤ length line → maxDelta ≤ length delta → Holds [] r line delta) ⌝ }
+    ensures { λ r. ⌜ r ≡ started ⌝ }
 {
     Making {
         stage: Stage::Lines,
@@ -115,7 +109,7 @@ fn store(op: &[u8], at: usize, delta: &mut [u8])
 
 // A whole line, with its line feed.
 fn take_line(line: &[u8], ops: usize, bytes: usize, delta: &mut [u8]) -> Making
-    ensures { λ r. ⌜ LineTaken (now (line .entry)) ops bytes (now (delta .entry)) r (now (delta .exit)) ⌝ }
+    ensures { λ r. ⌜ Gives (lineTaken ops bytes (now (line .entry)) (now (delta .entry))) r (now (delta .exit)) ⌝ }
 {
     let mut op = [0u8; listing_line::LONGEST_OP];
     let n = listing_line::read_line(line, &mut op);
@@ -143,7 +137,7 @@ fn take_line(line: &[u8], ops: usize, bytes: usize, delta: &mut [u8]) -> Making
 
 // A byte of a line.
 fn take_among(making: Making, byte: u8, line: &mut [u8], delta: &mut [u8]) -> Making
-    ensures { λ r. ⌜ (making .stage ≡ Lines → Taking (byte ∷ []) making (now (line .entry)) (now (delta .entry)) r (now (line .exit)) (now (delta .exit))) ⌝ }
+    ensures { λ r. ⌜ Gives (amongTaken byte making (now (line .entry)) (now (delta .entry))) r (both (now (line .exit)) (now (delta .exit))) ⌝ }
 {
     let held = making.held;
     let ops = making.ops;
@@ -165,7 +159,7 @@ fn take_among(making: Making, byte: u8, line: &mut [u8], delta: &mut [u8]) -> Ma
 
 // A byte of the text.
 fn take_byte(making: Making, byte: u8, line: &mut [u8], delta: &mut [u8]) -> Making
-    ensures { λ r. ⌜ Taking (byte ∷ []) making (now (line .entry)) (now (delta .entry)) r (now (line .exit)) (now (delta .exit)) ⌝ }
+    ensures { λ r. ⌜ Gives (takenByte byte (kept making (now (line .entry)) (now (delta .entry)))) r (both (now (line .exit)) (now (delta .exit))) ⌝ }
 {
     let stage = making.stage;
     match stage {
@@ -179,7 +173,8 @@ fn take_byte(making: Making, byte: u8, line: &mut [u8], delta: &mut [u8]) -> Mak
 
 // The next piece of a text.
 pub fn take_in(making: Making, piece: &[u8], line: &mut [u8], delta: &mut [u8]) -> Making
-    ensures { λ r. ⌜ Taking (now (piece .entry)) making (now (line .entry)) (now (delta .entry)) r (now (line .exit)) (now (delta .exit)) ⌝ }
+    ensures { λ r. ⌜ Gives (takenIn (now (piece .entry)) (kept making (now (line .entry)) (now (delta .entry))))
+        r (both (now (line .exit)) (now (delta .exit))) ⌝ }
 {
     let mut taken = making;
     let mut i: usize = 0;
@@ -215,7 +210,7 @@ fn read_made(bytes: usize, delta: &[u8]) -> Made
 
 // At the text's end.
 pub fn finish(making: Making, delta: &[u8]) -> Made
-    ensures { λ r. ⌜ ((t line : Bytes) → length t < numbers → Holds t making line (now (delta .entry)) → Outcome (unlist t) r (now (delta .entry))) ⌝ }
+    ensures { λ r. ⌜ r ≡ finished making (now (delta .entry)) ⌝ }
 {
     let stage = making.stage;
     match stage {

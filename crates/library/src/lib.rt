@@ -11,6 +11,7 @@ use answers::KevExchanged;
 use answers::KevFound;
 use answers::KevHeader;
 use answers::KevHeartbeat;
+use answers::KevMade;
 use answers::KevNode;
 use answers::KevRecord;
 use inspect_text::Text;
@@ -36,6 +37,8 @@ ghost use Rattle.digest_read.specs.Told.{digestTold};
 ghost use Rattle.exchange.specs.Exchanging.{allFour, exchangedTold, lending, lentExchange};
 ghost use Rattle.answers.specs.Shown.{shownAs, numberShown, countShown, nodeShown, heartbeatShown, foundShown, headerShown, recordShown};
 ghost use Rattle.answers.specs.Shown.{digestShown, entryShown, computedShown, deltaShown, appliedShown, exchangedShown};
+ghost use Rattle.answers.specs.Shown.{madeShown, shownBy};
+ghost use Rattle.listing_make.specs.Make.{lentMake};
 ghost use Rattle.library.specs.Numbers.{checkNumber, madeBy};
 
 pub mod good;
@@ -329,6 +332,14 @@ pub extern "C" fn kev_list_delta(delta: &[u8], out: &mut [u8]) -> KevCount
     ensures { λ r. ⌜ Gives (shownAs writtenTold countShown (listDelta (now (delta .entry)) (now (out .entry)))) r (now (out .exit)) ⌝ }
 {
     answers::bytes(listing::list_delta(delta, out))
+}
+
+// The delta that a listing tells, at the front of the buffer: 16, 13, 11, 12, 8.
+#[no_mangle]
+pub extern "C" fn kev_make_delta(text: &[u8], out: &mut [u8]) -> KevMade
+    ensures { λ r. ⌜ Gives (shownBy madeShown (lentMake (now (text .entry)) (now (out .entry)))) r (now (out .exit)) ⌝ }
+{
+    answers::made(listing_make::make_delta(text, out))
 }
 
 // One exchange of two tables: the follower's digest, the publisher's delta for it, the delta applied: 14, 20, 8, 7, 15.

@@ -198,6 +198,13 @@ impl Port {
         assert_eq!(listed.number, 0);
         let text = &out[..listed.count];
         let last = text[..text.len() - 1].rsplit(|&byte| byte == b'\n').next().map(String::from_utf8_lossy).unwrap_or_default();
+        // made again from its listing: the same bytes and none behind them; the line of a refused delta is none
+        self.calls += 1;
+        let mut again = vec![MARK; bytes.len() + 1];
+        let made = ffi::make_delta(text, &mut again);
+        let same = again[..made.bytes] == bytes[..made.bytes] && marked(&again[made.bytes..]);
+        let wanted = if told.number == 0 { (0, bytes.len(), 0, 0, 0) } else { (16, 0, 1, 0, 0) };
+        assert!(same && (made.number, made.bytes, made.line, made.at, made.need) == wanted, "{last}");
         if told.number != 0 {
             assert_eq!((told.ops, told.nodes), (0, 0));
             assert!(last.starts_with(&format!("end=refused code={} at={}", told.number, told.at)), "{last}");

@@ -117,6 +117,16 @@ pub struct Applied {
 
 #[repr(C)]
 #[derive(Clone, Copy)]
+pub struct Made {
+    pub number: u64,
+    pub bytes: usize,
+    pub line: usize,
+    pub at: usize,
+    pub need: usize,
+}
+
+#[repr(C)]
+#[derive(Clone, Copy)]
 pub struct Exchanged {
     pub number: u64,
     pub ops: usize,
@@ -250,6 +260,7 @@ unsafe extern "C" {
     fn kev_apply(table: *mut u8, table_len: usize, delta: *const u8, delta_len: usize, clock: u64, answers: *mut u8, answers_len: usize) -> Applied;
     fn kev_good_apply(table: *mut u8, table_len: usize, delta: *const u8, delta_len: usize, clock: u64, answers: *mut u8, answers_len: usize) -> Applied;
     fn kev_list_delta(delta: *const u8, delta_len: usize, out: *mut u8, out_len: usize) -> Count;
+    fn kev_make_delta(text: *const u8, text_len: usize, out: *mut u8, out_len: usize) -> Made;
     fn kev_exchange(publisher: *const u8, publisher_len: usize, follower: *mut u8, follower_len: usize, edition: u64, mtu: usize, unasked: *const u64, unasked_len: usize, unsent: *const u64, unsent_len: usize, ties: *const u64, ties_len: usize, clock: u64, digest: *mut u8, digest_len: usize, delta: *mut u8, delta_len: usize, answers: *mut u8, answers_len: usize) -> Exchanged;
 }
 
@@ -407,6 +418,10 @@ pub fn apply<S: BytesMut>(store: &mut S, delta: &[u8], clock: u64, answers: &mut
 
 pub fn list_delta(delta: &[u8], out: &mut [u8]) -> Count {
     unsafe { kev_list_delta(delta.as_ptr(), delta.len(), out.as_mut_ptr(), out.len()) }
+}
+
+pub fn make_delta(text: &[u8], out: &mut [u8]) -> Made {
+    unsafe { kev_make_delta(text.as_ptr(), text.len(), out.as_mut_ptr(), out.len()) }
 }
 
 pub fn exchange(publisher: &[u8], follower: &mut [u8], edition: u64, mtu: usize, unasked: &[u64], unsent: &[u64], ties: &[u64], clock: u64, digest: &mut [u8], delta: &mut [u8], answers: &mut [u8]) -> Exchanged {

@@ -69,9 +69,9 @@ mod refusal;
 mod table;
 mod wire;
 
-pub use refusal::{ExchangeRefused, Fault, Refusal, Step};
+pub use refusal::{ExchangeRefused, Fault, ListingRefused, Refusal, Step};
 pub use table::{Answer, Answers, Computed, Header, LentTable, Mode, NodeState, OwnedTable, Record, Status, Table, TableView};
-pub use wire::{Datagrams, DeltaRead, Digest, Edition, Exchanged, NodeDigest, exchange, list_delta, read_delta};
+pub use wire::{Datagrams, DeltaRead, Digest, Edition, Exchanged, NodeDigest, exchange, list_delta, make_delta, read_delta};
 
 /// Bytes of a table.
 pub const TABLE: usize = 29_964;

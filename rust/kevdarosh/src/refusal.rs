@@ -90,6 +90,39 @@ impl Display for Fault {
 
 impl core::error::Error for Fault {}
 
+/// A listing of which no delta was made.
+#[derive(Clone, Copy, Debug, PartialEq, Eq)]
+pub enum ListingRefused {
+    /// The first line that is not exactly as it is listed, number 16. The first of a text is 1; a missing end line is the line after the last.
+    Line(usize),
+    /// The delta that the lines tell is refused, or it has no room: [`Refusal::NoPlace`].
+    Delta(Fault),
+}
+
+impl ListingRefused {
+    /// Its number, as the C functions give it.
+    pub const fn number(self) -> u64 {
+        match self {
+            ListingRefused::Line(_) => BAD_LINE,
+            ListingRefused::Delta(fault) => fault.refusal.number(),
+        }
+    }
+}
+
+/// The number of a line that is not as it is listed. It has a line and no place, and no other call gives it.
+pub(crate) const BAD_LINE: u64 = 16;
+
+impl Display for ListingRefused {
+    fn fmt(&self, f: &mut Formatter<'_>) -> Result {
+        match self {
+            ListingRefused::Line(line) => write!(f, "line {line} is not as it is listed"),
+            ListingRefused::Delta(fault) => fault.fmt(f),
+        }
+    }
+}
+
+impl core::error::Error for ListingRefused {}
+
 /// An exchange that was refused: by which of its steps, and why.
 #[derive(Clone, Copy, Debug, PartialEq, Eq)]
 pub struct ExchangeRefused {

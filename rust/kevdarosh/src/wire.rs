@@ -1,7 +1,7 @@
 //! Digests and deltas as bytes.
 
 use crate::ffi;
-use crate::refusal::{ExchangeRefused, Fault, Refusal, Step, accepted};
+use crate::refusal::{BAD_LINE, ExchangeRefused, Fault, ListingRefused, Refusal, Step, accepted};
 
 /// The editions of a digest, chitchat's `ProtocolVersion`.
 #[derive(Clone, Copy, Debug, PartialEq, Eq, Default)]
@@ -98,6 +98,31 @@ pub fn list_delta(delta: &[u8], out: &mut [u8]) -> Result<usize, Refusal> {
     let answer = ffi::list_delta(delta, out);
     accepted(answer.number)?;
     Ok(answer.count)
+}
+
+/// The delta that a listing tells, at the front of the buffer: how many bytes. Every line must be exactly as [`list_delta`] writes it, to the end line with its counts.
+/// [`crate::DELTA`] bytes are always enough. Refused, it wrote nothing.
+///
+/// ```
+/// # use kevdarosh::{Fault, LISTING, ListingRefused, Refusal, list_delta, make_delta};
+/// let text = b"op=node id=7 gc=0 from=0\nop=kv version=1 status=set key=total value=4\nend=ok ops=2 bytes=45\n";
+/// let (mut delta, mut listing) = ([0; 1_400], [0; LISTING]);
+/// let bytes = make_delta(text, &mut delta).unwrap();
+/// let listed = list_delta(&delta[..bytes], &mut listing).unwrap();
+/// assert_eq!(&listing[..listed], text);
+///
+/// // A space too many in the second line; no room for the delta.
+/// let edited = b"op=node id=7 gc=0 from=0\nop=kv  version=1 status=set key=total value=4\nend=ok ops=2 bytes=45\n";
+/// assert_eq!(make_delta(edited, &mut delta), Err(ListingRefused::Line(2)));
+/// assert_eq!(make_delta(text, &mut [0; 44]), Err(ListingRefused::Delta(Fault { refusal: Refusal::NoPlace, at: 0, need: 0 })));
+/// ```
+pub fn make_delta(text: &[u8], out: &mut [u8]) -> Result<usize, ListingRefused> {
+    let answer = ffi::make_delta(text, out);
+    if answer.number == BAD_LINE {
+        return Err(ListingRefused::Line(answer.line));
+    }
+    Fault::unless(answer.number, answer.at, answer.need).map_err(ListingRefused::Delta)?;
+    Ok(answer.bytes)
 }
 
 /// What an exchange came to.

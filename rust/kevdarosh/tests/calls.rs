@@ -1,6 +1,6 @@
 //! Every call of the crate, on an owned and on a lent table; the refusals by number.
 
-use kevdarosh::{Answer, DIGEST, Datagrams, Digest, Edition, Fault, LISTING, LentTable, Mode, OwnedTable, Refusal, Status, Step, TABLE, TableView, exchange, list_delta, read_delta};
+use kevdarosh::{Answer, DIGEST, Datagrams, Digest, Edition, Fault, LISTING, LentTable, ListingRefused, Mode, OwnedTable, Refusal, Status, Step, TABLE, TableView, exchange, list_delta, make_delta, read_delta};
 
 /// The same story for both kinds of table.
 macro_rules! story {
@@ -88,6 +88,16 @@ macro_rules! story {
         let listed = list_delta(&delta[..sent.bytes], &mut text).unwrap();
         assert!(text[..listed].starts_with(b"op=node id="));
         assert_eq!(list_delta(&delta[..sent.bytes], &mut [0; 3]), Err(Refusal::NoPlace));
+        let mut again = vec![238; sent.bytes + 1];
+        assert_eq!(make_delta(&text[..listed], &mut again), Ok(sent.bytes));
+        assert!(again[..sent.bytes] == delta[..sent.bytes] && again[sent.bytes] == 238);
+        again.fill(238);
+        assert_eq!(make_delta(&text[..listed - 1], &mut again), Err(ListingRefused::Line(sent.ops + 1)));
+        let unplaced = make_delta(&text[..listed], &mut again[..sent.bytes - 1]).unwrap_err();
+        assert_eq!((unplaced, unplaced.number()), (ListingRefused::Delta(fault(Refusal::NoPlace, 0, 0)), 8));
+        let unordered = make_delta(b"op=max version=5\nend=ok ops=1 bytes=9\n", &mut again).unwrap_err();
+        assert_eq!(unordered, ListingRefused::Delta(fault(Refusal::OutOfOrder, 0, 0)));
+        assert!(again.iter().all(|&byte| byte == 238));
         for (bytes, refusal, at) in [(&[3][..], Refusal::BadTag, 0), (&[0; 50], Refusal::NodeTwice, 25), (&[2; 9], Refusal::OutOfOrder, 0), (&[0; 16_385], Refusal::TooMany, 0)] {
             let fault = fault(refusal, at, 0);
             assert_eq!((read_delta(bytes).err(), table.apply_delta(bytes, 0).err()), (Some(fault), Some(fault)));

@@ -1,5 +1,5 @@
 -- `delta_make::finish` meets its contract: by how far the text has come. Assumes nothing.
-use Rattle.delta_make.proofs.Taken.{ends-bad, ends-end, ends-lines}
+use Rattle.delta_make.proofs.Steps.{finished-bad, finished-end, finished-lines}
 use borrow.Author.Needs.{needs}
 use Rattle.delta_make.proofs.finish.Statement.{statement}
 use Rattle.delta_make.proofs.finish.Tie as tie
@@ -22,17 +22,17 @@ enum-known-stage c = search needs
 returns : tie.Need-returns
 returns c =
     let s = c .before .before .before .before in
-    λ t line small h. ends-lines (s .args .making) line (s .args .delta .now) t small h _ (c .before .enum-told .given .1) (c .up .ensures)
+    finished-lines (s .args .making) (s .args .delta .now) _ (c .before .enum-told .given .1) (c .up .ensures)
 
 returns-2 : tie.Need-returns-2
 returns-2 c =
     let s = c .before .before .before .before in
-    λ t line small h. ends-end (s .args .making) line (s .args .delta .now) t small h _ (c .before .enum-told2 .given .1) (c .read-made .ensures)
+    finished-end (s .args .making) (s .args .delta .now) _ (c .before .enum-told2 .given .1) (c .read-made .ensures)
 
 returns-3 : tie.Need-returns-3
 returns-3 c =
     let s = c .before .before .before .before in
-    λ t line small h. ends-bad (s .args .making) line (s .args .delta .now) t small h _ (c .before .stage .given .1)
+    finished-bad (s .args .making) (s .args .delta .now) _ (c .before .stage .given .1)
 
 pub finish-spec : {M : Type 1} → statement M
 finish-spec =

@@ -4,7 +4,7 @@ use mathlib.Core.Path.{sym}
 use native.Mathlib.Omega.{arith}
 use lib.ListN.{length, length-set, set}
 use lib.Seq.{length-take-le}
-use Rattle.delta_make.proofs.Taken.{among-line, among-long, among-more}
+use Rattle.delta_make.proofs.Steps.{among-line, among-long, among-more}
 use borrow.Author.Needs.{needs}
 use Rattle.delta_make.proofs.take_among.Statement.{statement}
 use Rattle.delta_make.proofs.take_among.Tie as tie

@@ -1,5 +1,6 @@
 -- `delta_make::take_byte` meets its contract: by how far the text has come. Assumes nothing.
-use Rattle.delta_make.proofs.Taken.{byte-bad, byte-end}
+use Rattle.delta_make.specs.declared.Stage.the-variants.{Lines}
+use Rattle.delta_make.proofs.Steps.{byte-at, byte-bad, byte-end}
 use borrow.Author.Needs.{needs}
 use Rattle.delta_make.proofs.take_byte.Statement.{statement}
 use Rattle.delta_make.proofs.take_byte.Tie as tie
@@ -31,7 +32,9 @@ same-length-2 c = search needs
 returns : tie.Need-returns
 returns c =
     let call = c .before .before .before .before in
-    λ t h. call .take-among .ensures (call .before .before .before .enum-told .given .1) t h
+    let at = call .before .before .before in
+    let s = at .before .before .before .before in
+    byte-at (s .args .making) (s .args .line .now) (s .args .delta .now) (s .args .byte) Lines _ _ (at .enum-told .given .1) (call .take-among .ensures)
 
 returns-2 : tie.Need-returns-2
 returns-2 c =

@@ -1,13 +1,11 @@
--- `delta_make::take_in` meets its contract: what was taken in and what is left of the piece is the piece. Assumes nothing.
+-- `delta_make::take_in` meets its contract: what is left of the piece, behind what was taken in, gives what the piece gives. Assumes nothing.
 use Prim.Native.Nat.{_-_, _≤_}
 use mathlib.Core.Path.{_≡_, refl, _∙_}
-use mathlib.Core.List.{_++_}
 use native.Mathlib.Omega.{arith}
-use lib.ListN.{length, take}
+use lib.ListN.{length, drop}
 use borrow.Author.Needs.{needs}
-use Rattle.fields.specs.Numbers.{Bytes}
-use Rattle.delta_make.specs.Making.{Holds}
-use Rattle.delta_make.proofs.Taken.{piece-all, piece-more, piece-none}
+use Rattle.delta_make.specs.Making.{kept, takenIn}
+use Rattle.delta_make.proofs.Steps.{piece-all, piece-more}
 use Rattle.delta_make.proofs.take_in.Statement.{statement}
 use Rattle.delta_make.proofs.take_in.Tie as tie
 
@@ -16,15 +14,14 @@ Inv-loop piece line₀ delta₀ taken₀ i₀ line delta taken i =
     (i ≤ length piece)
     × (length line ≡ length line₀)
     × (length delta ≡ length delta₀)
-    × ((t : Bytes) → Holds t taken₀ line₀ delta₀ → Holds (t ++ take i piece) taken line delta)
+    × (takenIn (drop i piece) (kept taken line delta) ≡ takenIn piece (kept taken₀ line₀ delta₀))
 
 abbrev μ-loop : tie.MeasureT-loop
 μ-loop piece line₀ delta₀ taken₀ i₀ line delta taken i = length piece - i
 
 loop-holds : tie.Need-loop-holds Inv-loop μ-loop
 loop-holds c =
-    let a = c .before .before .before .args in
-    (omega arith, refl, refl, λ t h. piece-none t (a .piece .now) (a .making) (a .line .now) (a .delta .now) h)
+    (omega arith, refl, refl, refl)
 
 shared-slice-read-take-byte : tie.Need-shared-slice-read-take-byte Inv-loop μ-loop
 shared-slice-read-take-byte c = search needs
@@ -47,8 +44,7 @@ loop-again c =
       omega arith,
       call .take-byte .kept .1 .1 .0 ∙ q .inv .1,
       call .take-byte .kept .1 .1 .1 .0 ∙ q .inv .2,
-      λ t h. piece-more t (a .piece .now) (q .i) (call .take-byte .result) (call .take-byte .last .1 .1 .0) (call .take-byte .last .1 .1 .1 .0)
-          (test .loop-test .taken) (call .take-byte .ensures (t ++ take (q .i) (a .piece .now)) (q .inv .3 t h)),
+      piece-more (a .piece .now) (q .i) (q .taken) (q .line) (q .delta) _ _ _ _ (test .loop-test .taken) (call .take-byte .ensures) (q .inv .3),
     )
 
 same-length : tie.Need-same-length Inv-loop μ-loop
@@ -61,7 +57,7 @@ returns : tie.Need-returns Inv-loop μ-loop
 returns c =
     let q = c .before .loop in
     let a = c .before .before .before .before .before .args in
-    λ t h. piece-all t (a .piece .now) (q .i) (q .taken) (q .line) (q .delta) (c .loop-test .left) (q .inv .3 t h)
+    piece-all (a .piece .now) (q .i) (q .taken) (q .line) (q .delta) _ (q .inv .0) (c .loop-test .left) (q .inv .3)
 
 pub take-in-spec : {M : Type 1} → statement M
 take-in-spec =

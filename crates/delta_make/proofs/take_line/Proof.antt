@@ -4,7 +4,8 @@ use mathlib.Core.Path.{sym}
 use lib.ListN.{length}
 use lib.Seq.{length-take-le}
 use Rattle.listing_read.specs.Unlist.{readLine}
-use Rattle.delta_make.proofs.Taken.{taken-bad, taken-end, taken-more, told-within}
+use Rattle.delta_make.proofs.Steps.{line-bad, line-end, line-op}
+use Rattle.delta_make.proofs.Taken.{told-within}
 use borrow.Author.Needs.{needs}
 use Rattle.delta_make.proofs.take_line.Statement.{statement}
 use Rattle.delta_make.proofs.take_line.Tie as tie
@@ -24,8 +25,11 @@ is-end-requires c κs = search needs
 
 returns : tie.Need-returns
 returns c =
-    let s = c .before .before .before .before .before .before .before .before in
-    taken-end (s .args .line .now) (s .args .ops) (s .args .bytes) (s .args .delta .now) _ (c .before .is-end .ensures) (c .if2 .taken)
+    let end = c .before in
+    let read = end .before .before .before in
+    let s = read .before .before .before .before in
+    line-end (s .args .line .now) (s .args .ops) (s .args .bytes) (s .args .delta .now) _ _ (read .read-line .ensures) _ (end .before .if1 .taken)
+    (end .is-end .ensures) (c .if2 .taken)
 
 up-requires : tie.Need-up-requires
 up-requires c κs = search needs
@@ -39,7 +43,7 @@ returns-2 c =
     let end = test .before in
     let read = end .before .before .before in
     let s = read .before .before .before .before in
-    taken-bad (s .args .line .now) (s .args .ops) (s .args .bytes) (s .args .delta .now) _ _ _ _ _ (read .read-line .ensures) (end .before .if1 .taken)
+    line-bad (s .args .line .now) (s .args .ops) (s .args .bytes) (s .args .delta .now) _ _ (read .read-line .ensures) _ _ _ (end .before .if1 .taken)
     (end .is-end .ensures) (test .if2 .left) (c .before .up .ensures) (c .bad .ensures)
 
 array-share-prefix-op : tie.Need-array-share-prefix-op
@@ -66,7 +70,7 @@ returns-3 c =
     let test = store .before .before .before in
     let read = test .before .before in
     let s = read .before .before .before .before in
-    taken-more (s .args .line .now) (s .args .ops) (s .args .bytes) (s .args .delta .now) _ _ _ _ _ (read .read-line .ensures) (test .if1 .left)
+    line-op (s .args .line .now) (s .args .ops) (s .args .bytes) (s .args .delta .now) _ _ (read .read-line .ensures) _ _ _ (test .if1 .left)
     (c .before .up2 .ensures) (c .up3 .ensures) (store .store .ensures)
 
 pub take-line-spec : {M : Type 1} → statement M
