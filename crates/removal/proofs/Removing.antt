@@ -7,7 +7,7 @@ use mathlib.Core.Bool.{Bool, true, false, not}
 use mathlib.Core.List.{List, [], _∷_, _++_, append-nil, append-assoc}
 use mathlib.Core.Logic.{⊎-elim}
 use native.Mathlib.Omega.{arith}
-use native.Mathlib.Nat.{add-mul}
+use native.Mathlib.Nat.{add-mul, add-zero}
 use native.Mathlib.Numerals.{add-one}
 use lib.ListN.{length, getD, set, take, drop, length-take, length-drop, length-set, take-append-drop, drop-of-length-le}
 use lib.Seq.{length-take-le, take-all, drop-cons, set-split, take-suc-set, drop-set-lt}
@@ -20,7 +20,7 @@ use Rattle.fields.specs.Blocks.{zeros, flat, blocks}
 use Rattle.fields.specs.Widths.{joined, offset}
 use Rattle.fields.proofs.Choice.{in-append, in-cons, in-take, in-drop, keep-from}
 use Rattle.fields.proofs.Numbers.{length-bytesOf}
-use Rattle.fields.proofs.Parts.{put-nil, put-at, put-part}
+use Rattle.fields.proofs.Parts.{put-at}
 use Rattle.fields.proofs.Blocks.{length-zeros, zeros-add, length-flat, length-flat-take, blocks-is, blocks-two, length-blocks, block}
 use Rattle.fields.proofs.Widths.{field-set, field-put, widths-set}
 use Rattle.rules.specs.Sizes.{maxRecords, numbers, top}
@@ -35,12 +35,12 @@ use Rattle.table.specs.Changes.{withNode, withRecs, withRecAt}
 use Rattle.table.proofs.Records.{length-rec}
 use Rattle.table.proofs.Nodes.{node-widths, decode-encode-node, laid-node}
 use Rattle.table.proofs.Tables.{length-decode, read-back, laid-table}
-use Rattle.table.proofs.Places.{recBytes, recAt, recs-at, length-recs, nodeAt, decode-at}
+use Rattle.table.proofs.Places.{recBytes, recAt, recs-drop, recs-at, length-recs, nodeAt, decode-at}
 use Rattle.table.proofs.Areas.{part-in}
 use Rattle.table.proofs.Changed.{table-set}
 use Rattle.table.proofs.Laid.{laid-rec, laid-at}
 use Rattle.table_write.proofs.Steps.{put-steps}
-use Rattle.removal.specs.Removals.{withGone, withFirst, removed}
+use Rattle.removal.specs.Removals.{firstGoing, withGone, withFirst, removed}
 
 -- ---- the clock
 
@@ -69,9 +69,53 @@ doneFrom due k j e =
     })
     e
 
-pub none-done : (due : Rec → Bool) (e : Entry) → doneFrom due 0 0 e ≡ removed due e
+-- none goes in front of the first that does
+pub first-few : (due : Rec → Bool) (l : List Rec) → firstGoing due l ≤ length l
+unfolding firstGoing
+first-few due [] = omega arith
+first-few due (a ∷ l) = by (goes due a) (first-few due l)
+  where
+    by : (t : Bool) → firstGoing due l ≤ length l → pick t 0 (suc (firstGoing due l)) ≤ suc (length l)
+    by true h = omega arith
+    by false h = omega arith
+
+first-gc : (due : Rec → Bool) (g : ℕ) (l : List Rec) → lastGc due g (drop (firstGoing due l) l) ≡ lastGc due g l
+unfolding firstGoing lastGc
+first-gc due g [] = refl
+first-gc due g (a ∷ l) = by (goes due a) refl (first-gc due g l)
+  where
+    by : (t : Bool) → goes due a ≡ t → lastGc due g (drop (firstGoing due l) l) ≡ lastGc due g l
+        → lastGc due g (drop (pick (goes due a) 0 (suc (firstGoing due l))) (a ∷ l)) ≡ lastGc due g (a ∷ l)
+    by true s h = ap (λ (t : Bool). lastGc due g (drop (pick t 0 (suc (firstGoing due l))) (a ∷ l))) s
+    by false s h =
+        ap (λ (t : Bool). lastGc due g (drop (pick t 0 (suc (firstGoing due l))) (a ∷ l))) s
+        ∙ h
+        ∙ sym (ap (λ (t : Bool). lastGc due (pick t (max g (a .kv .version)) g) l) s)
+
+-- the records as they are left, if the first k stay and the rule does the rest
+abbrev leftFrom : (due : Rec → Bool) (k : ℕ) (recs : List Rec) → List Rec
+leftFrom due k l = take k l ++ keep (λ r. not (goes due r)) (drop k l)
+
+first-recs : (due : Rec → Bool) (l : List Rec) → leftFrom due (firstGoing due l) l ≡ keep (λ r. not (goes due r)) l
+unfolding firstGoing keep
+first-recs due [] = refl
+first-recs due (a ∷ l) = by (goes due a) refl (first-recs due l)
+  where
+    by : (t : Bool) → goes due a ≡ t → leftFrom due (firstGoing due l) l ≡ keep (λ r. not (goes due r)) l
+        → leftFrom due (pick (goes due a) 0 (suc (firstGoing due l))) (a ∷ l) ≡ keep (λ r. not (goes due r)) (a ∷ l)
+    by true s h = ap (λ (t : Bool). leftFrom due (pick t 0 (suc (firstGoing due l))) (a ∷ l)) s
+    by false s h =
+        let k : List Rec = keep (λ r. not (goes due r)) l in
+        ap (λ (t : Bool). leftFrom due (pick t 0 (suc (firstGoing due l))) (a ∷ l)) s
+        ∙ ap (λ (x : List Rec). a ∷ x) h
+        ∙ sym (ap (λ (t : Bool). pick (not t) (a ∷ k) k) s)
+
+-- so the removal may begin there
+pub first-done : (due : Rec → Bool) (e : Entry) → doneFrom due (firstGoing due (e .node .recs)) (firstGoing due (e .node .recs)) e ≡ removed due e
 unfolding remove
-none-done due e = refl
+first-done due e =
+    ap₂ (λ (g : ℕ) (x : List Rec). withNode (record { heartbeat = e .node .heartbeat; max = e .node .max; last-gc = g; recs = x }) e)
+    (first-gc due (e .node .last-gc) (e .node .recs)) (first-recs due (e .node .recs))
 
 pub all-done : (due : Rec → Bool) (k j : ℕ) (e : Entry) → length (e .node .recs) ≤ j → doneFrom due k j e ≡ withFirst k e
 unfolding lastGc keep
@@ -172,11 +216,6 @@ fits-set t i e h o f = record { few = rw length-set (o .few); each = in-set Fits
 
 -- ---- in a node's bytes
 
--- bytes put where they stand
-put-same : (at n : ℕ) (l : List ℕ) → at + n ≤ length l → put at (part at n l) l ≡ l
-put-same at n l h =
-    ap (λ (x : List ℕ). put at x l) (sym (put-nil 0 (part at n l))) ∙ put-part at n 0 [] l h (omega arith) ∙ put-nil (at + 0) l
-
 -- the first k of the blocks stay, and zeros come for the others
 blocks-cut : {A : Type 0} (enc : A → List ℕ) (w : ℕ) (wide : (a : A) → length (enc a) ≡ w) (n k : ℕ) (es : List A) → length es ≤ n → k ≤ length es
     → put (k * w) (zeros ((length es - k) * w)) (blocks n w enc es) ≡ blocks n w enc (take k es)
@@ -231,12 +270,6 @@ module _ (b : List ℕ) (o : LaidNode b) where
     pub brought : (k : ℕ) (s : List ℕ) → k ≤ j → s ≡ put (recPlace k) (recBytes j b) b → s ≡ encodeNode (withRecAt k (recAt j b) (decodeNode b))
     brought k s g e = put-steps b o k (recAt j b) s (omega arith) (e ∙ ap (λ (x : List ℕ). put (recPlace k) x b) rec-is)
 
-    -- which may be its own
-    pub left : (k : ℕ) → k ≤ j → j ≤ k → b ≡ encodeNode (withRecAt k (recAt j b) (decodeNode b))
-    left k g f =
-        let same : j ≡ k = omega arith in
-        brought k b g (sym (put-same (recPlace j) recWidth b (omega (arith, o .long, o .few))) ∙ ap (λ (i : ℕ). put (recPlace i) (recBytes j b) b) same)
-
     -- the node once record j stands at place k
     module _ (k : ℕ) (g : k ≤ j) (s : List ℕ) (e : s ≡ encodeNode (withRecAt k (recAt j b) (decodeNode b))) where
       kept : FitsEntry (withRecAt k (recAt j b) (decodeNode b))
@@ -272,6 +305,27 @@ module _ (b : List ℕ) (o : LaidNode b) where
 
       pub node-goes : (due : Rec → Bool) (k : ℕ) → goes due (recAt j b) ≡ true → doneFrom due k (j + 1) (decodeNode s) ≡ doneFrom due k j (decodeNode b)
       node-goes due k t = ap (doneFrom due k (j + 1)) is-gone ∙ step-goes due (decodeNode b) k j (recAt j b) held (recs-at j b (recAt j b) h) t
+
+  -- the search for the first that goes, at record j
+  module _ (due : Rec → Bool) (j f : ℕ) (e : j + firstGoing due (drop j (recsIn b)) ≡ f) where
+    turn : (t : Bool) → j < countOf b → goes due (recAt j b) ≡ t → j + pick t 0 (suc (firstGoing due (drop (suc j) (recsIn b)))) ≡ f
+    unfolding firstGoing
+    turn t h s =
+        sym (ap (λ (u : Bool). j + pick u 0 (suc (firstGoing due (drop (suc j) (recsIn b))))) s)
+        ∙ sym (ap (λ (x : List Rec). j + firstGoing due x) (recs-drop j b h))
+        ∙ e
+
+    pub found : j < countOf b → goes due (recAt j b) ≡ true → j ≡ f
+    found h s = omega (arith, turn true h s)
+
+    pub not-found : j < countOf b → goes due (recAt j b) ≡ false → j + 1 + firstGoing due (drop (j + 1) (recsIn b)) ≡ f
+    not-found h s = ap (λ (k : ℕ). j + 1 + firstGoing due (drop k (recsIn b))) (add-one j) ∙ omega (arith, turn false h s)
+
+    pub none-found : countOf b ≤ j → j ≡ f
+    unfolding firstGoing
+    none-found h =
+        let none : drop j (recsIn b) ≡ [] = drop-of-length-le (recsIn b) {i = j} (rw length-recs h) in
+        sym (add-zero j) ∙ sym (ap (λ (x : List Rec). j + firstGoing due x) none) ∙ e
 
   -- the two writes of a cut, and one that has nothing to cut
   pub cut-steps : (s1 s2 : List ℕ) (n k : ℕ) → n ≡ countOf b → k ≤ n → s1 ≡ put (recPlace k) (zeros ((n - k) * recWidth)) b

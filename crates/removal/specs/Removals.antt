@@ -1,11 +1,18 @@
 -- A node under its number while and after records go. The rules say what a removal leaves of a node; these are the same on an entry of a table, which is
 -- what a node's bytes are read as.
-use Prim.Native.Nat.{ℕ, max}
+use Prim.Native.Nat.{ℕ, suc, max}
 use mathlib.Core.Bool.{Bool}
+use mathlib.Core.List.{List, [], _∷_}
 use lib.ListN.{take}
-use Rattle.rules.specs.Node.{Rec, remove}
+use Rattle.fields.specs.Choice.{pick}
+use Rattle.rules.specs.Node.{Rec, goes, remove}
 use Rattle.rules.specs.Table.{Entry}
 use Rattle.table.specs.Changes.{withNode, withGc, withRecs}
+
+-- how many records stand in front of the first that goes
+unfoldable pub firstGoing : (due : Rec → Bool) (recs : List Rec) → ℕ
+firstGoing due [] = 0
+firstGoing due (a ∷ l) = pick (goes due a) 0 (suc (firstGoing due l))
 
 -- a record with this version is one that goes: last_gc is the larger of itself and the version
 abbrev pub withGone : (version : ℕ) (entry : Entry) → Entry

@@ -18,11 +18,11 @@ ghost use Rattle.rules.specs.Node.{goes, due};
 ghost use Rattle.rules.specs.Table.{removeAll};
 ghost use Rattle.rules.specs.Layout.{encodeNode, decodeNode, encode, decode, valid};
 ghost use Rattle.rules.specs.Lent.{lentGc};
-ghost use Rattle.table.specs.Tests.{countOf};
+ghost use Rattle.table.specs.Tests.{countOf, recsIn};
 ghost use Rattle.table.specs.Fits.{LaidNode};
 ghost use Rattle.table.specs.Places.{recAt};
 ghost use Rattle.table.specs.Changes.{withRecAt};
-ghost use Rattle.removal.specs.Removals.{withGone, withFirst, removed};
+ghost use Rattle.removal.specs.Removals.{firstGoing, withGone, withFirst, removed};
 
 // Whether the grace of a record that is scheduled from `start` is over.
 fn is_due(start: u64, clock: u64, grace: u64) -> bool
@@ -66,16 +66,14 @@ fn raise_last_gc(node: &mut [u8], j: usize)
     table_write::set_last_gc(node, last_gc);
 }
 
-// Record `j` of a node is one that stays: it comes to place `to`, in front of it or its own.
+// Record `j` of a node is one that stays: it comes to place `to`, which is not behind it.
 fn bring_down(node: &mut [u8], j: usize, to: usize)
     requires { ⌜ LaidNode (now node) × (to ≤ j) × (j < countOf (now node)) ⌝ }
     ensures { λ _. ⌜ now (node .exit) ≡ encodeNode (withRecAt to (recAt j (now (node .entry))) (decodeNode (now (node .entry)))) ⌝ }
 {
-    if to < j {
-        let from = table::record_place(j);
-        let place = table::record_place(to);
-        fields::move_down(node, from, place, layout::RECORD);
-    }
+    let from = table::record_place(j);
+    let place = table::record_place(to);
+    fields::move_down(node, from, place, layout::RECORD);
 }
 
 // The first `kept` records of a node stay. The places of the others are cleared, so that they leave no byte behind.
@@ -92,14 +90,31 @@ fn cut(node: &mut [u8], kept: usize)
     }
 }
 
-// All records of a node that are due go, in one pass: those that stay come down to the next free place. Where none goes, nothing is written.
+// The place of the first record that goes; how many there are, where none does.
+fn first_due(node: &[u8], clock: u64, grace: u64) -> usize
+    requires { ⌜ LaidNode (now node) ⌝ }
+    ensures { λ r. ⌜ r ≡ firstGoing (due clock grace) (recsIn (now (node .entry))) ⌝ }
+{
+    let n = fields::byte_at(node, layout::RECORD_COUNT);
+    let mut j = 0;
+    while j < n {
+        if must_go(node, j, clock, grace) {
+            return j;
+        }
+        j += 1;
+    }
+    j
+}
+
+// All records of a node that are due go, in one pass: from the first of them on, those that stay come down to the next free place. Where none goes,
+// nothing is written.
 fn remove_due(node: &mut [u8], clock: u64, grace: u64)
     requires { ⌜ LaidNode (now node) ⌝ }
     ensures { λ _. ⌜ now (node .exit) ≡ encodeNode (removed (due clock grace) (decodeNode (now (node .entry)))) ⌝ }
 {
     let n = fields::byte_at(node, layout::RECORD_COUNT);
-    let mut kept = 0;
-    let mut j = 0;
+    let mut kept = first_due(node, clock, grace);
+    let mut j = kept;
     while j < n {
         if must_go(node, j, clock, grace) {
             raise_last_gc(node, j);

@@ -1,10 +1,10 @@
--- `removal::bring_down` meets its contract: the record's bytes are put at the other place, or stand there. Assumes nothing.
+-- `removal::bring_down` meets its contract: the record's bytes are put at the other place. Assumes nothing.
 use Prim.Native.Nat.{ℕ}
 use mathlib.Core.Path.{ap₂, _∙_}
 use mathlib.Core.List.{List}
 use Rattle.fields.specs.Parts.{part, put}
 use Rattle.rules.specs.Layout.{recWidth}
-use Rattle.removal.proofs.Removing.{brought, left}
+use Rattle.removal.proofs.Removing.{brought}
 use borrow.Author.Needs.{needs}
 use Rattle.removal.proofs.bring_down.Statement.{statement}
 use Rattle.removal.proofs.bring_down.Tie as tie
@@ -26,15 +26,10 @@ returns c =
     let m = c .before .before in
     let to = m .before .before in
     let from = to .before in
-    let st = from .before .before .before in
+    let st = from .before .before in
     let b : List ℕ = st .args .node .now in
     brought b (st .pre .0) (st .args .j) (st .pre .2) (st .args .to) _ (st .pre .1)
     (m .move-down .ensures ∙ ap₂ (λ (x y : ℕ). put y (part x recWidth b) b) (from .record-place .ensures) (to .record-place2 .ensures))
-
-returns-2 : tie.Need-returns-2
-returns-2 c =
-    let st = c .before .before in
-    left (st .args .node .now) (st .pre .0) (st .args .j) (st .pre .2) (st .args .to) (st .pre .1) (c .if1 .left)
 
 pub bring-down-spec : {M : Type 1} → statement M
 bring-down-spec =
@@ -44,5 +39,4 @@ bring-down-spec =
     record-place-requires-2
     move-down-requires
     same-length
-    returns
-    returns-2)
+    returns)

@@ -8,10 +8,11 @@ use mathlib.Core.Logic.{⊎-elim}
 use native.Mathlib.Omega.{arith}
 use Rattle.rules.specs.Node.{Rec, due}
 use Rattle.rules.specs.Layout.{decodeNode}
-use Rattle.table.specs.Tests.{countOf}
+use Rattle.table.specs.Tests.{countOf, recsIn}
 use Rattle.table.specs.Fits.{LaidNode}
+use Rattle.table.proofs.Places.{length-recs}
 use Rattle.removal.specs.Removals.{removed}
-use Rattle.removal.proofs.Removing.{doneFrom, none-done, node-goes, node-stays, node-end, gone-laid, gone-count, kept-laid, kept-count}
+use Rattle.removal.proofs.Removing.{doneFrom, first-few, first-done, node-goes, node-stays, node-end, gone-laid, gone-count, kept-laid, kept-count}
 use borrow.Author.Needs.{needs}
 use Rattle.removal.proofs.remove_due.Statement.{statement}
 use Rattle.removal.proofs.remove_due.Tie as tie
@@ -29,11 +30,22 @@ within c = omega (arith, c .before .loop .inv .1)
 byte-at-requires : tie.Need-byte-at-requires Inv-loop μ-loop
 byte-at-requires c κs = search needs
 
+first-due-requires : tie.Need-first-due-requires Inv-loop μ-loop
+first-due-requires c κs = search needs
+
 loop-holds : tie.Need-loop-holds Inv-loop μ-loop
 loop-holds c =
-    let st = c .before .before .before in
+    let n = c .before .before in
+    let st = n .before .before .before in
     let a = st .args in
-    (st .pre, sym (c .byte-at .ensures .0), omega arith, omega arith, none-done (due (a .clock) (a .grace)) (decodeNode (a .node .now)))
+    let p : Rec → Bool = due (a .clock) (a .grace) in
+    let b : List ℕ = a .node .now in (
+      st .pre,
+      sym (n .byte-at .ensures .0),
+      omega arith,
+      omega (arith, n .byte-at .ensures .0, c .first-due .ensures, first-few p (recsIn b), length-recs b),
+      ap (λ (k : ℕ). doneFrom p k k (decodeNode b)) (c .first-due .ensures) ∙ first-done p (decodeNode b),
+    )
 
 must-go-requires : tie.Need-must-go-requires Inv-loop μ-loop
 must-go-requires c κs = (c .before .before .loop .inv .0, within (c .before))
@@ -62,7 +74,7 @@ loop-again c =
     let m = c .before in
     let i = m .before .before in
     let q = i .before in
-    let a = q .before .before .before .before .args in
+    let a = q .before .before .before .before .before .before .args in
     let p : Rec → Bool = due (a .clock) (a .grace) in
     let b : List ℕ = q .loop .node in
     let o = q .loop .inv .0 in
@@ -99,7 +111,7 @@ returns : tie.Need-returns Inv-loop μ-loop
 returns c =
     let w = c .before .before in
     let q = w .before .before .before in
-    let a = q .before .before .before .before .args in
+    let a = q .before .before .before .before .before .before .args in
     let p : Rec → Bool = due (a .clock) (a .grace) in
     node-end (q .loop .node) (q .loop .inv .0) p (q .loop .kept) (q .loop .j) (removed p (decodeNode (a .node .now))) _ (omega (arith, q .loop .inv .1)) (q .loop .inv .4)
     (w .cut .ensures)
@@ -111,6 +123,7 @@ remove-due-spec =
     Inv-loop
     μ-loop
     byte-at-requires
+    first-due-requires
     loop-holds
     must-go-requires
     raise-last-gc-requires
