@@ -334,6 +334,9 @@ uint64_t kev_good_add_node(uint8_t *table, size_t table_len, uint64_t node);
 /* Numbers: 2. */
 uint64_t kev_good_remove_node(uint8_t *table, size_t table_len, uint64_t node);
 
+/* Numbers: none. */
+struct kev_heartbeat kev_good_last_heartbeat(const uint8_t *table, size_t table_len, uint64_t node);
+
 /* Numbers: 10, 2, 1, 5, 6. */
 uint64_t kev_good_write(
     uint8_t *table, size_t table_len, uint64_t node, const uint8_t *key, size_t key_len, const uint8_t *value,

@@ -84,12 +84,15 @@ static void local_calls(void) {
     CHECK(same(table));
     GIVES(0, kev_offer_heartbeat(T(table), 17, 33).number);
     CHECK(kev_last_heartbeat(T(table), 17).number == 0 && kev_last_heartbeat(T(table), 17).found == 0);
+    CHECK(kev_good_last_heartbeat(T(table), 17).number == 0 && kev_good_last_heartbeat(T(table), 17).found == 0);
     BOTH(table, kev_remove_node(T(t), 17), kev_good_remove_node(T(t), 17));
     BOTH(table, kev_remove_node(T(t), 17), kev_good_remove_node(T(t), 17));
     struct kev_heartbeat last = kev_last_heartbeat(T(table), 17);
     CHECK(last.number == 0 && last.found == 1 && last.heartbeat == 33);
+    last = kev_good_last_heartbeat(T(table), 17);
+    CHECK(last.number == 0 && last.found == 1 && last.heartbeat == 33);
     BOTH(table, kev_add_node(T(t), 17), kev_good_add_node(T(t), 17));
-    CHECK(kev_last_heartbeat(T(table), 17).found == 0);
+    CHECK(kev_last_heartbeat(T(table), 17).found == 0 && kev_good_last_heartbeat(T(table), 17).found == 0);
     BOTH(table, kev_remove_node(T(t), 17), kev_good_remove_node(T(t), 17));
 
     BOTH(table, kev_write(T(t), 10, TEXT("total"), TEXT("41"), KEV_SET, 5), kev_good_write(T(t), 10, TEXT("total"), TEXT("41"), KEV_SET, 5));

@@ -56,7 +56,7 @@ fn ask<S: ffi::BytesMut>(table: &mut S, call: &Call) -> Told {
         Call::Add { node } => plain(ffi::add_node(table, *node)),
         Call::Remove { node } => plain(ffi::remove_node(table, *node)),
         Call::Removed { node } => {
-            let told = ffi::last_heartbeat(table.bytes(), *node);
+            let told = ffi::last_heartbeat(table, *node);
             or(told.number, if told.found == 0 { Answer::None } else { Answer::Heartbeat(told.heartbeat) })
         }
         Call::Write { node, key, value, status, now } => plain(ffi::write(table, *node, key, value, *status, *now)),
@@ -244,7 +244,7 @@ impl Port {
             .chunks(REMOVED_BYTES)
             .take(tail[2].into())
             .map(|place| number(&place[..8]))
-            .map(|node| (node, ffi::last_heartbeat(table, node).heartbeat))
+            .map(|node| (node, ffi::last_heartbeat(&table, node).heartbeat))
             .collect();
         self.calls += removed.len() as u64;
         if encode_with(&nodes, tail[0], &removed) == table { Ok(()) } else { Err("the readings are not those of the table".into()) }

@@ -208,6 +208,7 @@ unsafe extern "C" {
     fn kev_remove_node(table: *mut u8, table_len: usize, node: u64) -> u64;
     fn kev_good_remove_node(table: *mut u8, table_len: usize, node: u64) -> u64;
     fn kev_last_heartbeat(table: *const u8, table_len: usize, node: u64) -> Heartbeat;
+    fn kev_good_last_heartbeat(table: *const u8, table_len: usize, node: u64) -> Heartbeat;
     fn kev_write(table: *mut u8, table_len: usize, node: u64, key: *const u8, key_len: usize, value: *const u8, value_len: usize, wanted: u64, clock: u64) -> u64;
     fn kev_good_write(table: *mut u8, table_len: usize, node: u64, key: *const u8, key_len: usize, value: *const u8, value_len: usize, wanted: u64, clock: u64) -> u64;
     fn kev_delete(table: *mut u8, table_len: usize, node: u64, key: *const u8, key_len: usize, clock: u64) -> u64;
@@ -275,8 +276,10 @@ pub fn remove_node<S: BytesMut>(store: &mut S, node: u64) -> u64 {
     unsafe { call(table.as_mut_ptr(), table.len(), node) }
 }
 
-pub fn last_heartbeat(table: &[u8], node: u64) -> Heartbeat {
-    unsafe { kev_last_heartbeat(table.as_ptr(), table.len(), node) }
+pub fn last_heartbeat<S: Bytes>(store: &S, node: u64) -> Heartbeat {
+    let call = if S::GOOD { kev_good_last_heartbeat } else { kev_last_heartbeat };
+    let table = store.bytes();
+    unsafe { call(table.as_ptr(), table.len(), node) }
 }
 
 pub fn write<S: BytesMut>(store: &mut S, node: u64, key: &[u8], value: &[u8], wanted: u64, clock: u64) -> u64 {

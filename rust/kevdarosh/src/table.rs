@@ -229,7 +229,7 @@ impl<S: Bytes> Table<S> {
 
     /// The last heartbeat of a node that was removed; none where the table does not remember it. It remembers the last sixteen.
     pub fn last_heartbeat_if_deleted(&self, node: u64) -> Result<Option<u64>, Refusal> {
-        let answer = ffi::last_heartbeat(self.store.bytes(), node);
+        let answer = ffi::last_heartbeat(&self.store, node);
         accepted(answer.number)?;
         Ok((answer.found != 0).then_some(answer.heartbeat))
     }
