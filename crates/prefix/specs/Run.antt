@@ -4,11 +4,12 @@ use Prim.Native.Nat.{ℕ, zero, suc, _-_, _≤_, _<_}
 use mathlib.Core.Path.{_≡_}
 use mathlib.Core.Bool.{true, false, not}
 use mathlib.Core.List.{List, [], _∷_}
-use lib.ListN.{drop}
+use lib.ListN.{length, drop}
 use Rattle.fields.specs.Choice.{pick}
 use Rattle.fields.specs.Numbers.{Bytes}
 use Rattle.fields.specs.Order.{lessBytes, startsWith}
-use Rattle.fields.specs.Parts.{part}
+use Rattle.fields.specs.Parts.{part, put}
+use Rattle.rules.specs.Given.{Given, given}
 use Rattle.rules.specs.Node.{Rec, hidden}
 use Rattle.rules.specs.Layout.{recPlace, recWidth, decodeRec}
 use Rattle.table.specs.Tests.{countOf, recsIn}
@@ -40,3 +41,7 @@ shownFrom i (suc n) (r ∷ l) = pick (not (hidden (r .kv .status))) (i ∷ shown
 -- the same of those from `low` up to `high` of a node's bytes
 abbrev pub shownIn : (low high : ℕ) (node : Bytes) → Bytes
 shownIn low high node = shownFrom low (high - low) (drop low (recsIn node))
+
+-- how many they are, and what they leave of a list that has room for them
+abbrev pub shownInto : (low high : ℕ) (node list : Bytes) → Given ℕ Bytes
+shownInto low high node list = given (length (shownIn low high node)) (put 0 (shownIn low high node) list)

@@ -15,7 +15,7 @@ ghost use mathlib.Core.Option.{some};
 ghost use Prim.Native.Nat.{_≤_, _<_};
 ghost use lib.ListN.{length};
 ghost use Rattle.fields.specs.Order.{startsWith};
-ghost use Rattle.fields.specs.Parts.{part, put};
+ghost use Rattle.fields.specs.Parts.{part};
 ghost use Rattle.rules.specs.Answers.{listedTold};
 ghost use Rattle.rules.specs.Given.{Gives, Tells};
 ghost use Rattle.rules.specs.Node.{hidden};
@@ -25,7 +25,7 @@ ghost use Rattle.rules.specs.Layout.{recPlace, recWidth, decodeRec, decodeNode,
 ghost use Rattle.rules.specs.Lent.{lentPrefixed};
 ghost use Rattle.table.specs.Tests.{countOf, recsIn};
 ghost use Rattle.table.specs.Fits.{LaidNode};
-ghost use Rattle.prefix.specs.Run.{keyAt, FirstOf, RunOf, shownIn};
+ghost use Rattle.prefix.specs.Run.{keyAt, FirstOf, RunOf, shownIn, shownInto};
 
 // Whether the key of record `j` of a node's bytes begins with the prefix.
 fn begins(node: &[u8], j: usize, prefix: &[u8]) -> bool
@@ -97,7 +97,7 @@ fn count_shown(node: &[u8], low: usize, high: usize) -> usize
 // The places of these records, to the front of a list that has room for them, and how many they are.
 fn write_shown(node: &[u8], low: usize, high: usize, out: &mut [u8]) -> usize
     requires { ⌜ LaidNode (now node) × (low ≤ high) × (high ≤ countOf (now node)) × (length (shownIn low high (now node)) ≤ length (now out)) ⌝ }
-    ensures { λ r. ⌜ (r ≡ length (shownIn low high (now (node .entry)))) × (now (out .exit) ≡ put 0 (shownIn low high (now (node .entry))) (now (out .entry))) ⌝ }
+    ensures { λ r. ⌜ Gives (shownInto low high (now (node .entry)) (now (out .entry))) r (now (out .exit)) ⌝ }
 {
     let mut next = 0;
     let mut j = low;

@@ -14,6 +14,8 @@
 //!   (`inspect_text`: `Same`). They are used by indexing, which checks once more.
 
 #![allow(unsafe_code)]
+// Every function of the header stands here; tables need not all of them.
+#![allow(dead_code)]
 
 use crate::TABLE;
 

@@ -388,10 +388,17 @@ impl<'a, S: Bytes> NodeState<'a, S> {
         Ok((answer.found != 0).then(|| self.table.record(answer)))
     }
 
+    /// The record in a place, which has one. An owned table's node is sought once, and each record read by both places; of a lent table seeking would
+    /// check it too.
+    fn reading(&self) -> impl Fn(usize) -> Record<'a> + use<'a, S> {
+        let (table, node) = (self.table, self.node);
+        let place = if S::GOOD { table.place(node) } else { NODES };
+        move |j| table.record(if S::GOOD { ffi::record_of(&table.store, place, j) } else { ffi::record_at(&table.store, node, j) })
+    }
+
     /// All records, deleted ones too, in key order.
     pub fn key_values_including_deleted(&self) -> impl Iterator<Item = Record<'a>> + use<'a, S> {
-        let (table, place) = (self.table, self.table.place(self.node));
-        (0..ffi::record_count(&table.store, self.node).count).map(move |j| table.record(ffi::record_of(&table.store, place, j)))
+        (0..ffi::record_count(&self.table.store, self.node).count).map(self.reading())
     }
 
     /// The keys and values that are not deleted, in key order.
@@ -409,8 +416,7 @@ impl<'a, S: Bytes> NodeState<'a, S> {
         let mut places = [0; RECORDS];
         let answer = ffi::list_prefix(&self.table.store, self.node, prefix, &mut places);
         accepted(answer.number)?;
-        let (table, place) = (self.table, self.table.place(self.node));
-        Ok(places.into_iter().take(answer.count).map(move |j| table.record(ffi::record_of(&table.store, place, j.into()))))
+        Ok(places.into_iter().take(answer.count).map(usize::from).map(self.reading()))
     }
 }
 

@@ -6,7 +6,6 @@ use mathlib.Core.Logic.{⊎-elim}
 use native.Mathlib.Omega.{arith}
 use native.Mathlib.Nat.{zero-add}
 use lib.ListN.{length}
-use borrow.Author.Needs.{needs}
 use Rattle.table.specs.Tests.{countOf}
 use Rattle.prefix.specs.Run.{shownIn}
 use Rattle.prefix.proofs.Hits.{none-left, count-shown, count-hidden}

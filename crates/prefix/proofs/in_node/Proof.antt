@@ -1,17 +1,13 @@
 -- `prefix::in_node` meets its contract: 1, or the records of the run that are not hidden, where there is room. Assumes nothing.
 use Prim.Native.Nat.{ℕ, _≤_}
-use mathlib.Core.Path.{_≡_, ap, sym, _∙_, subst}
+use mathlib.Core.Path.{_≡_, ap, sym, _∙_}
 use mathlib.Core.List.{List}
 use mathlib.Core.Logic.{⊎-elim}
 use native.Mathlib.Omega.{arith}
 use lib.ListN.{length}
 use Rattle.fields.specs.Parts.{put}
-use Rattle.rules.specs.Given.{Given, given, Gives}
 use Rattle.rules.specs.Node.{hitsFrom}
 use Rattle.rules.specs.Local.{listInto}
-use Rattle.rules.specs.declared.Listed.{Listed}
-use Rattle.rules.specs.declared.Listed.the-variants as listed
-use Rattle.rules.specs.declared.Refusal.the-variants.{TooLong}
 use Rattle.table.specs.Tests.{recsIn}
 use Rattle.table_read.proofs.Reading.{short-fills, long-fills}
 use Rattle.prefix.specs.Run.{shownIn}

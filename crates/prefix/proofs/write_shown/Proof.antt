@@ -6,7 +6,6 @@ use mathlib.Core.Logic.{⊎-elim}
 use native.Mathlib.Omega.{arith}
 use native.Mathlib.Nat.{zero-add}
 use lib.ListN.{length, length-set}
-use borrow.Author.Needs.{needs}
 use Rattle.fields.specs.Parts.{put}
 use Rattle.fields.proofs.Parts.{put-nil}
 use Rattle.table.specs.Tests.{countOf}
