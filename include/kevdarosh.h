@@ -120,6 +120,8 @@ struct kev_header {
 struct kev_record {
     uint64_t number;
     size_t found;
+    size_t key_at;   /* where its key begins in the table */
+    size_t value_at; /* and its value */
     size_t key_len;
     size_t value_len;
     uint64_t version;
@@ -260,11 +262,15 @@ struct kev_header kev_node_header(const uint8_t *table, size_t table_len, uint64
  * Numbers: 14, 2. */
 struct kev_count kev_record_count(const uint8_t *table, size_t table_len, uint64_t node);
 
-/* The record in place j of a node, hidden or not; their keys ascend.
+/* The record in place j of a node, hidden or not, and where its key and value stand in the table; their keys ascend.
  * Numbers: 14, 2, 8. */
 struct kev_record kev_record_at(const uint8_t *table, size_t table_len, uint64_t node, size_t j);
 
-/* The record of a key, hidden or not. Found is 0 where there is none.
+/* The same of the record in place j of the node in place i.
+ * Numbers: 14, 8. */
+struct kev_record kev_record_of(const uint8_t *table, size_t table_len, size_t i, size_t j);
+
+/* The same of the record of a key. Found is 0 where there is none.
  * Numbers: 14, 2, 1. */
 struct kev_record kev_record_by_key(
     const uint8_t *table, size_t table_len, uint64_t node, const uint8_t *key, size_t key_len);
@@ -382,6 +388,9 @@ struct kev_count kev_good_record_count(const uint8_t *table, size_t table_len, u
 
 /* Numbers: 2, 8. */
 struct kev_record kev_good_record_at(const uint8_t *table, size_t table_len, uint64_t node, size_t j);
+
+/* Numbers: 8. */
+struct kev_record kev_good_record_of(const uint8_t *table, size_t table_len, size_t i, size_t j);
 
 /* Numbers: 2, 1. */
 struct kev_record kev_good_record_by_key(
