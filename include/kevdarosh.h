@@ -121,6 +121,8 @@ struct kev_header {
 struct kev_record {
     uint64_t number;
     size_t found;
+    size_t key_at;   /* where its key begins in the table */
+    size_t value_at; /* and its value */
     size_t key_len;
     size_t value_len;
     uint64_t version;
@@ -269,11 +271,15 @@ struct kev_header kev_node_header(const uint8_t *table, size_t table_len, uint64
  * Numbers: 14, 2. */
 struct kev_count kev_record_count(const uint8_t *table, size_t table_len, uint64_t node);
 
-/* The record in place j of a node, hidden or not; their keys ascend.
+/* The record in place j of a node, hidden or not, and where its key and value stand in the table; their keys ascend.
  * Numbers: 14, 2, 8. */
 struct kev_record kev_record_at(const uint8_t *table, size_t table_len, uint64_t node, size_t j);
 
-/* The record of a key, hidden or not. Found is 0 where there is none.
+/* The same of the record in place j of the node in place i.
+ * Numbers: 14, 8. */
+struct kev_record kev_record_of(const uint8_t *table, size_t table_len, size_t i, size_t j);
+
+/* The same of the record of a key. Found is 0 where there is none.
  * Numbers: 14, 2, 1. */
 struct kev_record kev_record_by_key(
     const uint8_t *table, size_t table_len, uint64_t node, const uint8_t *key, size_t key_len);
@@ -348,6 +354,9 @@ uint64_t kev_good_add_node(uint8_t *table, size_t table_len, uint64_t node);
 /* Numbers: 2. */
 uint64_t kev_good_remove_node(uint8_t *table, size_t table_len, uint64_t node);
 
+/* Numbers: none. */
+struct kev_heartbeat kev_good_last_heartbeat(const uint8_t *table, size_t table_len, uint64_t node);
+
 /* Numbers: 10, 2, 1, 5, 6. */
 uint64_t kev_good_write(
     uint8_t *table, size_t table_len, uint64_t node, const uint8_t *key, size_t key_len, const uint8_t *value,
@@ -393,6 +402,9 @@ struct kev_count kev_good_record_count(const uint8_t *table, size_t table_len, u
 
 /* Numbers: 2, 8. */
 struct kev_record kev_good_record_at(const uint8_t *table, size_t table_len, uint64_t node, size_t j);
+
+/* Numbers: 8. */
+struct kev_record kev_good_record_of(const uint8_t *table, size_t table_len, size_t i, size_t j);
 
 /* Numbers: 2, 1. */
 struct kev_record kev_good_record_by_key(

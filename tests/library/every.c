@@ -86,12 +86,15 @@ static void local_calls(void) {
     CHECK(same(table));
     GIVES(0, kev_offer_heartbeat(T(table), 17, 33).number);
     CHECK(kev_last_heartbeat(T(table), 17).number == 0 && kev_last_heartbeat(T(table), 17).found == 0);
+    CHECK(kev_good_last_heartbeat(T(table), 17).number == 0 && kev_good_last_heartbeat(T(table), 17).found == 0);
     BOTH(table, kev_remove_node(T(t), 17), kev_good_remove_node(T(t), 17));
     BOTH(table, kev_remove_node(T(t), 17), kev_good_remove_node(T(t), 17));
     struct kev_heartbeat last = kev_last_heartbeat(T(table), 17);
     CHECK(last.number == 0 && last.found == 1 && last.heartbeat == 33);
+    last = kev_good_last_heartbeat(T(table), 17);
+    CHECK(last.number == 0 && last.found == 1 && last.heartbeat == 33);
     BOTH(table, kev_add_node(T(t), 17), kev_good_add_node(T(t), 17));
-    CHECK(kev_last_heartbeat(T(table), 17).found == 0);
+    CHECK(kev_last_heartbeat(T(table), 17).found == 0 && kev_good_last_heartbeat(T(table), 17).found == 0);
     BOTH(table, kev_remove_node(T(t), 17), kev_good_remove_node(T(t), 17));
 
     BOTH(table, kev_write(T(t), 10, TEXT("total"), TEXT("41"), KEV_SET, 5), kev_good_write(T(t), 10, TEXT("total"), TEXT("41"), KEV_SET, 5));
@@ -162,11 +165,22 @@ static void local_calls(void) {
     struct kev_record r = kev_record_at(T(table), 10, 0), s = kev_good_record_at(T(table), 10, 0);
     CHECK(r.number == 0 && r.found == 1 && r.key_len == 4 && r.value_len == 0 && r.version == 4 && r.status == KEV_DELETE && r.start == 6);
     CHECK(memcmp(&r, &s, sizeof r) == 0);
+    f = kev_key_at(T(table), 10, 0);
+    CHECK(r.key_at == f.start && r.key_len == f.len);
+    f = kev_value_at(T(table), 10, 0);
+    CHECK(r.value_at == f.start && r.value_len == f.len);
+    s = kev_record_of(T(table), 0, 0);
+    CHECK(memcmp(&r, &s, sizeof r) == 0);
+    s = kev_good_record_of(T(table), 0, 0);
+    CHECK(memcmp(&r, &s, sizeof r) == 0);
+    GIVES(KEV_NO_PLACE, kev_record_of(T(table), 0, 3).number);
+    GIVES(KEV_NO_PLACE, kev_good_record_of(T(table), 7, 0).number);
     GIVES(KEV_NO_PLACE, kev_record_at(T(table), 10, 3).number);
     GIVES(KEV_NO_NODE, kev_record_at(T(table), 99, 0).number);
     r = kev_record_by_key(T(table), 10, TEXT("tariff"));
     s = kev_good_record_by_key(T(table), 10, TEXT("tariff"));
     CHECK(r.found == 1 && r.status == KEV_TTL && r.start == 5 && memcmp(&r, &s, sizeof r) == 0);
+    CHECK(memcmp(table.at + r.key_at, "tariff", r.key_len) == 0 && memcmp(table.at + r.value_at, "night", r.value_len) == 0);
     r = kev_record_by_key(T(table), 10, TEXT("absent"));
     CHECK(r.number == 0 && r.found == 0 && r.version == 0);
     GIVES(KEV_TOO_LONG, kev_record_by_key(T(table), 10, TEXT(long_key)).number);
@@ -204,6 +218,7 @@ static void local_calls(void) {
     GIVES(KEV_BAD_TABLE, kev_node_header(T(table), 10).number);
     GIVES(KEV_BAD_TABLE, kev_record_count(T(table), 10).number);
     GIVES(KEV_BAD_TABLE, kev_record_at(T(table), 10, 0).number);
+    GIVES(KEV_BAD_TABLE, kev_record_of(T(table), 0, 0).number);
     GIVES(KEV_BAD_TABLE, kev_record_by_key(T(table), 10, TEXT("a")).number);
     GIVES(KEV_BAD_TABLE, kev_key_at(T(table), 10, 0).number);
     GIVES(KEV_BAD_TABLE, kev_value_at(T(table), 10, 0).number);

@@ -78,15 +78,17 @@ recordShown t =
     record {
       number = t .number;
       found = someOf (t .values);
-      keylen = valueAt 0 (t .values);
-      valuelen = valueAt 1 (t .values);
-      version = valueAt 2 (t .values);
-      status = valueAt 3 (t .values);
-      start = valueAt 4 (t .values);
+      «key_at» = valueAt 0 (t .values);
+      «value_at» = valueAt 1 (t .values);
+      keylen = valueAt 2 (t .values);
+      valuelen = valueAt 3 (t .values);
+      version = valueAt 4 (t .values);
+      status = valueAt 5 (t .values);
+      start = valueAt 6 (t .values);
     }
 
 abbrev pub noRecord : (number : ℕ) → KevRecord
-noRecord n = record { number = n; found = 0; keylen = 0; valuelen = 0; version = 0; status = 0; start = 0 }
+noRecord n = record { number = n; found = 0; «key_at» = 0; «value_at» = 0; keylen = 0; valuelen = 0; version = 0; status = 0; start = 0 }
 
 -- ---- digests
 

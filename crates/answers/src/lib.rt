@@ -69,11 +69,13 @@ pub struct KevHeader {
     pub last_gc: u64,
 }
 
-// What a record has beside its texts; `found` is 1 where there is one.
+// A record, and where its texts begin in the lent table; `found` is 1 where there is one.
 #[repr(C)]
 pub struct KevRecord {
     pub number: u64,
     pub found: usize,
+    pub key_at: usize,
+    pub value_at: usize,
     pub keylen: usize,
     pub valuelen: usize,
     pub version: u64,
@@ -306,6 +308,8 @@ fn no_record(number: u64) -> KevRecord
     KevRecord {
         number,
         found: 0,
+        key_at: 0,
+        value_at: 0,
         keylen: 0,
         valuelen: 0,
         version: 0,
@@ -318,11 +322,13 @@ pub fn record(read: RecordRead) -> KevRecord
     ensures { λ r. ⌜ r ≡ recordShown (recordReadTold read) ⌝ }
 {
     match read {
-        RecordRead::Is(record) => {
+        RecordRead::Is { key, value, record } => {
             let status = record.status;
             KevRecord {
                 number: 0,
                 found: 1,
+                key_at: key,
+                value_at: value,
                 keylen: record.keylen,
                 valuelen: record.valuelen,
                 version: record.version,

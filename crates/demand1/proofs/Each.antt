@@ -49,7 +49,7 @@ use Rattle.nodes.specs.New.{lentMade}
 use Rattle.lookup.specs.Lookup.{findRec, foundIn}
 use Rattle.lookup.specs.Told.{foundTold}
 use Rattle.lookup.specs.declared.Found.the-variants as found
-use Rattle.inspect.specs.Look.{elementAt, nodeCount, nodeHeader, nodeNumber, readRecord, recordByKey, recordCount}
+use Rattle.inspect.specs.Look.{elementAt, nodeCount, nodeHeader, nodeNumber, readKey, readRecord, recordByKey, recordCount, recordOfPlaces}
 use Rattle.inspect.specs.Told.{countTold, nodeHeaderTold, nodeNumberTold, recordReadTold}
 use Rattle.inspect.specs.declared.Count.the-variants as count
 use Rattle.inspect.specs.declared.NodeHeader.the-variants as header
@@ -369,8 +369,16 @@ records-at =
     and (calls.record-at (lent newly) seven 0, from-good (λ a. recordReadTold a .number) (rec.Refused BadTable) (readRecord 7 0) newly newly-obeys 8 refl)
     and no-more
 
+records-of : AllShown calls.RecordOf (calls.possible calls.RecordOf)
+unfolding calls.leaves calls.refusals recordReadTold elementAt
+records-of =
+    (calls.record-of (lent usual) 0 0, from-good (λ a. recordReadTold a .number) (rec.Refused BadTable) (recordOfPlaces 0 0) usual usual-obeys 0 refl)
+    and (calls.record-of [] 0 0, from-bad (λ a. recordReadTold a .number) (rec.Refused BadTable) (recordOfPlaces 0 0) 14 refl)
+    and (calls.record-of (lent newly) 0 0, from-good (λ a. recordReadTold a .number) (rec.Refused BadTable) (recordOfPlaces 0 0) newly newly-obeys 8 refl)
+    and no-more
+
 keyed : AllShown calls.RecordByKey (calls.possible calls.RecordByKey)
-unfolding calls.leaves calls.refusals recordReadTold nodeOf find zeros
+unfolding calls.leaves calls.refusals recordReadTold nodeOf readKey zeros
 keyed =
     (calls.record-by-key (lent newly) [] seven, from-good (λ a. recordReadTold a .number) (rec.Refused BadTable) (recordByKey 7 []) newly newly-obeys 0 refl)
     and (calls.record-by-key [] [] seven, from-bad (λ a. recordReadTold a .number) (rec.Refused BadTable) (recordByKey 7 []) 14 refl)
@@ -530,6 +538,7 @@ all-shown calls.NodeNumber = numbered
 all-shown calls.NodeHeader = headed
 all-shown calls.RecordCount = record-counts
 all-shown calls.RecordAt = records-at
+all-shown calls.RecordOf = records-of
 all-shown calls.RecordByKey = keyed
 all-shown calls.FindText = texts
 all-shown calls.WriteDigest = digests

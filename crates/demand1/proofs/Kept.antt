@@ -177,6 +177,7 @@ obeying (calls.node-number t i) = λ e. e
 obeying (calls.node-header t i) = λ e. e
 obeying (calls.record-count t i) = λ e. e
 obeying (calls.record-at t i j) = λ e. e
+obeying (calls.record-of t i j) = λ e. e
 obeying (calls.record-by-key t k i) = λ e. e
 obeying (calls.find-text t i j x) = λ e. e
 obeying (calls.write-digest t edition excluded datagram place) = λ e. e

@@ -103,6 +103,7 @@ remembered (calls.node-number t i) e = refl
 remembered (calls.node-header t i) e = refl
 remembered (calls.record-count t i) e = refl
 remembered (calls.record-at t i j) e = refl
+remembered (calls.record-of t i j) e = refl
 remembered (calls.record-by-key t k i) e = refl
 remembered (calls.find-text t i j x) e = refl
 remembered (calls.write-digest t edition excluded datagram place) e = refl

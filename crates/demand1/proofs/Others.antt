@@ -26,6 +26,7 @@ use Rattle.rules.specs.Listing.{listing}
 use Rattle.rules.specs.Local.{Outcome, add, answerOf, beatOn, call, callOn, gc, gives, listInto, localBeat, offer, offerOn, prefixOn, prefixed, removeNode, write, yesNo}
 use Rattle.rules.specs.Node.{Call, Change, Deleting, DeletingAfterTtl, Give, Leave, Node, Rec, Refuse, Setting, SettingTtl, allowed, beats, brought, decide, find, fullFor, hidden, hitsFrom, offerOf, sameStatus, unlessSame, wish}
 use Rattle.rules.specs.Table.{Entry, Table, addNode, among, dropNode, nodeOf, numbersOf}
+use Rattle.rules.specs.Layout.{nodePlace}
 use Rattle.rules.specs.declared.Answer.the-variants as plain
 use Rattle.rules.specs.declared.Heartbeat.{Heartbeat}
 use Rattle.rules.specs.declared.Remembered.the-variants as remembered
@@ -45,7 +46,7 @@ use Rattle.nodes.specs.New.{lentMade}
 use Rattle.lookup.specs.Lookup.{findOn, findRec, foundIn, valuePlace}
 use Rattle.lookup.specs.Told.{foundTold}
 use Rattle.lookup.specs.declared.Found.the-variants as found
-use Rattle.inspect.specs.Look.{elementAt, headerOn, nodeCount, nodeHeader, nodeNumber, numberOn, readAt, readKey, readRecord, recordByKey, recordByKeyOn, recordCount, recordOn, recordsOn}
+use Rattle.inspect.specs.Look.{elementAt, headerOn, nodeCount, nodeHeader, nodeNumber, numberOn, readAt, readKey, readRec, readRecord, recordByKey, recordByKeyOn, recordCount, recordIn, recordOfPlaces, recordOn, recordsOn}
 use Rattle.inspect.specs.Told.{countTold, nodeHeaderTold, nodeNumberTold, recordReadTold}
 use Rattle.inspect.specs.declared.Count.the-variants as count
 use Rattle.inspect.specs.declared.NodeHeader.the-variants as header
@@ -326,31 +327,53 @@ record-counts i l = from-table (λ a. Of calls.RecordCount (countTold a)) (count
 
 records : (i j : ℕ) (l : Bytes) → Of calls.RecordAt (recordReadTold (fromTable (rec.Refused BadTable) (readRecord i j) l))
 unfolding recordReadTold among calls.refusals
-records i j l = from-table (λ a. Of calls.RecordAt (recordReadTold a)) (rec.Refused BadTable) (readRecord i j) refl (λ t. go (nodeOf i t)) l
+records i j l =
+    from-table (λ a. Of calls.RecordAt (recordReadTold a)) (rec.Refused BadTable) (readRecord i j) refl (λ t. go (nodeStart i t) (nodeOf i t)) l
   where
-    at : (o : Option Rec) → Of calls.RecordAt (recordReadTold (readAt o))
-    at none = refl
-    at (some r) = refl
+    at : (start : ℕ) (o : Option Rec) → Of calls.RecordAt (recordReadTold (readAt start j o))
+    at start none = refl
+    at start (some r) = refl
 
-    go : (o : Option Node) → Of calls.RecordAt (recordReadTold (recordOn j o))
-    go none = refl
-    go (some n) = at (elementAt j (n .recs))
+    go : (start : ℕ) (o : Option Node) → Of calls.RecordAt (recordReadTold (recordOn j start o))
+    go start none = refl
+    go start (some n) = at start (elementAt j (n .recs))
+
+record-places : (i j : ℕ) (l : Bytes) → Of calls.RecordOf (recordReadTold (fromTable (rec.Refused BadTable) (recordOfPlaces i j) l))
+unfolding recordReadTold among calls.refusals
+record-places i j l =
+    from-table (λ a. Of calls.RecordOf (recordReadTold a)) (rec.Refused BadTable) (recordOfPlaces i j) refl (λ t. go (nodePlace i) (elementAt i t)) l
+  where
+    at : (start : ℕ) (o : Option Rec) → Of calls.RecordOf (recordReadTold (readAt start j o))
+    at start none = refl
+    at start (some r) = refl
+
+    go : (start : ℕ) (o : Option Entry) → Of calls.RecordOf (recordReadTold (recordIn j start o))
+    go start none = refl
+    go start (some e) = at start (elementAt j (e .node .recs))
+
+-- 0 where a key was sought
+sought : (k : Bytes) (start j : ℕ) (l : List Rec) → Of calls.RecordByKey (recordReadTold (readKey k start j l))
+unfolding readKey recordReadTold among calls.refusals
+sought k start j [] = refl
+sought k start j (r ∷ l) = go (sameBytes k (r .kv .key)) (sought k start (suc j) l)
+  where
+    go : (b : Bool) → Of calls.RecordByKey (recordReadTold (readKey k start (suc j) l))
+        → Of calls.RecordByKey (recordReadTold (pick b (readRec start j r) (readKey k start (suc j) l)))
+    go true e = refl
+    go false e = e
 
 keyed : (i : ℕ) (k l : Bytes) → Of calls.RecordByKey (recordReadTold (fromTable (rec.Refused BadTable) (recordByKey i k) l))
 unfolding recordReadTold among calls.refusals
-keyed i k l = from-table (λ a. Of calls.RecordByKey (recordReadTold a)) (rec.Refused BadTable) (recordByKey i k) refl (λ t. go (nodeOf i t)) l
+keyed i k l =
+    from-table (λ a. Of calls.RecordByKey (recordReadTold a)) (rec.Refused BadTable) (recordByKey i k) refl (λ t. go (nodeStart i t) (nodeOf i t)) l
   where
-    at : (o : Option Rec) → Of calls.RecordByKey (recordReadTold (readKey o))
-    at none = refl
-    at (some r) = refl
+    limit : (start : ℕ) (n : Node) (b : Bool) → Of calls.RecordByKey (recordReadTold (pick b (readKey k start 0 (n .recs)) (rec.Refused TooLong)))
+    limit start n true = sought k start 0 (n .recs)
+    limit start n false = refl
 
-    limit : (n : Node) (b : Bool) → Of calls.RecordByKey (recordReadTold (pick b (readKey (find k (n .recs))) (rec.Refused TooLong)))
-    limit n true = at (find k (n .recs))
-    limit n false = refl
-
-    go : (o : Option Node) → Of calls.RecordByKey (recordReadTold (recordByKeyOn k o))
-    go none = refl
-    go (some n) = limit n (leb (length k) maxKey)
+    go : (start : ℕ) (o : Option Node) → Of calls.RecordByKey (recordReadTold (recordByKeyOn k start o))
+    go start none = refl
+    go start (some n) = limit start n (leb (length k) maxKey)
 
 texts : (x : Text) (i j : ℕ) (l : Bytes) → Of calls.FindText (foundTold (fromTable (found.Refused BadTable) (textFound x i j) l))
 unfolding foundTold among calls.refusals
@@ -528,6 +551,7 @@ no-other (calls.node-number t i) = numbered i t
 no-other (calls.node-header t i) = headed (i .value) t
 no-other (calls.record-count t i) = record-counts (i .value) t
 no-other (calls.record-at t i j) = records (i .value) j t
+no-other (calls.record-of t i j) = record-places i j t
 no-other (calls.record-by-key t k i) = keyed (i .value) k t
 no-other (calls.find-text t i j x) = texts x (i .value) j t
 no-other (calls.write-digest t edition excluded datagram place) = digests edition excluded place datagram t

@@ -15,7 +15,7 @@ use Rattle.rules.specs.declared.Mode.{Mode}
 use Rattle.nodes.specs.New.{lentMade}
 use Rattle.lookup.specs.Lookup.{lentFind}
 use Rattle.lookup.specs.Told.{foundTold}
-use Rattle.inspect.specs.Look.{lentNodeCount, lentNodeNumber, lentNodeHeader, lentRecordCount, lentReadRecord, lentRecordByKey}
+use Rattle.inspect.specs.Look.{lentNodeCount, lentNodeNumber, lentNodeHeader, lentRecordCount, lentReadRecord, lentRecordOf, lentRecordByKey}
 use Rattle.inspect.specs.Told.{countTold, nodeNumberTold, nodeHeaderTold, recordReadTold}
 use Rattle.inspect_text.specs.Texts.{lentTextFound}
 use Rattle.inspect_text.specs.declared.Text.{Text}
@@ -54,6 +54,7 @@ pub data Kind : Type 0 where
   NodeHeader : Kind
   RecordCount : Kind
   RecordAt : Kind
+  RecordOf : Kind
   RecordByKey : Kind
   FindText : Kind
   WriteDigest : Kind
@@ -84,6 +85,7 @@ pub data Call : Kind → Type 0 where
   node-header : (table : Bytes) (number : U64) → Call NodeHeader
   record-count : (table : Bytes) (number : U64) → Call RecordCount
   record-at : (table : Bytes) (number : U64) (j : ℕ) → Call RecordAt
+  record-of : (table : Bytes) (i j : ℕ) → Call RecordOf
   record-by-key : (table key : Bytes) (number : U64) → Call RecordByKey
   find-text : (table : Bytes) (number : U64) (j : ℕ) (text : Text) → Call FindText
   write-digest : (table : Bytes) (edition : ℕ) (excluded : List ℕ) (datagram : Bytes) (place : ℕ) → Call WriteDigest
@@ -113,6 +115,7 @@ lentTo (node-number t i) = t ∷ []
 lentTo (node-header t i) = t ∷ []
 lentTo (record-count t i) = t ∷ []
 lentTo (record-at t i j) = t ∷ []
+lentTo (record-of t i j) = t ∷ []
 lentTo (record-by-key t k i) = t ∷ k ∷ []
 lentTo (find-text t i j x) = t ∷ []
 lentTo (write-digest t edition excluded datagram place) = t ∷ excluded ∷ datagram ∷ []
@@ -146,6 +149,7 @@ tables NodeNumber = 1
 tables NodeHeader = 1
 tables RecordCount = 1
 tables RecordAt = 1
+tables RecordOf = 1
 tables RecordByKey = 1
 tables FindText = 1
 tables WriteDigest = 1
@@ -178,6 +182,7 @@ leaves (node-number t i) = given (nodeNumberTold (lentNodeNumber i t)) (t ∷ []
 leaves (node-header t i) = given (nodeHeaderTold (lentNodeHeader (i .value) t)) (t ∷ [])
 leaves (record-count t i) = given (countTold (lentRecordCount (i .value) t)) (t ∷ [])
 leaves (record-at t i j) = given (recordReadTold (lentReadRecord (i .value) j t)) (t ∷ [])
+leaves (record-of t i j) = given (recordReadTold (lentRecordOf i j t)) (t ∷ [])
 leaves (record-by-key t k i) = given (recordReadTold (lentRecordByKey (i .value) k t)) (t ∷ k ∷ [])
 leaves (find-text t i j x) = given (foundTold (lentTextFound x (i .value) j t)) (t ∷ [])
 leaves (write-digest t edition excluded datagram place) = asTold writtenTold (λ u. t ∷ excluded ∷ u ∷ []) (lentDigest edition excluded place datagram t)
@@ -211,6 +216,7 @@ refusals NodeNumber = 14 ∷ 8 ∷ []
 refusals NodeHeader = 14 ∷ 2 ∷ []
 refusals RecordCount = 14 ∷ 2 ∷ []
 refusals RecordAt = 14 ∷ 2 ∷ 8 ∷ []
+refusals RecordOf = 14 ∷ 8 ∷ []
 refusals RecordByKey = 14 ∷ 2 ∷ 1 ∷ []
 refusals FindText = 14 ∷ 2 ∷ 8 ∷ []
 refusals WriteDigest = 14 ∷ 20 ∷ 8 ∷ []
@@ -241,6 +247,7 @@ remembers NodeNumber = false
 remembers NodeHeader = false
 remembers RecordCount = false
 remembers RecordAt = false
+remembers RecordOf = false
 remembers RecordByKey = false
 remembers FindText = false
 remembers WriteDigest = false

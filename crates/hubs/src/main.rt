@@ -120,7 +120,11 @@ fn agree(a: &[u8], b: &[u8]) -> bool {
 
 // A Set record, as node, key, value and version.
 fn say_record(hub: &[u8], number: u64, j: usize) {
-    if let RecordRead::Is(r) = inspect::record_at(hub, number, j) {
+    if let RecordRead::Is {
+        key: _,
+        value: _,
+        record: r,
+    } = inspect::record_at(hub, number, j) {
         let status = r.status;
         if let Status::Set = status {
             say_number(b"  ", number);

@@ -59,16 +59,17 @@ numbered k v n s t = record { keylen = k; valuelen = v; version = n; status = s;
 
 pub same-record : (a b : RecordRead) → recordReadTold a ≡ recordReadTold b → a ≡ b
 unfolding recordReadTold
-same-record (rec.Is r) (rec.Is q) e =
-    let s : r .status ≡ q .status = sym (status-back (r .status)) ∙ ap statusOfByte (value-is e 3) ∙ status-back (q .status) in
-    ap₂ (λ (x y : ℕ). rec.Is (numbered x y (r .version) (r .status) (r .start))) (value-is e 0) (value-is e 1)
-    ∙ ap₂ (λ (x : ℕ) (y : Status). rec.Is (numbered (q .keylen) (q .valuelen) x y (r .start))) (value-is e 2) s
-    ∙ ap (λ (x : ℕ). rec.Is (numbered (q .keylen) (q .valuelen) (q .version) (q .status) x)) (value-is e 4)
-same-record (rec.Is r) rec.Nothing e = absurd (omega (arith, values-long e))
-same-record rec.Nothing (rec.Is r) e = absurd (omega (arith, values-long e))
+same-record (rec.Is k v r) (rec.Is l w q) e =
+    let s : r .status ≡ q .status = sym (status-back (r .status)) ∙ ap statusOfByte (value-is e 5) ∙ status-back (q .status) in
+    ap₂ (λ (x y : ℕ). rec.Is x y (numbered (r .keylen) (r .valuelen) (r .version) (r .status) (r .start))) (value-is e 0) (value-is e 1)
+    ∙ ap₂ (λ (x y : ℕ). rec.Is l w (numbered x y (r .version) (r .status) (r .start))) (value-is e 2) (value-is e 3)
+    ∙ ap₂ (λ (x : ℕ) (y : Status). rec.Is l w (numbered (q .keylen) (q .valuelen) x y (r .start))) (value-is e 4) s
+    ∙ ap (λ (x : ℕ). rec.Is l w (numbered (q .keylen) (q .valuelen) (q .version) (q .status) x)) (value-is e 6)
+same-record (rec.Is k v r) rec.Nothing e = absurd (omega (arith, values-long e))
+same-record rec.Nothing (rec.Is k v r) e = absurd (omega (arith, values-long e))
 same-record rec.Nothing rec.Nothing e = refl
-same-record (rec.Is q) (rec.Refused r) e = not-refused r (number-is e)
+same-record (rec.Is k v q) (rec.Refused r) e = not-refused r (number-is e)
 same-record rec.Nothing (rec.Refused r) e = not-refused r (number-is e)
-same-record (rec.Refused r) (rec.Is q) e = not-refused r (sym (number-is e))
+same-record (rec.Refused r) (rec.Is k v q) e = not-refused r (sym (number-is e))
 same-record (rec.Refused r) rec.Nothing e = not-refused r (sym (number-is e))
 same-record (rec.Refused r) (rec.Refused s) e = ap rec.Refused (same-refusal r s (number-is e) (need-is e))

@@ -1,19 +1,23 @@
 -- The small readings: what a hub needs to print a table. Each is a reading of the table that the bytes are, or a refusal; in lent bytes 14 comes first.
--- A node is named by its number (2 where there is none), a record by its place among the node's records in key order, or by its key (1 where that is
--- too long). A place past the end is 8, as document 01 has it for places. Hidden records are told too: their status says so.
-use Prim.Native.Nat.{ℕ, zero, suc}
+-- A node is named by its number (2 where there is none) or its place, a record by its place among the node's records in key order, or by its key (1
+-- where that is too long). A place past the end is 8, as document 01 has it for places. Hidden records are told too: their status says so. Of a record it
+-- is also told where its key and its value stand in the table.
+use Prim.Native.Nat.{ℕ, zero, suc, _+_}
 use mathlib.Core.List.{List, [], _∷_}
 use mathlib.Core.Option.{Option, none, some}
 use lib.ListN.{length}
 use lib.Dec.{leb}
 use Rattle.fields.specs.Choice.{pick}
 use Rattle.fields.specs.Numbers.{Bytes}
+use Rattle.fields.specs.Order.{sameBytes}
+use Rattle.fields.specs.Widths.{offset}
 use Rattle.rules.specs.Sizes.{maxKey}
-use Rattle.rules.specs.Node.{Rec, Node, find}
+use Rattle.rules.specs.Node.{Rec, Node}
 use Rattle.rules.specs.Table.{Entry, Table, nodeOf}
+use Rattle.rules.specs.Layout.{recWidths, recPlace, nodePlace}
 use Rattle.rules.specs.Lent.{fromTable}
 use Rattle.rules.specs.declared.Refusal.the-variants.{TooLong, NoNode, NoPlace, BadTable}
-use Rattle.table_read.specs.Find.{headerOf, recordOf}
+use Rattle.table_read.specs.Find.{nodeStart, headerOf, recordOf}
 use Rattle.inspect.specs.declared.Count.{Count}
 use Rattle.inspect.specs.declared.Count.the-variants as count
 use Rattle.inspect.specs.declared.NodeNumber.{NodeNumber}
@@ -61,29 +65,48 @@ recordCount number table = recordsOn (nodeOf number table)
 
 -- ---- records
 
--- the record in place j: 2, 8
-abbrev pub readAt : (there : Option Rec) → RecordRead
-readAt none = rec.Refused NoPlace
-readAt (some r) = rec.Is (recordOf r)
+-- record j of a node whose bytes begin at `start` in a table's: where its key and its value begin in them, and its numbers
+abbrev pub keyPlace : (start j : ℕ) → ℕ
+keyPlace start j = start + recPlace j + offset recWidths 1
 
-abbrev pub recordOn : (j : ℕ) (held : Option Node) → RecordRead
-recordOn j none = rec.Refused NoNode
-recordOn j (some n) = readAt (elementAt j (n .recs))
+abbrev pub valuePlace : (start j : ℕ) → ℕ
+valuePlace start j = start + recPlace j + offset recWidths 3
+
+abbrev pub readRec : (start j : ℕ) (rec : Rec) → RecordRead
+readRec start j r = rec.Is (keyPlace start j) (valuePlace start j) (recordOf r)
+
+-- the record in place j: 2, 8
+abbrev pub readAt : (start j : ℕ) (there : Option Rec) → RecordRead
+readAt start j none = rec.Refused NoPlace
+readAt start j (some r) = readRec start j r
+
+abbrev pub recordOn : (j start : ℕ) (held : Option Node) → RecordRead
+recordOn j start none = rec.Refused NoNode
+recordOn j start (some n) = readAt start j (elementAt j (n .recs))
 
 abbrev pub readRecord : (number j : ℕ) (table : Table) → RecordRead
-readRecord number j table = recordOn j (nodeOf number table)
+readRecord number j table = recordOn j (nodeStart number table) (nodeOf number table)
+
+-- the record in place j of the node in place i: 8
+abbrev pub recordIn : (j start : ℕ) (there : Option Entry) → RecordRead
+recordIn j start none = rec.Refused NoPlace
+recordIn j start (some e) = readAt start j (elementAt j (e .node .recs))
+
+abbrev pub recordOfPlaces : (i j : ℕ) (table : Table) → RecordRead
+recordOfPlaces i j table = recordIn j (nodePlace i) (elementAt i table)
+
+-- the record of a key among the node's records, the first of them being record j
+unfoldable pub readKey : (key : Bytes) (start j : ℕ) (recs : List Rec) → RecordRead
+readKey key start j [] = rec.Nothing
+readKey key start j (r ∷ l) = pick (sameBytes key (r .kv .key)) (readRec start j r) (readKey key start (suc j) l)
 
 -- the record of a key: 2, 1
-abbrev pub readKey : (found : Option Rec) → RecordRead
-readKey none = rec.Nothing
-readKey (some r) = rec.Is (recordOf r)
-
-abbrev pub recordByKeyOn : (key : Bytes) (held : Option Node) → RecordRead
-recordByKeyOn key none = rec.Refused NoNode
-recordByKeyOn key (some n) = pick (leb (length key) maxKey) (readKey (find key (n .recs))) (rec.Refused TooLong)
+abbrev pub recordByKeyOn : (key : Bytes) (start : ℕ) (held : Option Node) → RecordRead
+recordByKeyOn key start none = rec.Refused NoNode
+recordByKeyOn key start (some n) = pick (leb (length key) maxKey) (readKey key start 0 (n .recs)) (rec.Refused TooLong)
 
 abbrev pub recordByKey : (number : ℕ) (key : Bytes) (table : Table) → RecordRead
-recordByKey number key table = recordByKeyOn key (nodeOf number table)
+recordByKey number key table = recordByKeyOn key (nodeStart number table) (nodeOf number table)
 
 -- ---- in lent bytes: 14 first
 
@@ -101,6 +124,9 @@ lentRecordCount number table = fromTable (count.Refused BadTable) (recordCount n
 
 abbrev pub lentReadRecord : (number j : ℕ) (table : Bytes) → RecordRead
 lentReadRecord number j table = fromTable (rec.Refused BadTable) (readRecord number j) table
+
+abbrev pub lentRecordOf : (i j : ℕ) (table : Bytes) → RecordRead
+lentRecordOf i j table = fromTable (rec.Refused BadTable) (recordOfPlaces i j) table
 
 abbrev pub lentRecordByKey : (number : ℕ) (key table : Bytes) → RecordRead
 lentRecordByKey number key table = fromTable (rec.Refused BadTable) (recordByKey number key) table

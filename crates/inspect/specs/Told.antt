@@ -25,10 +25,11 @@ unfoldable pub nodeHeaderTold : (answer : NodeHeader) → Told
 nodeHeaderTold (header.Is h) = accepted (h .heartbeat .0 ∷ h .max ∷ h .«last_gc» ∷ [])
 nodeHeaderTold (header.Refused r) = refused r []
 
-abbrev pub recordValues : (numbers : Record) → List ℕ
-recordValues r = r .keylen ∷ r .valuelen ∷ r .version ∷ statusByte (r .status) ∷ r .start ∷ []
+-- where the key and the value begin, and the record's numbers
+abbrev pub recordValues : (key value : ℕ) (numbers : Record) → List ℕ
+recordValues k v r = k ∷ v ∷ r .keylen ∷ r .valuelen ∷ r .version ∷ statusByte (r .status) ∷ r .start ∷ []
 
 unfoldable pub recordReadTold : (answer : RecordRead) → Told
-recordReadTold (rec.Is r) = accepted (recordValues r)
+recordReadTold (rec.Is k v r) = accepted (recordValues k v r)
 recordReadTold rec.Nothing = accepted []
 recordReadTold (rec.Refused r) = refused r []

@@ -10,13 +10,16 @@ use table_read::Span;
 ghost use mathlib.Core.Path.{_≡_};
 ghost use mathlib.Core.Bool.{true};
 ghost use mathlib.Core.Option.{some};
+ghost use Prim.Native.Nat.{_≤_, _<_};
+ghost use Rattle.fields.specs.Parts.{part};
 ghost use Rattle.rules.specs.Given.{Says};
 ghost use Rattle.rules.specs.Table.{keysRise};
-ghost use Rattle.rules.specs.Layout.{decodeNode, decode, valid};
-ghost use Rattle.table.specs.Tests.{recsIn};
+ghost use Rattle.rules.specs.Layout.{recPlace, recWidth, tableWidth, decodeRec, decodeNode, decode, valid};
+ghost use Rattle.table.specs.Tests.{countOf, recsIn};
 ghost use Rattle.table.specs.Fits.{LaidNode};
-ghost use Rattle.inspect.specs.Look.{nodeCount, nodeNumber, nodeHeader, recordCount, recordOn, readRecord, recordByKeyOn, recordByKey};
-ghost use Rattle.inspect.specs.Look.{lentNodeCount, lentNodeNumber, lentNodeHeader, lentRecordCount, lentReadRecord, lentRecordByKey};
+ghost use Rattle.inspect.specs.Look.{nodeCount, nodeNumber, nodeHeader, recordCount, readRec, recordOn, readRecord, recordOfPlaces};
+ghost use Rattle.inspect.specs.Look.{recordByKeyOn, recordByKey, lentReadRecord, lentRecordOf, lentRecordByKey};
+ghost use Rattle.inspect.specs.Look.{lentNodeCount, lentNodeNumber, lentNodeHeader, lentRecordCount};
 ghost use Rattle.inspect.specs.Told.{countTold, nodeNumberTold, nodeHeaderTold, recordReadTold};
 
 // How many there are.
@@ -37,9 +40,13 @@ pub enum NodeHeader {
     Refused(Refusal),
 }
 
-// A record's version, status and start, and the lengths of its key and value.
+// A record: where its key and its value begin in the lent table, their lengths, its version, status and start.
 pub enum RecordRead {
-    Is(Record),
+    Is {
+        key: usize,
+        value: usize,
+        record: Record,
+    },
     // No such key.
     Nothing,
     Refused(Refusal),
@@ -134,16 +141,30 @@ pub fn record_count(table: &[u8], number: u64) -> Count
     }
 }
 
-// The record in place `j` of a node's bytes: 8.
-fn record_in(node: &[u8], j: usize) -> RecordRead
-    requires { ⌜ LaidNode (now node) ⌝ }
-    ensures { λ r. ⌜ r ≡ recordOn j (some (decodeNode (now (node .entry)) .node)) ⌝ }
+// Record `j` of a node's bytes, which begin at `start` in the table.
+fn placed(node: &[u8], start: usize, j: usize) -> RecordRead
+    requires { ⌜ LaidNode (now node) × (start ≤ tableWidth) × (j < countOf (now node)) ⌝ }
+    ensures { λ r. ⌜ r ≡ readRec start j (decodeRec (part (recPlace j) recWidth (now (node .entry)))) ⌝ }
+{
+    let r = table_read::read_record(table::record_of(node, j));
+    let at = start + table::record_place(j);
+    RecordRead::Is {
+        key: at + layout::KEY,
+        value: at + layout::VALUE,
+        record: r,
+    }
+}
+
+// The record in place `j` of a node's bytes, which begin at `start` in the table: 8.
+fn record_in(node: &[u8], start: usize, j: usize) -> RecordRead
+    requires { ⌜ LaidNode (now node) × (start ≤ tableWidth) ⌝ }
+    ensures { λ r. ⌜ r ≡ recordOn j start (some (decodeNode (now (node .entry)) .node)) ⌝ }
 {
     let n = fields::byte_at(node, layout::RECORD_COUNT);
     if n <= j {
         return RecordRead::Refused(Refusal::NoPlace);
     }
-    RecordRead::Is(table_read::read_record(table::record_of(node, j)))
+    placed(node, start, j)
 }
 
 // The record in place `j` of a node of a good table: 2, 8.
@@ -152,8 +173,31 @@ pub fn record_at_good(table: &[u8], number: u64, j: usize) -> RecordRead
     ensures { λ r. ⌜ r ≡ readRecord number j (decode (now (table .entry))) ⌝ }
 {
     match table_read::node_span(table, number) {
-        Span::Held { start, end } => record_in(&table[start..end], j),
+        Span::Held { start, end } => record_in(&table[start..end], start, j),
         Span::Missing => RecordRead::Refused(Refusal::NoNode),
+    }
+}
+
+// The record in place `j` of the node in place `i` of a good table: 8.
+pub fn record_of_good(table: &[u8], i: usize, j: usize) -> RecordRead
+    requires { ⌜ valid (now table) ≡ true ⌝ }
+    ensures { λ r. ⌜ r ≡ recordOfPlaces i j (decode (now (table .entry))) ⌝ }
+{
+    let nodes = fields::byte_at(table, layout::NODE_COUNT);
+    if nodes <= i {
+        return RecordRead::Refused(Refusal::NoPlace);
+    }
+    record_in(table::node_of(table, i), table::node_place(i), j)
+}
+
+// The record in place `j` of the node in place `i`: 14, 8.
+pub fn record_of(table: &[u8], i: usize, j: usize) -> RecordRead
+    ensures { λ r. ⌜ Says recordReadTold (lentRecordOf i j (now (table .entry))) r ⌝ }
+{
+    if table_check::check_table(table) {
+        record_of_good(&table[..layout::AREA], i, j)
+    } else {
+        RecordRead::Refused(Refusal::BadTable)
     }
 }
 
@@ -168,16 +212,16 @@ pub fn record_at(table: &[u8], number: u64, j: usize) -> RecordRead
     }
 }
 
-// The record of a key in a node's bytes: 1.
-fn record_keyed(node: &[u8], key: &[u8]) -> RecordRead
-    requires { ⌜ LaidNode (now node) × (keysRise (recsIn (now node)) ≡ true) ⌝ }
-    ensures { λ r. ⌜ r ≡ recordByKeyOn (now (key .entry)) (some (decodeNode (now (node .entry)) .node)) ⌝ }
+// The record of a key in a node's bytes, which begin at `start` in the table: 1.
+fn record_keyed(node: &[u8], start: usize, key: &[u8]) -> RecordRead
+    requires { ⌜ LaidNode (now node) × (keysRise (recsIn (now node)) ≡ true) × (start ≤ tableWidth) ⌝ }
+    ensures { λ r. ⌜ r ≡ recordByKeyOn (now (key .entry)) start (some (decodeNode (now (node .entry)) .node)) ⌝ }
 {
     if Record::KEY < key.len() {
         return RecordRead::Refused(Refusal::TooLong);
     }
     match table_read::search_key(node, key) {
-        Place::At(j) => RecordRead::Is(table_read::read_record(table::record_of(node, j))),
+        Place::At(j) => placed(node, start, j),
         Place::Free(_) => RecordRead::Nothing,
     }
 }
@@ -188,7 +232,7 @@ pub fn record_by_key_good(table: &[u8], number: u64, key: &[u8]) -> RecordRead
     ensures { λ r. ⌜ r ≡ recordByKey number (now (key .entry)) (decode (now (table .entry))) ⌝ }
 {
     match table_read::node_span(table, number) {
-        Span::Held { start, end } => record_keyed(&table[start..end], key),
+        Span::Held { start, end } => record_keyed(&table[start..end], start, key),
         Span::Missing => RecordRead::Refused(Refusal::NoNode),
     }
 }

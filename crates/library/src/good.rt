@@ -5,6 +5,7 @@ use answers::KevComputed;
 use answers::KevCount;
 use answers::KevFound;
 use answers::KevHeader;
+use answers::KevHeartbeat;
 use answers::KevNode;
 use answers::KevRecord;
 use inspect_text::Text;
@@ -16,19 +17,19 @@ use rules::Refusal;
 use table::layout;
 ghost use mathlib.Core.Bool.{true};
 ghost use mathlib.Core.Path.{_≡_};
-ghost use Rattle.rules.specs.Answers.{answerTold, offeredTold, listedTold, writtenTold, computedTold, appliedTold};
+ghost use Rattle.rules.specs.Answers.{answerTold, offeredTold, rememberedTold, listedTold, writtenTold, computedTold, appliedTold};
 ghost use Rattle.rules.specs.Given.{Gives};
 ghost use Rattle.rules.specs.Node.{Deleting, DeletingAfterTtl, beats};
 ghost use Rattle.rules.specs.Whole.{validWhole};
-ghost use Rattle.rules.specs.Lent.{lentAdd, lentRemoveNode, lentCall, lentWrite, lentGc, lentOffer, lentBeat};
+ghost use Rattle.rules.specs.Lent.{lentAdd, lentRemoveNode, lentRemoved, lentCall, lentWrite, lentGc, lentOffer, lentBeat};
 ghost use Rattle.rules.specs.Lent.{lentPrefixed, lentDigest, lentCompute, both, lentApply};
 ghost use Rattle.lookup.specs.Lookup.{lentFind};
 ghost use Rattle.lookup.specs.Told.{foundTold};
-ghost use Rattle.inspect.specs.Look.{lentNodeCount, lentNodeNumber, lentNodeHeader, lentRecordCount, lentReadRecord, lentRecordByKey};
+ghost use Rattle.inspect.specs.Look.{lentNodeCount, lentNodeNumber, lentNodeHeader, lentRecordCount, lentReadRecord, lentRecordOf, lentRecordByKey};
 ghost use Rattle.inspect.specs.Told.{countTold, nodeNumberTold, nodeHeaderTold, recordReadTold};
 ghost use Rattle.inspect_text.specs.Texts.{lentTextFound};
 ghost use Rattle.inspect_text.specs.declared.Text.the-variants.{Key, Value};
-ghost use Rattle.answers.specs.Shown.{shownAs, numberShown, countShown, nodeShown, foundShown, headerShown, recordShown};
+ghost use Rattle.answers.specs.Shown.{shownAs, numberShown, countShown, nodeShown, heartbeatShown, foundShown, headerShown, recordShown};
 ghost use Rattle.answers.specs.Shown.{computedShown, appliedShown};
 
 // ---- the table and its nodes
@@ -49,6 +50,15 @@ pub extern "C" fn kev_good_remove_node(table: &mut [u8], number: u64) -> u64
     ensures { λ r. ⌜ Gives (shownAs answerTold numberShown (lentRemoveNode number (now (table .entry)))) r (now (table .exit)) ⌝ }
 {
     answers::number(nodes::remove_known(table, number))
+}
+
+// The last heartbeat of a node that was removed, where it is remembered.
+#[no_mangle]
+pub extern "C" fn kev_good_last_heartbeat(table: &[u8], number: u64) -> KevHeartbeat
+    requires { ⌜ validWhole (now table) ≡ true ⌝ }
+    ensures { λ r. ⌜ r ≡ heartbeatShown (rememberedTold (lentRemoved number (now (table .entry)))) ⌝ }
+{
+    answers::heartbeat(nodes::last_heartbeat_known(table, number))
 }
 
 // ---- local calls
@@ -217,6 +227,15 @@ pub extern "C" fn kev_good_record_at(table: &[u8], number: u64, j: usize) -> Kev
     ensures { λ r. ⌜ r ≡ recordShown (recordReadTold (lentReadRecord number j (now (table .entry)))) ⌝ }
 {
     answers::record(inspect::record_at_good(&table[..layout::AREA], number, j))
+}
+
+// The record in place `j` of the node in place `i`: 8.
+#[no_mangle]
+pub extern "C" fn kev_good_record_of(table: &[u8], i: usize, j: usize) -> KevRecord
+    requires { ⌜ validWhole (now table) ≡ true ⌝ }
+    ensures { λ r. ⌜ r ≡ recordShown (recordReadTold (lentRecordOf i j (now (table .entry)))) ⌝ }
+{
+    answers::record(inspect::record_of_good(&table[..layout::AREA], i, j))
 }
 
 // The record of a key, hidden or not: 2, 1.

@@ -28,7 +28,7 @@ ghost use Rattle.rules.specs.Lent.{lentAdd, lentRemoveNode, lentRemoved, lentCa
 ghost use Rattle.rules.specs.Lent.{lentPrefixed, lentDigest, lentCompute, both, lentApply};
 ghost use Rattle.lookup.specs.Lookup.{lentFind};
 ghost use Rattle.lookup.specs.Told.{foundTold};
-ghost use Rattle.inspect.specs.Look.{lentNodeCount, lentNodeNumber, lentNodeHeader, lentRecordCount, lentReadRecord, lentRecordByKey};
+ghost use Rattle.inspect.specs.Look.{lentNodeCount, lentNodeNumber, lentNodeHeader, lentRecordCount, lentReadRecord, lentRecordOf, lentRecordByKey};
 ghost use Rattle.inspect.specs.Told.{countTold, nodeNumberTold, nodeHeaderTold, recordReadTold};
 ghost use Rattle.inspect_text.specs.Texts.{lentTextFound};
 ghost use Rattle.inspect_text.specs.declared.Text.the-variants.{Key, Value};
@@ -216,6 +216,14 @@ pub extern "C" fn kev_record_at(table: &[u8], number: u64, j: usize) -> KevRecor
     ensures { λ r. ⌜ r ≡ recordShown (recordReadTold (lentReadRecord number j (now (table .entry)))) ⌝ }
 {
     answers::record(inspect::record_at(table, number, j))
+}
+
+// The record in place `j` of the node in place `i`: 14, 8.
+#[no_mangle]
+pub extern "C" fn kev_record_of(table: &[u8], i: usize, j: usize) -> KevRecord
+    ensures { λ r. ⌜ r ≡ recordShown (recordReadTold (lentRecordOf i j (now (table .entry)))) ⌝ }
+{
+    answers::record(inspect::record_of(table, i, j))
 }
 
 // The record of a key, hidden or not: 14, 2, 1.

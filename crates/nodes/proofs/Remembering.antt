@@ -144,17 +144,20 @@ module _ (l : List ℕ) (v : validWhole l ≡ true) (n : ℕ) (a : Answer) (s : 
 
 -- ---- asking
 
+pub asked-laid : (l : List ℕ) → validWhole l ≡ true → LaidTail (lentTail l)
+asked-laid l v = subst LaidTail (sym (seen tableWidth tailWidth l)) (tail-laid l v)
+
 module _ (l : List ℕ) (n : ℕ) where
-  pub asked : validWhole l ≡ true → (r : Remembered) → r ≡ rememberedAs (heartbeatOf n (decodeMemory (lentTail l))) → r ≡ lentRemoved n l
-  unfolding lentRemoved
-  asked v r q =
-      q
-      ∙ ap (λ (x : List ℕ). rememberedAs (heartbeatOf n (decodeMemory x))) (seen tableWidth tailWidth l)
-      ∙ sym (pick-true (validWhole l) (rememberedAs (heartbeatOf n (decodeWhole l .memory))) (remembered.Refused BadTable) v)
+  abbrev answer : Remembered
+  answer = rememberedAs (heartbeatOf n (decodeWhole l .memory))
 
-  pub not-asked : validWhole l ≡ false → remembered.Refused BadTable ≡ lentRemoved n l
-  unfolding lentRemoved
-  not-asked v = sym (ap (λ (b : Bool). pick b (rememberedAs (heartbeatOf n (decodeWhole l .memory))) (remembered.Refused BadTable)) v)
+  pub asked : rememberedAs (heartbeatOf n (decodeMemory (lentTail l))) ≡ answer
+  asked = ap (λ (x : List ℕ). rememberedAs (heartbeatOf n (decodeMemory x))) (seen tableWidth tailWidth l)
 
-  pub asked-laid : validWhole l ≡ true → LaidTail (lentTail l)
-  asked-laid v = subst LaidTail (sym (seen tableWidth tailWidth l)) (tail-laid l v)
+  pub told : validWhole l ≡ true → answer ≡ lentRemoved n l
+  unfolding lentRemoved
+  told v = sym (pick-true (validWhole l) answer (remembered.Refused BadTable) v)
+
+  pub not-told : validWhole l ≡ false → remembered.Refused BadTable ≡ lentRemoved n l
+  unfolding lentRemoved
+  not-told v = sym (ap (λ (b : Bool). pick b answer (remembered.Refused BadTable)) v)

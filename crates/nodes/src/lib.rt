@@ -15,8 +15,9 @@ ghost use mathlib.Core.Bool.{true};
 ghost use Rattle.rules.specs.Answers.{answerTold, rememberedTold};
 ghost use Rattle.rules.specs.Given.{Gives, Says, Tells};
 ghost use Rattle.rules.specs.Local.{add, removeNode};
-ghost use Rattle.rules.specs.Lent.{stored, addWhole, removeWhole, lentAdd, lentRemoveNode, lentRemoved};
+ghost use Rattle.rules.specs.Lent.{stored, addWhole, removeWhole, rememberedAs, lentAdd, lentRemoveNode, lentRemoved};
 ghost use Rattle.rules.specs.Layout.{decode, valid};
+ghost use Rattle.rules.specs.Memory.{heartbeatOf};
 ghost use Rattle.rules.specs.Table.{nodeOf};
 ghost use Rattle.rules.specs.Whole.{decodeWhole, validWhole};
 ghost use Rattle.nodes.specs.New.{lentMade};
@@ -108,6 +109,14 @@ pub fn remove_known(table: &mut [u8], number: u64) -> Answer
     }
 }
 
+// The last heartbeat of a removed node, if a good table remembers it.
+pub fn last_heartbeat_known(table: &[u8], number: u64) -> Remembered
+    requires { ⌜ validWhole (now table) ≡ true ⌝ }
+    ensures { λ r. ⌜ r ≡ rememberedAs (heartbeatOf number (decodeWhole (now (table .entry)) .memory)) ⌝ }
+{
+    removed::last_heartbeat(&table[layout::AREA..layout::TABLE], number)
+}
+
 // Adds a fresh node, and forgets it: 14, 4.
 pub fn add_node(table: &mut [u8], number: u64) -> Answer
     ensures { λ r. ⌜ Tells answerTold (lentAdd number (now (table .entry))) r (now (table .exit)) ⌝ }
@@ -133,7 +142,7 @@ pub fn last_heartbeat(table: &[u8], number: u64) -> Remembered
     ensures { λ r. ⌜ Says rememberedTold (lentRemoved number (now (table .entry))) r ⌝ }
 {
     if table_check::check_table(table) {
-        return removed::last_heartbeat(&table[layout::AREA..layout::TABLE], number);
+        return last_heartbeat_known(table, number);
     }
     Remembered::Refused(Refusal::BadTable)
 }

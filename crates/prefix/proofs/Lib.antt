@@ -1,1 +1,2 @@
+mod Run
 pub mod Hits

@@ -1,56 +1,92 @@
 // Listing the records of a node whose keys begin with a prefix. A hit is a record that is not hidden; its place among all records of the node goes to
-// the caller's list, one byte each, in key order from the front. The hits are counted before the first is written, so that a call without room for them
-// writes nothing. `list_prefix` takes any bytes, and `list_good` a table known to be good, without the check.
+// the caller's list, one byte each, in key order from the front. Keys ascend, so those that begin with the prefix stand together, and both ends of them are
+// sought by halves. Where the list may be too short the hits are counted before the first is written, so that a call without room for them writes nothing.
+// `list_prefix` takes any bytes, and `list_good` a table known to be good, without the check.
 use rules::Listed;
 use rules::Record;
 use rules::Refusal;
 use rules::Status;
 use table::layout;
+use table_read::Place;
 use table_read::Span;
 ghost use mathlib.Core.Path.{_≡_};
-ghost use mathlib.Core.Bool.{true};
+ghost use mathlib.Core.Bool.{true, not};
 ghost use mathlib.Core.Option.{some};
 ghost use Prim.Native.Nat.{_≤_, _<_};
 ghost use lib.ListN.{length};
-ghost use Rattle.fields.specs.Parts.{part, put};
+ghost use Rattle.fields.specs.Order.{startsWith};
+ghost use Rattle.fields.specs.Parts.{part};
 ghost use Rattle.rules.specs.Answers.{listedTold};
 ghost use Rattle.rules.specs.Given.{Gives, Tells};
-ghost use Rattle.rules.specs.Node.{hits, hitsFrom};
+ghost use Rattle.rules.specs.Node.{hidden};
+ghost use Rattle.rules.specs.Table.{keysRise};
 ghost use Rattle.rules.specs.Local.{prefixOn, prefixed};
 ghost use Rattle.rules.specs.Layout.{recPlace, recWidth, decodeRec, decodeNode, decode, valid};
 ghost use Rattle.rules.specs.Lent.{lentPrefixed};
 ghost use Rattle.table.specs.Tests.{countOf, recsIn};
 ghost use Rattle.table.specs.Fits.{LaidNode};
+ghost use Rattle.prefix.specs.Run.{keyAt, FirstOf, RunOf, shownIn, shownInto};
 
-// Whether record `j` of a node's bytes is a hit.
-fn is_hit(node: &[u8], j: usize, prefix: &[u8]) -> bool
+// Whether the key of record `j` of a node's bytes begins with the prefix.
+fn begins(node: &[u8], j: usize, prefix: &[u8]) -> bool
     requires { ⌜ LaidNode (now node) × (j < countOf (now node)) ⌝ }
-    ensures { λ r. ⌜ r ≡ hits (now (prefix .entry)) (decodeRec (part (recPlace j) recWidth (now (node .entry)))) ⌝ }
+    ensures { λ r. ⌜ r ≡ startsWith (now (prefix .entry)) (keyAt j (now (node .entry))) ⌝ }
 {
-    let record = table::record_of(node, j);
-    if fields::starts_with(prefix, table::key_of(record)) {
-        let r = table_read::read_record(record);
-        let status = r.status;
-        match status {
-            Status::Delete => false,
-            Status::Set => true,
-            Status::Ttl => true,
-        }
-    } else {
-        false
+    fields::starts_with(prefix, table::key_of(table::record_of(node, j)))
+}
+
+// Whether record `j` of a node's bytes is not hidden.
+fn is_shown(node: &[u8], j: usize) -> bool
+    requires { ⌜ LaidNode (now node) × (j < countOf (now node)) ⌝ }
+    ensures { λ r. ⌜ r ≡ not (hidden (decodeRec (part (recPlace j) recWidth (now (node .entry))) .kv .status)) ⌝ }
+{
+    let r = table_read::read_record(table::record_of(node, j));
+    let status = r.status;
+    match status {
+        Status::Delete => false,
+        Status::Set => true,
+        Status::Ttl => true,
     }
 }
 
-// How many hits a node has.
-fn count_hits(node: &[u8], prefix: &[u8]) -> usize
-    requires { ⌜ LaidNode (now node) ⌝ }
-    ensures { λ r. ⌜ r ≡ length (hitsFrom (now (prefix .entry)) 0 (recsIn (now (node .entry)))) ⌝ }
+// The first place whose key does not come before the prefix.
+fn run_start(node: &[u8], prefix: &[u8]) -> usize
+    requires { ⌜ LaidNode (now node) × (keysRise (recsIn (now node)) ≡ true) ⌝ }
+    ensures { λ r. ⌜ FirstOf (now (prefix .entry)) (now (node .entry)) r ⌝ }
 {
-    let n = fields::byte_at(node, layout::RECORD_COUNT);
+    match table_read::search_key(node, prefix) {
+        Place::At(j) => j,
+        Place::Free(j) => j,
+    }
+}
+
+// Where the keys that begin with the prefix end, `from` being where they would begin.
+fn run_end(node: &[u8], prefix: &[u8], from: usize) -> usize
+    requires { ⌜ LaidNode (now node) × (keysRise (recsIn (now node)) ≡ true) × FirstOf (now prefix) (now node) from ⌝ }
+    ensures { λ r. ⌜ RunOf (now (prefix .entry)) (now (node .entry)) from r ⌝ }
+{
+    let mut low = from;
+    let mut high = fields::byte_at(node, layout::RECORD_COUNT);
+    while low < high {
+        let j = (low + high) / 2;
+        if begins(node, j, prefix) {
+            low = j + 1;
+        } else {
+            high = j;
+        }
+    }
+    low
+}
+
+// How many records from `low` up to `high` of a node's bytes are not hidden.
+fn count_shown(node: &[u8], low: usize, high: usize) -> usize
+    requires { ⌜ LaidNode (now node) × (low ≤ high) × (high ≤ countOf (now node)) ⌝ }
+    ensures { λ r. ⌜ r ≡ length (shownIn low high (now (node .entry))) ⌝ }
+{
     let mut found = 0;
-    let mut j = 0;
-    while j < n {
-        if is_hit(node, j, prefix) {
+    let mut j = low;
+    while j < high {
+        if is_shown(node, j) {
             found += 1;
         }
         j += 1;
@@ -58,37 +94,39 @@ fn count_hits(node: &[u8], prefix: &[u8]) -> usize
     found
 }
 
-// The places of a node's hits, to the front of a list that has room for them.
-fn write_hits(node: &[u8], prefix: &[u8], out: &mut [u8])
-    requires { ⌜ LaidNode (now node) × (length (hitsFrom (now prefix) 0 (recsIn (now node))) ≤ length (now out)) ⌝ }
-    ensures { λ _. ⌜ now (out .exit) ≡ put 0 (hitsFrom (now (prefix .entry)) 0 (recsIn (now (node .entry)))) (now (out .entry)) ⌝ }
+// The places of these records, to the front of a list that has room for them, and how many they are.
+fn write_shown(node: &[u8], low: usize, high: usize, out: &mut [u8]) -> usize
+    requires { ⌜ LaidNode (now node) × (low ≤ high) × (high ≤ countOf (now node)) × (length (shownIn low high (now node)) ≤ length (now out)) ⌝ }
+    ensures { λ r. ⌜ Gives (shownInto low high (now (node .entry)) (now (out .entry))) r (now (out .exit)) ⌝ }
 {
-    let n = fields::byte_at(node, layout::RECORD_COUNT);
     let mut next = 0;
-    let mut j = 0;
-    while j < n {
-        if is_hit(node, j, prefix) {
+    let mut j = low;
+    while j < high {
+        if is_shown(node, j) {
             out[next] = j as u8;
             next += 1;
         }
         j += 1;
     }
+    next
 }
 
 // The listing of one node's bytes: 1, 8.
 fn in_node(node: &[u8], prefix: &[u8], out: &mut [u8]) -> Listed
-    requires { ⌜ LaidNode (now node) ⌝ }
+    requires { ⌜ LaidNode (now node) × (keysRise (recsIn (now node)) ≡ true) ⌝ }
     ensures { λ r. ⌜ Gives (prefixOn (now (prefix .entry)) (some (decodeNode (now (node .entry)) .node)) (now (out .entry))) r (now (out .exit)) ⌝ }
 {
     if Record::KEY < prefix.len() {
         return Listed::Refused(Refusal::TooLong);
     }
-    let found = count_hits(node, prefix);
-    if out.len() < found {
-        return Listed::Refused(Refusal::NoPlace);
+    let low = run_start(node, prefix);
+    let high = run_end(node, prefix, low);
+    if out.len() < high - low {
+        if out.len() < count_shown(node, low, high) {
+            return Listed::Refused(Refusal::NoPlace);
+        }
     }
-    write_hits(node, prefix, out);
-    Listed::Hits(found)
+    Listed::Hits(write_shown(node, low, high, out))
 }
 
 // The listing in a good table: 2, 1, 8.

@@ -1,14 +1,26 @@
--- A node under its number from which one record, or all that are due, have gone. The rules say what a removal leaves of a node; these are the same on
--- an entry of a table, which is what a node's bytes are read as.
-use Prim.Native.Nat.{ℕ, max}
+-- A node under its number while and after records go. The rules say what a removal leaves of a node; these are the same on an entry of a table, which is
+-- what a node's bytes are read as.
+use Prim.Native.Nat.{ℕ, suc, max}
 use mathlib.Core.Bool.{Bool}
-use Rattle.rules.specs.Node.{Rec, remove}
+use mathlib.Core.List.{List, [], _∷_}
+use lib.ListN.{take}
+use Rattle.fields.specs.Choice.{pick}
+use Rattle.rules.specs.Node.{Rec, goes, remove}
 use Rattle.rules.specs.Table.{Entry}
-use Rattle.table.specs.Changes.{withNode, withGc, withoutRec}
+use Rattle.table.specs.Changes.{withNode, withGc, withRecs}
 
--- record j, which has version v, has gone: last_gc is the larger of itself and v
-abbrev pub takenOut : (j version : ℕ) (entry : Entry) → Entry
-takenOut j v e = withGc (max (e .node .last-gc) v) (withoutRec j e)
+-- how many records stand in front of the first that goes
+unfoldable pub firstGoing : (due : Rec → Bool) (recs : List Rec) → ℕ
+firstGoing due [] = 0
+firstGoing due (a ∷ l) = pick (goes due a) 0 (suc (firstGoing due l))
+
+-- a record with this version is one that goes: last_gc is the larger of itself and the version
+abbrev pub withGone : (version : ℕ) (entry : Entry) → Entry
+withGone v e = withGc (max (e .node .last-gc) v) e
+
+-- the first k records stay
+abbrev pub withFirst : (k : ℕ) (entry : Entry) → Entry
+withFirst k e = withRecs (take k (e .node .recs)) e
 
 -- all scheduled records that are due have gone
 abbrev pub removed : (due : Rec → Bool) (entry : Entry) → Entry

@@ -10,7 +10,7 @@ use rules::Status;
 use table::layout;
 ghost use mathlib.Core.Path.{_≡_};
 ghost use mathlib.Core.Bool.{true, not};
-ghost use Prim.Native.Nat.{_+_, _<_, max};
+ghost use Prim.Native.Nat.{_+_, _≤_, _<_, max};
 ghost use lib.Dec.{ltb};
 ghost use Rattle.rules.specs.Answers.{answerTold};
 ghost use Rattle.rules.specs.Given.{Tells};
@@ -18,10 +18,11 @@ ghost use Rattle.rules.specs.Node.{goes, due};
 ghost use Rattle.rules.specs.Table.{removeAll};
 ghost use Rattle.rules.specs.Layout.{encodeNode, decodeNode, encode, decode, valid};
 ghost use Rattle.rules.specs.Lent.{lentGc};
-ghost use Rattle.table.specs.Tests.{countOf};
+ghost use Rattle.table.specs.Tests.{countOf, recsIn};
 ghost use Rattle.table.specs.Fits.{LaidNode};
 ghost use Rattle.table.specs.Places.{recAt};
-ghost use Rattle.removal.specs.Removals.{takenOut, removed};
+ghost use Rattle.table.specs.Changes.{withRecAt};
+ghost use Rattle.removal.specs.Removals.{firstGoing, withGone, withFirst, removed};
 
 // Whether the grace of a record that is scheduled from `start` is over.
 fn is_due(start: u64, clock: u64, grace: u64) -> bool
@@ -54,33 +55,76 @@ fn larger(a: u64, b: u64) -> u64
     if a < b { b } else { a }
 }
 
-// Record `j` of a node goes, and last_gc becomes the larger of itself and the record's version.
-fn take_out(node: &mut [u8], j: usize)
+// Record `j` of a node is one that goes: last_gc becomes the larger of itself and the record's version.
+fn raise_last_gc(node: &mut [u8], j: usize)
     requires { ⌜ LaidNode (now node) × (j < countOf (now node)) ⌝ }
-    ensures { λ _. ⌜ now (node .exit) ≡ encodeNode (takenOut j (recAt j (now (node .entry)) .kv .version) (decodeNode (now (node .entry)))) ⌝ }
+    ensures { λ _. ⌜ now (node .exit) ≡ encodeNode (withGone (recAt j (now (node .entry)) .kv .version) (decodeNode (now (node .entry)))) ⌝ }
 {
     let held = fields::read_u64(node, layout::LAST_GC);
     let version = fields::read_u64(node, table::record_place(j) + layout::VERSION);
     let last_gc = larger(held, version);
-    table_write::remove_record(node, j);
     table_write::set_last_gc(node, last_gc);
 }
 
-// All records of a node that are due go. Where one has gone, the next stands in its place.
+// Record `j` of a node is one that stays: it comes to place `to`, which is not behind it.
+fn bring_down(node: &mut [u8], j: usize, to: usize)
+    requires { ⌜ LaidNode (now node) × (to ≤ j) × (j < countOf (now node)) ⌝ }
+    ensures { λ _. ⌜ now (node .exit) ≡ encodeNode (withRecAt to (recAt j (now (node .entry))) (decodeNode (now (node .entry)))) ⌝ }
+{
+    let from = table::record_place(j);
+    let place = table::record_place(to);
+    fields::move_down(node, from, place, layout::RECORD);
+}
+
+// The first `kept` records of a node stay. The places of the others are cleared, so that they leave no byte behind.
+fn cut(node: &mut [u8], kept: usize)
+    requires { ⌜ LaidNode (now node) × (kept ≤ countOf (now node)) ⌝ }
+    ensures { λ _. ⌜ now (node .exit) ≡ encodeNode (withFirst kept (decodeNode (now (node .entry)))) ⌝ }
+{
+    let n = fields::byte_at(node, layout::RECORD_COUNT);
+    if kept < n {
+        let from = table::record_place(kept);
+        let room = fields::times(n - kept, layout::RECORD);
+        fields::clear(node, from, room);
+        fields::write_byte(node, layout::RECORD_COUNT, kept);
+    }
+}
+
+// The place of the first record that goes; how many there are, where none does.
+fn first_due(node: &[u8], clock: u64, grace: u64) -> usize
+    requires { ⌜ LaidNode (now node) ⌝ }
+    ensures { λ r. ⌜ r ≡ firstGoing (due clock grace) (recsIn (now (node .entry))) ⌝ }
+{
+    let n = fields::byte_at(node, layout::RECORD_COUNT);
+    let mut j = 0;
+    while j < n {
+        if must_go(node, j, clock, grace) {
+            return j;
+        }
+        j += 1;
+    }
+    j
+}
+
+// All records of a node that are due go, in one pass: from the first of them on, those that stay come down to the next free place. Where none goes,
+// nothing is written.
 fn remove_due(node: &mut [u8], clock: u64, grace: u64)
     requires { ⌜ LaidNode (now node) ⌝ }
     ensures { λ _. ⌜ now (node .exit) ≡ encodeNode (removed (due clock grace) (decodeNode (now (node .entry)))) ⌝ }
 {
-    let mut n = fields::byte_at(node, layout::RECORD_COUNT);
-    let mut j = 0;
+    let n = fields::byte_at(node, layout::RECORD_COUNT);
+    let mut kept = first_due(node, clock, grace);
+    let mut j = kept;
     while j < n {
         if must_go(node, j, clock, grace) {
-            take_out(node, j);
-            n -= 1;
+            raise_last_gc(node, j);
         } else {
-            j += 1;
+            bring_down(node, j, kept);
+            kept += 1;
         }
+        j += 1;
     }
+    cut(node, kept);
 }
 
 // The removal over all nodes of a good table.

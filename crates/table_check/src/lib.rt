@@ -6,12 +6,12 @@ use rules::sizes;
 use table::layout;
 ghost use mathlib.Core.Path.{_≡_};
 ghost use mathlib.Core.Bool.{true};
-ghost use Prim.Native.Nat.{_+_, _-_, _%_, _≤_, _<_};
-ghost use lib.ListN.{length, getD, take, drop};
+ghost use Prim.Native.Nat.{_+_, _≤_};
+ghost use lib.ListN.{length, take, drop};
 ghost use Rattle.fields.specs.Blocks.{allBlocks};
 ghost use Rattle.fields.specs.Order.{lessBytes};
 ghost use Rattle.rules.specs.Sizes.{maxNodes, maxRecords, maxKey, maxValue};
-ghost use Rattle.rules.specs.Table.{keysRise, versions, among, differ, rising, numbersOf};
+ghost use Rattle.rules.specs.Table.{keysRise, versions, rising, numbersOf};
 ghost use Rattle.rules.specs.Layout.{recPlace, nodePlace, recWidth, nodeWidth, tableWidth, decodeRec, decode, valid};
 ghost use Rattle.rules.specs.Whole.{validWhole};
 ghost use Rattle.table_check.specs.Mask.{maskBytes};
@@ -109,50 +109,6 @@ fn versions_of(node: &[u8], n: usize) -> [u64; Header::RECORDS]
     vs
 }
 
-// Whether the number at `i` stands again between it and `n`.
-fn again(vs: &[u64], i: usize, n: usize) -> bool
-    requires { ⌜ (i < n) × (n ≤ length (now vs)) ⌝ }
-    ensures { λ r. ⌜ r ≡ among (getD (now (vs .entry)) i 0) (take (n - (i + 1)) (drop (i + 1) (now (vs .entry)))) ⌝ }
-{
-    let x = vs[i];
-    let mut found = false;
-    let mut j = i + 1;
-    while j < n {
-        if vs[j] == x {
-            found = true;
-        }
-        j += 1;
-    }
-    found
-}
-
-// The place of a version among `seen` places: its low bits.
-fn place_of(version: u64) -> usize
-    ensures { λ r. ⌜ (r ≡ version % 1024) × (r < 1024) ⌝ }
-{
-    (version % 1024) as usize
-}
-
-// Whether the first `n` numbers are all different, from the last on. Only a number whose low bits were seen is looked for among those behind it.
-fn all_differ(vs: &[u64], n: usize) -> bool
-    requires { ⌜ n ≤ length (now vs) ⌝ }
-    ensures { λ r. ⌜ r ≡ differ (take n (now (vs .entry))) ⌝ }
-{
-    let mut seen = [0u8; 1024];
-    let mut i = n;
-    while 0 < i {
-        i -= 1;
-        let k = place_of(vs[i]);
-        if seen[k] == 1 {
-            if again(vs, i, n) {
-                return false;
-            }
-        }
-        seen[k] = 1;
-    }
-    true
-}
-
 // Whether the first record's key is below the second's.
 fn key_below(x: &[u8], y: &[u8]) -> bool
     requires { ⌜ (length (now x) ≡ recWidth) × (keyLength (now x) ≤ maxKey) × (length (now y) ≡ recWidth) × (keyLength (now y) ≤ maxKey) ⌝ }
@@ -195,7 +151,7 @@ fn check_node(node: &[u8]) -> bool
     if check_records(node, n, max) {
         if keys_rise(node, n, max) {
             let vs = versions_of(node, n);
-            if all_differ(&vs, n) {
+            if tail_check::all_differ(&vs, n) {
                 let a = table::record_place(n);
                 return fields::is_zero(&node[a..layout::NODE]);
             }

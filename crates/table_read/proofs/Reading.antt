@@ -16,7 +16,7 @@ use Rattle.fields.specs.Widths.{offset}
 use Rattle.fields.proofs.Choice.{pick-true, pick-false}
 use Rattle.rules.specs.Sizes.{maxRecords, maxKey, maxValue}
 use Rattle.rules.specs.Given.{Given, given, Gives}
-use Rattle.rules.specs.Node.{Rec, Node, find}
+use Rattle.rules.specs.Node.{Node}
 use Rattle.rules.specs.Table.{nodeOf, keysRise}
 use Rattle.rules.specs.Layout.{recWidth, nodeWidths, nodeWidth, tableWidth, decodeRec, decodeNode, decode, valid}
 use Rattle.rules.specs.declared.Record.{Record}
@@ -27,10 +27,10 @@ use Rattle.table.proofs.Places.{recBytes, recAt, length-recs}
 use Rattle.table.proofs.Laid.{rec-long, laid-key, laid-value}
 use Rattle.table_read.specs.Find.{findKey, spanIn, nodeStart, recordOf}
 use Rattle.table_read.specs.declared.Place.{Place}
-use Rattle.table_read.specs.declared.Place.the-variants.{At, Free}
+use Rattle.table_read.specs.declared.Place.the-variants.{At}
 use Rattle.table_read.specs.declared.Span.{Span}
 use Rattle.table_read.specs.declared.Span.the-variants.{Held, Missing}
-use Rattle.table_read.proofs.Searched.{rec-in, rec-found, rec-missing}
+use Rattle.table_read.proofs.Searched.{rec-in}
 use Rattle.table_read.proofs.Held.{node-end, node-fits, node-seen, held-laid, held-rises, held-start, held-node, missing-node}
 
 -- ---- the node
@@ -81,16 +81,7 @@ module _ {A : Type 0} (rule : Option Node → A) (n : ℕ) (l : List ℕ) (v : v
   pub no-node-says : s ≡ Missing → rule none ≡ rule (nodeOf n (decode l))
   no-node-says h = ap rule (sym (missing-node n l v (sym f ∙ h)))
 
--- the same of a rule that is asked for something: for a place, for a key
-module _ {A X : Type 0} (rule : X → Option Node → A) (x : X) (n : ℕ) (l : List ℕ) (v : valid l ≡ true) {s : Span} (f : s ≡ spanIn n l) where
-  pub node-says-of : {start end : ℕ} → s ≡ Held start end → (r : A) → r ≡ rule x (some (decodeNode (lentNode start end l) .node))
-      → r ≡ rule x (nodeOf n (decode l))
-  node-says-of h r p = node-says (rule x) n l v f h r p
-
-  pub no-node-says-of : s ≡ Missing → rule x none ≡ rule x (nodeOf n (decode l))
-  no-node-says-of h = no-node-says (rule x) n l v f h
-
--- and of one that also says where the node stands
+-- the same of a rule that is asked for something, for a place or a key, and that also says where the node stands
 module _ {A X : Type 0} (rule : X → ℕ → Option Node → A) (x : X) (n : ℕ) (l : List ℕ) (v : valid l ≡ true) {s : Span} (f : s ≡ spanIn n l) where
   pub node-stands : {start end : ℕ} → s ≡ Held start end → (r : A) → r ≡ rule x start (some (decodeNode (lentNode start end l) .node))
       → r ≡ rule x (nodeStart n (decode l)) (nodeOf n (decode l))
@@ -147,14 +138,6 @@ pub rec-read : (b : List ℕ) (j : ℕ) (x : List ℕ) → x ≡ recBytes j b �
 rec-read b j x e r p = p ∙ ap (λ (y : List ℕ). recordOf (decodeRec y)) e
 
 pub ruleset lent-rec-needs = (key-in, rec-few)
-
--- what it says, by a rule that says it of the key's record, or of none
-module _ {A : Type 0} (rule : Option Rec → A) (k b : List ℕ) {p : Place} (f : p ≡ findKey k (recsIn b)) where
-  pub rec-says : {j : ℕ} → p ≡ At j → (r : A) → r ≡ rule (some (recAt j b)) → r ≡ rule (find k (recsIn b))
-  rec-says {j} h r q = q ∙ ap rule (sym (rec-found b k j (sym f ∙ h)))
-
-  pub no-rec-says : keysRise (recsIn b) ≡ true → {j : ℕ} → p ≡ Free j → rule none ≡ rule (find k (recsIn b))
-  no-rec-says s {j} h = ap rule (sym (rec-missing b k j s (sym f ∙ h)))
 
 -- how many there are
 pub counted : (b : List ℕ) (k : ℕ) → k ≡ countOf b → k ≡ length (recsIn b)

@@ -1,2 +1,3 @@
-pub mod Numbers
+mod Numbers
+mod Seen
 pub mod Tails

@@ -1,6 +1,6 @@
 -- Numbers in a row, one after the other: all different, and apart from those of the nodes held. Assumes nothing.
 use Prim.Native.Nat.{ℕ, suc, _+_, _-_, _≤_, _<_}
-use mathlib.Core.Path.{_≡_, refl, sym, ap, _∙_}
+use mathlib.Core.Path.{_≡_, sym, ap, _∙_}
 use mathlib.Core.Bool.{Bool, true, false, not, _&&_}
 use mathlib.Core.List.{List, [], _∷_}
 use native.Mathlib.Omega.{arith}
@@ -25,23 +25,6 @@ pub rest-next : (vs : List ℕ) (i n : ℕ) → i < n → n ≤ length vs → ta
 rest-next vs i n h g =
     let p : n - i ≡ suc (n - (i + 1)) = omega arith in
     rw (p, add-one i, drop-cons vs i 0 (omega arith))
-
--- ---- all different
-
-module _ (ns : List ℕ) (i n : ℕ) {s t : Bool} (h : i < n) (g : n ≤ length ns) (e : s ≡ among (getD ns i 0) (take (n - (i + 1)) (drop (i + 1) ns)))
-    (inv : differ (take (n - i) (drop i ns)) ≡ t) where
-  -- the number at i stands again
-  pub twice : s ≡ true → false ≡ t
-  unfolding differ
-  twice q = sym (ap differ (rest-next ns i n h g) ∙ ap (λ (b : Bool). not b && differ (take (n - (i + 1)) (drop (i + 1) ns))) (sym e ∙ q)) ∙ inv
-
-  pub once : s ≡ false → differ (take (n - (i + 1)) (drop (i + 1) ns)) ≡ t
-  unfolding differ
-  once q = sym (ap differ (rest-next ns i n h g) ∙ ap (λ (b : Bool). not b && differ (take (n - (i + 1)) (drop (i + 1) ns))) (sym e ∙ q)) ∙ inv
-
-pub none-left : (ns : List ℕ) (i n : ℕ) → n ≤ i → differ (take (n - i) (drop i ns)) ≡ true
-unfolding differ
-none-left ns i n h = let z : n - i ≡ 0 = omega arith in rw z refl
 
 -- ---- none held
 

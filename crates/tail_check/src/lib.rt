@@ -5,7 +5,7 @@ use rules::sizes;
 use table::layout;
 ghost use mathlib.Core.Path.{_≡_};
 ghost use mathlib.Core.Bool.{_&&_};
-ghost use Prim.Native.Nat.{_-_, _≤_};
+ghost use Prim.Native.Nat.{_-_, _%_, _≤_, _<_};
 ghost use lib.ListN.{length, take, drop};
 ghost use Rattle.rules.specs.Sizes.{maxNodes, maxRemoved};
 ghost use Rattle.rules.specs.Table.{among, differ, numbersOf};
@@ -44,17 +44,31 @@ fn stands_from(ns: &[u64], i: usize, n: usize, x: u64) -> bool
     found
 }
 
-// Whether the first `n` numbers are all different.
-fn all_differ(ns: &[u64], n: usize) -> bool
+// The place of a number among the marks: its low bits.
+fn place_of(x: u64) -> usize
+    ensures { λ r. ⌜ (r ≡ x % 1024) × (r < 1024) ⌝ }
+{
+    (x % 1024) as usize
+}
+
+// Whether the first `n` numbers are all different, from the last on. Only a number whose low bits were seen is looked for among those behind it. The versions
+// of a node are told apart by it too.
+pub fn all_differ(ns: &[u64], n: usize) -> bool
     requires { ⌜ n ≤ length (now ns) ⌝ }
     ensures { λ r. ⌜ r ≡ differ (take n (now (ns .entry))) ⌝ }
 {
-    let mut i = 0;
-    while i < n {
-        if stands_from(ns, i + 1, n, ns[i]) {
-            return false;
+    let mut seen = [0u8; 1024];
+    let mut i = n;
+    while 0 < i {
+        i -= 1;
+        let x = ns[i];
+        let k = place_of(x);
+        if seen[k] == 1 {
+            if stands_from(ns, i + 1, n, x) {
+                return false;
+            }
         }
-        i += 1;
+        seen[k] = 1;
     }
     true
 }

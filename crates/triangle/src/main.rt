@@ -47,7 +47,11 @@ fn open(hub: &mut [u8], mode: Mode) {
 
 // A record's key and version.
 fn say_record(hub: &[u8], j: usize) {
-    if let RecordRead::Is(r) = inspect::record_at(hub, METER, j) {
+    if let RecordRead::Is {
+        key: _,
+        value: _,
+        record: r,
+    } = inspect::record_at(hub, METER, j) {
         say(b" ");
         say(inspect_text::text_at(hub, METER, j, Text::Key));
         say_number(b"@", r.version);

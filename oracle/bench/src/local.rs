@@ -1,8 +1,7 @@
 //! The calls of an owned table that make, change or read one node, and the removal that removes something.
 //!
-//! For most of them `Timed` has no call of the original, but `Raw` has. It makes the node's name in each call, which a caller of the original has anyway:
-//! so a third side makes names and does no more, by turns with the other two, and its time is taken off the Rust's. `Raw` changes node 1 alone. For
-//! listing a prefix and for going through a node's records neither has a call; these rows show the port's time alone.
+//! For those that change a node `Timed` has no call of the original, but `Raw` has. It makes the node's name in each call, which a caller of the original has
+//! anyway: so a third side makes names and does no more, by turns with the other two, and its time is taken off the Rust's. `Raw` changes node 1 alone.
 
 use std::hint::black_box;
 
@@ -12,7 +11,7 @@ use kevdarosh::{Mode, OwnedTable, Record, Status};
 
 use crate::inputs::{self, NODES, RECORDS};
 use crate::port::Port;
-use crate::{Asked, GRACE, NOW, OWNED, Rows, asked, gets, over, repeat, time};
+use crate::{Asked, GRACE, NOW, OWNED, Rows, asked, over, repeat, time};
 
 const NODE: u64 = 1;
 const CALLS: usize = 256;
@@ -251,32 +250,34 @@ fn remove_full(rows: &mut Rows) {
 /// The last heartbeats of 16 removed nodes, the most that a table remembers.
 fn remembered(rows: &mut Rows) {
     const NAME: &str = "last heartbeat of a removed node, owned table";
-    let (mut raw, mut table) = both();
+    let (_, mut table) = both();
     let numbers: Vec<u64> = (0..16).map(|i| if i == 0 { NODES - 1 } else { 100 + i * 7 % 16 }).collect();
     for &node in &numbers {
-        raw.add(node);
         table.add_node(node).expect("room for a node");
-        raw.remove(node);
+        table.try_set_heartbeat(node, 1_000 + node).expect("a node that is held");
         table.remove_node(node).expect("a node that is held");
     }
-    for &node in &numbers {
-        assert!(raw.remembered(node).is_some(), "{NAME}");
-        same_nodes(NAME, &raw, &table, node);
+    let original = Timed::of(table.as_bytes());
+    let asked: Vec<(u64, timed::Name)> = numbers.iter().map(|&node| (node, timed::name(node))).collect();
+    for (node, name) in &asked {
+        let told = original.last_heartbeat(name);
+        assert!(told.is_some() && table.last_heartbeat_if_deleted(*node) == Ok(told), "{NAME}");
     }
-    rows.measure_less(
+    rows.measure(
         NAME,
+        "",
+        OWNED,
         || {
-            time(PASSES * numbers.len(), || {
-                for &node in (0..PASSES).flat_map(|_| &numbers) {
-                    black_box(black_box(&raw).remembered(black_box(node)));
+            time(PASSES * asked.len(), || {
+                for (_, name) in (0..PASSES).flat_map(|_| &asked) {
+                    black_box(black_box(&original).last_heartbeat(black_box(name)));
                 }
             })
         },
-        name_made,
         || {
-            time(PASSES * numbers.len(), || {
-                for &node in (0..PASSES).flat_map(|_| &numbers) {
-                    black_box(black_box(&table).last_heartbeat_if_deleted(black_box(node)).ok());
+            time(PASSES * asked.len(), || {
+                for (node, _) in (0..PASSES).flat_map(|_| &asked) {
+                    black_box(black_box(&table).last_heartbeat_if_deleted(black_box(*node)).ok());
                 }
             })
         },
@@ -322,20 +323,25 @@ fn record<'a>(table: &'a OwnedTable, node: u64, key: &[u8]) -> Option<Record<'a>
     table.node_state(node).ok()?.get_versioned(key).ok()?
 }
 
-/// `get_versioned` of all keys. The original's `get` is its `get_versioned` and a look at the status.
+/// `get_versioned` of all keys.
 fn versioned(rows: &mut Rows) {
     let keys = asked(&inputs::all());
     let original = Timed::of(&inputs::full());
     let table = Box::new(OwnedTable::from_bytes(&inputs::full()).expect("a good table"));
     for asked in &keys {
-        let value = original.get(&asked.name, &asked.key).map(str::as_bytes);
-        assert_eq!(record(&table, asked.number, asked.key.as_bytes()).map(|record| record.value), value);
+        let told = original.get_versioned(&asked.name, &asked.key).map(|held| (held.value.as_bytes(), held.version));
+        let record = record(&table, asked.number, asked.key.as_bytes());
+        assert!(told.is_some() && record.map(|record| (record.value, record.version)) == told, "{}", asked.key);
     }
     rows.measure(
         "record of a key, owned table",
-        " (beside the Rust's get)",
+        "",
         OWNED,
-        || gets(&original, &keys),
+        || {
+            over(&keys, |asked| {
+                black_box(black_box(&original).get_versioned(&asked.name, black_box(&asked.key)));
+            })
+        },
         || {
             over(&keys, |asked| {
                 black_box(record(black_box(&table), asked.number, black_box(asked.key.as_bytes())));
@@ -344,16 +350,33 @@ fn versioned(rows: &mut Rows) {
     );
 }
 
+type Texts<'a> = (&'a [u8], &'a [u8]);
+
 /// How many records, and the bytes of their keys and values.
-fn sum<'a>(records: impl Iterator<Item = (&'a [u8], &'a [u8])>) -> (usize, usize) {
+fn sum<'a>(records: impl Iterator<Item = Texts<'a>>) -> (usize, usize) {
     records.fold((0, 0), |(count, bytes), (key, value)| (count + 1, bytes + key.len() + value.len()))
 }
 
-fn all_records(table: &OwnedTable) -> (usize, usize) {
+/// The keys and values of a node, on either side.
+fn all_original<'a>(original: &'a Timed, name: &'a timed::Name) -> impl Iterator<Item = Texts<'a>> {
+    original.key_values(name).into_iter().flatten().map(|(key, value)| (key.as_bytes(), value.as_bytes()))
+}
+
+fn all_port(table: &OwnedTable) -> (usize, usize) {
     table.node_state(NODE).map_or((0, 0), |node| sum(node.key_values()))
 }
 
-fn prefixed(table: &OwnedTable, prefix: &[u8]) -> (usize, usize) {
+/// Those with a prefix.
+fn prefixed_original<'a>(
+    original: &'a Timed,
+    name: &'a timed::Name,
+    prefix: &'a str,
+) -> impl Iterator<Item = Texts<'a>> {
+    let hits = original.iter_prefix(name, prefix).into_iter().flatten();
+    hits.map(|(key, held)| (key.as_bytes(), held.value.as_bytes()))
+}
+
+fn prefixed_port(table: &OwnedTable, prefix: &[u8]) -> (usize, usize) {
     let Ok(node) = table.node_state(NODE) else { return (0, 0) };
     node.iter_prefix(prefix).map_or((0, 0), |hits| sum(hits.map(|record| (record.key, record.value))))
 }
@@ -361,23 +384,50 @@ fn prefixed(table: &OwnedTable, prefix: &[u8]) -> (usize, usize) {
 /// All records of a node, and those of a prefix, with their keys and values.
 fn readings(rows: &mut Rows) {
     const TIMES: usize = 16;
+    let original = Timed::of(&inputs::full());
+    let name = timed::name(NODE);
     let table = Box::new(OwnedTable::from_bytes(&inputs::full()).expect("a good table"));
-    assert_eq!(all_records(&table).0, RECORDS);
-    rows.alone("32 records of a node gone through, owned table", || {
-        repeat(TIMES, || {
-            black_box(all_records(black_box(&table)));
-        })
-    });
+    let node = table.node_state(NODE).expect("node 1");
+    assert!(node.key_values().eq(all_original(&original, &name)), "what a node holds");
+    assert_eq!(all_port(&table).0, RECORDS);
+    rows.measure(
+        "32 records of a node gone through, owned table",
+        "",
+        OWNED,
+        || {
+            repeat(TIMES, || {
+                black_box(sum(all_original(black_box(&original), black_box(&name))));
+            })
+        },
+        || {
+            repeat(TIMES, || {
+                black_box(all_port(black_box(&table)));
+            })
+        },
+    );
     let prefixes = [
         ("prefix listing, 32 hits gone through, owned table", "key-01-", RECORDS),
         ("prefix listing, 2 hits gone through, owned table", "key-01-3", 2),
     ];
-    for (name, prefix, hits) in prefixes {
-        assert_eq!(prefixed(&table, prefix.as_bytes()).0, hits);
-        rows.alone(name, || {
-            repeat(TIMES, || {
-                black_box(prefixed(black_box(&table), black_box(prefix.as_bytes())));
-            })
-        });
+    for (name_of_row, prefix, count) in prefixes {
+        let hits =
+            node.iter_prefix(prefix.as_bytes()).expect("a short prefix").map(|record| (record.key, record.value));
+        assert!(hits.eq(prefixed_original(&original, &name, prefix)), "{name_of_row}");
+        assert_eq!(prefixed_port(&table, prefix.as_bytes()).0, count, "{name_of_row}");
+        rows.measure(
+            name_of_row,
+            "",
+            OWNED,
+            || {
+                repeat(TIMES, || {
+                    black_box(sum(prefixed_original(black_box(&original), black_box(&name), black_box(prefix))));
+                })
+            },
+            || {
+                repeat(TIMES, || {
+                    black_box(prefixed_port(black_box(&table), black_box(prefix.as_bytes())));
+                })
+            },
+        );
     }
 }

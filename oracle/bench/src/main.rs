@@ -49,8 +49,7 @@ struct Row {
     aim: Aim,
     /// What the port stands beside, where that is not the same call of the Rust.
     beside: &'static str,
-    /// None where the original's call is not at hand.
-    rust: Option<f64>,
+    rust: f64,
     port: f64,
 }
 
@@ -101,7 +100,7 @@ impl Rows {
         mut port: impl FnMut() -> f64,
     ) {
         let [rust, port] = by_turns([&mut rust, &mut port]);
-        self.0.push(Row { name, aim, beside, rust: Some(rust), port });
+        self.0.push(Row { name, aim, beside, rust, port });
     }
 
     /// A call of an owned table where the Rust's batch does more than the call: `more` is a batch of that alone, and its time is taken off.
@@ -113,13 +112,7 @@ impl Rows {
         mut port: impl FnMut() -> f64,
     ) {
         let [rust, more, port] = by_turns([&mut rust, &mut more, &mut port]);
-        self.0.push(Row { name, aim: OWNED, beside: "", rust: Some(rust - more), port });
-    }
-
-    /// A call of an owned table for which the original's is not at hand.
-    fn alone(&mut self, name: &'static str, mut port: impl FnMut() -> f64) {
-        let [port] = by_turns([&mut port]);
-        self.0.push(Row { name, aim: OWNED, beside: "", rust: None, port });
+        self.0.push(Row { name, aim: OWNED, beside: "", rust: rust - more, port });
     }
 
     /// The rows of an owned table, or the others.
@@ -128,10 +121,6 @@ impl Rows {
         println!("|---|---|---|---|---|---|");
         for Row { name, aim, beside, rust, port } in self.0.iter().filter(|row| matches!(row.aim, Aim::Owned) == owned)
         {
-            let Some(rust) = rust else {
-                println!("| {name} |  | {port:.0} |  | {OWNED_MOST} | not compared |");
-                continue;
-            };
             let ratio = port / rust;
             let verdict = |most: f64| (format!("{most}"), if ratio <= most { "met" } else { "MISSED" });
             let (aim, verdict) = match aim {

@@ -56,7 +56,7 @@ fn ask<S: ffi::BytesMut>(table: &mut S, call: &Call) -> Told {
         Call::Add { node } => plain(ffi::add_node(table, *node)),
         Call::Remove { node } => plain(ffi::remove_node(table, *node)),
         Call::Removed { node } => {
-            let told = ffi::last_heartbeat(table.bytes(), *node);
+            let told = ffi::last_heartbeat(table, *node);
             or(told.number, if told.found == 0 { Answer::None } else { Answer::Heartbeat(told.heartbeat) })
         }
         Call::Write { node, key, value, status, now } => plain(ffi::write(table, *node, key, value, *status, *now)),
@@ -232,14 +232,17 @@ impl Port {
             let number = ffi::node_number(&table, i).node;
             let header = ffi::node_header(&table, number);
             let records = ffi::record_count(&table, number).count;
-            self.calls += 3 + 4 * records as u64;
+            self.calls += 3 + 5 * records as u64;
             let text = |found: ffi::Found| table[found.start..found.start + found.len].to_vec();
             let records: Vec<Record> = (0..records)
                 .map(|j| {
-                    let (record, key) = (ffi::record_at(&table, number, j), text(ffi::key_at(&table, number, j)));
-                    let by_key = ffi::record_by_key(&table, number, &key);
-                    assert_eq!((by_key.found, by_key.version, by_key.start), (1, record.version, record.start));
-                    let value = text(ffi::value_at(&table, number, j));
+                    let record = ffi::record_at(&table, number, j);
+                    let [key_at, value_at] = [ffi::key_at(&table, number, j), ffi::value_at(&table, number, j)];
+                    let texts = (record.key_at, record.key_len, record.value_at, record.value_len);
+                    assert_eq!(texts, (key_at.start, key_at.len, value_at.start, value_at.len));
+                    let (key, value) = (text(key_at), text(value_at));
+                    assert_eq!(ffi::record_of(&table, i, j), record);
+                    assert_eq!(ffi::record_by_key(&table, number, &key), record);
                     Record { key, value, version: record.version, status: record.status as u8, start: record.start }
                 })
                 .collect();
@@ -251,7 +254,7 @@ impl Port {
             .chunks(REMOVED_BYTES)
             .take(tail[2].into())
             .map(|place| number(&place[..8]))
-            .map(|node| (node, ffi::last_heartbeat(table, node).heartbeat))
+            .map(|node| (node, ffi::last_heartbeat(&table, node).heartbeat))
             .collect();
         self.calls += removed.len() as u64;
         if encode_with(&nodes, tail[0], &removed) == table { Ok(()) } else { Err("the readings are not those of the table".into()) }

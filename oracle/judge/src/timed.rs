@@ -12,7 +12,7 @@ use crate::digest::Digest;
 use crate::hub::Hub;
 use crate::message::ProtocolVersion;
 use crate::serialize::{Deserializable, Serializable};
-use crate::types::ChitchatId;
+use crate::types::{ChitchatId, VersionedValue};
 use crate::wire;
 
 /// What the original calls a node.
@@ -84,6 +84,30 @@ impl Timed {
 
     pub fn get(&self, node: &Name, key: &str) -> Option<&str> {
         self.0.cluster.node_state(&node.0)?.get(key)
+    }
+
+    /// The record of a key, whether it is deleted or not.
+    pub fn get_versioned(&self, node: &Name, key: &str) -> Option<&VersionedValue> {
+        self.0.cluster.node_state(&node.0)?.get_versioned(key)
+    }
+
+    /// The keys and values of a node.
+    pub fn key_values(&self, node: &Name) -> Option<impl Iterator<Item = (&str, &str)>> {
+        Some(self.0.cluster.node_state(&node.0)?.key_values())
+    }
+
+    /// The keys of a node that begin so, with their records.
+    pub fn iter_prefix<'a>(
+        &'a self,
+        node: &Name,
+        prefix: &'a str,
+    ) -> Option<impl Iterator<Item = (&'a str, &'a VersionedValue)>> {
+        Some(self.0.cluster.node_state(&node.0)?.iter_prefix(prefix))
+    }
+
+    /// The heartbeat that the original remembers of a removed node.
+    pub fn last_heartbeat(&self, node: &Name) -> Option<u64> {
+        self.0.cluster.last_heartbeat_if_deleted(&node.0).map(u64::from)
     }
 
     pub fn set(&mut self, node: &Name, key: &str, value: &str) {

@@ -10,9 +10,12 @@
 //!   from `kev_new_table`, or `kev_check` accepted them, and after that only these functions write to them. Each leaves a table that the check
 //!   accepts again: that is proved of every call (docs/PROMISES.md, demand 1).
 //! - The structs are declared again in C's layout, field by field as in the header.
-//! - An answer's `start` and `len` lie inside the table (`lookup`, `inspect_text`: `Within`), and are used by indexing, which checks once more.
+//! - An answer's `start` and `len` lie inside the table (`lookup`, `inspect_text`: `Within`), and so do a record's texts, which are told by the same places
+//!   (`inspect_text`: `Same`). They are used by indexing, which checks once more.
 
 #![allow(unsafe_code)]
+// Every function of the header stands here; tables need not all of them.
+#![allow(dead_code)]
 
 use crate::TABLE;
 
@@ -57,10 +60,12 @@ pub struct Header {
 }
 
 #[repr(C)]
-#[derive(Clone, Copy)]
+#[derive(Clone, Copy, Debug, PartialEq, Eq)]
 pub struct Record {
     pub number: u64,
     pub found: usize,
+    pub key_at: usize,
+    pub value_at: usize,
     pub key_len: usize,
     pub value_len: usize,
     pub version: u64,
@@ -218,6 +223,7 @@ unsafe extern "C" {
     fn kev_remove_node(table: *mut u8, table_len: usize, node: u64) -> u64;
     fn kev_good_remove_node(table: *mut u8, table_len: usize, node: u64) -> u64;
     fn kev_last_heartbeat(table: *const u8, table_len: usize, node: u64) -> Heartbeat;
+    fn kev_good_last_heartbeat(table: *const u8, table_len: usize, node: u64) -> Heartbeat;
     fn kev_write(table: *mut u8, table_len: usize, node: u64, key: *const u8, key_len: usize, value: *const u8, value_len: usize, wanted: u64, clock: u64) -> u64;
     fn kev_good_write(table: *mut u8, table_len: usize, node: u64, key: *const u8, key_len: usize, value: *const u8, value_len: usize, wanted: u64, clock: u64) -> u64;
     fn kev_delete(table: *mut u8, table_len: usize, node: u64, key: *const u8, key_len: usize, clock: u64) -> u64;
@@ -244,6 +250,8 @@ unsafe extern "C" {
     fn kev_good_record_count(table: *const u8, table_len: usize, node: u64) -> Count;
     fn kev_record_at(table: *const u8, table_len: usize, node: u64, j: usize) -> Record;
     fn kev_good_record_at(table: *const u8, table_len: usize, node: u64, j: usize) -> Record;
+    fn kev_record_of(table: *const u8, table_len: usize, i: usize, j: usize) -> Record;
+    fn kev_good_record_of(table: *const u8, table_len: usize, i: usize, j: usize) -> Record;
     fn kev_record_by_key(table: *const u8, table_len: usize, node: u64, key: *const u8, key_len: usize) -> Record;
     fn kev_good_record_by_key(table: *const u8, table_len: usize, node: u64, key: *const u8, key_len: usize) -> Record;
     fn kev_key_at(table: *const u8, table_len: usize, node: u64, j: usize) -> Found;
@@ -286,8 +294,10 @@ pub fn remove_node<S: BytesMut>(store: &mut S, node: u64) -> u64 {
     unsafe { call(table.as_mut_ptr(), table.len(), node) }
 }
 
-pub fn last_heartbeat(table: &[u8], node: u64) -> Heartbeat {
-    unsafe { kev_last_heartbeat(table.as_ptr(), table.len(), node) }
+pub fn last_heartbeat<S: Bytes>(store: &S, node: u64) -> Heartbeat {
+    let call = if S::GOOD { kev_good_last_heartbeat } else { kev_last_heartbeat };
+    let table = store.bytes();
+    unsafe { call(table.as_ptr(), table.len(), node) }
 }
 
 pub fn write<S: BytesMut>(store: &mut S, node: u64, key: &[u8], value: &[u8], wanted: u64, clock: u64) -> u64 {
@@ -366,6 +376,12 @@ pub fn record_at<S: Bytes>(store: &S, node: u64, j: usize) -> Record {
     let call = if S::GOOD { kev_good_record_at } else { kev_record_at };
     let table = store.bytes();
     unsafe { call(table.as_ptr(), table.len(), node, j) }
+}
+
+pub fn record_of<S: Bytes>(store: &S, i: usize, j: usize) -> Record {
+    let call = if S::GOOD { kev_good_record_of } else { kev_record_of };
+    let table = store.bytes();
+    unsafe { call(table.as_ptr(), table.len(), i, j) }
 }
 
 pub fn record_by_key<S: Bytes>(store: &S, node: u64, key: &[u8]) -> Record {

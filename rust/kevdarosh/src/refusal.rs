@@ -157,6 +157,7 @@ impl Display for ExchangeRefused {
 impl core::error::Error for ExchangeRefused {}
 
 /// A number that is not 0 is a refusal's.
+#[inline]
 pub(crate) fn accepted(number: u64) -> core::result::Result<(), Refusal> {
     if number == 0 {
         return Ok(());
@@ -164,6 +165,7 @@ pub(crate) fn accepted(number: u64) -> core::result::Result<(), Refusal> {
     Err(refusal(number))
 }
 
+#[cold]
 pub(crate) fn refusal(number: u64) -> Refusal {
     // The library's contracts give no other number.
     Refusal::of_number(number).unwrap_or(Refusal::BadTable)

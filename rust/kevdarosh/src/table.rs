@@ -214,9 +214,9 @@ impl<S: Bytes> Table<S> {
 
     /// A node, to read it: [`Refusal::NoNode`].
     pub fn node_state(&self, node: u64) -> Result<NodeState<'_, S>, Refusal> {
-        let answer = ffi::node_header(&self.store, node);
-        accepted(answer.number)?;
-        let header = Header { heartbeat: answer.heartbeat, max_version: answer.max, last_gc_version: answer.last_gc };
+        // An owned table's header is read when it is asked for. A lent one's is read here, since each reading of it checks the table.
+        let header = if S::GOOD { None } else { Some(ffi::node_header(&self.store, node)) };
+        accepted(header.map_or_else(|| ffi::record_count(&self.store, node).number, |header| header.number))?;
         Ok(NodeState { table: self, node, header })
     }
 
@@ -224,12 +224,12 @@ impl<S: Bytes> Table<S> {
     pub fn get(&self, node: u64, key: &[u8]) -> Result<Option<&[u8]>, Refusal> {
         let answer = ffi::find(&self.store, node, key);
         accepted(answer.number)?;
-        Ok((answer.found != 0).then(|| self.text(answer)))
+        Ok((answer.found != 0).then(|| self.text(answer.start, answer.len)))
     }
 
     /// The last heartbeat of a node that was removed; none where the table does not remember it. It remembers the last sixteen.
     pub fn last_heartbeat_if_deleted(&self, node: u64) -> Result<Option<u64>, Refusal> {
-        let answer = ffi::last_heartbeat(self.store.bytes(), node);
+        let answer = ffi::last_heartbeat(&self.store, node);
         accepted(answer.number)?;
         Ok((answer.found != 0).then_some(answer.heartbeat))
     }
@@ -257,20 +257,25 @@ impl<S: Bytes> Table<S> {
         Ok(Computed { ops: answer.ops, bytes: answer.bytes })
     }
 
-    fn text(&self, found: ffi::Found) -> &[u8] {
-        &self.store.bytes()[found.start..found.start + found.len]
+    /// The bytes of the table that an answer names.
+    fn text(&self, start: usize, len: usize) -> &[u8] {
+        &self.store.bytes()[start..start + len]
     }
 
-    /// The record in place `j` of a node that has so many.
-    fn record(&self, node: u64, j: usize) -> Record<'_> {
-        let record = ffi::record_at(&self.store, node, j);
+    /// The record that was found.
+    fn record(&self, found: ffi::Record) -> Record<'_> {
         Record {
-            key: self.text(ffi::key_at(&self.store, node, j)),
-            value: self.text(ffi::value_at(&self.store, node, j)),
-            version: record.version,
-            status: Status::of(record.status),
-            start: record.start,
+            key: self.text(found.key_at, found.key_len),
+            value: self.text(found.value_at, found.value_len),
+            version: found.version,
+            status: Status::of(found.status),
+            start: found.start,
         }
+    }
+
+    /// The place of a node that is held, among the nodes.
+    fn place(&self, node: u64) -> usize {
+        (0..NODES).find(|&i| ffi::node_number(&self.store, i).node == node).unwrap_or(NODES)
     }
 }
 
@@ -336,7 +341,7 @@ impl<S: BytesMut> Table<S> {
 pub struct NodeState<'a, S> {
     table: &'a Table<S>,
     node: u64,
-    header: Header,
+    header: Option<ffi::Header>,
 }
 
 impl<'a, S: Bytes> NodeState<'a, S> {
@@ -347,22 +352,23 @@ impl<'a, S: Bytes> NodeState<'a, S> {
 
     /// Heartbeat, max and last_gc.
     pub fn header(&self) -> Header {
-        self.header
+        let header = self.header.unwrap_or_else(|| ffi::node_header(&self.table.store, self.node));
+        Header { heartbeat: header.heartbeat, max_version: header.max, last_gc_version: header.last_gc }
     }
 
     /// How often its owner has beaten.
     pub fn heartbeat(&self) -> u64 {
-        self.header.heartbeat
+        self.header().heartbeat
     }
 
     /// The highest version that it has heard of.
     pub fn max_version(&self) -> u64 {
-        self.header.max_version
+        self.header().max_version
     }
 
     /// The highest version that was removed.
     pub fn last_gc_version(&self) -> u64 {
-        self.header.last_gc_version
+        self.header().last_gc_version
     }
 
     /// The value of a key; none where there is no such key, or its record is deleted: [`Refusal::TooLong`].
@@ -379,13 +385,20 @@ impl<'a, S: Bytes> NodeState<'a, S> {
     pub fn get_versioned(&self, key: &[u8]) -> Result<Option<Record<'a>>, Refusal> {
         let answer = ffi::record_by_key(&self.table.store, self.node, key);
         accepted(answer.number)?;
-        Ok(if answer.found == 0 { None } else { self.key_values_including_deleted().find(|record| record.key == key) })
+        Ok((answer.found != 0).then(|| self.table.record(answer)))
+    }
+
+    /// The record in a place, which has one. An owned table's node is sought once, and each record read by both places; of a lent table seeking would
+    /// check it too.
+    fn reading(&self) -> impl Fn(usize) -> Record<'a> + use<'a, S> {
+        let (table, node) = (self.table, self.node);
+        let place = if S::GOOD { table.place(node) } else { NODES };
+        move |j| table.record(if S::GOOD { ffi::record_of(&table.store, place, j) } else { ffi::record_at(&table.store, node, j) })
     }
 
     /// All records, deleted ones too, in key order.
     pub fn key_values_including_deleted(&self) -> impl Iterator<Item = Record<'a>> + use<'a, S> {
-        let (table, node) = (self.table, self.node);
-        (0..ffi::record_count(&table.store, node).count).map(move |j| table.record(node, j))
+        (0..ffi::record_count(&self.table.store, self.node).count).map(self.reading())
     }
 
     /// The keys and values that are not deleted, in key order.
@@ -403,8 +416,7 @@ impl<'a, S: Bytes> NodeState<'a, S> {
         let mut places = [0; RECORDS];
         let answer = ffi::list_prefix(&self.table.store, self.node, prefix, &mut places);
         accepted(answer.number)?;
-        let (table, node) = (self.table, self.node);
-        Ok(places.into_iter().take(answer.count).map(move |j| table.record(node, j.into())))
+        Ok(places.into_iter().take(answer.count).map(usize::from).map(self.reading()))
     }
 }
 

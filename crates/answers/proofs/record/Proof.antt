@@ -3,10 +3,26 @@ use Prim.Native.Nat.{ℕ}
 use mathlib.Core.Path.{ap, sym, _∙_}
 use Rattle.inspect.specs.Told.{recordReadTold}
 use Rattle.inspect.specs.declared.RecordRead.{RecordRead}
+use Rattle.rules.specs.declared.Record.{Record}
 use Rattle.answers.specs.Shown.{recordShown, noRecord}
+use Rattle.answers.specs.declared.KevRecord.{KevRecord}
 use borrow.Author.Needs.{needs}
 use Rattle.answers.proofs.record.Statement.{statement}
 use Rattle.answers.proofs.record.Tie as tie
+
+abbrev shown : (key value : ℕ) (of : Record) (status : ℕ) → KevRecord
+shown k v r s =
+    record {
+      number = 0;
+      found = 1;
+      «key_at» = k;
+      «value_at» = v;
+      keylen = r .keylen;
+      valuelen = r .valuelen;
+      version = r .version;
+      status = s;
+      start = r .start;
+    }
 
 enum-known-read : tie.Need-enum-known-read
 enum-known-read c = search needs
@@ -32,8 +48,8 @@ no-record-requires-2 c κs = search needs
 returns : tie.Need-returns
 unfolding recordReadTold
 returns c =
-    let r = c .before .before .read .given .0 .0 in
-    ap (λ (s : ℕ). record { number = 0; found = 1; keylen = r .keylen; valuelen = r .valuelen; version = r .version; status = s; start = r .start }) (c .byte .ensures)
+    let g = c .before .before .read .given .0 in
+    ap (shown (g .0) (g .1 .0) (g .1 .1 .0)) (c .byte .ensures)
     ∙ sym (ap (λ (a : RecordRead). recordShown (recordReadTold a)) (c .before .before .read .given .1))
 
 returns-2 : tie.Need-returns-2

@@ -1,6 +1,6 @@
 -- `inspect::record_at_good` meets its contract: what the node's bytes say, or 2. Assumes nothing.
 use Rattle.inspect.specs.Look.{recordOn}
-use Rattle.table_read.proofs.Reading.{lent-node-needs, node-says-of, no-node-says-of}
+use Rattle.table_read.proofs.Reading.{lent-node-needs, node-stands, no-node-stands}
 use borrow.Author.Needs.{needs}
 use Rattle.inspect.proofs.record_at_good.Statement.{statement}
 use Rattle.inspect.proofs.record_at_good.Tie as tie
@@ -27,10 +27,10 @@ enum-told : tie.Need-enum-told
 enum-told c = search needs
 
 returns : tie.Need-returns
-returns c = search (node-says-of recordOn)
+returns c = search (node-stands recordOn)
 
 returns-2 : tie.Need-returns-2
-returns-2 c = search (no-node-says-of recordOn)
+returns-2 c = search (no-node-stands recordOn)
 
 pub record-at-good-spec : {M : Type 1} → statement M
 record-at-good-spec =

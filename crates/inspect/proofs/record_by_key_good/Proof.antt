@@ -1,6 +1,6 @@
 -- `inspect::record_by_key_good` meets its contract: what the node's bytes say, or 2. Assumes nothing.
 use Rattle.inspect.specs.Look.{recordByKeyOn}
-use Rattle.table_read.proofs.Reading.{lent-node-needs, node-says-of, no-node-says-of}
+use Rattle.table_read.proofs.Reading.{lent-node-needs, node-stands, no-node-stands}
 use borrow.Author.Needs.{needs}
 use Rattle.inspect.proofs.record_by_key_good.Statement.{statement}
 use Rattle.inspect.proofs.record_by_key_good.Tie as tie
@@ -27,10 +27,10 @@ enum-told : tie.Need-enum-told
 enum-told c = search needs
 
 returns : tie.Need-returns
-returns c = search (node-says-of recordByKeyOn)
+returns c = search (node-stands recordByKeyOn)
 
 returns-2 : tie.Need-returns-2
-returns-2 c = search (no-node-says-of recordByKeyOn)
+returns-2 c = search (no-node-stands recordByKeyOn)
 
 pub record-by-key-good-spec : {M : Type 1} → statement M
 record-by-key-good-spec =

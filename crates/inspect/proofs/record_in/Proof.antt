@@ -2,7 +2,6 @@
 use Prim.Native.Nat.{_<_}
 use native.Mathlib.Omega.{arith}
 use Rattle.table.specs.Tests.{countOf}
-use Rattle.table_read.proofs.Reading.{rec-fits, rec-read}
 use Rattle.inspect.specs.Look.{readAt}
 use Rattle.inspect.proofs.Elements.{rec-there, no-rec-there}
 use borrow.Author.Needs.{needs}
@@ -16,17 +15,17 @@ byte-at-requires : tie.Need-byte-at-requires
 byte-at-requires c κs = search needs
 
 returns : tie.Need-returns
-returns c = no-rec-there readAt _ _ (omega (arith, c .before .byte-at .ensures .0))
+returns c =
+    let a = c .before .before .before .args in
+    no-rec-there (readAt (a .start) (a .j)) _ _ (omega (arith, c .before .byte-at .ensures .0))
 
-record-of-requires : tie.Need-record-of-requires
-record-of-requires c κs = (search needs, omega (arith, within c))
-
-read-record-requires : tie.Need-read-record-requires
-read-record-requires c κs = rec-fits _ (c .before .before .before .before .pre) _ (within (c .before)) _ (c .record-of .ensures)
+placed-requires : tie.Need-placed-requires
+placed-requires c κs = let s = c .before .before .before in (s .pre .0, s .pre .1, within c)
 
 returns-2 : tie.Need-returns-2
-returns-2 c = let h = within (c .before .before) in search (rec-there readAt, rec-read)
+returns-2 c =
+    let a = c .before .before .before .before .args in
+    rec-there (readAt (a .start) (a .j)) (a .node .now) (a .j) (within (c .before)) _ (c .placed .ensures)
 
 pub record-in-spec : {M : Type 1} → statement M
-record-in-spec =
-    tie.close (tie.spec byte-at-requires returns record-of-requires read-record-requires returns-2)
+record-in-spec = tie.close (tie.spec byte-at-requires returns placed-requires returns-2)

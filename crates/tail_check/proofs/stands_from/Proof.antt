@@ -1,16 +1,15 @@
 -- `tail_check::stands_from` meets its contract: a number found already, or among those that are left, is among the whole. Assumes nothing.
-use Prim.Native.Nat.{ℕ, suc, _+_, _-_, _≤_, _<_}
+use Prim.Native.Nat.{ℕ, _+_, _-_, _≤_, _<_}
 use mathlib.Core.Path.{_≡_, refl, sym, ap, _∙_}
 use mathlib.Core.Bool.{Bool, true, false}
 use mathlib.Core.Logic.{⊎-elim}
-use mathlib.Core.List.{List, _∷_}
+use mathlib.Core.List.{List}
 use native.Mathlib.Omega.{arith}
 use lib.ListN.{length, getD, take, drop}
-use lib.Seq.{drop-cons}
-use native.Mathlib.Numerals.{add-one}
 use borrow.Author.Tests.{eq-eqb, ne-eqb}
 use Rattle.fields.specs.Choice.{pick}
 use Rattle.rules.specs.Table.{among}
+use Rattle.tail_check.proofs.Numbers.{rest-next}
 use borrow.Author.Needs.{needs}
 use Rattle.tail_check.proofs.stands_from.Statement.{statement}
 use Rattle.tail_check.proofs.stands_from.Tie as tie
@@ -23,14 +22,9 @@ abbrev μ-loop : tie.MeasureT-loop
 
 -- one number more
 module _ (ns : List ℕ) (x j n : ℕ) (found t : Bool) (h : j < n) (g : n ≤ length ns) (e : pick found true (among x (take (n - j) (drop j ns))) ≡ t) where
-  next : take (n - j) (drop j ns) ≡ getD ns j 0 ∷ take (n - (j + 1)) (drop (j + 1) ns)
-  next =
-      let p : n - j ≡ suc (n - (j + 1)) = omega arith in
-      rw (p, add-one j, drop-cons ns j 0 (omega arith))
-
   hit : getD ns j 0 ≡ x → true ≡ t
   unfolding among
-  hit q = go found ∙ ap (λ (b : Bool). pick found true b) (sym (ap (among x) next ∙ rw (eq-eqb x (getD ns j 0) (sym q)))) ∙ e
+  hit q = go found ∙ ap (λ (b : Bool). pick found true b) (sym (ap (among x) (rest-next ns j n h g) ∙ rw (eq-eqb x (getD ns j 0) (sym q)))) ∙ e
     where
       go : (b : Bool) → true ≡ pick b true true
       go true = refl
@@ -38,7 +32,7 @@ module _ (ns : List ℕ) (x j n : ℕ) (found t : Bool) (h : j < n) (g : n ≤ l
 
   miss : (getD ns j 0 ≡ x → ⊥) → pick found true (among x (take (n - (j + 1)) (drop (j + 1) ns))) ≡ t
   unfolding among
-  miss q = ap (λ (b : Bool). pick found true b) (sym (ap (among x) next ∙ rw (ne-eqb x (getD ns j 0) (λ r. q (sym r))))) ∙ e
+  miss q = ap (λ (b : Bool). pick found true b) (sym (ap (among x) (rest-next ns j n h g) ∙ rw (ne-eqb x (getD ns j 0) (λ r. q (sym r))))) ∙ e
 
 -- at the end
 over : (found t : Bool) (x n j : ℕ) (ns : List ℕ) → n ≤ j → pick found true (among x (take (n - j) (drop j ns))) ≡ t → found ≡ t

@@ -1,4 +1,4 @@
--- `removal::take_out` meets its contract: the record goes, then last_gc is written. Assumes nothing.
+-- `removal::raise_last_gc` meets its contract: the larger of the two numbers that were read is written. Assumes nothing.
 use Prim.Native.Nat.{ℕ, _+_, _<_, max}
 use mathlib.Core.Path.{_≡_, ap, ap₂, sym, _∙_}
 use mathlib.Core.List.{List}
@@ -6,14 +6,14 @@ use native.Mathlib.Omega.{arith}
 use Rattle.fields.specs.Numbers.{natOf}
 use Rattle.fields.specs.Parts.{part}
 use Rattle.fields.specs.Widths.{offset}
-use Rattle.rules.specs.Layout.{recPlace, recWidths, nodeWidths, decodeNode}
+use Rattle.rules.specs.Layout.{recPlace, recWidths, nodeWidths, encodeNode, decodeNode}
 use Rattle.table.specs.Tests.{countOf}
 use Rattle.table.specs.Fits.{LaidNode}
+use Rattle.table.specs.Changes.{withGc}
 use Rattle.table.proofs.Places.{recAt, version-at}
-use Rattle.removal.proofs.Removing.{less-laid, taken-steps}
 use borrow.Author.Needs.{needs}
-use Rattle.removal.proofs.take_out.Statement.{statement}
-use Rattle.removal.proofs.take_out.Tie as tie
+use Rattle.removal.proofs.raise_last_gc.Statement.{statement}
+use Rattle.removal.proofs.raise_last_gc.Tie as tie
 
 -- what is to be written, by what was read
 raised : (b : List ℕ) → LaidNode b → (j : ℕ) → j < countOf b → (held version g : ℕ) → held ≡ natOf (part (offset nodeWidths 3) 8 b) → version ≡ natOf (part (recPlace j + offset recWidths 4) 8 b)
@@ -36,36 +36,28 @@ read-u64-requires-2 c κs = search needs
 larger-requires : tie.Need-larger-requires
 larger-requires c κs = search needs
 
-remove-record-requires : tie.Need-remove-record-requires
-remove-record-requires c κs = search needs
-
 set-last-gc-requires : tie.Need-set-last-gc-requires
-set-last-gc-requires c κs =
-    let w = c .before .before .before in
-    let st = w .before .before .before .before .before .before .before .before .before in
-    less-laid (st .args .node .now) (st .pre .0) (st .args .j) (st .pre .1) _ (w .remove-record .ensures)
+set-last-gc-requires c κs = search needs
 
 same-length : tie.Need-same-length
 same-length c = search needs
 
 returns : tie.Need-returns
 returns c =
-    let g = c .before .before in
-    let w = g .before .before .before .before in
+    let w = c .before .before in
     let m = w .before .before in
     let v = m .before in
     let k = v .before in
     let u = k .before .before in
     let st = u .before .before .before in
     let b : List ℕ = st .args .node .now in
-    let j : ℕ = st .args .j in
-    taken-steps b (st .pre .0) j (st .pre .1) _ (w .remove-record .ensures) (m .larger .result) (recAt j b .kv .version) _
-    (raised b (st .pre .0) j (st .pre .1) (u .read-u64 .result) (v .read-u642 .result) (m .larger .result) (u .read-u64 .ensures)
+    w .set-last-gc .ensures
+    ∙ ap (λ (g : ℕ). encodeNode (withGc g (decodeNode b)))
+    (raised b (st .pre .0) (st .args .j) (st .pre .1) (u .read-u64 .result) (v .read-u642 .result) (m .larger .result) (u .read-u64 .ensures)
     (v .read-u642 .ensures ∙ ap (λ (at : ℕ). natOf (part (at + offset recWidths 4) 8 b)) (k .record-place .ensures)) (m .larger .ensures))
-    (g .set-last-gc .ensures)
 
-pub take-out-spec : {M : Type 1} → statement M
-take-out-spec =
+pub raise-last-gc-spec : {M : Type 1} → statement M
+raise-last-gc-spec =
     tie.close
     (tie.spec
     read-u64-requires
@@ -73,7 +65,6 @@ take-out-spec =
     add-read-u64
     read-u64-requires-2
     larger-requires
-    remove-record-requires
     set-last-gc-requires
     same-length
     returns)
