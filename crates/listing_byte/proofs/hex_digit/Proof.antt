@@ -1,11 +1,11 @@
--- `listing_text::hex_digit` meets its contract. Assumes nothing.
+-- `listing_byte::hex_digit` meets its contract. Assumes nothing.
 use Prim.Native.Nat.{ℕ, _+_, _≤_, _<_}
 use mathlib.Core.Path.{_≡_}
 use borrow.Author.Needs.{needs}
 use borrow.Author.Tests.{lt-ltb, le-ltb}
 use Rattle.rules.specs.Listing.{hexDigit}
-use Rattle.listing_text.proofs.hex_digit.Statement.{statement}
-use Rattle.listing_text.proofs.hex_digit.Tie as tie
+use Rattle.listing_byte.proofs.hex_digit.Statement.{statement}
+use Rattle.listing_byte.proofs.hex_digit.Tie as tie
 
 figure : (n : ℕ) → n < 10 → 48 + n ≡ hexDigit n
 unfolding hexDigit

@@ -1,11 +1,11 @@
--- `listing_text::is_plain` meets its contract. Assumes nothing.
+-- `listing_byte::is_plain` meets its contract. Assumes nothing.
 use Prim.Native.Nat.{ℕ, _≤_, _<_}
 use mathlib.Core.Path.{_≡_}
 use mathlib.Core.Bool.{true, false}
 use borrow.Author.Tests.{eq-eqb, le-leb, lt-leb, ne-eqb}
 use Rattle.rules.specs.Listing.{plain}
-use Rattle.listing_text.proofs.is_plain.Statement.{statement}
-use Rattle.listing_text.proofs.is_plain.Tie as tie
+use Rattle.listing_byte.proofs.is_plain.Statement.{statement}
+use Rattle.listing_byte.proofs.is_plain.Tie as tie
 
 module _ (b : ℕ) where
   low : b < 33 → false ≡ plain b

@@ -1,12 +1,12 @@
--- `listing_text::byte_len` meets its contract. Assumes nothing.
+-- `listing_byte::byte_len` meets its contract. Assumes nothing.
 use Prim.Native.Nat.{ℕ}
 use mathlib.Core.Path.{_≡_}
 use mathlib.Core.Bool.{Bool, true, false}
 use lib.ListN.{length}
 use borrow.Author.Needs.{needs}
 use Rattle.rules.specs.Listing.{plain, shownByte}
-use Rattle.listing_text.proofs.byte_len.Statement.{statement}
-use Rattle.listing_text.proofs.byte_len.Tie as tie
+use Rattle.listing_byte.proofs.byte_len.Statement.{statement}
+use Rattle.listing_byte.proofs.byte_len.Tie as tie
 
 one : (b : ℕ) (r : Bool) → r ≡ plain b → r ≡ true → 1 ≡ length (shownByte b)
 one b r e h = let p : plain b ≡ true = cc in rw p
