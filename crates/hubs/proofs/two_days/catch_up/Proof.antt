@@ -1,10 +1,10 @@
--- `hubs::catch_up` is safe and ends. Assumes nothing.
+-- `hubs::two_days::catch_up` is safe and ends. Assumes nothing.
 use Prim.Native.Nat.{_≤_, _-_}
 use mathlib.Core.Path.{_≡_}
 use lib.ListN.{length}
 use borrow.Author.Needs.{needs}
-use Rattle.hubs.proofs.catch_up.Statement.{statement}
-use Rattle.hubs.proofs.catch_up.Tie as tie
+use Rattle.hubs.proofs.two_days.catch_up.Statement.{statement}
+use Rattle.hubs.proofs.two_days.catch_up.Tie as tie
 
 abbrev Inv-loop : tie.InvT-loop
 Inv-loop publisher follower₀ clock most i₀ follower i = (i ≤ most) × (length follower ≡ length follower₀)

@@ -1,9 +1,9 @@
--- `hubs::say_answers` is safe and ends. Assumes nothing.
+-- `hubs::two_days::say_answers` is safe and ends. Assumes nothing.
 use Prim.Native.Nat.{_≤_, _-_}
 use lib.ListN.{length}
 use borrow.Author.Needs.{needs}
-use Rattle.hubs.proofs.say_answers.Statement.{statement}
-use Rattle.hubs.proofs.say_answers.Tie as tie
+use Rattle.hubs.proofs.two_days.say_answers.Statement.{statement}
+use Rattle.hubs.proofs.two_days.say_answers.Tie as tie
 
 abbrev Inv-loop : tie.InvT-loop
 Inv-loop answers n i₀ t4 i = i ≤ length answers
@@ -14,11 +14,11 @@ abbrev μ-loop : tie.MeasureT-loop
 loop-holds : tie.Need-loop-holds Inv-loop μ-loop
 loop-holds c = search needs
 
-shared-slice-read-say-answer : tie.Need-shared-slice-read-say-answer Inv-loop μ-loop
-shared-slice-read-say-answer c = search needs
+shared-slice-read-answer : tie.Need-shared-slice-read-answer Inv-loop μ-loop
+shared-slice-read-answer c = search needs
 
-say-answer-requires : tie.Need-say-answer-requires Inv-loop μ-loop
-say-answer-requires c κs = search needs
+answer-requires : tie.Need-answer-requires Inv-loop μ-loop
+answer-requires c κs = search needs
 
 add-i : tie.Need-add-i Inv-loop μ-loop
 add-i c = search needs
@@ -29,11 +29,11 @@ loop-less c = search needs
 loop-again : tie.Need-loop-again Inv-loop μ-loop
 loop-again c = search needs
 
-slice-aggregate-say : tie.Need-slice-aggregate-say Inv-loop μ-loop
-slice-aggregate-say c = search needs
+slice-aggregate-text : tie.Need-slice-aggregate-text Inv-loop μ-loop
+slice-aggregate-text c = search needs
 
-say-requires : tie.Need-say-requires Inv-loop μ-loop
-say-requires c κs = search needs
+text-requires : tie.Need-text-requires Inv-loop μ-loop
+text-requires c κs = search needs
 
 returns : tie.Need-returns Inv-loop μ-loop
 returns c = search needs
@@ -45,11 +45,11 @@ say-answers-spec =
     Inv-loop
     μ-loop
     loop-holds
-    shared-slice-read-say-answer
-    say-answer-requires
+    shared-slice-read-answer
+    answer-requires
     add-i
     loop-less
     loop-again
-    slice-aggregate-say
-    say-requires
+    slice-aggregate-text
+    text-requires
     returns)

@@ -1,9 +1,9 @@
--- `hubs::say_node` is safe and ends. Assumes nothing.
+-- `hubs::two_days::say_node` is safe and ends. Assumes nothing.
 use Prim.Native.Nat.{_≤_, _-_}
 use Rattle.rules.specs.Sizes.{maxRecords}
 use borrow.Author.Needs.{needs}
-use Rattle.hubs.proofs.say_node.Statement.{statement}
-use Rattle.hubs.proofs.say_node.Tie as tie
+use Rattle.hubs.proofs.two_days.say_node.Statement.{statement}
+use Rattle.hubs.proofs.two_days.say_node.Tie as tie
 
 abbrev Inv-loop : tie.InvT-loop
 Inv-loop hub number j₀ j = j ≤ maxRecords

@@ -1,12 +1,12 @@
 // Three hubs, in each of the three modes. P owns a meter, F and G follow it, and G hears both. F has heard P before P deleted the tariff and removed it,
 // G after. Then G hears F. A plain G takes the tariff from F, and ends at P's very pair with a tariff that P does not have: it is back, for ever. A fenced
 // or guarded G is in a reset that F's delta is older than; it answers Fenced, and ends as P is.
+use crate::meeting;
+use crate::say;
 use exchange::Exchanged;
 use inspect::NodeHeader;
 use inspect::RecordRead;
 use inspect_text::Text;
-use libc::STDOUT_FILENO;
-use rules::Answer;
 use rules::Mode;
 use rules::Status;
 use rules::wire;
@@ -18,29 +18,9 @@ const METER: u64 = 7;
 // Nothing is cut.
 const MTU: usize = 1000;
 
-// The digest of one node.
-const DIGEST: usize = wire::COUNT_WIDTH + wire::ENTRY_WIDTH;
-
-fn say(text: &[u8]) {
-    io::write_all(STDOUT_FILENO, text);
-}
-
-fn say_number(name: &[u8], n: u64) {
-    say(name);
-    io::print_decimal(STDOUT_FILENO, n);
-}
-
-// A refused call would be told; none here is.
-fn done(a: Answer) {
-    match a {
-        Answer::Done => {}
-        Answer::Refused(r) => say_number(b"refused ", r.number()),
-    }
-}
-
 fn open(hub: &mut [u8], mode: Mode) {
-    done(nodes::new_table(hub, mode));
-    done(nodes::add_node(hub, METER));
+    say::done(nodes::new_table(hub, mode));
+    say::done(nodes::add_node(hub, METER));
 }
 
 // ---- what a hub holds
@@ -48,79 +28,49 @@ fn open(hub: &mut [u8], mode: Mode) {
 // A record's key and version.
 fn say_record(hub: &[u8], j: usize) {
     if let RecordRead::Is(r) = inspect::record_at(hub, METER, j) {
-        say(b" ");
-        say(inspect_text::text_at(hub, METER, j, Text::Key));
-        say_number(b"@", r.version);
+        say::text(b" ");
+        say::text(inspect_text::text_at(hub, METER, j, Text::Key));
+        say::number(b"@", r.version);
     }
 }
 
 // last_gc and max, and the two records that it may have.
 fn say_hub(name: &[u8], hub: &[u8]) {
-    say(name);
+    say::text(name);
     if let NodeHeader::Is(h) = inspect::node_header(hub, METER) {
-        say_number(b" (", h.last_gc);
-        say_number(b",", h.max);
-        say(b")");
+        say::number(b" (", h.last_gc);
+        say::number(b",", h.max);
+        say::text(b")");
     }
     say_record(hub, 0);
     say_record(hub, 1);
-    say(b"\n");
+    say::text(b"\n");
 }
 
 // ---- the exchanges
 
-// What the node answered.
-fn say_answer(code: u8) {
-    if code == 0 {
-        say(b" reject\n");
-    } else if code == 1 {
-        say(b" apply\n");
-    } else if code == 2 {
-        say(b" reset\n");
-    } else if code == 3 {
-        say(b" room\n");
-    } else if code == 4 {
-        say(b" unknown\n");
-    } else {
-        say(b" fenced\n");
-    }
-}
-
-// One hub hears another: its digest, the other's delta, applied.
 fn hear(name: &[u8], other: &[u8], hub: &mut [u8]) {
-    let mut digest = [0u8; DIGEST];
-    let mut delta = [0u8; MTU];
     let mut answers = [0u8; 1];
-    let none = [0u64; 0];
     let ties = [0u64; 1];
-    let e = exchange::exchange(
-        other,
-        hub,
-        wire::V0,
-        MTU,
-        &none,
-        &none,
-        &ties,
-        0,
-        &mut digest,
-        &mut delta,
-        &mut answers,
-    );
-    say(name);
+    let e = meeting::hear(other, hub, wire::V0, MTU, &ties, 0, &mut answers);
+    say::text(name);
     match e {
         Exchanged::Done {
             ops: _,
             bytes: _,
             nodes: _,
-        } => say_answer(answers[0]),
-        Exchanged::Refused { step: _, why } => say_number(b" refused ", why.number()),
+        } => {
+            say::answer(answers[0]);
+            say::text(b"\n");
+        }
+        Exchanged::Refused { step: _, why } => say::number(b" refused ", why.number()),
     }
 }
 
 // ---- the story
 
 fn set(hub: &mut [u8], key: &[u8], value: &[u8]) {
-    done(local::write(hub, METER, key, value, Status::Set, 0));
+    say::done(local::write(hub, METER, key, value, Status::Set, 0));
 }
 
 // F has both records.
@@ -132,8 +82,8 @@ fn begin(p: &mut [u8], f: &mut [u8]) {
 
 // The tariff is deleted, and its tombstone removed.
 fn go_on(p: &mut [u8]) {
-    done(local::delete(p, METER, b"tariff", 0));
-    done(removal::remove_scheduled(p, 0, 0));
+    say::done(local::delete(p, METER, b"tariff", 0));
+    say::done(removal::remove_scheduled(p, 0, 0));
 }
 
 fn catch_up(p: &[u8], f: &[u8], g: &mut [u8]) {
@@ -142,7 +92,7 @@ fn catch_up(p: &[u8], f: &[u8], g: &mut [u8]) {
     hear(b"  G hears P:", p, g);
 }
 
-fn tell(p: &[u8], f: &[u8], g: &[u8]) {
+fn tell_hubs(p: &[u8], f: &[u8], g: &[u8]) {
     say_hub(b"  P", p);
     say_hub(b"  F", f);
     say_hub(b"  G", g);
@@ -158,14 +108,14 @@ fn story(mode: Mode) {
     begin(&mut p, &mut f);
     go_on(&mut p);
     catch_up(&p, &f, &mut g);
-    tell(&p, &f, &g);
+    tell_hubs(&p, &f, &g);
 }
 
-fn main() {
-    say(b"plain hubs\n");
+pub fn tell() {
+    say::text(b"plain hubs\n");
     story(Mode::Plain);
-    say(b"fenced hubs\n");
+    say::text(b"fenced hubs\n");
     story(Mode::Fenced);
-    say(b"guarded hubs\n");
+    say::text(b"guarded hubs\n");
     story(Mode::Guarded);
 }

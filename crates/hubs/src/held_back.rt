@@ -1,10 +1,10 @@
 // One delta is held back by the radio and delivered late, to a plain follower and then to a fenced one. While it was on its way the tariff that it brings was
 // deleted and removed at the publisher, and the follower began a reset that the MTU cut short. The plain follower takes the late delta, and the tariff
 // is there again, though every max is equal in the end. The fenced one answers Fenced and stays as it is.
+use crate::meeting;
+use crate::say;
 use exchange::Exchanged;
-use libc::STDOUT_FILENO;
 use lookup::Found;
-use rules::Answer;
 use rules::Applied;
 use rules::Computed;
 use rules::Mode;
@@ -25,75 +25,27 @@ const DIGEST: usize = wire::COUNT_WIDTH + wire::ENTRY_WIDTH;
 // The delta that is held back: a Node, and a record of 14 bytes with a key of 6 and a value of 5.
 const LATE: usize = wire::NODE_WIDTH + 25;
 
-fn say(text: &[u8]) {
-    io::write_all(STDOUT_FILENO, text);
-}
-
-fn say_number(name: &[u8], n: u64) {
-    say(name);
-    io::print_decimal(STDOUT_FILENO, n);
-}
-
-// A refused call would be told; none here is.
-fn done(a: Answer) {
-    match a {
-        Answer::Done => {}
-        Answer::Refused(r) => say_number(b"refused ", r.number()),
-    }
-}
-
 fn open(hub: &mut [u8], mode: Mode) {
-    done(nodes::new_table(hub, mode));
-    done(nodes::add_node(hub, METER));
-}
-
-// What the node answered.
-fn say_answer(code: u8) {
-    if code == 0 {
-        say(b" reject\n");
-    } else if code == 1 {
-        say(b" apply\n");
-    } else if code == 2 {
-        say(b" reset\n");
-    } else if code == 3 {
-        say(b" room\n");
-    } else if code == 4 {
-        say(b" unknown\n");
-    } else {
-        say(b" fenced\n");
-    }
+    say::done(nodes::new_table(hub, mode));
+    say::done(nodes::add_node(hub, METER));
 }
 
 // One exchange at the least MTU.
 fn meet(publisher: &[u8], follower: &mut [u8]) {
-    let mut digest = [0u8; DIGEST];
-    let mut delta = [0u8; MTU];
     let mut answers = [0u8; 1];
-    let none = [0u64; 0];
     let ties = [0u64; 1];
-    let e = exchange::exchange(
-        publisher,
-        follower,
-        wire::V0,
-        MTU,
-        &none,
-        &none,
-        &ties,
-        0,
-        &mut digest,
-        &mut delta,
-        &mut answers,
-    );
+    let e = meeting::hear(publisher, follower, wire::V0, MTU, &ties, 0, &mut answers);
     match e {
         Exchanged::Done {
             ops: _,
             bytes: _,
             nodes: _,
         } => {
-            say(b"  exchange:");
-            say_answer(answers[0]);
+            say::text(b"  exchange:");
+            say::answer(answers[0]);
+            say::text(b"\n");
         }
-        Exchanged::Refused { step: _, why } => say_number(b"refused ", why.number()),
+        Exchanged::Refused { step: _, why } => say::number(b"refused ", why.number()),
     }
 }
 
@@ -104,13 +56,13 @@ fn send(publisher: &[u8], follower: &[u8], delta: &mut [u8]) {
     let ties = [0u64; 1];
     match digest_write::write_digest(follower, wire::V0, &none, &mut digest, 0) {
         Written::Bytes(_) => {}
-        Written::Refused(r) => say_number(b"refused ", r.number()),
+        Written::Refused(r) => say::number(b"refused ", r.number()),
     }
     match compute::compute(publisher, wire::V0, &digest, MTU, &none, &ties, delta, 0) {
-        Computed::Delta { ops: _, bytes } => say_number(b"  held back: a delta of ", bytes as u64),
-        Computed::Refused(r) => say_number(b"refused ", r.number()),
+        Computed::Delta { ops: _, bytes } => say::number(b"  held back: a delta of ", bytes as u64),
+        Computed::Refused(r) => say::number(b"refused ", r.number()),
     }
-    say(b" bytes\n");
+    say::text(b" bytes\n");
 }
 
 // The delta's bytes, of the room that was lent for it.
@@ -125,24 +77,25 @@ fn deliver(follower: &mut [u8], delta: &[u8]) {
     let mut answers = [0u8; 1];
     match apply::apply(follower, delta, 0, &mut answers) {
         Applied::Nodes(_) => {
-            say(b"  delivered late:");
-            say_answer(answers[0]);
+            say::text(b"  delivered late:");
+            say::answer(answers[0]);
+            say::text(b"\n");
         }
-        Applied::Refused { why, at: _ } => say_number(b"refused ", why.number()),
+        Applied::Refused { why, at: _ } => say::number(b"refused ", why.number()),
     }
 }
 
 fn say_tariff(name: &[u8], hub: &[u8]) {
-    say(name);
+    say::text(name);
     match lookup::find(hub, METER, b"tariff") {
-        Found::At { start: _, len: _ } => say(b" has a tariff\n"),
-        Found::Nothing => say(b" has no tariff\n"),
-        Found::Refused(r) => say_number(b"refused ", r.number()),
+        Found::At { start: _, len: _ } => say::text(b" has a tariff\n"),
+        Found::Nothing => say::text(b" has no tariff\n"),
+        Found::Refused(r) => say::number(b"refused ", r.number()),
     }
 }
 
 fn set(hub: &mut [u8], key: &[u8], value: &[u8]) {
-    done(local::write(hub, METER, key, value, Status::Set, 0));
+    say::done(local::write(hub, METER, key, value, Status::Set, 0));
 }
 
 // Up to the delta that is held back.
@@ -155,8 +108,8 @@ fn hold_back(publisher: &mut [u8], follower: &mut [u8], late: &mut [u8]) {
 
 // While it is on its way.
 fn go_on(publisher: &mut [u8], follower: &mut [u8]) {
-    done(local::delete(publisher, METER, b"tariff", 0));
-    done(removal::remove_scheduled(publisher, 0, 0));
+    say::done(local::delete(publisher, METER, b"tariff", 0));
+    say::done(removal::remove_scheduled(publisher, 0, 0));
     set(
         publisher,
         b"note",
@@ -184,9 +137,9 @@ fn story(mode: Mode) {
     arrive(&publisher, &mut follower, &late);
 }
 
-fn main() {
-    say(b"a plain follower\n");
+pub fn tell() {
+    say::text(b"a plain follower\n");
     story(Mode::Plain);
-    say(b"a fenced follower\n");
+    say::text(b"a fenced follower\n");
     story(Mode::Fenced);
 }
