@@ -14,9 +14,9 @@ use Rattle.rules.specs.declared.Refusal.the-variants.{TooMany}
 use Rattle.rules.specs.declared.DeltaRead.the-variants as read
 use Rattle.delta_op.specs.declared.Op.{Op}
 use Rattle.delta_op.specs.declared.OpRead.the-variants.{Got, Bad}
-use Rattle.delta_read.specs.declared.Followed.the-variants.{Entered, Under, Fault}
+use Rattle.delta_follow.specs.declared.Followed.the-variants.{Entered, Under, Fault}
 use Rattle.delta_op.specs.Places.{opOf, opAt}
-use Rattle.delta_read.specs.Following.{seenOf, followAt}
+use Rattle.delta_follow.specs.Following.{seenOf, followAt}
 use Rattle.delta_op.proofs.Reading.{ends}
 use Rattle.delta_read.proofs.Steps.{readFrom, from-start, at-end, at-bad, at-fault, at-next}
 use Rattle.delta_read.proofs.Following.{seen-more, reading, nowReading, follows, counted, none-counted, nodesIn, one-counted, entered, stayed}

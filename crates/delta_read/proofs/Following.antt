@@ -20,10 +20,10 @@ use Rattle.rules.specs.declared.DeltaRead.{DeltaRead}
 use Rattle.rules.specs.declared.DeltaRead.the-variants as read
 use Rattle.delta_op.specs.declared.Op.{Op}
 use Rattle.delta_op.specs.declared.Op.the-variants.{Node, KeyValue, SetMaxVersion}
-use Rattle.delta_read.specs.declared.Followed.{Followed}
-use Rattle.delta_read.specs.declared.Followed.the-variants.{Entered, Under, Fault}
+use Rattle.delta_follow.specs.declared.Followed.{Followed}
+use Rattle.delta_follow.specs.declared.Followed.the-variants.{Entered, Under, Fault}
 use Rattle.delta_op.specs.Places.{opOf}
-use Rattle.delta_read.specs.Following.{seenOf, underNodes, nodeFollows, recordFollows, maxFollows, followAt}
+use Rattle.delta_follow.specs.Following.{seenOf, underNodes, nodeFollows, recordFollows, maxFollows, followAt}
 
 pub length-seen : (n : ℕ) (a : List ℕ) → length (seenOf n a) ≡ n
 unfolding seenOf

@@ -21,10 +21,10 @@ use Rattle.rules.specs.declared.DeltaRead.the-variants as read
 use Rattle.delta_op.specs.declared.Op.{Op}
 use Rattle.delta_op.specs.declared.Op.the-variants.{Node, KeyValue, SetMaxVersion}
 use Rattle.delta_op.specs.declared.OpRead.the-variants.{Got}
-use Rattle.delta_read.specs.declared.Followed.{Followed}
-use Rattle.delta_read.specs.declared.Followed.the-variants.{Entered, Under, Fault}
+use Rattle.delta_follow.specs.declared.Followed.{Followed}
+use Rattle.delta_follow.specs.declared.Followed.the-variants.{Entered, Under, Fault}
 use Rattle.delta_op.specs.Places.{opAt}
-use Rattle.delta_read.specs.Following.{followAt, maxFollows, nodeFollows, recordFollows, seenOf, underNodes}
+use Rattle.delta_follow.specs.Following.{followAt, maxFollows, nodeFollows, recordFollows, seenOf, underNodes}
 use Rattle.delta_op.specs.Plain.{opsFrom, recsFrom}
 use Rattle.delta_op.proofs.Plain.{plain-end, plain-next}
 use Rattle.delta_op.proofs.Reading.{le-or-lt, ends}

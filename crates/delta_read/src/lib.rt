@@ -1,27 +1,17 @@
 // Reading a whole delta: its verdict, and where its node deltas stand. Its operations are read one by one by `delta_op`, and each must be one that may
-// follow those before it (specs/Following.antt). What is answered is what the definitions of `rules` say.
-use delta_op::Op;
+// follow those before it (`delta_follow`). What is answered is what the definitions of `rules` say.
+use delta_follow::Followed;
 use delta_op::OpRead;
 use rules::DeltaRead;
 use rules::Refusal;
 use rules::sizes;
 ghost use mathlib.Core.Path.{_≡_};
-ghost use Prim.Native.Nat.{_≤_};
 ghost use lib.ListN.{length};
 ghost use Rattle.rules.specs.Answers.{readTold};
 ghost use Rattle.rules.specs.Given.{Says};
 ghost use Rattle.rules.specs.Sizes.{maxNodes};
 ghost use Rattle.rules.specs.Delta.{deltaRead};
-ghost use Rattle.rules.specs.Table.{among};
-ghost use Rattle.delta_read.specs.Following.{followAt, maxFollows, nodeFollows, recordFollows, seenOf};
 ghost use Rattle.delta_read.specs.NodeDeltas.{AllHeads};
-
-// Whether an operation may follow those before it: a further node, or the running max under the last one, or a refusal.
-pub enum Followed {
-    Entered(u64),
-    Under(u64),
-    Fault(Refusal),
-}
 
 // A delta's verdict and, where it is accepted, each of its node deltas: where its Node stands, how many operations stand behind that Node at most, and
 // the running max at their end.
@@ -31,88 +21,6 @@ pub struct Heads {
     pub count: [usize; sizes::NODES],
     pub max: [u64; sizes::NODES],
 }
-
-// ---- what may follow
-
-// Whether the number is one of the first `nodes`, looked through from the newest back.
-fn is_seen(seen: &[u64; sizes::NODES], nodes: usize, number: u64) -> bool
-    requires { ⌜ nodes ≤ maxNodes ⌝ }
-    ensures { λ r. ⌜ r ≡ among number (seenOf nodes (now (seen .entry))) ⌝ }
-{
-    let mut i = nodes;
-    while 0 < i {
-        i -= 1;
-        if number == seen[i] {
-            return true;
-        }
-    }
-    false
-}
-
-// A Node: not repeated, and not the ninth.
-fn follow_node(seen: &[u64; sizes::NODES], nodes: usize, number: u64) -> Followed
-    requires { ⌜ nodes ≤ maxNodes ⌝ }
-    ensures { λ r. ⌜ r ≡ nodeFollows nodes (now (seen .entry)) number ⌝ }
-{
-    if is_seen(seen, nodes, number) {
-        return Followed::Fault(Refusal::NodeTwice);
-    }
-    if nodes < sizes::NODES {
-        return Followed::Entered(number);
-    }
-    Followed::Fault(Refusal::TooMany)
-}
-
-// A record: under a Node, with a version above the running max.
-fn follow_record(nodes: usize, running: u64, version: u64) -> Followed
-    ensures { λ r. ⌜ r ≡ recordFollows nodes running version ⌝ }
-{
-    if nodes == 0 {
-        return Followed::Fault(Refusal::OutOfOrder);
-    }
-    if running < version {
-        return Followed::Under(version);
-    }
-    Followed::Fault(Refusal::OutOfOrder)
-}
-
-// A SetMaxVersion: under a Node, and not below the running max.
-fn follow_max(nodes: usize, running: u64, max: u64) -> Followed
-    ensures { λ r. ⌜ r ≡ maxFollows nodes running max ⌝ }
-{
-    if nodes == 0 {
-        return Followed::Fault(Refusal::OutOfOrder);
-    }
-    if running <= max {
-        return Followed::Under(max);
-    }
-    Followed::Fault(Refusal::OutOfOrder)
-}
-
-// Whether the operation may follow, where `nodes` nodes are seen and the running max is `running`.
-fn follow(seen: &[u64; sizes::NODES], nodes: usize, running: u64, op: Op) -> Followed
-    requires { ⌜ nodes ≤ maxNodes ⌝ }
-    ensures { λ r. ⌜ r ≡ followAt nodes (now (seen .entry)) running op ⌝ }
-{
-    match op {
-        Op::Node {
-            number,
-            last_gc: _,
-            from: _,
-        } => follow_node(seen, nodes, number),
-        Op::KeyValue {
-            keyat: _,
-            keylen: _,
-            valueat: _,
-            valuelen: _,
-            version,
-            status: _,
-        } => follow_record(nodes, running, version),
-        Op::SetMaxVersion { max } => follow_max(nodes, running, max),
-    }
-}
-
-// ---- a whole delta
 
 // A delta that is refused.
 fn refused(why: Refusal, at: usize) -> Heads
@@ -151,7 +59,7 @@ pub fn read_heads(delta: &[u8]) -> Heads
         match read {
             OpRead::Bad(why) => return refused(why, at),
             OpRead::Got { op, next } => {
-                let followed = follow(&seen, nodes, running, op);
+                let followed = delta_follow::follow(&seen, nodes, running, op);
                 match followed {
                     Followed::Fault(why) => return refused(why, at),
                     Followed::Entered(number) => {

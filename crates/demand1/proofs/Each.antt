@@ -44,6 +44,7 @@ use Rattle.rules.specs.declared.Status.the-variants as status
 use Rattle.rules.specs.declared.Written.{Written}
 use Rattle.rules.specs.declared.Written.the-variants as written
 use Rattle.rules.proofs.Calls.{none-obeys}
+use Rattle.table.proofs.Encoded.{apply-whole, from-whole, on-whole, whole-whole}
 use Rattle.table.proofs.Wholes.{decode-encode-whole, length-whole, valid-encode-whole, without-memory}
 use Rattle.nodes.specs.New.{lentMade}
 use Rattle.lookup.specs.Lookup.{findRec, foundIn}
@@ -65,8 +66,6 @@ use Rattle.exchange.specs.declared.Exchanged.{Exchanged}
 use Rattle.exchange.specs.declared.Step.the-variants.{Delta, Digest}
 use Rattle.exchange.specs.declared.Ready.{Ready}
 use Rattle.exchange.specs.declared.Ready.the-variants as ready
-use Rattle.exchange.specs.LentWorld.{inMode}
-use Rattle.exchange.proofs.LentWorld.{apply-encoded, from-encoded, on-encoded, whole-encoded}
 use Rattle.exchange.proofs.Refusing.{is-ready, ready-done}
 use Rattle.demand1.specs.Calls as calls
 
@@ -166,9 +165,15 @@ crowded-obeys : obeys crowded ≡ true
 unfolding obeys rising numbersOf all entryObeys nodeObeys recObeys differ keysRise versions among nodes
 crowded-obeys = refl
 
--- a table's bytes in the plain mode
+-- a table in the plain mode that remembers nothing, and its bytes
+abbrev whole : (table : Table) → Whole
+whole t = record { mode = mode.Plain; memory = []; table = t }
+
 abbrev lent : (table : Table) → Bytes
-lent t = inMode mode.Plain t
+lent t = encodeWhole (whole t)
+
+whole-obeys : (t : Table) → obeys t ≡ true → obeysWhole (whole t) ≡ true
+whole-obeys t o = without-memory mode.Plain t o
 
 -- no bytes are no table
 none-valid : validWhole [] ≡ false
@@ -179,7 +184,7 @@ none-valid = refl
 
 on-good : {A : Type 0} (told : A → Told) (bad : A) (rule : Table → Outcome A) (t : Table) → obeys t ≡ true → (n : ℕ) → told (rule t .answer) .number ≡ n
     → told (onTable bad rule (lent t) .answer) .number ≡ n
-on-good {A} told bad rule t o n e = ap (λ (x : Given A Bytes). told (x .answer) .number) (on-encoded mode.Plain t o bad rule) ∙ e
+on-good {A} told bad rule t o n e = ap (λ (x : Given A Bytes). told (x .answer) .number) (on-whole (whole t) (whole-obeys t o) bad rule) ∙ e
 
 on-bad : {A : Type 0} (told : A → Told) (bad : A) (rule : Table → Outcome A) (n : ℕ) → told bad .number ≡ n → told (onTable bad rule [] .answer) .number ≡ n
 unfolding onTable
@@ -187,7 +192,7 @@ on-bad told bad rule n e = ap (λ (b : Bool). told (pick b (storedIn (decodeWhol
 
 whole-good : {A : Type 0} (told : A → Told) (bad : A) (rule : Whole → Given A Whole) (t : Table) → obeys t ≡ true → (n : ℕ)
     → told (rule (record { mode = mode.Plain; memory = []; table = t }) .answer) .number ≡ n → told (onWhole bad rule (lent t) .answer) .number ≡ n
-whole-good {A} told bad rule t o n e = ap (λ (x : Given A Bytes). told (x .answer) .number) (whole-encoded mode.Plain t o bad rule) ∙ e
+whole-good {A} told bad rule t o n e = ap (λ (x : Given A Bytes). told (x .answer) .number) (whole-whole (whole t) (whole-obeys t o) bad rule) ∙ e
 
 whole-bad : {A : Type 0} (told : A → Told) (bad : A) (rule : Whole → Given A Whole) (n : ℕ) → told bad .number ≡ n → told (onWhole bad rule [] .answer) .number ≡ n
 unfolding onWhole
@@ -196,7 +201,7 @@ whole-bad told bad rule n e =
 
 from-good : {A : Type 0} (number : A → ℕ) (bad : A) (rule : Table → A) (t : Table) → obeys t ≡ true → (n : ℕ) → number (rule t) ≡ n
     → number (fromTable bad rule (lent t)) ≡ n
-from-good number bad rule t o n e = ap number (from-encoded mode.Plain t o bad rule) ∙ e
+from-good number bad rule t o n e = ap number (from-whole (whole t) (whole-obeys t o) bad rule) ∙ e
 
 from-bad : {A : Type 0} (number : A → ℕ) (bad : A) (rule : Table → A) (n : ℕ) → number bad ≡ n → number (fromTable bad rule []) ≡ n
 unfolding fromTable
@@ -449,7 +454,7 @@ delta-reads =
 
 applying : (delta : calls.Received) (answers : Bytes) (n : ℕ) → appliedTold (apply plainWays (delta .bytes) 7 [] answers .answer) .number ≡ n
     → appliedTold (lentApply (delta .bytes) 7 answers (lent []) .answer) .number ≡ n
-applying delta answers n e = ap (λ (x : Given Applied TableAndList). appliedTold (x .answer) .number) (apply-encoded mode.Plain [] none-obeys (delta .bytes) 7 answers) ∙ e
+applying delta answers n e = ap (λ (x : Given Applied TableAndList). appliedTold (x .answer) .number) (apply-whole (whole []) (whole-obeys [] none-obeys) (delta .bytes) 7 answers) ∙ e
 
 not-applied : appliedTold (lentApply [] 7 [] [] .answer) .number ≡ 14
 unfolding lentApplyAs appliedTold

@@ -25,12 +25,11 @@ use Rattle.rules.specs.declared.Offered.the-variants as offered
 use Rattle.rules.specs.declared.Refusal.the-variants.{BadTable}
 use Rattle.rules.specs.declared.Written.{Written}
 use Rattle.rules.proofs.Accepted.{computed-chain, computed-small}
-use Rattle.rules.proofs.Calls.{apply-keeps, beat-keeps, call-keeps, gc-keeps, none-obeys, offer-keeps, ok-each, write-keeps}
+use Rattle.rules.proofs.Calls.{apply-keeps, beat-keeps, call-keeps, gc-keeps, none-obeys, numbers-beat, numbers-call, numbers-offer, offer-keeps, ok-each, write-keeps}
 use Rattle.rules.proofs.Keeps.{mode-lawful}
 use Rattle.rules.proofs.Obeys.{facts-table, table-facts}
 use Rattle.rules.proofs.Received.{OkDelta, parts-ok}
 use Rattle.rules.proofs.Memories.{add-keeps-whole, remove-keeps-whole, same-nodes}
-use Rattle.rules.proofs.Moments.{numbers-beat, numbers-call, numbers-offer}
 use Rattle.rules.proofs.Tables.{applied-table, numbers-each, numbers-remove}
 use Rattle.rules.proofs.Writing.{write-is}
 use Rattle.table.proofs.Tables.{valid-obeys}

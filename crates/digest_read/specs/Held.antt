@@ -1,25 +1,18 @@
 -- A digest as the code holds it: the answer, and eight places for the entries. What each function makes of the bytes, by the definitions of
 -- `rules`.
-use Prim.Native.Nat.{ℕ, zero, suc, _*_, _-_, _/_, _%_, _≤_}
+use Prim.Native.Nat.{ℕ, zero, suc, _*_, _-_, _≤_}
 use mathlib.Core.List.{List, [], _∷_}
 use lib.ListN.{length, take}
-use lib.Dec.{leb, eqb}
-use Rattle.fields.specs.Choice.{pick}
-use Rattle.fields.specs.Numbers.{Bytes, natOf}
-use Rattle.fields.specs.Parts.{part}
+use Rattle.fields.specs.Numbers.{Bytes}
 use Rattle.fields.specs.Blocks.{unblock}
 use Rattle.rules.specs.Sizes.{maxNodes}
 use Rattle.rules.specs.Node.{beats}
-use Rattle.rules.specs.Delta.{numberLacks}
-use Rattle.rules.specs.Digest.{NodeDigest, DigestRead, Entries, Refused, countWidth, entryWidth, entryOf, readDigest}
-use Rattle.rules.specs.declared.Refusal.the-variants.{Cut, TooMany, BadEdition}
+use Rattle.rules.specs.Digest.{NodeDigest, DigestRead, Entries, Refused, entryWidth, entryOf, readDigest}
 use Rattle.digest_read.specs.declared.NodeDigest.{NodeDigest as Place}
 use Rattle.digest_read.specs.declared.DigestRead.{DigestRead as Answer}
 use Rattle.digest_read.specs.declared.DigestRead.the-variants as answer
 use Rattle.digest_read.specs.declared.Digest.{Digest}
 use Rattle.digest_read.specs.declared.Pair.{Pair}
-use Rattle.digest_read.specs.declared.Counted.{Counted}
-use Rattle.digest_read.specs.declared.Counted.the-variants as counted
 use Rattle.digest_read.specs.declared.Gathered.{Gathered}
 
 -- ---- entries in places
@@ -60,26 +53,6 @@ entryPlace i = i * entryWidth
 -- so many entries, eight at most, are there
 abbrev pub HasEntries : (n : ℕ) (bytes : Bytes) → Type 0
 HasEntries n l = (n ≤ maxNodes) × (entryPlace n ≤ length l)
-
--- V0: how many entries follow the count, or the refusal, with what the count lacks or the number in which the entries end
-unfoldable pub countTold : (digest : Bytes) → Counted
-countTold l =
-    pick (leb countWidth (length l))
-    (pick (leb (natOf (part 0 countWidth l)) maxNodes)
-    (pick (leb (natOf (part 0 countWidth l) * entryWidth) (length l - countWidth)) (counted.Entries (natOf (part 0 countWidth l)))
-    (counted.Refused (Cut (numberLacks (length l - countWidth)))))
-    (counted.Refused TooMany))
-    (counted.Refused (Cut (countWidth - length l)))
-
--- V1: how many entries go to the end
-unfoldable pub countWhole : (digest : Bytes) → Counted
-countWhole l =
-    pick (eqb (length l % entryWidth) 0)
-    (pick (leb (length l / entryWidth) maxNodes) (counted.Entries (length l / entryWidth)) (counted.Refused TooMany))
-    (counted.Refused (Cut (numberLacks (length l))))
-
-unfoldable pub countIn : (edition : ℕ) (digest : Bytes) → Counted
-countIn edition l = pick (eqb edition 0) (countTold l) (pick (eqb edition 1) (countWhole l) (counted.Refused BadEdition))
 
 -- the first n entries, as they stand
 abbrev pub entriesAt : (n : ℕ) (bytes : Bytes) → List NodeDigest

@@ -15,25 +15,23 @@ use Rattle.rules.specs.Table.{Table}
 use Rattle.rules.specs.Digest.{digestBytes, digestOf, isEdition, writeBytes, writeDigest}
 use Rattle.rules.specs.Delta.{deltaBytes}
 use Rattle.rules.specs.Compute.{allOps, compute, cut, deltaFor, ordered, staleNodes}
-use Rattle.rules.specs.Whole.{validWhole}
+use Rattle.rules.specs.Whole.{decodeWhole, validWhole}
 use Rattle.rules.specs.Lent.{fromTable, lentCompute, lentDigest}
 use Rattle.rules.specs.declared.Refusal.the-variants.{BadEdition, BadTable, NoPlace}
 use Rattle.rules.specs.declared.Written.{Written}
 use Rattle.rules.specs.declared.Written.the-variants as written
 use Rattle.rules.specs.declared.Computed.{Computed}
 use Rattle.rules.specs.declared.Computed.the-variants as computed
-use Rattle.rules.proofs.Accepted.{cut-bytes}
-use Rattle.rules.proofs.OnTheWay.{Comes, comes, refuses, writes}
-use Rattle.exchange.specs.LentWorld.{tableIn}
+use Rattle.rules.proofs.Accepted.{Comes, comes, cut-bytes, refuses, writes}
 
 -- ---- what a call says it wrote stands in its datagram
 
 -- a law of the rule's outcome and of 14's is one of the call's
-from-table : {A : Type 0} (P : A → Type 0) (bad : A) (rule : Table → A) (l : List ℕ) → P bad → P (rule (tableIn l)) → P (fromTable bad rule l)
+from-table : {A : Type 0} (P : A → Type 0) (bad : A) (rule : Table → A) (l : List ℕ) → P bad → P (rule (decodeWhole l .table)) → P (fromTable bad rule l)
 unfolding fromTable
 from-table P bad rule l b r = go (validWhole l)
   where
-    go : (v : Bool) → P (pick v (rule (tableIn l)) bad)
+    go : (v : Bool) → P (pick v (rule (decodeWhole l .table)) bad)
     go true = r
     go false = b
 
@@ -60,7 +58,7 @@ digest-within edition excluded d l n =
     (known (isEdition edition))
   where
     b : List ℕ
-    b = digestBytes edition (digestOf excluded (tableIn l))
+    b = digestBytes edition (digestOf excluded (decodeWhole l .table))
 
     Out : Bool → Given Written (List ℕ)
     Out x = pick x (writeBytes b 0 d) (given (written.Refused BadEdition) d)
@@ -72,16 +70,16 @@ digest-within edition excluded d l n =
 pub delta-within : (edition : ℕ) (excluded ties : List ℕ) (mtu : ℕ) (digest d l : List ℕ) (ops bytes : ℕ) → lentCompute edition excluded ties mtu 0 digest d l .answer ≡ computed.Delta ops bytes → bytes ≤ length (lentCompute edition excluded ties mtu 0 digest d l .lent)
 unfolding deltaFor
 delta-within edition excluded ties mtu digest d l ops bytes =
-    from-table Out (given (computed.Refused BadTable) d) (λ t. compute edition excluded ties mtu 0 digest t d) l (λ e. let z : _≡_ {A = ℕ} 0 1 = cc in absurd (omega arith)) (go _ (comes edition excluded ties mtu 0 digest (tableIn l) d))
+    from-table Out (given (computed.Refused BadTable) d) (λ t. compute edition excluded ties mtu 0 digest t d) l (λ e. let z : _≡_ {A = ℕ} 0 1 = cc in absurd (omega arith)) (go _ (comes edition excluded ties mtu 0 digest (decodeWhole l .table) d))
   where
     Out : Given Computed (List ℕ) → Type 0
     Out o = o .answer ≡ computed.Delta ops bytes → bytes ≤ length (o .lent)
 
-    go : (o : Given Computed (List ℕ)) → Comes edition excluded ties mtu 0 digest (tableIn l) d o → Out o
+    go : (o : Given Computed (List ℕ)) → Comes edition excluded ties mtu 0 digest (decodeWhole l .table) d o → Out o
     go o (refuses r) e = let z : _≡_ {A = ℕ} 0 1 = cc in absurd (omega arith)
     go o (writes ds rest q h g) e =
-        let b = deltaBytes (cut mtu (allOps (ordered (staleNodes excluded ds ties (tableIn l))))) in
+        let b = deltaBytes (cut mtu (allOps (ordered (staleNodes excluded ds ties (decodeWhole l .table))))) in
         let k : length b ≡ bytes = cc in
-        let m = cut-bytes mtu (allOps (ordered (staleNodes excluded ds ties (tableIn l)))) in
+        let m = cut-bytes mtu (allOps (ordered (staleNodes excluded ds ties (decodeWhole l .table)))) in
         let j = length-put 0 b d (omega arith) in
         omega arith

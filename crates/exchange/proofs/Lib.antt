@@ -1,11 +1,6 @@
-pub mod LentWorld
-pub mod LentDemand3
 pub mod Datagrams
 pub mod Asking
 pub mod FewNodes
 pub mod Refusing
 pub mod Exchanging
-pub mod Runs
-pub mod Closing
-pub mod Start
 pub mod Told

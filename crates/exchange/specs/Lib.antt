@@ -1,4 +1,1 @@
-pub mod LentWorld
-pub mod LentDemand3
 pub mod Exchanging
-pub mod Runs

@@ -1,5 +1,5 @@
 // One whole exchange between two lent tables: the follower's digest, the publisher's delta for it, the delta applied. Any bytes may be lent.
-// What happens to the two tables in any run of calls is demand 3: specs/LentDemand3.antt.
+// What happens to the two tables in any run of calls is demand 3: demand3_bytes/specs/LentDemand3.antt.
 use compute::Asked;
 use rules::Applied;
 use rules::Computed;

@@ -4,7 +4,7 @@ ghost use mathlib.Core.Path.{_≡_};
 ghost use Prim.Native.Nat.{_+_, _/_, _%_, _≤_, _<_};
 ghost use lib.ListN.{length};
 ghost use Rattle.rules.specs.Given.{Gives};
-ghost use Rattle.rules.specs.Listing.{decimal, hexDigit, plain, shownByte, shownBytes, statusText};
+ghost use Rattle.rules.specs.Listing.{decimal, shownByte, shownBytes, statusText};
 ghost use Rattle.rules.specs.Sizes.{maxValue};
 ghost use Rattle.listing_text.specs.Texts.{TextFits, named, numbered, putText};
 use rules::Status;
@@ -70,46 +70,6 @@ pub fn put_text(out: &mut [u8], at: usize, text: &[u8]) -> usize
 
 // ---- bytes as they are shown
 
-// Whether a byte is shown as itself: 33 to 126, but neither `%` nor `=`.
-fn is_plain(b: u8) -> bool
-    ensures { λ r. ⌜ r ≡ plain b ⌝ }
-{
-    if b < 33 {
-        return false;
-    }
-    if 126 < b {
-        return false;
-    }
-    if b == b'%' {
-        return false;
-    }
-    if b == b'=' {
-        return false;
-    }
-    true
-}
-
-// The capital hexadecimal digit of a number below 16.
-fn hex_digit(n: u8) -> u8
-    requires { ⌜ n < 16 ⌝ }
-    ensures { λ r. ⌜ r ≡ hexDigit n ⌝ }
-{
-    if n < 10 {
-        return 48 + n;
-    }
-    55 + n
-}
-
-// How long a byte is as it is shown.
-fn byte_len(b: u8) -> usize
-    ensures { λ r. ⌜ r ≡ length (shownByte b) ⌝ }
-{
-    if is_plain(b) {
-        return 1;
-    }
-    3
-}
-
 // How long a key or a value is as it is shown.
 pub fn shown_len(text: &[u8]) -> usize
     requires { ⌜ length (now text) ≤ maxValue ⌝ }
@@ -118,7 +78,7 @@ pub fn shown_len(text: &[u8]) -> usize
     let mut n: usize = 0;
     let mut i: usize = 0;
     while i < text.len() {
-        n += byte_len(text[i]);
+        n += listing_byte::byte_len(text[i]);
         i += 1;
     }
     n
@@ -129,11 +89,11 @@ fn put_byte(out: &mut [u8], at: usize, b: u8) -> usize
     requires { ⌜ TextFits at (shownByte b) (now out) ⌝ }
     ensures { λ r. ⌜ Gives (putText at (shownByte b) (now (out .entry))) r (now (out .exit)) ⌝ }
 {
-    if is_plain(b) {
+    if listing_byte::is_plain(b) {
         return put_text(out, at, &[b]);
     }
-    let high = hex_digit(b / 16);
-    let low = hex_digit(b % 16);
+    let high = listing_byte::hex_digit(b / 16);
+    let low = listing_byte::hex_digit(b % 16);
     put_text(out, at, &[b'%', high, low])
 }
 

@@ -18,7 +18,8 @@ use Rattle.rules.specs.declared.Refusal.the-variants.{NoNode}
 use Rattle.table_read.specs.Find.{spanIn}
 use Rattle.table_read.specs.declared.Span.the-variants.{Held, Missing}
 use Rattle.table_read.proofs.Held.{held-node, held-gives, missing-node, stays-gives}
-use Rattle.local_node.specs.Writes.{nodeIn, nodeCalled}
+use Rattle.local_grant.specs.Granting.{nodeIn}
+use Rattle.local_node.specs.Writes.{nodeCalled}
 
 module _ (c : Call) (n : ℕ) (k l : List ℕ) (v : valid l ≡ true) where
   module _ {start end : ℕ} (e : spanIn n l ≡ Held start end) where

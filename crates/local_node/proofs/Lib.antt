@@ -1,2 +1,1 @@
-pub mod Acting
 pub mod Deciding

@@ -1,28 +1,24 @@
 -- The steps of a local call's decision, as the code takes them, and what a node's bytes are afterwards. That these steps come to the rules' own
 -- `decide` is proved (proofs/Deciding.antt).
 use Prim.Native.Nat.{ℕ}
-use mathlib.Core.Bool.{Bool, false, _&&_}
+use mathlib.Core.Bool.{Bool, _&&_}
 use mathlib.Core.List.{[]}
 use lib.ListN.{length}
-use lib.Dec.{leb, ltb}
+use lib.Dec.{leb}
 use Rattle.fields.specs.Choice.{pick}
 use Rattle.fields.specs.Numbers.{Bytes}
 use Rattle.fields.specs.Order.{sameBytes}
 use Rattle.fields.specs.Parts.{put}
 use Rattle.rules.specs.Given.{Given, given}
-use Rattle.rules.specs.Sizes.{maxRecords, maxKey, maxValue, top}
-use Rattle.rules.specs.Node.{Rec, Node, Change, Call, Setting, SettingTtl, Deleting, DeletingAfterTtl, Decision, Refuse, Leave, Give, sameStatus, find, store, unlessSame, allowed, decide, act}
-use Rattle.rules.specs.Local.{answerOf}
-use Rattle.rules.specs.Table.{Entry}
-use Rattle.rules.specs.Layout.{encodeNode, decodeNode}
+use Rattle.rules.specs.Sizes.{maxKey, maxValue}
+use Rattle.rules.specs.Node.{Rec, Node, Change, Call, Setting, SettingTtl, Deleting, DeletingAfterTtl, Decision, Refuse, Leave, sameStatus, find, unlessSame, allowed, decide}
 use Rattle.rules.specs.declared.Status.{Status}
 use Rattle.rules.specs.declared.Status.the-variants.{Delete, Ttl}
 use Rattle.rules.specs.declared.Answer.{Answer}
-use Rattle.rules.specs.declared.Refusal.the-variants.{TooLong, NodeFull, Exhausted}
-use Rattle.table.specs.Changes.{withNode, withRecs}
+use Rattle.rules.specs.declared.Refusal.the-variants.{TooLong}
 use Rattle.table.specs.Places.{recAt}
-use Rattle.table_read.specs.declared.Place.{Place}
-use Rattle.table_read.specs.declared.Place.the-variants.{At, Free}
+use Rattle.table_read.specs.declared.Place.the-variants.{At}
+use Rattle.local_grant.specs.Granting.{changeOf, allowedAt, nodeIn, decided, nodeGranted}
 use Rattle.local_node.specs.declared.Kind.{Kind}
 use Rattle.local_node.specs.declared.Kind.the-variants as kind
 
@@ -38,9 +34,6 @@ callOf kind.DeletingAfterTtl v now = DeletingAfterTtl now
 -- a delete, and one after TTL, which keeps the value
 abbrev pub deleting : (keeps : Bool) (now : ℕ) → Call
 deleting keeps now = pick keeps (DeletingAfterTtl now) (Deleting now)
-
-abbrev pub changeOf : (value : Bytes) (status : Status) (start : ℕ) → Change
-changeOf v s start = record { value = v; status = s; start = start }
 
 -- what a delete makes of the key's record, and what a delete after TTL makes of it
 abbrev pub deleted : (now : ℕ) (rec : Rec) → Change
@@ -58,15 +51,6 @@ dropped keeps t r = pick keeps (expired t r) (deleted t r)
 abbrev pub alike : (rec : Rec) (value : Bytes) (status : Status) → Bool
 alike r v s = sameStatus (r .kv .status) s && sameBytes (r .kv .value) v
 
--- a key that belongs at this place would be the 33rd
-abbrev pub fullAt : (place : Place) (node : Node) → Bool
-fullAt (At j) n = false
-fullAt (Free j) n = leb maxRecords (length (n .recs))
-
--- a change of the key's record, or a new one at this place: 5, 6
-unfoldable pub allowedAt : (place : Place) (change : Change) (node : Node) → Decision
-allowedAt p c n = pick (fullAt p n) (Refuse NodeFull) (pick (ltb (n .max) top) (Give c) (Refuse Exhausted))
-
 -- a set of record j: nothing to change, 6
 unfoldable pub changing : (j : ℕ) (rec : Rec) (change : Change) (node : Node) → Decision
 changing j r c n = pick (alike r (c .value) (c .status)) Leave (allowedAt (At j) c n)
@@ -81,24 +65,9 @@ setting k c n = within k (c .value) (allowed k n (unlessSame (find k (n .recs)) 
 
 -- ---- what becomes of the bytes
 
--- the node in a node's bytes
-abbrev pub nodeIn : (node : Bytes) → Node
-nodeIn b = decodeNode b .node
-
--- the record takes its place among the others
-abbrev pub withStored : (rec : Rec) (entry : Entry) → Entry
-withStored r e = withRecs (store r (e .node .recs)) e
-
 -- a value copied to the front of other bytes, and how long it is
 abbrev pub copied : (value out : Bytes) → Given ℕ Bytes
 copied v out = given (length v) (put 0 v out)
-
--- what a decision answers, and the node's bytes after it
-abbrev pub decided : (key : Bytes) (decision : Decision) (node : Bytes) → Given Answer Bytes
-decided k d b = given (answerOf d) (encodeNode (withNode (act k d (nodeIn b)) (decodeNode b)))
-
-abbrev pub nodeGranted : (place : Place) (key : Bytes) (change : Change) (node : Bytes) → Given Answer Bytes
-nodeGranted p k c b = decided k (allowedAt p c (nodeIn b)) b
 
 abbrev pub nodeSetAt : (j : ℕ) (key : Bytes) (change : Change) (node : Bytes) → Given Answer Bytes
 nodeSetAt j k c b = decided k (changing j (recAt j b) c (nodeIn b)) b

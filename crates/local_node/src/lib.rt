@@ -1,32 +1,28 @@
 // The four local calls that give a version, on the bytes of one node: set, set with TTL, delete, delete after TTL. Each decides in document 01's order:
-// 1, 3, nothing to change, 5, 6. What is granted raises max by one, and the key's record takes that version. A refused call changes no byte.
+// 1, 3, nothing to change, 5, 6. What is granted is done by `local_grant`. A refused call changes no byte.
 //
 // `write_node` is all four; the functions above it are its parts. The calls on a whole table stand in the crate `local`.
 use rules::Answer;
-use rules::Header;
 use rules::Record;
 use rules::Refusal;
 use rules::Status;
-use rules::sizes;
-use table::layout;
 use table_read::Place;
 ghost use mathlib.Core.Path.{_≡_};
-ghost use mathlib.Core.Bool.{true, false};
+ghost use mathlib.Core.Bool.{true};
 ghost use Prim.Native.Nat.{_≤_, _<_};
 ghost use lib.ListN.{length};
 ghost use Rattle.rules.specs.Given.{Gives};
 ghost use Rattle.rules.specs.Sizes.{maxKey, maxValue};
 ghost use Rattle.rules.specs.Node.{sameStatus};
 ghost use Rattle.rules.specs.Table.{keysRise};
-ghost use Rattle.rules.specs.Layout.{nodeWidth, encodeNode, decodeNode};
 ghost use Rattle.table.specs.Tests.{countOf, recsIn};
 ghost use Rattle.table.specs.Fits.{LaidNode};
 ghost use Rattle.table.specs.Places.{recAt};
-ghost use Rattle.table.specs.Changes.{recOf};
 ghost use Rattle.table_read.specs.Find.{findKey};
 ghost use Rattle.table_read.specs.declared.Place.the-variants.{At};
-ghost use Rattle.local_node.specs.Writes.{nodeIn, changeOf, alike, fullAt, callOf, deleting};
-ghost use Rattle.local_node.specs.Writes.{withStored, copied, nodeGranted, nodeSetAt, nodeSet, nodeDropped, nodeCalled};
+ghost use Rattle.local_grant.specs.Granting.{changeOf};
+ghost use Rattle.local_node.specs.Writes.{alike, callOf, deleting};
+ghost use Rattle.local_node.specs.Writes.{copied, nodeSetAt, nodeSet, nodeDropped, nodeCalled};
 
 // Which of the four calls.
 pub enum Kind {
@@ -57,84 +53,6 @@ fn is_same(node: &[u8], j: usize, value: &[u8], status: Status) -> bool
     false
 }
 
-// Whether a key that belongs at this place would be the 33rd.
-fn is_full(node: &[u8], place: Place) -> bool
-    requires { ⌜ length (now node) ≡ nodeWidth ⌝ }
-    ensures { λ r. ⌜ r ≡ fullAt place (nodeIn (now (node .entry))) ⌝ }
-{
-    match place {
-        Place::At(_) => false,
-        Place::Free(_) => Header::RECORDS <= fields::byte_at(node, layout::RECORD_COUNT),
-    }
-}
-
-// A record takes its place: that of its key's record, or its own in the order of the keys.
-fn place_record(
-    node: &mut [u8],
-    place: Place,
-    key: &[u8],
-    value: &[u8],
-    version: u64,
-    status: Status,
-    start: u64,
-)
-    requires { ⌜ LaidNode (now node) × (findKey (now key) (recsIn (now node)) ≡ place) × (fullAt place (nodeIn (now node)) ≡ false)
-        × (length (now key) ≤ maxKey) × (length (now value) ≤ maxValue) ⌝ }
-    ensures { λ _. ⌜ now (node .exit) ≡ encodeNode
-        (withStored (recOf (now (key .entry)) (now (value .entry)) version status start) (decodeNode (now (node .entry)))) ⌝ }
-{
-    match place {
-        Place::At(j) => table_write::put_record(node, j, key, value, version, status, start),
-        Place::Free(j) => table_write::insert_record(node, j, key, value, version, status, start),
-    }
-}
-
-// The record of a key changes, or comes new at this place: 5, 6, or max rises and the record takes that version.
-fn grant(
-    node: &mut [u8],
-    place: Place,
-    key: &[u8],
-    value: &[u8],
-    status: Status,
-    start: u64,
-) -> Answer
-    requires { ⌜ LaidNode (now node) × (findKey (now key) (recsIn (now node)) ≡ place) × (length (now key) ≤ maxKey) × (length (now value) ≤ maxValue) ⌝ }
-    ensures { λ r. ⌜ Gives (nodeGranted place (now (key .entry)) (changeOf (now (value .entry)) status start) (now (node .entry))) r (now (node .exit)) ⌝ }
-{
-    if is_full(node, place) {
-        return Answer::Refused(Refusal::NodeFull);
-    }
-    let max = fields::read_u64(node, layout::MAX);
-    if max == sizes::TOP {
-        return Answer::Refused(Refusal::Exhausted);
-    }
-    table_write::set_max(node, max + 1);
-    place_record(node, place, key, value, max + 1, status, start);
-    Answer::Done
-}
-
-// The record of a key that is there changes: 6, or max rises and the record takes that version. It is `grant` at a place that is taken, by itself because a
-// set of a key that is held is what a hub does most: there is no room to look for.
-fn rewrite(
-    node: &mut [u8],
-    j: usize,
-    key: &[u8],
-    value: &[u8],
-    status: Status,
-    start: u64,
-) -> Answer
-    requires { ⌜ LaidNode (now node) × (findKey (now key) (recsIn (now node)) ≡ At j) × (length (now key) ≤ maxKey) × (length (now value) ≤ maxValue) ⌝ }
-    ensures { λ r. ⌜ Gives (nodeGranted (At j) (now (key .entry)) (changeOf (now (value .entry)) status start) (now (node .entry))) r (now (node .exit)) ⌝ }
-{
-    let max = fields::read_u64(node, layout::MAX);
-    if max == sizes::TOP {
-        return Answer::Refused(Refusal::Exhausted);
-    }
-    table_write::set_max(node, max + 1);
-    table_write::put_record(node, j, key, value, max + 1, status, start);
-    Answer::Done
-}
-
 // A set of record `j`, which has the key: nothing to change, 6, or the change.
 fn set_at(node: &mut [u8], j: usize, key: &[u8], value: &[u8], status: Status, start: u64) -> Answer
     requires { ⌜ LaidNode (now node) × (findKey (now key) (recsIn (now node)) ≡ At j) × (length (now key) ≤ maxKey) × (length (now value) ≤ maxValue) ⌝ }
@@ -143,7 +61,7 @@ fn set_at(node: &mut [u8], j: usize, key: &[u8], value: &[u8], status: Status, s
     if is_same(node, j, value, status) {
         return Answer::Done;
     }
-    rewrite(node, j, key, value, status, start)
+    local_grant::rewrite(node, j, key, value, status, start)
 }
 
 // A set: 1, nothing to change, 5, 6, or the change.
@@ -159,7 +77,7 @@ fn set_key(node: &mut [u8], key: &[u8], value: &[u8], status: Status, start: u64
     }
     match table_read::search_key(node, key) {
         Place::At(j) => set_at(node, j, key, value, status, start),
-        Place::Free(j) => grant(node, Place::Free(j), key, value, status, start),
+        Place::Free(j) => local_grant::grant(node, Place::Free(j), key, value, status, start),
     }
 }
 
@@ -181,9 +99,9 @@ fn delete_at(node: &mut [u8], j: usize, key: &[u8], keeps: bool, clock: u64) -> 
     if keeps {
         let mut held = [0u8; Record::VALUE];
         let n = copy_value(node, j, &mut held);
-        return rewrite(node, j, key, &held[..n], Status::Ttl, clock);
+        return local_grant::rewrite(node, j, key, &held[..n], Status::Ttl, clock);
     }
-    rewrite(node, j, key, b"", Status::Delete, clock)
+    local_grant::rewrite(node, j, key, b"", Status::Delete, clock)
 }
 
 // A delete, or one after TTL: 1, 3, 6, or the key's record is scheduled.

@@ -1,4 +1,4 @@
--- Nodes that come and go, seen by their numbers: a node that a table does not have counts as fresh (`nodeAt` of `rules`), so that adding one changes nothing.
+-- Nodes that come and go, seen by their numbers: a node that a table does not have counts as fresh (`nodeAt` of `demand3`), so that adding one changes nothing.
 -- Assumes nothing.
 use Prim.Native.Nat.{_<_, ℕ}
 use mathlib.Core.Bool.{Bool, false, true, true≢false}
@@ -12,7 +12,6 @@ use lib.ListN.{length}
 use borrow.Author.Tests.{eq-eqb, eqb-false, eqb-true, ne-eqb}
 use Rattle.fields.proofs.Choice.{in-cons, in-none}
 use Rattle.fields.specs.Choice.{_∈_, here, later, pick}
-use Rattle.rules.proofs.EachNode.{nodeAt, orFresh}
 use Rattle.rules.proofs.Obeys.{Ascending}
 use Rattle.rules.proofs.Tables.{partAt, present, repeated}
 use Rattle.rules.specs.Delta.{NodeDelta, Part}
@@ -22,6 +21,7 @@ use Rattle.rules.specs.Sizes.{maxNodes}
 use Rattle.rules.specs.Table.{Table, addNode, among, dropNode, nodeOf, numbersOf}
 use Rattle.rules.specs.declared.Answer.the-variants.{Done, Refused}
 use Rattle.rules.specs.declared.Refusal.the-variants.{NinthNode, NoNode}
+use Rattle.demand3.proofs.EachNode.{nodeAt, orFresh}
 
 -- ---- nodes come
 

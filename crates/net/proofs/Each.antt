@@ -9,11 +9,6 @@ use mathlib.Core.Path.{_∙_, _≡_, ap, refl, subst, sym}
 use lib.Dec.{eqb}
 use borrow.Author.Tests.{eqb-true}
 use Rattle.fields.specs.Choice.{pick}
-use Rattle.net.proofs.Coming.{node-added, node-dropped}
-use Rattle.net.proofs.Moments.{Carries}
-use Rattle.net.specs.Net.{Net}
-use Rattle.rules.proofs.EachNode.{Beaten, beaten-local, beaten-offer, node-taken, nodeAt, orFresh, removed}
-use Rattle.rules.proofs.Moments.{read-once}
 use Rattle.rules.proofs.Obeys.{Ascending}
 use Rattle.rules.proofs.Tables.{applied-table, node-set-other, node-set-same, partAt, taking}
 use Rattle.rules.specs.Apply.{Lawful, Taken, Ways, apply, applyEach, applyNode}
@@ -22,6 +17,11 @@ use Rattle.rules.specs.Local.{add, call, callOn, localBeat, offer, removeNode}
 use Rattle.rules.specs.Node.{Call, Decision, KeyValue, Node, Rec, act, decide, fresh, remove, withHeartbeat}
 use Rattle.rules.specs.Table.{Table, nodeOf, numbersOf, removeAll, setNode}
 use Rattle.rules.specs.declared.Heartbeat.{Heartbeat}
+use Rattle.demand3.proofs.EachNode.{Beaten, beaten-local, beaten-offer, node-taken, nodeAt, orFresh, removed}
+use Rattle.demand3.proofs.Moments.{read-once}
+use Rattle.net.proofs.Coming.{node-added, node-dropped}
+use Rattle.net.proofs.Moments.{Carries}
+use Rattle.net.specs.Net.{Net}
 
 module _ (w : Net) (R : ℕ → ℕ → Node → Node → Type 0) (same : (x i : ℕ) (n : Node) → R x i n n) where
   -- of every node of hub x, when its table is u

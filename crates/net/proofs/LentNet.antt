@@ -9,37 +9,36 @@ use lib.Dec.{eqb}
 use borrow.Author.Tests.{eq-eqb, eqb-true, ltb-true}
 use Rattle.fields.proofs.Choice.{in-none}
 use Rattle.fields.specs.Choice.{_∈_, here, later, pick}
-use Rattle.net.proofs.Moments.{Moment, moment-begin, moment-event, moments, one-more}
-use Rattle.net.proofs.Pairs.{pairs-rise}
-use Rattle.net.proofs.Safe.{net-sound}
-use Rattle.net.specs.LentNet.{LentNet, LentSafe, lentAfter, lentBegin, lentCalls, lentHappen, lentRestored, lentTaken, planIn, tablesIn, tablesOf}
-use Rattle.net.specs.Net.{Adding, Arriving, Beating, Computing, Dropping, Event, Net, NetSound, Offering, Plan, Ready, Removing, Restoring, Saving, Writing, after, allGoOn, begin, calls, happen, placed, possible, restored}
-use Rattle.rules.proofs.Calls.{none-obeys}
+use Rattle.rules.proofs.Calls.{none-obeys, numbers-beat, numbers-call, numbers-offer}
 use Rattle.rules.proofs.Keeps.{mode-lawful}
 use Rattle.rules.proofs.Memories.{add-keeps-whole, remove-keeps-whole, same-nodes}
-use Rattle.rules.proofs.Moments.{numbers-beat, numbers-call, numbers-offer}
 use Rattle.rules.proofs.Obeys.{OkTable, facts-table}
 use Rattle.rules.proofs.Refusing.{whole-bytes}
 use Rattle.rules.proofs.Tables.{applied-table, numbers-each, numbers-remove}
 use Rattle.rules.specs.Apply.{Ways, apply, applyNode, waysOf}
 use Rattle.rules.specs.Compute.{compute}
 use Rattle.rules.specs.Delta.{partsOf}
-use Rattle.rules.specs.Demand3.{AllRise}
 use Rattle.rules.specs.Given.{Given, given}
 use Rattle.rules.specs.Lent.{addWhole, fromTable, lentApply, lentNew, onTable, onWhole, removeWhole}
 use Rattle.rules.specs.Local.{Outcome, call, gc, localBeat, offer}
 use Rattle.rules.specs.Node.{KeyValue, due}
 use Rattle.rules.specs.Table.{Table, numbersOf, obeys}
 use Rattle.rules.specs.Whole.{Whole, decodeWhole, encodeWhole, obeysWhole, validWhole, withTable}
-use Rattle.rules.specs.World.{DeltaSent, DigestSent, Exchange, Idle, appliedTo, nthSent, sentAfter}
 use Rattle.rules.specs.declared.Answer.the-variants as plain
 use Rattle.rules.specs.declared.Computed.{Computed}
 use Rattle.rules.specs.declared.Computed.the-variants as computed
 use Rattle.rules.specs.declared.Mode.{Mode}
 use Rattle.rules.specs.declared.Offered.the-variants as offered
 use Rattle.rules.specs.declared.Refusal.the-variants.{BadTable}
+use Rattle.demand3.specs.Demand3.{AllRise}
+use Rattle.demand3.specs.World.{DeltaSent, DigestSent, Exchange, Idle, appliedTo, nthSent, sentAfter}
 use Rattle.table.proofs.Encoded.{apply-whole, from-whole, on-whole, whole-whole}
 use Rattle.table.proofs.Wholes.{decode-encode-whole, valid-encode-whole, whole-obeys, without-memory}
+use Rattle.net.proofs.Moments.{Moment, moment-begin, moment-event, moments, one-more}
+use Rattle.net.proofs.Pairs.{pairs-rise}
+use Rattle.net.proofs.Safe.{net-sound}
+use Rattle.net.specs.LentNet.{LentNet, LentSafe, lentAfter, lentBegin, lentCalls, lentHappen, lentRestored, lentTaken, planIn, tablesIn, tablesOf}
+use Rattle.net.specs.Net.{Adding, Arriving, Beating, Computing, Dropping, Event, Net, NetSound, Offering, Plan, Ready, Removing, Restoring, Saving, Writing, after, allGoOn, begin, calls, happen, placed, possible, restored}
 
 -- ---- bytes of a table in a mode
 

@@ -12,20 +12,9 @@ use lib.ListN.{length}
 use borrow.Author.Tests.{eq-eqb, eqb-false, eqb-true, ltb-true}
 use Rattle.fields.proofs.Choice.{all-from, and-left, and-right, in-cons, in-none}
 use Rattle.fields.specs.Choice.{_∈_, here, later, pick}
-use Rattle.net.proofs.Coming.{node-added, node-dropped}
-use Rattle.net.proofs.Owners.{owner-again, owner-stays}
-use Rattle.net.specs.Net.{Adding, Arriving, Beating, Computing, Dropping, Event, Net, Offering, Plan, Ready, Removing, Restoring, Saving, Writing, after, begin, calls, happen, hasMax, nothingLost, placed, possible, restored, withTable}
 use Rattle.rules.proofs.Calls.{add-keeps, beat-keeps, call-keeps, node-in, none-obeys, offer-keeps, ok-each, ok-remove-all, remove-node-keeps}
-use Rattle.rules.proofs.Computing.{computed-honest}
-use Rattle.rules.proofs.EachNode.{Beaten, beaten-local, beaten-offer, node-taken, nodeAt, orFresh, removed}
-use Rattle.rules.proofs.History.{Numbered}
-use Rattle.rules.proofs.Honest.{HonestDelta, HonestNode, delta-grows, fresh-honest, node-beat, node-grows, node-remove}
-use Rattle.rules.proofs.Moments.{ReadsWell, clock-fits, kept, nth-sent, read-once}
 use Rattle.rules.proofs.Obeys.{OkTable, facts-table, table-facts}
-use Rattle.rules.proofs.OnTheWay.{Comes, Sendable, comes, computed-sendable, delta-bytes, refuses, writes}
-use Rattle.rules.proofs.Publisher.{Publisher, next-version, publisher-beat, publisher-fresh, publisher-remove, publisher-write}
 use Rattle.rules.proofs.Received.{parts-ok}
-use Rattle.rules.proofs.Step.{node-apply}
 use Rattle.rules.proofs.Tables.{applied-table, node-set-other, node-set-same, partAt, taking}
 use Rattle.rules.proofs.Taking.{Applies}
 use Rattle.rules.specs.Apply.{Lawful, Taken, Ways, apply, applyEach, applyNode}
@@ -35,8 +24,20 @@ use Rattle.rules.specs.Local.{add, call, callOn, gc, removeNode}
 use Rattle.rules.specs.Node.{Call, Decision, Give, KeyValue, Leave, Node, Rec, Refuse, act, decide, due, fresh}
 use Rattle.rules.specs.Sizes.{numbers}
 use Rattle.rules.specs.Table.{Entry, Table, nodeOf, removeAll, setNode}
-use Rattle.rules.specs.World.{appliedTo, givenAfter, givenBy, givenIn, nthSent, sentAfter, timeOf}
 use Rattle.rules.specs.declared.Computed.{Computed}
+use Rattle.rules.proofs.Accepted.{Comes, comes, delta-bytes, refuses, writes}
+use Rattle.demand3.proofs.Computing.{computed-honest}
+use Rattle.demand3.proofs.EachNode.{Beaten, beaten-local, beaten-offer, node-taken, nodeAt, orFresh, removed}
+use Rattle.demand3.proofs.History.{Numbered}
+use Rattle.demand3.proofs.Honest.{HonestDelta, HonestNode, delta-grows, fresh-honest, node-beat, node-grows, node-remove}
+use Rattle.demand3.proofs.Moments.{ReadsWell, clock-fits, kept, nth-sent, read-once}
+use Rattle.demand3.proofs.OnTheWay.{Sendable, computed-sendable}
+use Rattle.demand3.proofs.Publisher.{Publisher, next-version, publisher-beat, publisher-fresh, publisher-remove, publisher-write}
+use Rattle.demand3.proofs.Step.{node-apply}
+use Rattle.demand3.specs.World.{appliedTo, givenAfter, givenBy, givenIn, nthSent, sentAfter, timeOf}
+use Rattle.net.proofs.Coming.{node-added, node-dropped}
+use Rattle.net.proofs.Owners.{owner-again, owner-stays}
+use Rattle.net.specs.Net.{Adding, Arriving, Beating, Computing, Dropping, Event, Net, Offering, Plan, Ready, Removing, Restoring, Saving, Writing, after, begin, calls, happen, hasMax, nothingLost, placed, possible, restored, withTable}
 
 -- ---- what a moment is
 

@@ -6,14 +6,14 @@ use mathlib.Core.Path.{_∙_, _≡_, refl}
 use native.Mathlib.Omega.{arith}
 use lib.Dec.{ltb}
 use borrow.Author.Tests.{ltb-false}
-use Rattle.rules.proofs.Honest.{HonestDelta, HonestNode}
-use Rattle.rules.proofs.Publisher.{Publisher}
 use Rattle.rules.proofs.Taking.{status-old}
 use Rattle.rules.specs.Apply.{Fence, Lawful, Ways, applyNode, deltaStatus, newerOf, outcome, statusOf, takenAs}
 use Rattle.rules.specs.Delta.{NodeDelta}
 use Rattle.rules.specs.Node.{KeyValue, Node}
 use Rattle.rules.specs.declared.DeltaStatus.the-variants.{Reject}
 use Rattle.rules.specs.declared.NodeAnswer.the-variants as node
+use Rattle.demand3.proofs.Honest.{HonestDelta, HonestNode}
+use Rattle.demand3.proofs.Publisher.{Publisher}
 
 -- an honest node that has all that was given may be the owner's: nothing is lost
 pub owner-again : (h : List KeyValue) (p n : Node) → Publisher h p → HonestNode h n → n .max ≡ p .max → Publisher h n

@@ -10,19 +10,19 @@ use lib.Dec.{eqb}
 use borrow.Author.Tests.{eqb-true}
 use Rattle.fields.proofs.Choice.{and-left, and-right}
 use Rattle.fields.specs.Choice.{pick}
-use Rattle.net.proofs.Coming.{node-added}
-use Rattle.net.specs.Net.{Adding, Arriving, Beating, Computing, Dropping, Event, Net, Offering, Plan, Removing, Restoring, Saving, Writing, after, allGoOn, calls, goesOn, happen, possible}
-use Rattle.rules.proofs.EachNode.{Beaten, beaten-local, beaten-offer, nodeAt, orFresh, removed}
-use Rattle.rules.proofs.Moments.{nth-sent}
-use Rattle.rules.proofs.OneNode.{rises-apply, rises-remove, rises-same, rises-trans}
 use Rattle.rules.proofs.Tables.{applied-table, node-set-other, node-set-same}
 use Rattle.rules.specs.Apply.{Ways, applyEach, applyNode, onNode}
 use Rattle.rules.specs.Delta.{Part, partsOf}
-use Rattle.rules.specs.Demand3.{AllRise, Rises}
 use Rattle.rules.specs.Local.{call, callOn, gc}
 use Rattle.rules.specs.Node.{Call, Decision, Give, Leave, Node, Refuse, act, decide, due, write}
 use Rattle.rules.specs.Table.{Table, nodeOf, setNode}
-use Rattle.rules.specs.World.{appliedTo}
+use Rattle.demand3.proofs.EachNode.{Beaten, beaten-local, beaten-offer, nodeAt, orFresh, removed}
+use Rattle.demand3.proofs.Moments.{nth-sent}
+use Rattle.demand3.proofs.OneNode.{rises-apply, rises-remove, rises-same, rises-trans}
+use Rattle.demand3.specs.Demand3.{AllRise, Rises}
+use Rattle.demand3.specs.World.{appliedTo}
+use Rattle.net.proofs.Coming.{node-added}
+use Rattle.net.specs.Net.{Adding, Arriving, Beating, Computing, Dropping, Event, Net, Offering, Plan, Removing, Restoring, Saving, Writing, after, allGoOn, calls, goesOn, happen, possible}
 
 -- from the one table to the other no pair falls; a node that is not there counts as fresh
 abbrev Up : Table → Table → Type 0

@@ -4,21 +4,21 @@ use mathlib.Core.List.{List}
 use mathlib.Core.Option.{some}
 use mathlib.Core.Path.{_∙_, _≡_, ap, refl, subst, sym}
 use Rattle.fields.specs.Choice.{_∈_}
+use Rattle.rules.proofs.Keeps.{fenced-lawful}
+use Rattle.rules.proofs.Obeys.{facts-table}
+use Rattle.rules.specs.Apply.{Lawful, fencedWays}
+use Rattle.rules.specs.Delta.{Good, Op, nothingRead, partsOf}
+use Rattle.rules.specs.Node.{Node}
+use Rattle.rules.specs.Table.{nodeOf}
+use Rattle.demand3.proofs.EachNode.{orFresh}
+use Rattle.demand3.proofs.Honest.{HonestNode}
+use Rattle.demand3.proofs.Moments.{read-once}
+use Rattle.demand3.proofs.Publisher.{Publisher, claims-of}
 use Rattle.net.proofs.Coming.{part-there}
 use Rattle.net.proofs.Moments.{Moment, moment-begin, moments}
 use Rattle.net.proofs.Owners.{owner-stays}
 use Rattle.net.proofs.Pairs.{pairs-rise}
 use Rattle.net.specs.Net.{Event, Net, NetSafe, NetSound, Plan, Ready, after, begin}
-use Rattle.rules.proofs.EachNode.{orFresh}
-use Rattle.rules.proofs.Honest.{HonestNode}
-use Rattle.rules.proofs.Keeps.{fenced-lawful}
-use Rattle.rules.proofs.Moments.{read-once}
-use Rattle.rules.proofs.Obeys.{facts-table}
-use Rattle.rules.proofs.Publisher.{Publisher, claims-of}
-use Rattle.rules.specs.Apply.{Lawful, fencedWays}
-use Rattle.rules.specs.Delta.{Good, Op, nothingRead, partsOf}
-use Rattle.rules.specs.Node.{Node}
-use Rattle.rules.specs.Table.{nodeOf}
 
 pub sound : (plan : Plan) → ((x : ℕ) → Lawful (plan .ways x)) → (w : Net) → Moment (plan .owner) w → NetSound plan w
 sound plan lawful w ok =

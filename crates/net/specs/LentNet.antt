@@ -14,9 +14,9 @@ use Rattle.rules.specs.Table.{Table, nodeOf}
 use Rattle.rules.specs.Apply.{waysOf}
 use Rattle.rules.specs.Whole.{decodeWhole, validWhole}
 use Rattle.rules.specs.Lent.{lentAdd, lentRemoveNode, lentCall, lentGc, lentOffer, lentBeat, lentCompute, lentApply, lentNew}
-use Rattle.rules.specs.World.{Exchange, Idle, DigestSent, DeltaSent, givenIn, sentAfter, nthSent}
-use Rattle.rules.specs.Demand3.{AllRise}
 use Rattle.rules.specs.declared.Mode.{Mode}
+use Rattle.demand3.specs.World.{Exchange, Idle, DigestSent, DeltaSent, givenIn, sentAfter, nthSent}
+use Rattle.demand3.specs.Demand3.{AllRise}
 use Rattle.net.specs.Net.{Plan, Net, NetSound, Event, Writing, Beating, Offering, Removing, Adding, Dropping, Computing, Arriving, Saving, Restoring, placed, possible, allGoOn}
 
 -- The bytes of each hub's table; what the owner of each node gave to it so far, the newest first; the bytes of every delta that a hub ever computed; the

@@ -16,10 +16,10 @@ use Rattle.rules.specs.Table.{Entry, Table, nodeOf, obeys}
 use Rattle.rules.specs.Local.{call, add, removeNode, offer, localBeat, gc}
 use Rattle.rules.specs.Delta.{Op, Good, Part, partsOf, readDelta}
 use Rattle.rules.specs.Apply.{Ways, Lawful, takenAs, applyNode}
-use Rattle.rules.specs.World.{timeOf, givenIn, sentFor, nthSent, appliedTo}
-use Rattle.rules.specs.Demand3.{Claims, AllRise}
 use Rattle.rules.specs.declared.Heartbeat.{Heartbeat}
 use Rattle.rules.specs.declared.NodeAnswer.the-variants as node
+use Rattle.demand3.specs.World.{timeOf, givenIn, sentFor, nthSent, appliedTo}
+use Rattle.demand3.specs.Demand3.{Claims, AllRise}
 
 -- ---- the net
 

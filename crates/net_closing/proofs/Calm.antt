@@ -10,15 +10,6 @@ use lib.ListN.{length}
 use borrow.Author.Tests.{eq-eqb}
 use Rattle.fields.proofs.Choice.{and-left, and-right, keep-from}
 use Rattle.fields.specs.Choice.{_∈_, pick}
-use Rattle.net.proofs.Each.{Each, each-add, each-beat, each-call, each-drop, each-hub, each-offer, each-remove, each-same, each-taken}
-use Rattle.net.proofs.Moments.{Moment}
-use Rattle.net.proofs.Owners.{owner-stays}
-use Rattle.net.specs.Net.{Adding, Arriving, Beating, Computing, Dropping, Event, Net, Offering, Plan, Ready, Removing, Restoring, Saving, Writing, after, calls, happen, possible}
-use Rattle.net_closing.specs.Closing.{calm, every}
-use Rattle.rules.proofs.EachNode.{nodeAt}
-use Rattle.rules.proofs.Honest.{HonestDelta}
-use Rattle.rules.proofs.Moments.{nth-sent}
-use Rattle.rules.proofs.Publisher.{Publisher}
 use Rattle.rules.proofs.Records.{gc-rises}
 use Rattle.rules.proofs.Taking.{Came, came, left, reset, took}
 use Rattle.rules.specs.Apply.{Lawful, Taken, Ways, applyNode, outcome}
@@ -26,8 +17,17 @@ use Rattle.rules.specs.Delta.{NodeDelta}
 use Rattle.rules.specs.Local.{gc}
 use Rattle.rules.specs.Node.{KeyValue, Node, Rec, due, remove, withHeartbeat}
 use Rattle.rules.specs.Table.{nodeOf}
-use Rattle.rules.specs.World.{appliedTo, givenIn}
 use Rattle.rules.specs.declared.Heartbeat.{Heartbeat}
+use Rattle.demand3.proofs.EachNode.{nodeAt}
+use Rattle.demand3.proofs.Honest.{HonestDelta}
+use Rattle.demand3.proofs.Moments.{nth-sent}
+use Rattle.demand3.proofs.Publisher.{Publisher}
+use Rattle.demand3.specs.World.{appliedTo, givenIn}
+use Rattle.net.proofs.Each.{Each, each-add, each-beat, each-call, each-drop, each-hub, each-offer, each-remove, each-same, each-taken}
+use Rattle.net.proofs.Moments.{Moment}
+use Rattle.net.proofs.Owners.{owner-stays}
+use Rattle.net.specs.Net.{Adding, Arriving, Beating, Computing, Dropping, Event, Net, Offering, Plan, Ready, Removing, Restoring, Saving, Writing, after, calls, happen, possible}
+use Rattle.net_closing.specs.Closing.{calm, every}
 
 pub data Onward (ways : Ways) (h : List KeyValue) (n : Node) : Node → Type 0 where
   stays : Onward ways h n n

@@ -13,6 +13,20 @@ use lib.ListN.{length}
 use borrow.Author.Tests.{ltb-false, ltb-true}
 use Rattle.fields.proofs.Choice.{and-left, and-right, in-cons, in-none}
 use Rattle.fields.specs.Choice.{_∈_}
+use Rattle.rules.proofs.Sending.{nodeDelta}
+use Rattle.rules.proofs.Taking.{FromOf, from-of, no-reset, reset-due, status-apply, status-reset, taken-node}
+use Rattle.rules.specs.Apply.{Ways, applyNode, deltaStatus, outcome}
+use Rattle.rules.specs.Compute.{fromOf}
+use Rattle.rules.specs.Delta.{NodeDelta}
+use Rattle.rules.specs.Node.{KeyValue, Node}
+use Rattle.rules.specs.Table.{nodeOf}
+use Rattle.rules.specs.declared.DeltaStatus.{DeltaStatus}
+use Rattle.rules.specs.declared.DeltaStatus.the-variants.{Apply, ApplyAfterReset}
+use Rattle.rules.specs.declared.NodeAnswer.the-variants as node
+use Rattle.demand3.proofs.EachNode.{nodeAt, orFresh}
+use Rattle.demand3.proofs.Needed.{Moves, brings, completes, delta-moves-or}
+use Rattle.demand3.proofs.OneNode.{rises-apply, rises-remove, rises-same, rises-trans}
+use Rattle.demand3.specs.Demand3.{Rises}
 use Rattle.net.proofs.Moments.{moment-begin, moments}
 use Rattle.net.specs.Net.{Event, Net, Plan, Ready, after, begin, happen}
 use Rattle.net_closing.proofs.Calm.{Onward, after-append, beats, every-append, onward, removes, stays, takes}
@@ -21,20 +35,6 @@ use Rattle.net_closing.proofs.Exchange.{heard-made, heard-node}
 use Rattle.net_closing.proofs.Rounds.{Known, closed-of, known-event, known-run, owner-there, there-is, there-run}
 use Rattle.net_closing.proofs.Static.{StaticIn, static-begin, static-run}
 use Rattle.net_closing.specs.Closing.{Asked, Closed, Heard, HearsIn, Local, LocalAll, PartIn, Rounds, Steps, afterAll, along, calm, every, exchangeIn, here-it-is, opsIn, sendersIn}
-use Rattle.rules.proofs.EachNode.{nodeAt, orFresh}
-use Rattle.rules.proofs.Needed.{Moves, brings, completes, delta-moves-or}
-use Rattle.rules.proofs.OneNode.{rises-apply, rises-remove, rises-same, rises-trans}
-use Rattle.rules.proofs.Sending.{nodeDelta}
-use Rattle.rules.proofs.Taking.{FromOf, from-of, no-reset, reset-due, status-apply, status-reset, taken-node}
-use Rattle.rules.specs.Apply.{Ways, applyNode, deltaStatus, outcome}
-use Rattle.rules.specs.Compute.{fromOf}
-use Rattle.rules.specs.Delta.{NodeDelta}
-use Rattle.rules.specs.Demand3.{Rises}
-use Rattle.rules.specs.Node.{KeyValue, Node}
-use Rattle.rules.specs.Table.{nodeOf}
-use Rattle.rules.specs.declared.DeltaStatus.{DeltaStatus}
-use Rattle.rules.specs.declared.DeltaStatus.the-variants.{Apply, ApplyAfterReset}
-use Rattle.rules.specs.declared.NodeAnswer.the-variants as node
 
 -- ---- pairs
 

@@ -6,20 +6,20 @@ use mathlib.Core.Option.{Option, some}
 use mathlib.Core.Path.{_≡_, ap}
 use native.Mathlib.Omega.{arith}
 use lib.Dec.{ltb}
+use Rattle.rules.specs.Apply.{Lawful, apply}
+use Rattle.rules.specs.Compute.{compute}
+use Rattle.rules.specs.Delta.{deltaBytes}
+use Rattle.rules.specs.Digest.{digestBytes, digestOf}
+use Rattle.rules.specs.Node.{Node}
+use Rattle.rules.specs.Sizes.{numbers}
+use Rattle.rules.specs.Table.{nodeOf}
+use Rattle.demand3.proofs.EachNode.{orFresh}
+use Rattle.demand3.specs.Demand3.{noRoom, wroteDelta}
 use Rattle.net.proofs.Moments.{Moment}
 use Rattle.net.specs.Net.{Net, Plan}
 use Rattle.net_closing.proofs.Exchange.{its-part, made-for}
 use Rattle.net_closing.proofs.Wide.{wide-brings, wide-uncut}
 use Rattle.net_closing.specs.Closing.{Asked, Heard, HeardWhole, opsIn, weight}
-use Rattle.rules.proofs.EachNode.{orFresh}
-use Rattle.rules.specs.Apply.{Lawful, apply}
-use Rattle.rules.specs.Compute.{compute}
-use Rattle.rules.specs.Delta.{deltaBytes}
-use Rattle.rules.specs.Demand3.{noRoom, wroteDelta}
-use Rattle.rules.specs.Digest.{digestBytes, digestOf}
-use Rattle.rules.specs.Node.{Node}
-use Rattle.rules.specs.Sizes.{numbers}
-use Rattle.rules.specs.Table.{nodeOf}
 
 pub wide-heard : (plan : Plan) → ((x : ℕ) → Lawful (plan .ways x)) → (w : Net) → Moment (plan .owner) w → (i x y : ℕ) (q : Asked) (n : Node)
     → nodeOf i (w .hubs x) ≡ some n

@@ -8,34 +8,34 @@ use native.Mathlib.Omega.{arith}
 use lib.Dec.{ltb}
 use borrow.Author.Tests.{eq-eqb}
 use Rattle.fields.specs.Choice.{_∈_, pick}
-use Rattle.net.proofs.Coming.{part-there}
-use Rattle.net.proofs.Moments.{Moment}
-use Rattle.net.specs.Net.{Net, Plan, after, happen}
-use Rattle.net_closing.specs.Closing.{Asked, Heard, PartIn, exchangeIn, opsIn}
 use Rattle.rules.proofs.Digests.{read-written}
-use Rattle.rules.proofs.EachNode.{nodeAt, orFresh}
-use Rattle.rules.proofs.Nearer.{told-held}
 use Rattle.rules.proofs.Obeys.{Ascending, facts-table}
-use Rattle.rules.proofs.OnTheWay.{Comes, comes, delta-bytes, refuses, writes}
 use Rattle.rules.proofs.Sending.{emit, nodeDelta, sends}
 use Rattle.rules.proofs.Tables.{Behind, SentPart, answer-each, behind-from, computed-once, mapped, node-each, node-entry, ordered-from, part-sent, partAt, repeated, taking}
-use Rattle.rules.proofs.Whole.{stream, taken}
 use Rattle.rules.specs.Apply.{Lawful, Stream, Taking, apply, applyNode}
 use Rattle.rules.specs.Compute.{StaleNode, compute, computeFor, deltaFor, ordered, staleNodes, toldOf}
 use Rattle.rules.specs.Delta.{NodeDelta, Op, Part, deltaBytes, partsOf}
-use Rattle.rules.specs.Demand3.{noRoom, wroteDelta}
 use Rattle.rules.specs.Digest.{Entries, NodeDigest, digestBytes, digestOf, isEdition, readDigest}
 use Rattle.rules.specs.Given.{Given, given}
 use Rattle.rules.specs.Node.{Node}
 use Rattle.rules.specs.Sizes.{maxDelta, numbers}
 use Rattle.rules.specs.Table.{Table, nodeOf, numbersOf, obeys}
-use Rattle.rules.specs.World.{DeltaSent, World, appliedTo, nthSent, sentAfter}
-use Rattle.rules.specs.World as world
 use Rattle.rules.specs.declared.Computed.{Computed}
 use Rattle.rules.specs.declared.Computed.the-variants as computed
 use Rattle.rules.specs.declared.Refusal.the-variants.{BadEdition}
 use Rattle.rules.specs.declared.NodeAnswer.{NodeAnswer}
 use Rattle.rules.specs.declared.NodeAnswer.the-variants as node
+use Rattle.rules.proofs.Accepted.{Comes, comes, delta-bytes, refuses, writes}
+use Rattle.demand3.proofs.EachNode.{nodeAt, orFresh}
+use Rattle.demand3.proofs.Nearer.{told-held}
+use Rattle.demand3.proofs.Whole.{stream, taken}
+use Rattle.demand3.specs.Demand3.{noRoom, wroteDelta}
+use Rattle.demand3.specs.World.{DeltaSent, World, appliedTo, nthSent, sentAfter}
+use Rattle.demand3.specs.World as world
+use Rattle.net.proofs.Coming.{part-there}
+use Rattle.net.proofs.Moments.{Moment}
+use Rattle.net.specs.Net.{Net, Plan, after, happen}
+use Rattle.net_closing.specs.Closing.{Asked, Heard, PartIn, exchangeIn, opsIn}
 
 -- what computing sends of node i for the digest of table t, which has the node
 pub made-for : (ties : List ℕ) (mtu : ℕ) (t u : Table) → Ascending (numbersOf u) → (i : ℕ) (n : Node) → nodeOf i t ≡ some n → (d : NodeDelta) → partAt i (partsOf (deltaFor [] ties mtu (digestOf [] t) u)) ≡ some d → (count : ℕ) × (fits : Bool) × (d ≡ nodeDelta (nodeAt i u) (n .last-gc) (n .max) count fits) × (n .max < nodeAt i u .max)

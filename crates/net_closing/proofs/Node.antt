@@ -10,22 +10,22 @@ use lib.Dec.{ltb}
 use lib.ListN.{length, take}
 use borrow.Author.Tests.{le-ltb, ltb-false, ltb-true}
 use Rattle.fields.specs.Choice.{_∈_, here, later, pick}
-use Rattle.net.proofs.Moments.{Ends}
-use Rattle.net.proofs.Owners.{owner-again}
-use Rattle.net_closing.specs.Closing.{Least}
-use Rattle.rules.proofs.Honest.{HonestNode, Removed}
-use Rattle.rules.proofs.Publisher.{Publisher}
 use Rattle.rules.proofs.Sending.{carried, nodeDelta}
 use Rattle.rules.proofs.Stale.{Rising, rising-stale, stale-from, stale-in, top-within, topOf}
 use Rattle.rules.proofs.Taking.{FromOf, from-no-reset, from-of, no-reset, reset-due, status-apply, status-reset, taken-node}
 use Rattle.rules.specs.Apply.{Ways, applyNode, deltaStatus, outcome}
 use Rattle.rules.specs.Compute.{fromOf, stale}
 use Rattle.rules.specs.Delta.{NodeDelta}
-use Rattle.rules.specs.Demand3.{Holds}
 use Rattle.rules.specs.Node.{KeyValue, Node, Rec}
 use Rattle.rules.specs.declared.DeltaStatus.{DeltaStatus}
 use Rattle.rules.specs.declared.DeltaStatus.the-variants.{Apply, ApplyAfterReset}
 use Rattle.rules.specs.declared.NodeAnswer.the-variants as node
+use Rattle.demand3.proofs.Honest.{HonestNode, Removed}
+use Rattle.demand3.proofs.Publisher.{Publisher}
+use Rattle.demand3.specs.Demand3.{Holds}
+use Rattle.net.proofs.Moments.{Ends}
+use Rattle.net.proofs.Owners.{owner-again}
+use Rattle.net_closing.specs.Closing.{Least}
 
 -- ---- the newest version
 

@@ -13,6 +13,29 @@ use borrow.Author.Tests.{eq-eqb, eqb-false, eqb-true, ltb-false, ltb-true}
 use Rattle.fields.proofs.Choice.{and-left, and-right, in-cons, in-none}
 use Rattle.fields.specs.Choice.{_∈_, pick}
 use Rattle.fields.specs.Parts.{part, put}
+use Rattle.rules.proofs.Obeys.{facts-table}
+use Rattle.rules.proofs.Sending.{nodeDelta}
+use Rattle.rules.proofs.Tables.{partAt}
+use Rattle.rules.proofs.Taking.{Came, came, left, reset, taken-node, took}
+use Rattle.rules.specs.Apply.{Taken, applyNode, deltaStatus, outcome}
+use Rattle.rules.specs.Compute.{deltaFor, fromOf, stale}
+use Rattle.rules.specs.Delta.{NodeDelta, Ops, deltaBytes, partsOf, readDelta}
+use Rattle.rules.specs.Given.{Given}
+use Rattle.rules.specs.Local.{gc}
+use Rattle.rules.specs.Node.{Decision, Give, Leave, Node, Refuse, act, due, remove, withHeartbeat, write}
+use Rattle.rules.specs.Table.{Table, nodeOf}
+use Rattle.rules.specs.declared.Computed.{Computed}
+use Rattle.rules.specs.declared.Heartbeat.{Heartbeat}
+use Rattle.rules.specs.declared.NodeAnswer.the-variants as node
+use Rattle.rules.proofs.Accepted.{Comes, comes, delta-bytes, refuses, writes}
+use Rattle.demand3.proofs.EachNode.{nodeAt, orFresh, partsIn}
+use Rattle.demand3.proofs.Moments.{nth-sent}
+use Rattle.demand3.proofs.Needed.{Moves, Onward, delta-moves-or, needed, needed-falls, needed-most, needed-none, needed-some, onward-came, onward-needed, onward-same}
+use Rattle.demand3.proofs.OnTheWay.{Sendable, computed-sendable}
+use Rattle.demand3.proofs.OneNode.{rises-apply, rises-remove}
+use Rattle.demand3.proofs.Publisher.{Publisher}
+use Rattle.demand3.specs.Demand3.{Rises}
+use Rattle.demand3.specs.World.{appliedTo, sentAfter}
 use Rattle.net.proofs.Each.{Each, each-add, each-beat, each-call, each-drop, each-hub, each-offer, each-remove, each-same, each-taken}
 use Rattle.net.proofs.Moments.{Moment, moment-begin, moment-event, placed-in}
 use Rattle.net.proofs.Owners.{owner-stays}
@@ -21,28 +44,6 @@ use Rattle.net_closing.proofs.Calm.{after-append, every-append}
 use Rattle.net_closing.proofs.Exchange.{heard-made, heard-node}
 use Rattle.net_closing.proofs.Rounds.{closed-of, there-is}
 use Rattle.net_closing.specs.Closing.{Asked, Closed, Heard, HearsIn, PartIn, Rounds, afterAll, every, exchangeIn, opsIn, ownerRemoves, settled}
-use Rattle.rules.proofs.EachNode.{nodeAt, orFresh, partsIn}
-use Rattle.rules.proofs.Moments.{nth-sent}
-use Rattle.rules.proofs.Needed.{Moves, Onward, delta-moves-or, needed, needed-falls, needed-most, needed-none, needed-some, onward-came, onward-needed, onward-same}
-use Rattle.rules.proofs.Obeys.{facts-table}
-use Rattle.rules.proofs.OnTheWay.{Comes, Sendable, comes, computed-sendable, delta-bytes, refuses, writes}
-use Rattle.rules.proofs.OneNode.{rises-apply, rises-remove}
-use Rattle.rules.proofs.Publisher.{Publisher}
-use Rattle.rules.proofs.Sending.{nodeDelta}
-use Rattle.rules.proofs.Tables.{partAt}
-use Rattle.rules.proofs.Taking.{Came, came, left, reset, taken-node, took}
-use Rattle.rules.specs.Apply.{Taken, applyNode, deltaStatus, outcome}
-use Rattle.rules.specs.Compute.{deltaFor, fromOf, stale}
-use Rattle.rules.specs.Delta.{NodeDelta, Ops, deltaBytes, partsOf, readDelta}
-use Rattle.rules.specs.Demand3.{Rises}
-use Rattle.rules.specs.Given.{Given}
-use Rattle.rules.specs.Local.{gc}
-use Rattle.rules.specs.Node.{Decision, Give, Leave, Node, Refuse, act, due, remove, withHeartbeat, write}
-use Rattle.rules.specs.Table.{Table, nodeOf}
-use Rattle.rules.specs.World.{appliedTo, sentAfter}
-use Rattle.rules.specs.declared.Computed.{Computed}
-use Rattle.rules.specs.declared.Heartbeat.{Heartbeat}
-use Rattle.rules.specs.declared.NodeAnswer.the-variants as node
 
 gc-up : (n m : Node) → Rises n m → n .last-gc ≤ m .last-gc
 gc-up n m (inl x) = omega arith

@@ -10,16 +10,6 @@ use lib.ListN.{length}
 use borrow.Author.Tests.{ltb-false, ltb-true}
 use Rattle.fields.proofs.Choice.{and-left, and-right}
 use Rattle.fields.specs.Choice.{_∈_}
-use Rattle.net.proofs.Moments.{Moment, moment-begin, moment-event, moments}
-use Rattle.net.proofs.Owners.{owner-again}
-use Rattle.net.specs.Net.{Event, Net, Plan, Ready, after, begin, happen}
-use Rattle.net_closing.proofs.Calm.{after-append, calm-given, every-append, near-onward, onward, top-onward}
-use Rattle.net_closing.proofs.Exchange.{heard-made, heard-node}
-use Rattle.net_closing.proofs.Node.{first, second}
-use Rattle.net_closing.specs.Closing.{Asked, Closed, HeardWhole, HearsIn, Least, PartIn, Round, Rounds, Steps, afterAll, along, calm, every, exchangeIn, here-it-is, opsIn}
-use Rattle.rules.proofs.EachNode.{nodeAt, orFresh}
-use Rattle.rules.proofs.Honest.{HonestNode}
-use Rattle.rules.proofs.Publisher.{Publisher, claims-of}
 use Rattle.rules.proofs.Sending.{nodeDelta}
 use Rattle.rules.specs.Apply.{applyNode}
 use Rattle.rules.specs.Compute.{stale}
@@ -27,6 +17,16 @@ use Rattle.rules.specs.Delta.{NodeDelta}
 use Rattle.rules.specs.Node.{Node, Rec}
 use Rattle.rules.specs.Table.{nodeOf}
 use Rattle.rules.specs.declared.NodeAnswer.the-variants as node
+use Rattle.demand3.proofs.EachNode.{nodeAt, orFresh}
+use Rattle.demand3.proofs.Honest.{HonestNode}
+use Rattle.demand3.proofs.Publisher.{Publisher, claims-of}
+use Rattle.net.proofs.Moments.{Moment, moment-begin, moment-event, moments}
+use Rattle.net.proofs.Owners.{owner-again}
+use Rattle.net.specs.Net.{Event, Net, Plan, Ready, after, begin, happen}
+use Rattle.net_closing.proofs.Calm.{after-append, calm-given, every-append, near-onward, onward, top-onward}
+use Rattle.net_closing.proofs.Exchange.{heard-made, heard-node}
+use Rattle.net_closing.proofs.Node.{first, second}
+use Rattle.net_closing.specs.Closing.{Asked, Closed, HeardWhole, HearsIn, Least, PartIn, Round, Rounds, Steps, afterAll, along, calm, every, exchangeIn, here-it-is, opsIn}
 
 -- a node that has a version is there
 pub there-is : (o : Option Node) (m : ℕ) → m < orFresh o .max → o ≡ some (orFresh o)

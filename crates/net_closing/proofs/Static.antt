@@ -12,14 +12,7 @@ use lib.ListN.{length}
 use borrow.Author.Tests.{eq-eqb, eqb-true, ltb-false, ltb-true}
 use Rattle.fields.specs.Choice.{pick}
 use Rattle.fields.specs.Parts.{part, put}
-use Rattle.net.proofs.Each.{Each, each-add, each-beat, each-call, each-drop, each-offer, each-remove, each-same, each-taken}
-use Rattle.net.proofs.Moments.{Moment, moment-event, placed-in}
-use Rattle.net.specs.Net.{Adding, Arriving, Beating, Computing, Dropping, Event, Net, Offering, Plan, Ready, Removing, Restoring, Saving, Writing, after, begin, calls, happen, placed, possible}
-use Rattle.net_closing.proofs.Chains.{Chain, Turns, chain-from, chain-turns, ends, follows, grows, settles, turns-low}
-use Rattle.net_closing.specs.Closing.{Local, LocalAt, Neighbour, sendersAfter, sendersIn}
-use Rattle.rules.proofs.EachNode.{nodeAt, partsIn}
 use Rattle.rules.proofs.Obeys.{facts-table}
-use Rattle.rules.proofs.OnTheWay.{Comes, Sendable, comes, computed-sendable, delta-bytes, refuses, writes}
 use Rattle.rules.proofs.Records.{gc-below, gc-rises}
 use Rattle.rules.proofs.Sending.{nodeDelta}
 use Rattle.rules.proofs.Tables.{partAt}
@@ -27,14 +20,22 @@ use Rattle.rules.proofs.Taking.{Came, came, left, reset, took}
 use Rattle.rules.specs.Apply.{applyNode, outcome}
 use Rattle.rules.specs.Compute.{deltaFor}
 use Rattle.rules.specs.Delta.{NodeDelta, Ops, deltaBytes, partsOf, readDelta}
-use Rattle.rules.specs.Demand3.{wroteDelta}
 use Rattle.rules.specs.Given.{Given}
 use Rattle.rules.specs.Local.{gc}
 use Rattle.rules.specs.Node.{Decision, Give, Leave, Node, Rec, Refuse, act, due, lastGc, remove, withHeartbeat, write}
 use Rattle.rules.specs.Table.{Table, nodeOf}
-use Rattle.rules.specs.World.{DeltaSent, Exchange, Idle, appliedTo, nthSent, sentAfter}
 use Rattle.rules.specs.declared.Computed.{Computed}
 use Rattle.rules.specs.declared.Heartbeat.{Heartbeat}
+use Rattle.rules.proofs.Accepted.{Comes, comes, delta-bytes, refuses, writes}
+use Rattle.demand3.proofs.EachNode.{nodeAt, partsIn}
+use Rattle.demand3.proofs.OnTheWay.{Sendable, computed-sendable}
+use Rattle.demand3.specs.Demand3.{wroteDelta}
+use Rattle.demand3.specs.World.{DeltaSent, Exchange, Idle, appliedTo, nthSent, sentAfter}
+use Rattle.net.proofs.Each.{Each, each-add, each-beat, each-call, each-drop, each-offer, each-remove, each-same, each-taken}
+use Rattle.net.proofs.Moments.{Moment, moment-event, placed-in}
+use Rattle.net.specs.Net.{Adding, Arriving, Beating, Computing, Dropping, Event, Net, Offering, Plan, Ready, Removing, Restoring, Saving, Writing, after, begin, calls, happen, placed, possible}
+use Rattle.net_closing.proofs.Chains.{Chain, Turns, chain-from, chain-turns, ends, follows, grows, settles, turns-low}
+use Rattle.net_closing.specs.Closing.{Local, LocalAt, Neighbour, sendersAfter, sendersIn}
 
 -- what is at a place of all deltas is on its way from there
 nth-placed : (P : Exchange → Type 0) → P Idle → (k : ℕ) (ss : List (List ℕ)) → ((b : List ℕ) → placed k ss ≡ some b → P (DeltaSent b)) → P (nthSent k ss)

@@ -11,11 +11,7 @@ use lib.ListN.{length, take}
 use borrow.Author.Tests.{eq-eqb, eqb-false, eqb-true, le-leb, ltb-false}
 use Rattle.fields.proofs.Choice.{in-cons, in-none}
 use Rattle.fields.specs.Choice.{_∈_, here, later, pick}
-use Rattle.net.proofs.Coming.{part-there}
-use Rattle.net_closing.specs.Closing.{PartIn, recordBytes, recordsIn, weight}
 use Rattle.rules.proofs.Calls.{node-in}
-use Rattle.rules.proofs.Nearer.{told-held}
-use Rattle.rules.proofs.Needed.{Moves, brings, completes, delta-moves}
 use Rattle.rules.proofs.Obeys.{Ascending, OkEntry, OkRec, OkTable}
 use Rattle.rules.proofs.Sending.{afterMax, emit, fitting, leftOver, nodeDelta, partOf, recordSize, sends}
 use Rattle.rules.proofs.Tables.{Behind, behind-from, computed-once, node-entry, ordered-from, part-in, partAt, repeated}
@@ -24,6 +20,10 @@ use Rattle.rules.specs.Delta.{NodeDelta, Op, Part, partsOf}
 use Rattle.rules.specs.Digest.{NodeDigest, digestOf}
 use Rattle.rules.specs.Node.{KeyValue, Node, Rec}
 use Rattle.rules.specs.Table.{Entry, Table, among, nodeOf, numbersOf}
+use Rattle.demand3.proofs.Nearer.{told-held}
+use Rattle.demand3.proofs.Needed.{Moves, brings, completes, delta-moves}
+use Rattle.net.proofs.Coming.{part-there}
+use Rattle.net_closing.specs.Closing.{PartIn, recordBytes, recordsIn, weight}
 
 -- ---- sizes
 

@@ -17,7 +17,7 @@ use Rattle.rules.specs.Digest.{digestOf, digestBytes}
 use Rattle.rules.specs.Delta.{Op, NodeDelta, besideTexts, deltaBytes, partsOf}
 use Rattle.rules.specs.Compute.{stale, compute, deltaFor}
 use Rattle.rules.specs.Apply.{Ways, apply}
-use Rattle.rules.specs.Demand3.{Claims, wroteDelta, noRoom}
+use Rattle.demand3.specs.Demand3.{Claims, wroteDelta, noRoom}
 use Rattle.net.specs.Net.{Plan, Net, Event, Writing, Beating, Offering, Removing, Adding, Dropping, Computing, Arriving, Saving, Restoring, placed, happen, after}
 use Rattle.net.specs.LentNet.{LentNet, lentAfter}
 

@@ -5,21 +5,21 @@ use mathlib.Core.List.{List, [], _∷_}
 use mathlib.Core.Path.{_∙_, _≡_, ap, refl, subst, sym}
 use lib.Dec.{eqb, ltb}
 use Rattle.fields.specs.Choice.{pick}
+use Rattle.rules.specs.Compute.{compute}
+use Rattle.rules.specs.Given.{Given, given}
+use Rattle.rules.specs.Lent.{lentCompute}
+use Rattle.rules.specs.Sizes.{numbers}
+use Rattle.rules.specs.declared.Computed.{Computed}
+use Rattle.rules.specs.declared.Computed.the-variants as computed
+use Rattle.rules.specs.declared.Mode.{Mode}
+use Rattle.rules.specs.declared.Refusal.the-variants.{BadTable}
+use Rattle.demand3.specs.World.{Exchange, afterDelta, appliedTo, sentAfter}
 use Rattle.net.proofs.LentNet.{Good, begin-lent, from-table, happen-lent, obeyed, on-hub, taken}
 use Rattle.net.specs.LentNet.{LentNet, LentSound, lentCalls, lentHappen, lentTaken, planIn, tablesIn, withBytes}
 use Rattle.net.specs.Net.{Computing, Net, NetSound, Plan, happen, withTable}
 use Rattle.net_mixed.proofs.Mixed.{Fine, fine-doing, fine-start, mixed-sound}
 use Rattle.net_mixed.specs.LentMixed.{LentMixed, castIn, lentDoing, lentRun, lentStart, mixedIn}
 use Rattle.net_mixed.specs.Mixed.{Asking, Cast, Doing, Hearing, Mixed, Ordinary, Right, allowed, doing, flightsAfter, mayAsk, run, start}
-use Rattle.rules.specs.Compute.{compute}
-use Rattle.rules.specs.Given.{Given, given}
-use Rattle.rules.specs.Lent.{lentCompute}
-use Rattle.rules.specs.Sizes.{numbers}
-use Rattle.rules.specs.World.{Exchange, afterDelta, appliedTo, sentAfter}
-use Rattle.rules.specs.declared.Computed.{Computed}
-use Rattle.rules.specs.declared.Computed.the-variants as computed
-use Rattle.rules.specs.declared.Mode.{Mode}
-use Rattle.rules.specs.declared.Refusal.the-variants.{BadTable}
 
 module _ (owner : ℕ → ℕ) (modes : ℕ → Mode) (source : (hub node : ℕ) → ℕ) (steady : (hub node : ℕ) → Bool) where
   abbrev c : Cast

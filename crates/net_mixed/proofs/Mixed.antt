@@ -1,5 +1,5 @@
 -- Mixed nets stay sound. A plain hub's last_gc is within its max and its source's last_gc, and so is it when it takes what the source computed for it: a source's
--- last_gc does not fall. So the step's hypothesis holds of a plain hub too (rules: Step), and the moment of the net is kept as in `net`.
+-- last_gc does not fall. So the step's hypothesis holds of a plain hub too (demand3: Step), and the moment of the net is kept as in `net`.
 use Prim.Native.Nat.{_<_, _≤_, max, ℕ}
 use mathlib.Core.Bool.{Bool, _&&_, false, false≢true, not, true, true≢false}
 use mathlib.Core.List.{List, [], _∷_}
@@ -13,36 +13,37 @@ use borrow.Author.Tests.{eqb-true, ltb-true}
 use Rattle.fields.proofs.Choice.{all-from, in-cons, in-none}
 use Rattle.fields.specs.Choice.{_∈_, here, later, pick}
 use Rattle.fields.specs.Parts.{part, put}
-use Rattle.net.proofs.Each.{Each, each-add, each-beat, each-call, each-drop, each-hub, each-offer, each-remove, each-same, each-taken}
-use Rattle.net.proofs.Moments.{Carries, MayCome, Moment, arrived, moment-begin, moment-calls, placed-in, same-table}
-use Rattle.net.proofs.Safe.{sound}
-use Rattle.net.specs.Net.{Adding, Arriving, Beating, Computing, Dropping, Event, Net, NetSound, Offering, Removing, Restoring, Saving, Writing, calls, happen, placed, possible, restored, withTable}
-use Rattle.net_mixed.specs.Mixed.{Asking, Cast, Doing, Hearing, Mixed, Ordinary, Right, allowed, doing, flightsAfter, mayAsk, run, start}
 use Rattle.rules.proofs.Calls.{node-in}
-use Rattle.rules.proofs.EachNode.{nodeAt, orFresh, partsIn}
-use Rattle.rules.proofs.Honest.{gc-within}
-use Rattle.rules.proofs.Moments.{nth-sent}
 use Rattle.rules.proofs.Obeys.{facts-table}
-use Rattle.rules.proofs.OnTheWay.{Comes, Sendable, comes, computed-sendable, delta-bytes, refuses, writes}
-use Rattle.rules.proofs.OneNode.{bounded-apply, rises-apply, rises-remove}
-use Rattle.rules.proofs.Publisher.{Publisher}
 use Rattle.rules.proofs.Sending.{nodeDelta, sends}
 use Rattle.rules.proofs.Tables.{SentPart, ordered-from, part-sent, partAt}
 use Rattle.rules.proofs.Taking.{Applies}
 use Rattle.rules.specs.Apply.{Ways, apply, applyNode}
 use Rattle.rules.specs.Compute.{StaleNode, compute, deltaFor, firstTie, ordered, otherTies, staleNode, staleNodes, toldOf, written}
 use Rattle.rules.specs.Delta.{NodeDelta, Op, Ops, deltaBytes, partsOf, readDelta}
-use Rattle.rules.specs.Demand3.{Rises}
 use Rattle.rules.specs.Digest.{NodeDigest}
 use Rattle.rules.specs.Given.{Given}
 use Rattle.rules.specs.Local.{gc}
 use Rattle.rules.specs.Node.{Decision, Give, Leave, Node, Rec, Refuse, act, due, remove, withHeartbeat, write}
 use Rattle.rules.specs.Sizes.{numbers}
 use Rattle.rules.specs.Table.{Entry, Table, among, nodeOf}
-use Rattle.rules.specs.World.{DeltaSent, DigestSent, Exchange, Idle, afterDelta, appliedTo, sentAfter}
 use Rattle.rules.specs.declared.Computed.{Computed}
 use Rattle.rules.specs.declared.Computed.the-variants as computed
 use Rattle.rules.specs.declared.Heartbeat.{Heartbeat}
+use Rattle.rules.proofs.Accepted.{Comes, comes, delta-bytes, refuses, writes}
+use Rattle.demand3.proofs.EachNode.{nodeAt, orFresh, partsIn}
+use Rattle.demand3.proofs.Honest.{gc-within}
+use Rattle.demand3.proofs.Moments.{nth-sent}
+use Rattle.demand3.proofs.OnTheWay.{Sendable, computed-sendable}
+use Rattle.demand3.proofs.OneNode.{bounded-apply, rises-apply, rises-remove}
+use Rattle.demand3.proofs.Publisher.{Publisher}
+use Rattle.demand3.specs.Demand3.{Rises}
+use Rattle.demand3.specs.World.{DeltaSent, DigestSent, Exchange, Idle, afterDelta, appliedTo, sentAfter}
+use Rattle.net.proofs.Each.{Each, each-add, each-beat, each-call, each-drop, each-hub, each-offer, each-remove, each-same, each-taken}
+use Rattle.net.proofs.Moments.{Carries, MayCome, Moment, arrived, moment-begin, moment-calls, placed-in, same-table}
+use Rattle.net.proofs.Safe.{sound}
+use Rattle.net.specs.Net.{Adding, Arriving, Beating, Computing, Dropping, Event, Net, NetSound, Offering, Removing, Restoring, Saving, Writing, calls, happen, placed, possible, restored, withTable}
+use Rattle.net_mixed.specs.Mixed.{Asking, Cast, Doing, Hearing, Mixed, Ordinary, Right, allowed, doing, flightsAfter, mayAsk, run, start}
 
 -- ---- which nodes a delta has
 

@@ -7,8 +7,8 @@ use lib.Dec.{ltb, eqb}
 use Rattle.fields.specs.Choice.{pick}
 use Rattle.rules.specs.Sizes.{numbers}
 use Rattle.rules.specs.Lent.{lentCompute}
-use Rattle.rules.specs.World.{Exchange, Idle, afterDelta}
 use Rattle.rules.specs.declared.Mode.{Mode}
+use Rattle.demand3.specs.World.{Exchange, Idle, afterDelta}
 use Rattle.net.specs.Net.{Computing}
 use Rattle.net.specs.LentNet.{LentNet, lentBegin, lentCalls, lentHappen, lentTaken, planIn, tablesIn, withBytes}
 use Rattle.net_mixed.specs.Mixed.{Asking, Cast, Doing, Hearing, Mixed, Ordinary, allowed, flightsAfter, mayAsk}

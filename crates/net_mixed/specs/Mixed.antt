@@ -13,7 +13,7 @@ use Rattle.rules.specs.Sizes.{numbers}
 use Rattle.rules.specs.Table.{Entry, Table, among}
 use Rattle.rules.specs.Apply.{Lawful}
 use Rattle.rules.specs.Compute.{compute}
-use Rattle.rules.specs.World.{Exchange, Idle, afterDelta, appliedTo}
+use Rattle.demand3.specs.World.{Exchange, Idle, afterDelta, appliedTo}
 use Rattle.net.specs.Net.{Plan, Net, Event, Writing, Beating, Offering, Removing, Adding, Dropping, Computing, Arriving, Saving, Restoring, begin, calls, happen, withTable}
 
 -- ---- who is who

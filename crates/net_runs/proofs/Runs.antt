@@ -1,4 +1,4 @@
--- The runs of Stories, computed through every byte. The long line under each statement names all that a run unfolds (rules/proofs/Runs). Assumes nothing.
+-- The runs of Stories, computed through every byte. The long line under each statement names all that a run unfolds (demand3/proofs/Runs). Assumes nothing.
 use mathlib.Core.List.{[], _++_, _∷_}
 use mathlib.Core.Path.{_≡_, refl}
 use Rattle.fields.specs.Blocks.{flat, unblock}
@@ -6,8 +6,6 @@ use Rattle.fields.specs.Choice.{all, keep}
 use Rattle.fields.specs.Numbers.{bytesOf, natOf}
 use Rattle.fields.specs.Order.{lessBytes, sameBytes}
 use Rattle.fields.specs.Parts.{part, put}
-use Rattle.net.specs.Net.{after, begin, happen}
-use Rattle.net_runs.proofs.Stories.{alike, inReset, line, lost, pairAt, poison, relay, roundOf, toldTwice, triangle, triangleHeldOff, versionsAt}
 use Rattle.rules.specs.Apply.{apply, applyEach, applyNode, codes, deltaStatus, fencedWays, guardedWays, newerOf, outcome, plainWays, statusOf, takeAll, takes}
 use Rattle.rules.specs.Compute.{allOps, byVersion, compute, cut, deltaFor, fromOf, keyValueOps, ordered, queue, sooner, stale, staleNodes, toldOf}
 use Rattle.rules.specs.Delta.{deltaBytes, follow, maxOf, opBytes, partsOf, readDelta, readKeyValue, readNode, readOp, readOps, readSetMaxVersion, recsOf, sizeOf, textBytes}
@@ -15,7 +13,9 @@ use Rattle.rules.specs.Digest.{digestBytes, entryBytes, entryOf, headWidth, rea
 use Rattle.rules.specs.Local.{add, call, gc}
 use Rattle.rules.specs.Node.{act, decide, find, lastGc, remove, store, wish, write}
 use Rattle.rules.specs.Table.{addNode, among, nodeOf, numbersOf, removeAll, setNode, versions}
-use Rattle.rules.specs.World.{nthSent}
+use Rattle.demand3.specs.World.{nthSent}
+use Rattle.net.specs.Net.{after, begin, happen}
+use Rattle.net_runs.proofs.Stories.{alike, inReset, line, lost, pairAt, poison, relay, roundOf, toldTwice, triangle, triangleHeldOff, versionsAt}
 
 -- plain: hub 2 has b again, and is at the owner's pair
 pub triangle-plain : (pairAt 2 (after (alike plainWays) toldTwice begin) ≡ 3 ∷ 2 ∷ [])

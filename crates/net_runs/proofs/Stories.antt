@@ -3,13 +3,13 @@
 use Prim.Native.Nat.{ℕ, zero, suc}
 use mathlib.Core.List.{List, [], _∷_, _++_}
 use lib.ListN.{replicate}
-use Rattle.net.specs.Net.{Adding, Arriving, Computing, Event, Net, Plan, Removing, Writing, after, begin, withTable}
-use Rattle.rules.proofs.EachNode.{nodeAt}
 use Rattle.rules.specs.Apply.{Ways, plainWays}
 use Rattle.rules.specs.Digest.{NodeDigest, digestBytes}
 use Rattle.rules.specs.Node.{Deleting, KeyValue, Setting, SettingTtl, beats}
 use Rattle.rules.specs.Table.{versions}
 use Rattle.rules.specs.declared.Status.the-variants.{Set}
+use Rattle.demand3.proofs.EachNode.{nodeAt}
+use Rattle.net.specs.Net.{Adding, Arriving, Computing, Event, Net, Plan, Removing, Writing, after, begin, withTable}
 
 -- hub 0 owns every node, and all hubs apply in the same ways
 abbrev pub alike : Ways → Plan

@@ -9,20 +9,20 @@ use Rattle.fields.specs.Choice.{_∈_, all, here, keep, later}
 use Rattle.fields.specs.Numbers.{bytesOf, natOf}
 use Rattle.fields.specs.Order.{lessBytes, sameBytes}
 use Rattle.fields.specs.Parts.{part, put}
-use Rattle.net.specs.Net.{Net, NetSafe, NetSound, Plan, after, begin, happen}
-use Rattle.net_runs.proofs.Runs.{line-plain, lost-fenced, lost-guarded, poison-fenced, poison-guarded, triangle-plain}
-use Rattle.net_runs.proofs.Stories.{alike, dead, line, lost, pairAt, poison, relay, triangle}
-use Rattle.rules.proofs.EachNode.{nodeAt, orFresh}
 use Rattle.rules.proofs.Obeys.{among-not, version-in}
 use Rattle.rules.specs.Apply.{Ways, apply, applyEach, applyNode, codes, deltaStatus, fencedWays, guardedWays, newerOf, outcome, plainWays, statusOf, takeAll, takes}
 use Rattle.rules.specs.Compute.{allOps, byVersion, compute, cut, deltaFor, fromOf, keyValueOps, ordered, queue, sooner, stale, staleNodes, toldOf}
 use Rattle.rules.specs.Delta.{deltaBytes, follow, maxOf, opBytes, partsOf, readDelta, readKeyValue, readNode, readOp, readOps, readSetMaxVersion, recsOf, sizeOf, textBytes}
-use Rattle.rules.specs.Demand3.{Holds}
 use Rattle.rules.specs.Digest.{digestBytes, entryBytes, entryOf, headWidth, readDigest, readEntries, tell, tellAll}
 use Rattle.rules.specs.Local.{add, call, gc}
 use Rattle.rules.specs.Node.{KeyValue, Node, Rec, act, decide, find, lastGc, remove, store, wish, write}
 use Rattle.rules.specs.Table.{Table, addNode, among, nodeOf, numbersOf, removeAll, setNode, versions}
-use Rattle.rules.specs.World.{nthSent}
+use Rattle.demand3.proofs.EachNode.{nodeAt, orFresh}
+use Rattle.demand3.specs.Demand3.{Holds}
+use Rattle.demand3.specs.World.{nthSent}
+use Rattle.net.specs.Net.{Net, NetSafe, NetSound, Plan, after, begin, happen}
+use Rattle.net_runs.proofs.Runs.{line-plain, lost-fenced, lost-guarded, poison-fenced, poison-guarded, triangle-plain}
+use Rattle.net_runs.proofs.Stories.{alike, dead, line, lost, pairAt, poison, relay, triangle}
 
 -- a node with a version is there
 held : (o : Option Node) → 0 < orFresh o .max → o ≡ some (orFresh o)

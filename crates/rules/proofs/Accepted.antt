@@ -21,7 +21,7 @@ use Rattle.rules.proofs.Received.{strict-lower}
 use Rattle.rules.proofs.Stale.{stale-from}
 use Rattle.rules.proofs.Tables.{Behind, NoTwo, behind-from, ordered-from, ordered-no-two, stale-no-two}
 use Rattle.rules.proofs.Taking.{FromOf, from-of, no-reset, reset-due}
-use Rattle.rules.specs.Compute.{StaleNode, allOps, bodyOps, compute, computeFor, cut, deltaFor, firstTie, fromFor, fromOf, keyValueOps, onDigest, ordered, otherTies, queue, sooner, staleNode, staleNodes, staleOf, toldOf, unlessMax}
+use Rattle.rules.specs.Compute.{StaleNode, allOps, bodyOps, compute, computeFor, cut, deltaFor, firstTie, fromFor, fromOf, keyValueOps, onDigest, ordered, otherTies, queue, sooner, staleNode, staleNodes, staleOf, toldOf, unlessMax, written}
 use Rattle.rules.specs.Delta.{Good, KeyValueOp, Next, NodeOp, Op, Reading, SetMaxVersionOp, deltaBytes, follow, nothingRead, readDelta, sizeOf}
 use Rattle.rules.specs.Digest.{DigestRead, Entries, NodeDigest, Refused, isEdition, readDigest}
 use Rattle.rules.specs.Node.{KeyValue, Rec}
@@ -250,6 +250,55 @@ module _ (excluded ties : List ℕ) (ds : List NodeDigest) (t : Table) (obeyed :
   unfolding deltaFor
   within-mtu mtu = cut-bytes mtu _
 
+-- ---- what computing comes to
+
+-- a refusal, or the delta for what the digest's bytes tell
+pub data Comes (edition : ℕ) (excluded ties : List ℕ) (mtu place : ℕ) (d : List ℕ) (t : Table) (l : List ℕ) : Given Computed (List ℕ) → Type 0 where
+  refuses : (r : Refusal) → Comes edition excluded ties mtu place d t l (given (computed.Refused r) l)
+  writes : (ds : List NodeDigest) (rest : List ℕ) → readDigest edition d ≡ Entries ds rest → mtu ≤ maxDelta → place + mtu ≤ length l → Comes edition excluded ties mtu place d t l (written (deltaFor excluded ties mtu ds t) place l)
+
+module _ (edition : ℕ) (excluded ties : List ℕ) (mtu place : ℕ) (d : List ℕ) (t : Table) (l : List ℕ) where
+  pub comes : Comes edition excluded ties mtu place d t l (compute edition excluded ties mtu place d t l)
+  unfolding compute
+  comes = known (isEdition edition)
+    where
+      no : Refusal → Given Computed (List ℕ)
+      no r = given (computed.Refused r) l
+
+      go : (a b : Bool)
+          → leb mtu maxDelta ≡ b
+          → (p : Bool)
+          → leb place (length l) ≡ p
+          → (q : Bool)
+          → leb mtu (length l - place) ≡ q
+          → (c : Bool) (x : DigestRead)
+          → readDigest edition d ≡ x
+          → Comes edition excluded ties mtu place d t l (pick (a && b) (pick (p && q) (pick c (onDigest excluded ties mtu place x t l) (no BadTies)) (no NoPlace)) (no BadMtu))
+      go false b b′ p p′ q q′ c x e = refuses BadMtu
+      go true false b p p′ q q′ c x e = refuses BadMtu
+      go true true b false p q q′ c x e = refuses NoPlace
+      go true true b true p false q c x e = refuses NoPlace
+      go true true b true p true q false x e = refuses BadTies
+      go true true b true p true q true (Entries ds rest) e =
+          let g = leb-true place (length l) p in
+          let h = leb-true mtu (length l - place) q in
+          writes ds rest e (leb-true mtu maxDelta b) (omega arith)
+      go true true b true p true q true (Refused r) e = refuses r
+
+      known : (y : Bool) → Comes edition excluded ties mtu place d t l (pick y (computeFor excluded ties mtu place (readDigest edition d) t l) (no BadEdition))
+      known true =
+          go (leb leastMtu mtu) (leb mtu maxDelta) refl (leb place (length l)) refl (leb mtu (length l - place)) refl (eqb (length ties) (length t)) (readDigest edition d) refl
+      known false = refuses BadEdition
+
+  -- the bytes that a delta leaves in the datagram
+  pub delta-bytes : (ds : List NodeDigest)
+      → place + mtu ≤ length l
+      → part place (length (deltaBytes (deltaFor excluded ties mtu ds t))) (put place (deltaBytes (deltaFor excluded ties mtu ds t)) l) ≡ deltaBytes (deltaFor excluded ties mtu ds t)
+  unfolding deltaFor
+  delta-bytes ds h =
+      let g = cut-bytes mtu (allOps (ordered (staleNodes excluded ds ties t))) in
+      part-put place (deltaBytes (cut mtu (allOps (ordered (staleNodes excluded ds ties t))))) l (omega arith)
+
 -- ---- the call
 
 -- what a computing that was not refused has done: the bytes in the datagram are read back, and the counts are those of the operations read
@@ -259,52 +308,23 @@ pub record ComputedAs (place ops bytes : ℕ) (l : List ℕ) : Type 0 where
   pub ops-counted : length read ≡ ops
   pub bytes-counted : length (deltaBytes read) ≡ bytes
 
-not-computed : {A : Type 0} (r : Refusal) (ops bytes : ℕ) → computed.Refused r ≡ computed.Delta ops bytes → A
-not-computed r ops bytes e = let z : _≡_ {A = ℕ} 0 1 = cc in absurd (omega arith)
-
 pub computed-read : (edition : ℕ) (excluded ties : List ℕ) (mtu place : ℕ) (digest : List ℕ) (t : Table) (l : List ℕ) (ops bytes : ℕ) → obeys t ≡ true
     → compute edition excluded ties mtu place digest t l .answer ≡ computed.Delta ops bytes
     → ComputedAs place ops bytes (compute edition excluded ties mtu place digest t l .lent)
-unfolding compute
-computed-read edition excluded ties mtu place digest t l ops bytes ob e = known (isEdition edition) e
+computed-read edition excluded ties mtu place digest t l ops bytes ob = go _ (comes edition excluded ties mtu place digest t l)
   where
-    done : (ds : List NodeDigest) → mtu ≤ maxDelta → place ≤ length l → mtu ≤ length l - place → computed.Delta (length (deltaFor excluded ties mtu ds t)) (length (deltaBytes (deltaFor excluded ties mtu ds t))) ≡ computed.Delta ops bytes → ComputedAs place ops bytes (put place (deltaBytes (deltaFor excluded ties mtu ds t)) l)
-    done ds h g k e =
+    go : (o : Given Computed (List ℕ)) → Comes edition excluded ties mtu place digest t l o → o .answer ≡ computed.Delta ops bytes → ComputedAs place ops bytes (o .lent)
+    go o (refuses r) e = let z : _≡_ {A = ℕ} 0 1 = cc in absurd (omega arith)
+    go o (writes ds rest q h g) e =
         let d : List Op = deltaFor excluded ties mtu ds t in
         let c : length d ≡ ops = cc in
         let b : length (deltaBytes d) ≡ bytes = cc in
-        let w : length (deltaBytes d) ≤ mtu = within-mtu excluded ties ds t ob mtu in
         record {
           read = d;
           accepted =
               ap (λ (n : ℕ). readDelta (part place n (put place (deltaBytes d) l))) (sym b)
-              ∙ ap readDelta (part-put place (deltaBytes d) l (omega arith))
+              ∙ ap readDelta (delta-bytes edition excluded ties mtu place digest t l ds g)
               ∙ read-computed excluded ties ds t ob mtu h;
           ops-counted = c;
           bytes-counted = b;
         }
-
-    go : (a b : Bool)
-        → leb mtu maxDelta ≡ b
-        → (c : Bool)
-        → leb place (length l) ≡ c
-        → (d : Bool)
-        → leb mtu (length l - place) ≡ d
-        → (f : Bool) (r : DigestRead)
-        → pick (a && b) (pick (c && d) (pick f (onDigest excluded ties mtu place r t l) (given (computed.Refused BadTies) l)) (given (computed.Refused NoPlace) l)) (given (computed.Refused BadMtu) l) .answer ≡ computed.Delta ops bytes
-        → ComputedAs place ops bytes (pick (a && b) (pick (c && d) (pick f (onDigest excluded ties mtu place r t l) (given (computed.Refused BadTies) l)) (given (computed.Refused NoPlace) l)) (given (computed.Refused BadMtu) l) .lent)
-    go false b p c q d s f r e = not-computed BadMtu ops bytes e
-    go true false p c q d s f r e = not-computed BadMtu ops bytes e
-    go true true p false q d s f r e = not-computed NoPlace ops bytes e
-    go true true p true q false s f r e = not-computed NoPlace ops bytes e
-    go true true p true q true s false r e = not-computed BadTies ops bytes e
-    go true true p true q true s true (Entries ds rest) e = done ds (leb-true _ _ p) (leb-true _ _ q) (leb-true _ _ s) e
-    go true true p true q true s true (Refused x) e = not-computed x ops bytes e
-
-    whole : Bool → Given Computed (List ℕ)
-    whole x = pick x (computeFor excluded ties mtu place (readDigest edition digest) t l) (given (computed.Refused BadEdition) l)
-
-    known : (x : Bool) → whole x .answer ≡ computed.Delta ops bytes → ComputedAs place ops bytes (whole x .lent)
-    known true e =
-        go (leb leastMtu mtu) (leb mtu maxDelta) refl (leb place (length l)) refl (leb mtu (length l - place)) refl (eqb (length ties) (length t)) (readDigest edition digest) e
-    known false e = not-computed BadEdition ops bytes e

@@ -338,3 +338,36 @@ apply-keeps ways law bytes now t l b h e =
 pub none-obeys : obeys [] ≡ true
 unfolding obeys rising numbersOf all
 none-obeys = refl
+
+-- ---- no node comes or goes
+
+pub numbers-call : (c : Call) (i : ℕ) (k : List ℕ) (t : Table) → numbersOf (call c i k t .table) ≡ numbersOf t
+unfolding call
+numbers-call c i k t = go (nodeOf i t)
+  where
+    go : (o : Option Node) → numbersOf (callOn c i k o t .table) ≡ numbersOf t
+    go none = refl
+    go (some n) = numbers-set i _ t
+
+pub numbers-beat : (i : ℕ) (t : Table) → numbersOf (localBeat i t .table) ≡ numbersOf t
+unfolding localBeat
+numbers-beat i t = go (nodeOf i t)
+  where
+    go : (o : Option Node) → numbersOf (beatOn i o t .table) ≡ numbersOf t
+    go none = refl
+    go (some n) = room (ltb (n .heartbeat .0) top)
+      where
+        next : Node
+        next = withHeartbeat (beats (n .heartbeat .0 + 1)) n
+
+        room : (b : Bool) → numbersOf (pick b (gives plain.Done (setNode i next t)) (gives (plain.Refused Exhausted) t) .table) ≡ numbersOf t
+        room true = numbers-set i next t
+        room false = refl
+
+pub numbers-offer : (i : ℕ) (h : Heartbeat) (t : Table) → numbersOf (offer i h t .table) ≡ numbersOf t
+unfolding offer
+numbers-offer i h t = go (nodeOf i t)
+  where
+    go : (o : Option Node) → numbersOf (offerOn i h o t .table) ≡ numbersOf t
+    go none = refl
+    go (some n) = numbers-set i _ t

@@ -9,9 +9,10 @@ use mathlib.Core.Path.{_≡_, refl}
 use lib.ListN.{length, replicate}
 use Rattle.fields.specs.Choice.{all, keep, pick}
 use Rattle.fields.specs.Order.{sameBytes, lessBytes}
+use Rattle.fields.specs.Blocks.{flat}
 use Rattle.fields.specs.Numbers.{bytesOf}
 use Rattle.rules.specs.Sizes.{maxDelta}
-use Rattle.rules.specs.Answers.{answerTold, codeOf}
+use Rattle.rules.specs.Answers.{answerTold, codeOf, computedTold}
 use Rattle.rules.specs.Node.{KeyValue, Rec, Node, act, beats, decide, due, find, lastGc, offerOf, remove, store, wish}
 use Rattle.rules.specs.Node as one
 use Rattle.rules.specs.Given.{Given}
@@ -23,9 +24,9 @@ use Rattle.rules.specs.Whole.{Whole}
 use Rattle.rules.specs.Lent.{addWhole, removeWhole}
 use Rattle.rules.specs.declared.Mode.the-variants.{Plain}
 use Rattle.rules.specs.Digest.{NodeDigest}
-use Rattle.rules.specs.Delta.{Op, sizeOf, statusByte, NodeDelta, Part, partsOf, maxOf, opBytes, recsOf, textBytes}
-use Rattle.rules.specs.Compute.{fromOf, deltaFor, allOps, byVersion, cut, keyValueOps, ordered, queue, sooner, stale, staleNodes, toldOf}
-use Rattle.rules.specs.Apply.{Taken, applyNode, deltaStatus, fencedWays, guardedWays, newerOf, outcome, plainWays, statusOf, takeAll, takes}
+use Rattle.rules.specs.Delta.{Op, sizeOf, statusByte, NodeDelta, Part, deltaBytes, partsOf, maxOf, opBytes, recsOf, textBytes}
+use Rattle.rules.specs.Compute.{fromOf, deltaFor, allOps, byVersion, cut, keyValueOps, ordered, queue, sooner, stale, staleNodes, toldOf, written}
+use Rattle.rules.specs.Apply.{Stream, Taken, applyEach, applyNode, codes, deltaStatus, fencedWays, guardedWays, newerOf, outcome, plainWays, statusOf, takeAll, takes}
 use Rattle.rules.specs.declared.Answer.{Answer}
 use Rattle.rules.specs.declared.Beat.{Beat}
 use Rattle.rules.specs.declared.Status.{Status}
@@ -130,6 +131,10 @@ sentFrom g m =
 abbrev sizes : ℕ → Table → List ℕ
 sizes mtu t = sizesIn (deltaFor [] (replicate (length t) 0) mtu [] t)
 
+-- what computing answers: the counts of operations and of bytes
+abbrev counts : ℕ → Table → List ℕ
+counts mtu t = computedTold (written (deltaFor [] (replicate (length t) 0) mtu [] t) 0 [] .answer) .values
+
 -- 32 bytes of key and 64 of value: 110 bytes
 abbrev largest : Rec
 largest = record { kv = record { key = replicate 32 107; value = replicate 64 118; version = 1; status = Set }; start = 0 }
@@ -142,6 +147,15 @@ stamps (r ∷ rs) = r .kv .version ∷ statusByte (r .kv .status) ∷ r .start �
 unfoldable pub allStamps : Table → List ℕ
 allStamps [] = []
 allStamps (e ∷ t) = stamps (e .node .recs) ++ allStamps t
+
+-- a delta of several nodes: the answers, and what is held afterwards
+abbrev part : ℕ → NodeDelta → Part
+part i d = record { number = i; delta = d }
+
+abbrev streamed : List Part → Table → List ℕ
+streamed xs t =
+    let o : Stream = applyEach (applyNode plainWays 1000) xs t in
+    codes (o .answers) ++ allStamps (o .table)
 
 -- A write at time 9 with this wanted status and value, at key 1 of node i; node 7 has that key, without a value, under Set. The number of the answer, and
 -- what is held afterwards.
@@ -224,10 +238,19 @@ cases =
     ∷ case (sizes 134 (entry 1 1 (largest ∷ []) ∷ entry 2 2 (live 1 ∷ []) ∷ [])) (25 ∷ [])
     ∷ case (sizes 33 (entry 1 1 [] ∷ entry 2 2 [] ∷ [])) (25 ∷ [])
     ∷ case (sizes 108 (entry 1 1 (live 1 ∷ live 2 ∷ []) ∷ entry 2 2 [] ∷ [])) (25 ∷ 15 ∷ 15 ∷ 25 ∷ 9 ∷ [])
+    -- two operations, 135 bytes
+    ∷ case (counts 135 (entry 1 1 (largest ∷ []) ∷ [])) (2 ∷ 135 ∷ [])
     -- a reset takes a live record below last_gc, skips a scheduled one, and takes a scheduled one above it
     ∷ case (applied (node 0 5 []) (delta 6 0 (kv 1 3 Set ∷ kv 2 4 Delete ∷ kv 3 7 Delete ∷ []) 7)) (2 ∷ 0 ∷ 6 ∷ 7 ∷ 3 ∷ 7 ∷ [])
     -- without a reset, records up to own max are skipped
     ∷ case (applied (node 0 5 (live 5 ∷ [])) (delta 0 0 (kv 1 4 Set ∷ kv 2 6 Ttl ∷ []) 6)) (1 ∷ 7 ∷ 0 ∷ 6 ∷ 6 ∷ 5 ∷ [])
+    -- a 33rd key has no room: the node stays
+    ∷ case (applied (node 0 1 (replicate 32 (live 1))) (delta 0 1 (kv 2 2 Set ∷ []) 2)) (3 ∷ 7 ∷ 0 ∷ 1 ∷ replicate 32 1)
+    -- node by node, in stream order: a rejected delta and a missing node (Unknown) do not end it, and a missing node is not made
+    ∷ case
+    (streamed (part 7 (delta 0 2 [] 3) ∷ part 8 (delta 0 1 (kv 2 2 Ttl ∷ []) 2) ∷ part 9 (delta 0 0 (kv 1 1 Set ∷ []) 1) ∷ part 6 (delta 0 0 (kv 3 3 Set ∷ []) 3) ∷ [])
+    (entry 6 0 [] ∷ entry 7 1 (live 1 ∷ []) ∷ entry 8 1 (live 1 ∷ []) ∷ []))
+    (0 ∷ 1 ∷ 4 ∷ 1 ∷ 3 ∷ 0 ∷ 0 ∷ 1 ∷ 0 ∷ 0 ∷ 1 ∷ 0 ∷ 0 ∷ 2 ∷ 2 ∷ 1000 ∷ [])
     -- a late delta is taken by the rule: own (10,3) takes last_gc 0, from 3, max 5
     ∷ case (applied (node 10 3 []) (delta 0 3 (kv 1 5 Set ∷ []) 5)) (1 ∷ 7 ∷ 10 ∷ 5 ∷ 5 ∷ [])
     -- a fenced node at (10,3) answers Fenced to it and stays, also where step 3 would reject; but a delta from the future is rejected
@@ -271,7 +294,7 @@ cases =
     ∷ []
 
 pub all-hold : all holds cases ≡ true
-unfolding plainly memoryOf removeWhole addWhole removeNode add addNode dropNode numbersOf remember makeRoom forget all holds cases answerTold sameBytes lessBytes numbersIn fromsIn sizesIn stamps allStamps write call decide wish find act one.write nodeOf setNode applyNode deltaStatus statusOf newerOf outcome takeAll takes store versions remove lastGc keep fromOf deltaFor cut allOps ordered queue sooner staleNodes toldOf among stale byVersion keyValueOps sizeOf opBytes textBytes bytesOf partsOf recsOf maxOf offerOf
+unfolding plainly memoryOf removeWhole addWhole removeNode add addNode dropNode numbersOf remember makeRoom forget all holds cases answerTold computedTold codes applyEach deltaBytes flat sameBytes lessBytes numbersIn fromsIn sizesIn stamps allStamps write call decide wish find act one.write nodeOf setNode applyNode deltaStatus statusOf newerOf outcome takeAll takes store versions remove lastGc keep fromOf deltaFor cut allOps ordered queue sooner staleNodes toldOf among stale byVersion keyValueOps sizeOf opBytes textBytes bytesOf partsOf recsOf maxOf offerOf
 all-hold = refl
 
 -- the paper stars seven lines, and they have fifteen cases

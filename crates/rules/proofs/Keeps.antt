@@ -297,7 +297,7 @@ fenced-lawful = record { reads-so = λ b ops e. e; few = λ l e. leb-true (lengt
         go true p false q e = let y = ltb-false gc g q in omega arith
         go false p b q e = let y = ltb-false m g p in omega arith
 
--- a guarded table fences off nothing that the step of demand 3 allows (Step)
+-- a guarded table fences off nothing that the step of demand 3 allows (demand3: Step)
 pub guarded-least : (g m gc x : ℕ) → g ≤ max m (max gc x) → guardedWays .fence g m gc x ≡ false
 guarded-least g m gc x h = go (ltb m g) refl (ltb gc g) refl (ltb x g) refl
   where

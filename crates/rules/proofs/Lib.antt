@@ -1,6 +1,4 @@
 pub mod Cases
-pub mod FourRuns
-pub mod Runs
 pub mod Records
 pub mod Taking
 pub mod Stale
@@ -12,15 +10,8 @@ pub mod Received
 pub mod Obeys
 pub mod Keeps
 pub mod Digests
-pub mod History
-pub mod Honest
-pub mod Publisher
-pub mod Step
 pub mod Sending
-pub mod Computing
-pub mod Needed
 pub mod Tables
-pub mod OneNode
 pub mod Accepted
 pub mod Writing
 pub mod Calls
@@ -29,12 +20,3 @@ pub mod Told
 pub mod Numbers
 pub mod Refusing
 pub mod Memories
-pub mod EachNode
-pub mod Nearer
-pub mod OnTheWay
-pub mod Moments
-pub mod Quiet
-pub mod Whole
-pub mod Closing
-pub mod Demand3
-pub mod Witnesses

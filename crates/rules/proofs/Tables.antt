@@ -18,9 +18,8 @@ use Rattle.rules.specs.Apply.{ApplyOutcome, Taking, Ways, apply, applyEa
 use Rattle.rules.specs.Compute.{StaleNode, firstTie, ordered, otherTies, queue, sooner, staleNode, staleNodes, staleOf, toldOf}
 use Rattle.rules.specs.Delta.{Faulty, Good, NodeDelta, Op, Ops, Part, maxOpWidth, nodeOpWidth, partsOf}
 use Rattle.rules.specs.Digest.{NodeDigest}
-use Rattle.rules.specs.Node.{Node, Rec, due, fresh, remove}
+use Rattle.rules.specs.Node.{Node, Rec, due, remove}
 use Rattle.rules.specs.Table.{Entry, Table, among, nodeOf, numbersOf, removeAll, setNode}
-use Rattle.rules.specs.World.{freshTable}
 use Rattle.rules.specs.declared.Refusal.the-variants.{NoPlace}
 use Rattle.rules.specs.declared.Applied.the-variants as applied
 
@@ -71,20 +70,6 @@ pub numbers-remove : (due : ℕ → Rec → Bool) (t : Table) → numbersOf (rem
 unfolding numbersOf removeAll
 numbers-remove due [] = refl
 numbers-remove due (a ∷ t) = ap (λ (l : List ℕ). a .number ∷ l) (numbers-remove due t)
-
-pub numbers-fresh : (ns : List ℕ) → numbersOf (freshTable ns) ≡ ns
-unfolding numbersOf freshTable
-numbers-fresh [] = refl
-numbers-fresh (n ∷ ns) = ap (λ (l : List ℕ). n ∷ l) (numbers-fresh ns)
-
-pub node-fresh : (i : ℕ) (ns : List ℕ) → (nodeOf i (freshTable ns) ≡ none) ⊎ (nodeOf i (freshTable ns) ≡ some fresh)
-unfolding nodeOf freshTable
-node-fresh i [] = inl refl
-node-fresh i (n ∷ ns) = go (eqb i n) (node-fresh i ns)
-  where
-    go : (b : Bool) → (nodeOf i (freshTable ns) ≡ none) ⊎ (nodeOf i (freshTable ns) ≡ some fresh) → (pick b (some fresh) (nodeOf i (freshTable ns)) ≡ none) ⊎ (pick b (some fresh) (nodeOf i (freshTable ns)) ≡ some fresh)
-    go true ih = inr refl
-    go false ih = ih
 
 pub node-entry : (e : Entry) {t : Table} → Ascending (numbersOf t) → e ∈ t → nodeOf (e .number) t ≡ some (e .node)
 unfolding nodeOf numbersOf Ascending

@@ -1,4 +1,4 @@
--- What document 01 means, in the order of reading. Evidence stands apart: the bench cases in proofs/Cases, four runs of demand 3 in proofs/FourRuns.
+-- What document 01 means, in the order of reading. Evidence stands apart: the bench cases in proofs/Cases, and four runs of demand 3 in demand3/proofs/FourRuns.
 pub mod Sizes
 pub mod Answers
 pub mod Given
@@ -14,5 +14,3 @@ pub mod Listing
 pub mod Layout
 pub mod Whole
 pub mod Lent
-pub mod World
-pub mod Demand3

@@ -59,16 +59,6 @@ module _ (e : Entry) (few : length (e .node .recs) ≤ maxRecords) where
   unfolding encodeNode
   node-rec-insert = row-insert encodeRec recWidth length-rec maxRecords (e .node .recs) few nodeWidths (nodeFields e) (node-widths e) 4 (omega arith) refl refl refl
 
-  -- record j taken out: those behind it move down, the last place is zeroed, and the count falls
-  pub node-rec-remove : (j : ℕ) (d : Rec) → j < length (e .node .recs)
-      → let l : List ℕ = encodeNode e in
-      let n : ℕ = length (e .node .recs) in
-      let m : ℕ = (n - suc j) * recWidth in
-      put (offset nodeWidths 4) (bytesOf 1 (n - 1)) (put (recPlace j + m) (zeros recWidth) (put (recPlace j) (part (recPlace j + recWidth) m l) l))
-      ≡ encodeNode (withRecs (removeAt j (e .node .recs)) e)
-  unfolding encodeNode
-  node-rec-remove = row-remove encodeRec recWidth length-rec maxRecords (e .node .recs) few nodeWidths (nodeFields e) (node-widths e) 4 (omega arith) refl refl refl
-
 -- a fresh node is its number, and zeros
 no-records : blocks maxRecords recWidth encodeRec [] ≡ zeros (maxRecords * recWidth)
 unfolding flat

@@ -3,7 +3,7 @@ use Prim.Native.Nat.{ℕ}
 use mathlib.Core.List.{List}
 use lib.ListN.{set}
 use Rattle.fields.specs.Numbers.{Bytes}
-use Rattle.fields.specs.Blocks.{insertAt, removeAt}
+use Rattle.fields.specs.Blocks.{insertAt}
 use Rattle.rules.specs.Node.{Rec, Node, fresh}
 use Rattle.rules.specs.Table.{Entry}
 use Rattle.rules.specs.declared.Heartbeat.{Heartbeat}
@@ -30,9 +30,6 @@ withRecAt j r e = withRecs (set (e .node .recs) j r) e
 
 abbrev pub withNewRec : (j : ℕ) (rec : Rec) (entry : Entry) → Entry
 withNewRec j r e = withRecs (insertAt j r (e .node .recs)) e
-
-abbrev pub withoutRec : (j : ℕ) (entry : Entry) → Entry
-withoutRec j e = withRecs (removeAt j (e .node .recs)) e
 
 -- a fresh node under this number
 abbrev pub freshEntry : (number : ℕ) → Entry

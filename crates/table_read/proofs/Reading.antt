@@ -81,7 +81,7 @@ module _ {A : Type 0} (rule : Option Node → A) (n : ℕ) (l : List ℕ) (v : v
   pub no-node-says : s ≡ Missing → rule none ≡ rule (nodeOf n (decode l))
   no-node-says h = ap rule (sym (missing-node n l v (sym f ∙ h)))
 
--- the same of a rule that is asked for something, for a place or a key, and that also says where the node stands
+-- the same of a rule that is asked for something, and also says where the node stands
 module _ {A X : Type 0} (rule : X → ℕ → Option Node → A) (x : X) (n : ℕ) (l : List ℕ) (v : valid l ≡ true) {s : Span} (f : s ≡ spanIn n l) where
   pub node-stands : {start end : ℕ} → s ≡ Held start end → (r : A) → r ≡ rule x start (some (decodeNode (lentNode start end l) .node))
       → r ≡ rule x (nodeStart n (decode l)) (nodeOf n (decode l))

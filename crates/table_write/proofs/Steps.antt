@@ -17,16 +17,16 @@ use Rattle.fields.proofs.Blocks.{length-zeros, zeros-add, length-fit, fit-pad}
 use Rattle.rules.specs.Sizes.{maxNodes, maxRecords, maxKey, maxValue}
 use Rattle.rules.specs.Node.{Rec, freshHeader}
 use Rattle.rules.specs.Delta.{statusByte}
-use Rattle.rules.specs.Layout.{recPlace, nodePlace, recWidths, recWidth, nodeWidths, nodeWidth, tableWidths, encodeRec, encodeNode, decodeNode, decodeRec, encode, decode}
+use Rattle.rules.specs.Layout.{recPlace, nodePlace, recWidths, recWidth, nodeWidths, nodeWidth, tableWidths, encodeRec, encodeNode, decodeNode, encode, decode}
 use Rattle.rules.specs.declared.Header.{Header}
 use Rattle.rules.specs.declared.Status.{Status}
-use Rattle.table.specs.Tests.{countOf, nodesOf, recsIn}
+use Rattle.table.specs.Tests.{countOf, nodesOf}
 use Rattle.table.specs.Fits.{LaidNode, LaidTable}
-use Rattle.table.specs.Changes.{withRecAt, withNewRec, withoutRec, freshEntry, recOf}
+use Rattle.table.specs.Changes.{withRecAt, withNewRec, freshEntry, recOf}
 use Rattle.table.proofs.Tables.{length-decode}
 use Rattle.table.proofs.Places.{length-recs}
 use Rattle.table_write.specs.Rows.{blocksIn, blockPlace, behindBlock, lessBlock, withoutBlock}
-use Rattle.table.proofs.Changed.{node-rec-set, node-rec-insert, node-rec-remove, table-insert, table-remove, fresh-bytes, put-beat, put-max, put-gc}
+use Rattle.table.proofs.Changed.{node-rec-set, node-rec-insert, table-insert, table-remove, fresh-bytes, put-beat, put-max, put-gc}
 
 -- ---- a text in its room
 
@@ -143,12 +143,6 @@ module _ (b : List ℕ) (o : LaidNode b) (j : ℕ) (r : Rec) where
       all
       ∙ ap₂ f (en ∙ sym (length-recs b)) (sym (o .is))
       ∙ node-rec-insert (decodeNode b) (o .fits .few) j r (rw length-recs h) (rw length-recs g)
-
-pub record-gone : (b : List ℕ) → LaidNode b → (j : ℕ) → j < countOf b → withoutBlock (offset nodeWidths 4) recWidth j b ≡ encodeNode (withoutRec j (decodeNode b))
-record-gone b o j h =
-    ap₂ (λ (n : ℕ) (l : List ℕ). lessBlock (offset nodeWidths 4) recWidth j n l) (sym (length-recs b)) (sym (o .is))
-    ∙ less-suc (offset nodeWidths 4) recWidth j (length (recsIn b)) (encodeNode (decodeNode b))
-    ∙ node-rec-remove (decodeNode b) (o .fits .few) j (decodeRec []) (rw length-recs h)
 
 -- ---- a fresh node
 

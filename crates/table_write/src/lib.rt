@@ -16,7 +16,7 @@ ghost use Rattle.rules.specs.Sizes.{maxNodes, maxRecords, maxKey, maxValue};
 ghost use Rattle.rules.specs.Layout.{recWidth, nodeWidth, encodeRec, encodeNode, decodeNode, encode, decode};
 ghost use Rattle.table.specs.Tests.{countOf, nodesOf};
 ghost use Rattle.table.specs.Fits.{LaidNode, LaidTable};
-ghost use Rattle.table.specs.Changes.{withBeat, withMax, withGc, withRecAt, withNewRec, withoutRec, freshEntry, recOf};
+ghost use Rattle.table.specs.Changes.{withBeat, withMax, withGc, withRecAt, withNewRec, freshEntry, recOf};
 ghost use Rattle.table_write.specs.Rows.{blocksIn, blockPlace, withoutBlock};
 
 // Stores the length of a text at `at`, and behind it the text in room for `room` bytes, the others zero.
@@ -102,14 +102,6 @@ pub fn remove_block(row: &mut [u8], at: usize, width: usize, i: usize)
     fields::move_down(row, a + width, a, m);
     fields::clear(row, a + m, width);
     fields::write_byte(row, at, n - 1);
-}
-
-// Record `j` of a node goes.
-pub fn remove_record(node: &mut [u8], j: usize)
-    requires { ⌜ LaidNode (now node) × (j < countOf (now node)) ⌝ }
-    ensures { λ _. ⌜ now (node .exit) ≡ encodeNode (withoutRec j (decodeNode (now (node .entry)))) ⌝ }
-{
-    remove_block(node, layout::RECORD_COUNT, layout::RECORD, j);
 }
 
 // A node's heartbeat becomes this one.

@@ -1,3 +1,2 @@
 mod Numbers
-mod Seen
 pub mod Tails

@@ -1,12 +1,11 @@
 -- Numbers in a row, one after the other: all different, and apart from those of the nodes held. Assumes nothing.
-use Prim.Native.Nat.{ℕ, suc, _+_, _-_, _≤_, _<_}
+use Prim.Native.Nat.{ℕ, suc, _+_, _≤_, _<_}
 use mathlib.Core.Path.{_≡_, sym, ap, _∙_}
 use mathlib.Core.Bool.{Bool, true, false, not, _&&_}
 use mathlib.Core.List.{List, [], _∷_}
 use native.Mathlib.Omega.{arith}
 use native.Mathlib.Numerals.{add-one}
-use lib.ListN.{length, getD, take, drop, drop-of-length-le}
-use lib.Seq.{drop-cons}
+use lib.ListN.{length, drop, drop-of-length-le}
 use Rattle.fields.specs.Choice.{all}
 use Rattle.fields.specs.Numbers.{natOf}
 use Rattle.fields.specs.Parts.{part}
@@ -19,12 +18,6 @@ use Rattle.table.specs.Tests.{nodesOf}
 use Rattle.table.proofs.Places.{decode-drop, number-at}
 use Rattle.table.proofs.Tables.{length-decode}
 use Rattle.table.proofs.Wholes.{memory-apart}
-
--- the numbers from i on
-pub rest-next : (vs : List ℕ) (i n : ℕ) → i < n → n ≤ length vs → take (n - i) (drop i vs) ≡ getD vs i 0 ∷ take (n - (i + 1)) (drop (i + 1) vs)
-rest-next vs i n h g =
-    let p : n - i ≡ suc (n - (i + 1)) = omega arith in
-    rw (p, add-one i, drop-cons vs i 0 (omega arith))
 
 -- ---- none held
 

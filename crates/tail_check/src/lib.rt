@@ -5,10 +5,10 @@ use rules::sizes;
 use table::layout;
 ghost use mathlib.Core.Path.{_≡_};
 ghost use mathlib.Core.Bool.{_&&_};
-ghost use Prim.Native.Nat.{_-_, _%_, _≤_, _<_};
-ghost use lib.ListN.{length, take, drop};
+ghost use Prim.Native.Nat.{_≤_, _<_};
+ghost use lib.ListN.{length, take};
 ghost use Rattle.rules.specs.Sizes.{maxNodes, maxRemoved};
-ghost use Rattle.rules.specs.Table.{among, differ, numbersOf};
+ghost use Rattle.rules.specs.Table.{differ, numbersOf};
 ghost use Rattle.rules.specs.Memory.{apart, removedNumbers};
 ghost use Rattle.rules.specs.Layout.{tableWidth, decode};
 ghost use Rattle.rules.specs.Whole.{tailWidth, decodeMemory};
@@ -28,51 +28,6 @@ fn removed_numbers(tail: &[u8], n: usize) -> [u64; sizes::REMOVED]
     ns
 }
 
-// Whether `x` is one of the numbers from `i` on, below `n`.
-fn stands_from(ns: &[u64], i: usize, n: usize, x: u64) -> bool
-    requires { ⌜ (i ≤ n) × (n ≤ length (now ns)) ⌝ }
-    ensures { λ r. ⌜ r ≡ among x (take (n - i) (drop i (now (ns .entry)))) ⌝ }
-{
-    let mut found = false;
-    let mut j = i;
-    while j < n {
-        if ns[j] == x {
-            found = true;
-        }
-        j += 1;
-    }
-    found
-}
-
-// The place of a number among the marks: its low bits.
-fn place_of(x: u64) -> usize
-    ensures { λ r. ⌜ (r ≡ x % 1024) × (r < 1024) ⌝ }
-{
-    (x % 1024) as usize
-}
-
-// Whether the first `n` numbers are all different, from the last on. Only a number whose low bits were seen is looked for among those behind it. The versions
-// of a node are told apart by it too.
-pub fn all_differ(ns: &[u64], n: usize) -> bool
-    requires { ⌜ n ≤ length (now ns) ⌝ }
-    ensures { λ r. ⌜ r ≡ differ (take n (now (ns .entry))) ⌝ }
-{
-    let mut seen = [0u8; 1024];
-    let mut i = n;
-    while 0 < i {
-        i -= 1;
-        let x = ns[i];
-        let k = place_of(x);
-        if seen[k] == 1 {
-            if stands_from(ns, i + 1, n, x) {
-                return false;
-            }
-        }
-        seen[k] = 1;
-    }
-    true
-}
-
 // Whether no node of the area has one of the first `n` numbers.
 fn none_held(area: &[u8], ns: &[u64], n: usize) -> bool
     requires { ⌜ (length (now area) ≡ tableWidth) × (nodesOf (now area) ≤ maxNodes) × (n ≤ length (now ns)) ⌝ }
@@ -82,7 +37,7 @@ fn none_held(area: &[u8], ns: &[u64], n: usize) -> bool
     let mut i = 0;
     while i < m {
         let x = fields::read_u64(area, table::node_place(i));
-        if stands_from(ns, 0, n, x) {
+        if numbers_differ::stands_from(ns, 0, n, x) {
             return false;
         }
         i += 1;
@@ -101,7 +56,7 @@ fn check_numbers(area: &[u8], tail: &[u8], n: usize) -> bool
         return true;
     }
     let ns = removed_numbers(tail, n);
-    if all_differ(&ns, n) {
+    if numbers_differ::all_differ(&ns, n) {
         return none_held(area, &ns, n);
     }
     false

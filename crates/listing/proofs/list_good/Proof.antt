@@ -7,7 +7,8 @@ use Rattle.fields.specs.Numbers.{Bytes}
 use Rattle.rules.specs.Listing.{ascii}
 use Rattle.listing_text.specs.Texts.{TextFits}
 use Rattle.listing_text.proofs.Texts.{fits-second, then}
-use Rattle.listing.specs.Shapes.{goodText, linesFrom, twoNumbers}
+use Rattle.listing_ops.specs.Lines.{linesFrom, twoNumbers}
+use Rattle.listing.specs.Shapes.{goodText}
 use Rattle.listing.proofs.Lines.{front-none, front-whole, good-long}
 use borrow.Author.Needs.{needs}
 use Rattle.listing.proofs.list_good.Statement.{statement}

@@ -3,7 +3,8 @@ use Rattle.fields.specs.Numbers.{Bytes}
 use Rattle.rules.specs.Listing.{ascii}
 use Rattle.listing_text.specs.Texts.{numbered}
 use Rattle.listing_text.proofs.Texts.{fits-first, fits-second, then}
-use Rattle.listing.specs.Shapes.{cutText, twoNumbers}
+use Rattle.listing_ops.specs.Lines.{twoNumbers}
+use Rattle.listing.specs.Shapes.{cutText}
 use borrow.Author.Needs.{needs}
 use Rattle.listing.proofs.put_cut.Statement.{statement}
 use Rattle.listing.proofs.put_cut.Tie as tie

@@ -16,7 +16,8 @@ use Rattle.table.specs.Tests.{countOf}
 use Rattle.table.proofs.Laid.{laid-rec}
 use Rattle.table_read.specs.declared.Place.the-variants.{At}
 use Rattle.table_read.proofs.Searched.{rec-in}
-use Rattle.local_node.specs.Writes.{changeOf, nodeGranted, nodeDropped}
+use Rattle.local_grant.specs.Granting.{changeOf, nodeGranted}
+use Rattle.local_node.specs.Writes.{nodeDropped}
 use borrow.Author.Needs.{needs}
 use Rattle.local_node.proofs.delete_at.Statement.{statement}
 use Rattle.local_node.proofs.delete_at.Tie as tie

@@ -13,8 +13,9 @@ use Rattle.table.specs.Tests.{recsIn}
 use Rattle.table_read.specs.Find.{findKey}
 use Rattle.table_read.specs.declared.Place.the-variants.{At, Free}
 use Rattle.table_read.proofs.Searched.{rec-found, rec-missing}
-use Rattle.local_node.specs.Writes.{decided, nodeIn, changeOf, setting}
-use Rattle.local_node.proofs.Acting.{refused}
+use Rattle.local_grant.specs.Granting.{decided, nodeIn, changeOf}
+use Rattle.local_node.specs.Writes.{setting}
+use Rattle.local_grant.proofs.Acting.{refused}
 use Rattle.local_node.proofs.Deciding.{key-long, value-long, set-at as deciding-at, set-new as deciding-new}
 use borrow.Author.Needs.{needs}
 use Rattle.local_node.proofs.set_key.Statement.{statement}

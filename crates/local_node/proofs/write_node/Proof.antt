@@ -7,7 +7,8 @@ use Rattle.rules.specs.Node.{Node, Decision, Setting, SettingTtl, wish, decide}
 use Rattle.rules.specs.declared.Status.the-variants.{Set, Ttl}
 use Rattle.rules.specs.declared.Answer.{Answer}
 use Rattle.local_node.specs.declared.Kind.{Kind}
-use Rattle.local_node.specs.Writes.{decided, nodeIn, nodeCalled, changeOf, within, setting, callOf}
+use Rattle.local_grant.specs.Granting.{decided, nodeIn, changeOf}
+use Rattle.local_node.specs.Writes.{nodeCalled, within, setting, callOf}
 use borrow.Author.Needs.{needs}
 use Rattle.local_node.proofs.write_node.Statement.{statement}
 use Rattle.local_node.proofs.write_node.Tie as tie

@@ -1,0 +1,5 @@
+pub mod LentWorld
+pub mod LentDemand3
+pub mod Runs
+pub mod Closing
+pub mod Start

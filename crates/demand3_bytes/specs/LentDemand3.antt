@@ -1,0 +1,77 @@
+-- Demand 3 of the calls on lent bytes. Every call is what an entry point promises of its lent memory, so this speaks of the code: the bytes of
+-- the two tables at every moment of every run, and how many whole exchanges end it once it is quiet. A table is read in its bytes by `tableIn`. The
+-- theorem is in proofs/LentDemand3.
+use Prim.Native.Nat.{ℕ, _+_, _≤_}
+use mathlib.Core.Path.{_≡_}
+use mathlib.Core.Bool.{Bool, true, false, _&&_}
+use mathlib.Core.List.{List, [], _∷_}
+use mathlib.Core.Option.{some}
+use Rattle.fields.specs.Numbers.{Bytes}
+use Rattle.fields.specs.Choice.{pick}
+use Rattle.rules.specs.Node.{Node}
+use Rattle.rules.specs.Table.{nodeOf, numbersOf}
+use Rattle.rules.specs.Whole.{validWhole}
+use Rattle.rules.specs.Lent.{lentDigest, lentCompute, lentApply}
+use Rattle.rules.specs.declared.Mode.{Mode}
+use Rattle.demand3.specs.World.{Exchange, Idle, DigestSent, DeltaSent, Event, Writing, Beating, Offering, Removing, Digesting, Computing, Applying, Sending, Arriving, possible}
+use Rattle.demand3.specs.Demand3.{Claims, AllRise, Stage, NotBegun, allQuiet, unlimited, onward, ending, wroteDigest, wroteDelta, noRoom, holdings, SameMax}
+use Rattle.demand3_bytes.specs.LentWorld.{LentWorld, tableIn, waysIn, lentStart, lentHappen, lentAfter}
+
+-- ---- the claims at a moment
+
+-- Both byte strings are valid tables (no call is answered 14) with the nodes that they began with, and each node is as claimed.
+pub record LentSound (is : List ℕ) (w : LentWorld) : Type 0 where
+  pub publisher-valid : validWhole (w .publisher) ≡ true
+  pub follower-valid : validWhole (w .follower) ≡ true
+  pub publisher-nodes : numbersOf (tableIn (w .publisher)) ≡ is
+  pub follower-nodes : numbersOf (tableIn (w .follower)) ≡ is
+  pub claims : (i : ℕ) (p f : Node) → nodeOf i (tableIn (w .publisher)) ≡ some p → nodeOf i (tableIn (w .follower)) ≡ some f → Claims (w .given i) p f
+
+-- ---- nothing refused, read off the answers of the calls on lent bytes
+
+abbrev pub lentIsComputed : (edition : ℕ) (excluded ties : List ℕ) (mtu place : ℕ) (datagram table : Bytes) (way : Exchange) → Bool
+lentIsComputed edition excluded ties mtu place d l Idle = false
+lentIsComputed edition excluded ties mtu place d l (DigestSent b) = wroteDelta (lentCompute edition excluded ties mtu place b d l .answer)
+lentIsComputed edition excluded ties mtu place d l (DeltaSent b) = false
+
+abbrev pub lentIsApplied : (now : ℕ) (answers table : Bytes) (way : Exchange) → Bool
+lentIsApplied now answers l Idle = false
+lentIsApplied now answers l (DigestSent b) = false
+lentIsApplied now answers l (DeltaSent b) = noRoom (lentApply b now answers l .answer) (lentApply b now answers l .lent .list)
+
+-- whether a call of an exchange is made and not refused
+abbrev pub lentGranted : (event : Event) (world : LentWorld) → Bool
+lentGranted (Writing i k c) w = true
+lentGranted (Beating s i) w = true
+lentGranted (Offering s i h) w = true
+lentGranted (Removing s now grace) w = true
+lentGranted (Digesting edition excluded place d) w = wroteDigest (lentDigest edition excluded place d (w .follower) .answer)
+lentGranted (Computing edition excluded ties mtu place d) w = lentIsComputed edition excluded ties mtu place d (w .publisher) (w .exchange)
+lentGranted (Applying now answers) w = possible (waysIn (w .follower)) (Applying now answers) && lentIsApplied now answers (w .follower) (w .exchange)
+lentGranted (Sending edition digest excluded ties mtu place d) w = true
+lentGranted (Arriving k now answers) w = true
+
+-- the whole exchanges of a run (Demand3 of `demand3`), by the answers of these calls
+unfoldable pub lentWholes : (stage : Stage) (events : List Event) (world : LentWorld) → ℕ
+lentWholes st [] w = 0
+lentWholes st (e ∷ es) w =
+    pick (unlimited e && lentGranted e w)
+    (ending e st + lentWholes (onward e st) es (lentHappen e w))
+    (lentWholes NotBegun es (lentHappen e w))
+
+-- ---- the whole demand
+
+-- Of the bytes of a publisher's table and a follower's that begin fresh with the nodes `is`, in the modes p and f. At every moment of every run
+-- of calls the claims hold; between any two moments no node's pair falls in either table; and when writes, deletes and removals cease after any
+-- run, as many whole exchanges as the publisher then holds records and nodes make every max equal, whatever else happens. Where f is fenced, every delta
+-- that was ever computed may arrive at any moment and any number of times, within the counted exchanges too. The first two claims hold with the digest's
+-- editions confused too: any bytes are a digest there, and may be read in either. A counted exchange uses one edition at both ends (Demand3 of `demand3`).
+pub record LentDemand3 (p f : Mode) (is : List ℕ) : Type 0 where
+  pub at-every-moment : (es : List Event) → LentSound is (lentAfter es (lentStart p f is))
+  pub between-moments : (es fs : List Event)
+      → AllRise (tableIn (lentAfter es (lentStart p f is) .publisher)) (tableIn (lentAfter fs (lentAfter es (lentStart p f is)) .publisher))
+      × AllRise (tableIn (lentAfter es (lentStart p f is) .follower)) (tableIn (lentAfter fs (lentAfter es (lentStart p f is)) .follower))
+  pub closing-count : (es fs : List Event)
+      → allQuiet fs ≡ true
+      → holdings (tableIn (lentAfter es (lentStart p f is) .publisher)) ≤ lentWholes NotBegun fs (lentAfter es (lentStart p f is))
+      → SameMax (tableIn (lentAfter fs (lentAfter es (lentStart p f is)) .publisher)) (tableIn (lentAfter fs (lentAfter es (lentStart p f is)) .follower))

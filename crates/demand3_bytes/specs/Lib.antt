@@ -1,0 +1,3 @@
+pub mod LentWorld
+pub mod LentDemand3
+pub mod Runs

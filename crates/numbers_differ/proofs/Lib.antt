@@ -1,0 +1,2 @@
+mod Row
+mod Seen
