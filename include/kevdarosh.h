@@ -37,6 +37,7 @@ extern "C" {
 #define KEV_DELTA 16384   /* the largest MTU, and the longest delta */
 #define KEV_LISTING 81979 /* bytes of a listing, at most */
 #define KEV_MODE_AT 29705 /* the byte of a table that says its mode */
+#define KEV_ROW 115       /* bytes of a record in a table */
 
 /* ---- modes of a table */
 
@@ -130,6 +131,13 @@ struct kev_record {
     uint64_t start; /* when it was scheduled; 0 under Set */
 };
 
+/* Records of a node in one piece: count rows of KEV_ROW bytes, from table + at on. */
+struct kev_rows {
+    uint64_t number;
+    size_t at;
+    size_t count;
+};
+
 struct kev_digest {
     uint64_t number;
     size_t count;
@@ -186,6 +194,28 @@ struct kev_exchanged {
 /* The first byte of a text that was found in this table. */
 static inline const uint8_t *kev_text(const uint8_t *table, struct kev_found text) {
     return table + text.start;
+}
+
+/* Record i of these rows, where i is below their count, as kev_record_at tells it; read in the table, without a call. A row is its
+ * key's length, 32 bytes of key, its value's length, 64 bytes of value, version, status, start (docs/FORMAT.md, "A record slot"). */
+static inline struct kev_record kev_row(const uint8_t *table, struct kev_rows rows, size_t i) {
+    struct kev_record record;
+    const size_t at = rows.at + i * KEV_ROW, version = at + 2 + KEV_KEY + KEV_VALUE;
+    size_t byte;
+    record.number = 0;
+    record.found = 1;
+    record.key_at = at + 1;
+    record.value_at = at + 2 + KEV_KEY;
+    record.key_len = table[at];
+    record.value_len = table[at + 1 + KEV_KEY];
+    record.version = 0;
+    record.status = table[version + 8];
+    record.start = 0;
+    for (byte = 8; byte-- > 0;) {
+        record.version = record.version << 8 | table[version + byte];
+        record.start = record.start << 8 | table[version + 9 + byte];
+    }
+    return record;
 }
 
 /* ---- the table and its nodes */
@@ -283,6 +313,15 @@ struct kev_record kev_record_of(const uint8_t *table, size_t table_len, size_t i
  * Numbers: 14, 2, 1. */
 struct kev_record kev_record_by_key(
     const uint8_t *table, size_t table_len, uint64_t node, const uint8_t *key, size_t key_len);
+
+/* All records of a node in one piece, hidden ones too, in key order: count rows of KEV_ROW bytes from table + at on (see kev_row).
+ * Numbers: 14, 2. */
+struct kev_rows kev_node_rows(const uint8_t *table, size_t table_len, uint64_t node);
+
+/* The same of the records whose keys begin with the prefix, hidden ones too: keys ascend, so they stand together.
+ * Numbers: 14, 2, 1. */
+struct kev_rows kev_prefix_rows(
+    const uint8_t *table, size_t table_len, uint64_t node, const uint8_t *prefix, size_t prefix_len);
 
 /* The key of the record in place j of a node.
  * Numbers: 14, 2, 8. */
@@ -409,6 +448,13 @@ struct kev_record kev_good_record_of(const uint8_t *table, size_t table_len, siz
 /* Numbers: 2, 1. */
 struct kev_record kev_good_record_by_key(
     const uint8_t *table, size_t table_len, uint64_t node, const uint8_t *key, size_t key_len);
+
+/* Numbers: 2. */
+struct kev_rows kev_good_node_rows(const uint8_t *table, size_t table_len, uint64_t node);
+
+/* Numbers: 2, 1. */
+struct kev_rows kev_good_prefix_rows(
+    const uint8_t *table, size_t table_len, uint64_t node, const uint8_t *prefix, size_t prefix_len);
 
 /* Numbers: 2, 8. */
 struct kev_found kev_good_key_at(const uint8_t *table, size_t table_len, uint64_t node, size_t j);

@@ -189,6 +189,8 @@ nothing (calls.record-count t i) h = refl
 nothing (calls.record-at t i j) h = refl
 nothing (calls.record-of t i j) h = refl
 nothing (calls.record-by-key t k i) h = refl
+nothing (calls.node-rows t i) h = refl
+nothing (calls.prefix-rows t k i) h = refl
 nothing (calls.find-text t i j x) h = refl
 nothing (calls.write-digest t edition excluded datagram place) h =
     ap (λ (u : Bytes). t ∷ excluded ∷ u ∷ [])

@@ -66,10 +66,12 @@
 
 mod ffi;
 mod refusal;
+mod row;
 mod table;
 mod wire;
 
 pub use refusal::{ExchangeRefused, Fault, ListingRefused, Refusal, Step};
+pub use row::Records;
 pub use table::{Answer, Answers, Computed, Header, LentTable, Mode, NodeState, OwnedTable, Record, Status, Table, TableView};
 pub use wire::{Datagrams, DeltaRead, Digest, Edition, Exchanged, NodeDigest, exchange, list_delta, make_delta, read_delta};
 

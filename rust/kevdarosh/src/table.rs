@@ -3,7 +3,8 @@
 use crate::ffi::{self, Bytes, BytesMut, Kept};
 use crate::refusal::{Fault, Refusal, accepted, refusal};
 use crate::wire::Edition;
-use crate::{NODES, RECORDS, TABLE};
+use crate::row::Records;
+use crate::{NODES, TABLE};
 
 /// How a table takes deltas that come late. It is chosen when the table is made, and stays in its bytes.
 #[derive(Clone, Copy, Debug, PartialEq, Eq)]
@@ -39,7 +40,7 @@ pub enum Status {
 }
 
 impl Status {
-    fn of(byte: usize) -> Status {
+    pub(crate) fn of(byte: usize) -> Status {
         match byte {
             0 => Status::Set,
             1 => Status::Deleted,
@@ -214,10 +215,16 @@ impl<S: Bytes> Table<S> {
 
     /// A node, to read it: [`Refusal::NoNode`].
     pub fn node_state(&self, node: u64) -> Result<NodeState<'_, S>, Refusal> {
-        // An owned table's header is read when it is asked for. A lent one's is read here, since each reading of it checks the table.
-        let header = if S::GOOD { None } else { Some(ffi::node_header(&self.store, node)) };
-        accepted(header.map_or_else(|| ffi::record_count(&self.store, node).number, |header| header.number))?;
-        Ok(NodeState { table: self, node, header })
+        // Where the records of an owned table's node stand is asked once, and its header when it is wanted. Of a lent table it is the other way round, since
+        // each asking checks it.
+        if S::GOOD {
+            let rows = ffi::node_rows(&self.store, node);
+            accepted(rows.number)?;
+            return Ok(NodeState { table: self, node, header: None, rows: Some(rows) });
+        }
+        let header = ffi::node_header(&self.store, node);
+        accepted(header.number)?;
+        Ok(NodeState { table: self, node, header: Some(header), rows: None })
     }
 
     /// The value of a key, as those very bytes of the table; none where there is no such key, or its record is deleted.
@@ -271,11 +278,6 @@ impl<S: Bytes> Table<S> {
             status: Status::of(found.status),
             start: found.start,
         }
-    }
-
-    /// The place of a node that is held, among the nodes.
-    fn place(&self, node: u64) -> usize {
-        (0..NODES).find(|&i| ffi::node_number(&self.store, i).node == node).unwrap_or(NODES)
     }
 }
 
@@ -342,6 +344,7 @@ pub struct NodeState<'a, S> {
     table: &'a Table<S>,
     node: u64,
     header: Option<ffi::Header>,
+    rows: Option<ffi::Rows>,
 }
 
 impl<'a, S: Bytes> NodeState<'a, S> {
@@ -388,21 +391,14 @@ impl<'a, S: Bytes> NodeState<'a, S> {
         Ok((answer.found != 0).then(|| self.table.record(answer)))
     }
 
-    /// The record in a place, which has one. An owned table's node is sought once, and each record read by both places; of a lent table seeking would
-    /// check it too.
-    fn reading(&self) -> impl Fn(usize) -> Record<'a> + use<'a, S> {
-        let (table, node) = (self.table, self.node);
-        let place = if S::GOOD { table.place(node) } else { NODES };
-        move |j| table.record(if S::GOOD { ffi::record_of(&table.store, place, j) } else { ffi::record_at(&table.store, node, j) })
-    }
-
     /// All records, deleted ones too, in key order.
-    pub fn key_values_including_deleted(&self) -> impl Iterator<Item = Record<'a>> + use<'a, S> {
-        (0..ffi::record_count(&self.table.store, self.node).count).map(self.reading())
+    #[inline]
+    pub fn key_values_including_deleted(&self) -> Records<'a> {
+        Records::of(self.table.store.bytes(), self.rows.unwrap_or_else(|| ffi::node_rows(&self.table.store, self.node)))
     }
 
     /// The keys and values that are not deleted, in key order.
-    pub fn key_values(&self) -> impl Iterator<Item = (&'a [u8], &'a [u8])> + use<'a, S> {
+    pub fn key_values(&self) -> impl DoubleEndedIterator<Item = (&'a [u8], &'a [u8])> + use<'a, S> {
         self.key_values_including_deleted().filter(|record| !record.is_hidden()).map(|record| (record.key, record.value))
     }
 
@@ -412,11 +408,10 @@ impl<'a, S: Bytes> NodeState<'a, S> {
     }
 
     /// The records that are not deleted and whose keys begin with the prefix, in key order: [`Refusal::TooLong`].
-    pub fn iter_prefix(&self, prefix: &[u8]) -> Result<impl Iterator<Item = Record<'a>> + use<'a, S>, Refusal> {
-        let mut places = [0; RECORDS];
-        let answer = ffi::list_prefix(&self.table.store, self.node, prefix, &mut places);
-        accepted(answer.number)?;
-        Ok(places.into_iter().take(answer.count).map(usize::from).map(self.reading()))
+    pub fn iter_prefix(&self, prefix: &[u8]) -> Result<impl DoubleEndedIterator<Item = Record<'a>> + use<'a, S>, Refusal> {
+        let rows = ffi::prefix_rows(&self.table.store, self.node, prefix);
+        accepted(rows.number)?;
+        Ok(Records::of(self.table.store.bytes(), rows).filter(|record| !record.is_hidden()))
     }
 }
 
