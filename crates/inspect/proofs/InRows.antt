@@ -1,18 +1,15 @@
 -- What stands in the rows of a node: row j, its width of bytes from its place on, is the record that is read in place j, its key and its value standing in
 -- the row. So who knows where the rows begin reads a record there as the call for one record would tell it. Assumes nothing.
 use Prim.Native.Nat.{ℕ, _+_, _*_, _≤_, _<_}
-use mathlib.Core.Path.{_≡_, refl, ap, ap₂, sym, _∙_, subst}
+use mathlib.Core.Path.{_≡_, refl, ap, ap₂, sym, _∙_}
 use mathlib.Core.Bool.{true}
 use mathlib.Core.List.{List}
-use mathlib.Core.Option.{Option, none, some}
 use native.Mathlib.Omega.{arith}
 use lib.ListN.{length}
 use Rattle.fields.specs.Parts.{part}
 use Rattle.fields.specs.Widths.{offset}
 use Rattle.fields.proofs.Parts.{part-part}
-use Rattle.rules.specs.Node.{Node}
-use Rattle.rules.specs.Table.{nodeOf}
-use Rattle.rules.specs.Layout.{recWidths, recWidth, recPlace, nodeWidth, tableWidth, decodeRec, decodeNode, decode, valid}
+use Rattle.rules.specs.Layout.{recWidths, recWidth, recPlace, nodeWidth, tableWidth, decodeRec, decode, valid}
 use Rattle.rules.specs.declared.Refusal.the-variants.{NoNode}
 use Rattle.table.specs.Tests.{countOf, recsIn}
 use Rattle.table.proofs.Places.{recAt, length-recs}
@@ -21,10 +18,9 @@ use Rattle.table_read.specs.Find.{nodeStart, recordOf, spanIn}
 use Rattle.table_read.specs.declared.Span.{Span}
 use Rattle.table_read.specs.declared.Span.the-variants.{Held, Missing}
 use Rattle.table_read.proofs.Held.{node-end, node-fits, held-laid, held-node, held-start, missing-node}
-use Rattle.inspect.specs.Look.{elementAt, readRec, readAt, recordOn, readRecord, rowsOn, nodeRows}
+use Rattle.inspect.specs.Look.{readRec, readAt, recordOn, readRecord, rowsOn, nodeRows}
 use Rattle.inspect.specs.declared.RecordRead.{RecordRead}
 use Rattle.inspect.specs.declared.RecordRead.the-variants as rec
-use Rattle.inspect.specs.declared.Rows.{Rows}
 use Rattle.inspect.specs.declared.Rows.the-variants as rows
 use Rattle.inspect.proofs.Elements.{rec-there}
 

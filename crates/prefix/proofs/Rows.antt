@@ -20,7 +20,6 @@ use Rattle.rules.specs.declared.Refusal.the-variants.{TooLong, NoNode}
 use Rattle.rules.proofs.Records.{Above, Sorted, keyOf}
 use Rattle.table_read.specs.Find.{nodeStart}
 use Rattle.inspect.specs.Look.{rowsOn, nodeRows}
-use Rattle.inspect.specs.declared.Rows.{Rows}
 use Rattle.inspect.specs.declared.Rows.the-variants.{Are, Refused}
 use Rattle.prefix.specs.Rows.{earlier, begun, runRows, prefixRowsOn, prefixRows}
 use Rattle.prefix.proofs.Run.{early-not, between}

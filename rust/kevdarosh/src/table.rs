@@ -40,6 +40,7 @@ pub enum Status {
 }
 
 impl Status {
+    #[inline]
     pub(crate) fn of(byte: usize) -> Status {
         match byte {
             0 => Status::Set,
@@ -214,20 +215,16 @@ impl<S: Bytes> Table<S> {
     }
 
     /// A node, to read it: [`Refusal::NoNode`].
+    #[inline]
     pub fn node_state(&self, node: u64) -> Result<NodeState<'_, S>, Refusal> {
-        // Where the records of an owned table's node stand is asked once, and its header when it is wanted. Of a lent table it is the other way round, since
-        // each asking checks it.
-        if S::GOOD {
-            let rows = ffi::node_rows(&self.store, node);
-            accepted(rows.number)?;
-            return Ok(NodeState { table: self, node, header: None, rows: Some(rows) });
-        }
-        let header = ffi::node_header(&self.store, node);
-        accepted(header.number)?;
-        Ok(NodeState { table: self, node, header: Some(header), rows: None })
+        // An owned table's header is read when it is asked for. A lent one's is read here, since each reading of it checks the table.
+        let header = if S::GOOD { None } else { Some(ffi::node_header(&self.store, node)) };
+        accepted(header.map_or_else(|| ffi::record_count(&self.store, node).number, |header| header.number))?;
+        Ok(NodeState { table: self, node, header })
     }
 
     /// The value of a key, as those very bytes of the table; none where there is no such key, or its record is deleted.
+    #[inline]
     pub fn get(&self, node: u64, key: &[u8]) -> Result<Option<&[u8]>, Refusal> {
         let answer = ffi::find(&self.store, node, key);
         accepted(answer.number)?;
@@ -265,11 +262,13 @@ impl<S: Bytes> Table<S> {
     }
 
     /// The bytes of the table that an answer names.
+    #[inline]
     fn text(&self, start: usize, len: usize) -> &[u8] {
         &self.store.bytes()[start..start + len]
     }
 
     /// The record that was found.
+    #[inline]
     fn record(&self, found: ffi::Record) -> Record<'_> {
         Record {
             key: self.text(found.key_at, found.key_len),
@@ -344,7 +343,6 @@ pub struct NodeState<'a, S> {
     table: &'a Table<S>,
     node: u64,
     header: Option<ffi::Header>,
-    rows: Option<ffi::Rows>,
 }
 
 impl<'a, S: Bytes> NodeState<'a, S> {
@@ -385,6 +383,7 @@ impl<'a, S: Bytes> NodeState<'a, S> {
     }
 
     /// The record of a key, deleted or not.
+    #[inline]
     pub fn get_versioned(&self, key: &[u8]) -> Result<Option<Record<'a>>, Refusal> {
         let answer = ffi::record_by_key(&self.table.store, self.node, key);
         accepted(answer.number)?;
@@ -394,7 +393,7 @@ impl<'a, S: Bytes> NodeState<'a, S> {
     /// All records, deleted ones too, in key order.
     #[inline]
     pub fn key_values_including_deleted(&self) -> Records<'a> {
-        Records::of(self.table.store.bytes(), self.rows.unwrap_or_else(|| ffi::node_rows(&self.table.store, self.node)))
+        Records::of(self.table.store.bytes(), ffi::node_rows(&self.table.store, self.node))
     }
 
     /// The keys and values that are not deleted, in key order.

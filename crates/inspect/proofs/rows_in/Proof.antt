@@ -1,5 +1,5 @@
 -- `inspect::rows_in` meets its contract: the place behind the node's header, and how many records there are. Assumes nothing.
-use Prim.Native.Nat.{ℕ, _+_}
+use Prim.Native.Nat.{_+_}
 use mathlib.Core.Path.{ap}
 use Rattle.rules.specs.Layout.{recPlace}
 use Rattle.table_read.proofs.Reading.{counted}
