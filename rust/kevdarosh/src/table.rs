@@ -2,8 +2,8 @@
 
 use crate::ffi::{self, Bytes, BytesMut, Kept};
 use crate::refusal::{Fault, Refusal, accepted, refusal};
-use crate::wire::Edition;
 use crate::row::Records;
+use crate::wire::Edition;
 use crate::{NODES, TABLE};
 
 /// How a table takes deltas that come late. It is chosen when the table is made, and stays in its bytes.
