@@ -68,7 +68,7 @@ static void local_calls(void) {
     GIVES(KEV_BAD_TABLE, kev_new_table(T(brief), KEV_PLAIN));
     CHECK(same(brief));
     GIVES(KEV_BAD_TABLE, kev_new_table(T(table), 3));
-    GIVES(KEV_BAD_TABLE, kev_new_table(T(table), (size_t)-1));
+    GIVES(KEV_BAD_TABLE, kev_new_table(T(table), (kev_size)-1));
     CHECK(same(table));
     GIVES(KEV_BAD_TABLE, kev_check(T(table)));
     GIVES(0, kev_new_table(T(table), KEV_GUARDED));
@@ -156,7 +156,7 @@ static void local_calls(void) {
     CHECK(kev_node_count(T(table)).count == 7 && kev_good_node_count(T(table)).count == 7);
     CHECK(kev_node_number(T(table), 6).node == 16 && kev_good_node_number(T(table), 6).node == 16);
     GIVES(KEV_NO_PLACE, kev_node_number(T(table), 7).number);
-    GIVES(KEV_NO_PLACE, kev_good_node_number(T(table), (size_t)-1).number);
+    GIVES(KEV_NO_PLACE, kev_good_node_number(T(table), (kev_size)-1).number);
     struct kev_header h = kev_node_header(T(table), 10), k = kev_good_node_header(T(table), 10);
     CHECK(h.number == 0 && h.max == 5 && h.last_gc == 0 && h.heartbeat == 0 && memcmp(&h, &k, sizeof h) == 0);
     GIVES(KEV_NO_NODE, kev_node_header(T(table), 99).number);

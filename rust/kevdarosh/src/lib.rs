@@ -64,6 +64,10 @@
 #![deny(unsafe_code)]
 #![warn(missing_docs)]
 
+// The library counts in 64 bits on every processor (`kev_size` of the header).
+#[cfg(not(target_pointer_width = "64"))]
+compile_error!("this crate is for processors whose usize has 64 bits; on smaller ones use include/kevdarosh.h, tools/library --for");
+
 mod ffi;
 mod refusal;
 mod row;
