@@ -4,7 +4,7 @@ use delta_make::Made;
 use digest_read::Digest;
 use digest_read::DigestRead;
 use exchange::Exchanged;
-use exchange::Step;
+use exchange_ask::Step;
 use inspect::Count;
 use inspect::NodeHeader;
 use inspect::NodeNumber;

@@ -60,11 +60,12 @@ use Rattle.digest_read.specs.Held.{digestIn, heldOf}
 use Rattle.digest_read.specs.Told.{digestTold}
 use Rattle.compute.specs.Asking.{askedOf, isFree, mtuFits}
 use Rattle.compute.specs.declared.Asked.the-variants as asked
-use Rattle.exchange.specs.Exchanging.{Lending, Rooms, afterAsking, exchangedTold, lending, lentExchange, readyFor, readyOn, roomsFor, roomsOf, unlessRefused}
+use Rattle.exchange.specs.Exchanging.{Lending, afterAsking, exchangedTold, lending, lentExchange, roomsOf}
+use Rattle.exchange_ask.specs.Asking.{Rooms, readyFor, readyOn, roomsFor, unlessRefused}
 use Rattle.exchange.specs.declared.Exchanged.{Exchanged}
-use Rattle.exchange.specs.declared.Ready.{Ready}
-use Rattle.exchange.specs.declared.Ready.the-variants as ready
-use Rattle.exchange.specs.declared.Step.the-variants.{Applying, Delta, Digest}
+use Rattle.exchange_ask.specs.declared.Ready.{Ready}
+use Rattle.exchange_ask.specs.declared.Ready.the-variants as ready
+use Rattle.exchange_ask.specs.declared.Step.the-variants.{Applying, Delta, Digest}
 use Rattle.rules.proofs.Writing.{write-is}
 use Rattle.exchange.proofs.Refusing.{is-ready, ready-done}
 use Rattle.demand1.specs.Calls as calls
