@@ -2,6 +2,7 @@
  * for from the far end. For processors whose stack has no guard page: tools/small-test runs it. What is answered is checked too. */
 #include "kevdarosh.h"
 
+#include <stddef.h>
 #include <stdio.h>
 #include <stdlib.h>
 #include <string.h>
