@@ -18,12 +18,14 @@
 #ifndef KEVDAROSH_H
 #define KEVDAROSH_H
 
-#include <stddef.h>
 #include <stdint.h>
 
 #ifdef __cplusplus
 extern "C" {
 #endif
+
+/* A length, a count or a place. The library counts in 64 bits on every processor, also where size_t has 32. */
+typedef uint64_t kev_size;
 
 /* ---- sizes */
 
@@ -37,6 +39,7 @@ extern "C" {
 #define KEV_DELTA 16384   /* the largest MTU, and the longest delta */
 #define KEV_LISTING 81979 /* bytes of a listing, at most */
 #define KEV_MODE_AT 29705 /* the byte of a table that says its mode */
+#define KEV_ROW 115       /* bytes of a record in a table */
 
 /* ---- modes of a table */
 
@@ -88,13 +91,13 @@ extern "C" {
 
 struct kev_count {
     uint64_t number;
-    size_t count;
+    kev_size count;
 };
 
 /* Found is 1 where the node is remembered. */
 struct kev_heartbeat {
     uint64_t number;
-    size_t found;
+    kev_size found;
     uint64_t heartbeat;
 };
 
@@ -106,9 +109,9 @@ struct kev_node {
 /* A text in the caller's table: found is 1, and it is the len bytes from table + start on (see kev_text). */
 struct kev_found {
     uint64_t number;
-    size_t found;
-    size_t start;
-    size_t len;
+    kev_size found;
+    kev_size start;
+    kev_size len;
 };
 
 struct kev_header {
@@ -120,21 +123,28 @@ struct kev_header {
 
 struct kev_record {
     uint64_t number;
-    size_t found;
-    size_t key_at;   /* where its key begins in the table */
-    size_t value_at; /* and its value */
-    size_t key_len;
-    size_t value_len;
+    kev_size found;
+    kev_size key_at;   /* where its key begins in the table */
+    kev_size value_at; /* and its value */
+    kev_size key_len;
+    kev_size value_len;
     uint64_t version;
-    size_t status;
+    kev_size status;
     uint64_t start; /* when it was scheduled; 0 under Set */
+};
+
+/* Records of a node in one piece: count rows of KEV_ROW bytes, from table + at on. */
+struct kev_rows {
+    uint64_t number;
+    kev_size at;
+    kev_size count;
 };
 
 struct kev_digest {
     uint64_t number;
-    size_t count;
-    size_t rest;
-    size_t need; /* with 9, how many bytes the field lacks in which the bytes end */
+    kev_size count;
+    kev_size rest;
+    kev_size need; /* with 9, how many bytes the field lacks in which the bytes end */
 };
 
 struct kev_entry {
@@ -147,40 +157,40 @@ struct kev_entry {
 
 struct kev_computed {
     uint64_t number;
-    size_t ops;
-    size_t bytes;
-    size_t need; /* with 9, how many bytes the digest's field lacks */
+    kev_size ops;
+    kev_size bytes;
+    kev_size need; /* with 9, how many bytes the digest's field lacks */
 };
 
 struct kev_delta {
     uint64_t number;
-    size_t ops;
-    size_t nodes;
-    size_t at;   /* of a refused delta, the place of the faulty operation's tag */
-    size_t need; /* with 9, how many bytes its field lacks */
+    kev_size ops;
+    kev_size nodes;
+    kev_size at;   /* of a refused delta, the place of the faulty operation's tag */
+    kev_size need; /* with 9, how many bytes its field lacks */
 };
 
 struct kev_applied {
     uint64_t number;
-    size_t nodes;
-    size_t at;   /* of a refused delta, the place of the faulty operation's tag */
-    size_t need; /* with 9, how many bytes its field lacks */
+    kev_size nodes;
+    kev_size at;   /* of a refused delta, the place of the faulty operation's tag */
+    kev_size need; /* with 9, how many bytes its field lacks */
 };
 
 struct kev_made {
     uint64_t number;
-    size_t bytes;
-    size_t line; /* with 16, the first line that is not as it is printed; the first of a text is 1 */
-    size_t at;   /* of a refused delta, the place of the faulty operation's tag */
-    size_t need; /* as in kev_delta; a listing gives no 9 */
+    kev_size bytes;
+    kev_size line; /* with 16, the first line that is not as it is printed; the first of a text is 1 */
+    kev_size at;   /* of a refused delta, the place of the faulty operation's tag */
+    kev_size need; /* as in kev_delta; a listing gives no 9 */
 };
 
 struct kev_exchanged {
     uint64_t number;
-    size_t ops;
-    size_t bytes;
-    size_t nodes;
-    size_t step; /* refused by: 1 the digest, 2 the delta, 3 applying */
+    kev_size ops;
+    kev_size bytes;
+    kev_size nodes;
+    kev_size step; /* refused by: 1 the digest, 2 the delta, 3 applying */
 };
 
 /* The first byte of a text that was found in this table. */
@@ -188,28 +198,50 @@ static inline const uint8_t *kev_text(const uint8_t *table, struct kev_found tex
     return table + text.start;
 }
 
+/* Record i of these rows, where i is below their count, as kev_record_at tells it; read in the table, without a call. A row is its
+ * key's length, 32 bytes of key, its value's length, 64 bytes of value, version, status, start (docs/FORMAT.md, "A record slot"). */
+static inline struct kev_record kev_row(const uint8_t *table, struct kev_rows rows, kev_size i) {
+    struct kev_record record;
+    const kev_size at = rows.at + i * KEV_ROW, version = at + 2 + KEV_KEY + KEV_VALUE;
+    kev_size byte;
+    record.number = 0;
+    record.found = 1;
+    record.key_at = at + 1;
+    record.value_at = at + 2 + KEV_KEY;
+    record.key_len = table[at];
+    record.value_len = table[at + 1 + KEV_KEY];
+    record.version = 0;
+    record.status = table[version + 8];
+    record.start = 0;
+    for (byte = 8; byte-- > 0;) {
+        record.version = record.version << 8 | table[version + byte];
+        record.start = record.start << 8 | table[version + 9 + byte];
+    }
+    return record;
+}
+
 /* ---- the table and its nodes */
 
 /* Whether the bytes are a table that obeys the rules: 0, or 14.
  * Numbers: 14. */
-uint64_t kev_check(const uint8_t *table, size_t table_len);
+uint64_t kev_check(const uint8_t *table, kev_size table_len);
 
 /* The bytes become an empty table in this mode (KEV_PLAIN, KEV_FENCED, KEV_GUARDED), whatever stood there. 14 where table_len is not
  * KEV_TABLE, or the number is that of no mode.
  * Numbers: 14. */
-uint64_t kev_new_table(uint8_t *table, size_t table_len, size_t mode);
+uint64_t kev_new_table(uint8_t *table, kev_size table_len, kev_size mode);
 
 /* Adds a fresh node. One that is held already stays as it is.
  * Numbers: 14, 4. */
-uint64_t kev_add_node(uint8_t *table, size_t table_len, uint64_t node);
+uint64_t kev_add_node(uint8_t *table, kev_size table_len, uint64_t node);
 
 /* Removes a node and its records. The table remembers it with its last heartbeat, the last sixteen that were removed.
  * Numbers: 14, 2. */
-uint64_t kev_remove_node(uint8_t *table, size_t table_len, uint64_t node);
+uint64_t kev_remove_node(uint8_t *table, kev_size table_len, uint64_t node);
 
 /* The last heartbeat of a node that was removed. Found is 0 where the table does not remember it, as where it holds the node.
  * Numbers: 14. */
-struct kev_heartbeat kev_last_heartbeat(const uint8_t *table, size_t table_len, uint64_t node);
+struct kev_heartbeat kev_last_heartbeat(const uint8_t *table, kev_size table_len, uint64_t node);
 
 /* ---- local calls, by the owner of a node */
 
@@ -217,220 +249,236 @@ struct kev_heartbeat kev_last_heartbeat(const uint8_t *table, size_t table_len, 
  * nothing changes. A record under TTL is scheduled from the clock on; under Set the clock is not looked at.
  * Numbers: 14, 10, 2, 1, 5, 6. */
 uint64_t kev_write(
-    uint8_t *table, size_t table_len, uint64_t node, const uint8_t *key, size_t key_len, const uint8_t *value,
-    size_t value_len, uint64_t wanted, uint64_t clock);
+    uint8_t *table, kev_size table_len, uint64_t node, const uint8_t *key, kev_size key_len, const uint8_t *value,
+    kev_size value_len, uint64_t wanted, uint64_t clock);
 
 /* The key's record is emptied and hidden, and scheduled from the clock on: a tombstone.
  * Numbers: 14, 2, 1, 3, 6. */
 uint64_t kev_delete(
-    uint8_t *table, size_t table_len, uint64_t node, const uint8_t *key, size_t key_len, uint64_t clock);
+    uint8_t *table, kev_size table_len, uint64_t node, const uint8_t *key, kev_size key_len, uint64_t clock);
 
 /* The key's record keeps its value and is scheduled from the clock on.
  * Numbers: 14, 2, 1, 3, 6. */
 uint64_t kev_delete_after_ttl(
-    uint8_t *table, size_t table_len, uint64_t node, const uint8_t *key, size_t key_len, uint64_t clock);
+    uint8_t *table, kev_size table_len, uint64_t node, const uint8_t *key, kev_size key_len, uint64_t clock);
 
 /* Of every node, the scheduled records whose grace is over go.
  * Numbers: 14. */
-uint64_t kev_remove_scheduled(uint8_t *table, size_t table_len, uint64_t clock, uint64_t grace);
+uint64_t kev_remove_scheduled(uint8_t *table, kev_size table_len, uint64_t clock, uint64_t grace);
 
 /* A heartbeat that was heard of. The count is 1 where it was news, else 0.
  * Numbers: 14, 2. */
-struct kev_count kev_offer_heartbeat(uint8_t *table, size_t table_len, uint64_t node, uint64_t heartbeat);
+struct kev_count kev_offer_heartbeat(uint8_t *table, kev_size table_len, uint64_t node, uint64_t heartbeat);
 
 /* The node's own heartbeat rises by one.
  * Numbers: 14, 2, 6. */
-uint64_t kev_local_beat(uint8_t *table, size_t table_len, uint64_t node);
+uint64_t kev_local_beat(uint8_t *table, kev_size table_len, uint64_t node);
 
 /* ---- readings */
 
 /* The value of a key. Found is 0 where there is no such key, or its record is hidden.
  * Numbers: 14, 2, 1. */
-struct kev_found kev_find(const uint8_t *table, size_t table_len, uint64_t node, const uint8_t *key, size_t key_len);
+struct kev_found kev_find(const uint8_t *table, kev_size table_len, uint64_t node, const uint8_t *key, kev_size key_len);
 
 /* The records that are not hidden and whose keys begin with the prefix: their places in the node, a byte each, in key order at
  * the front of out. The count is how many. KEV_RECORDS places are always enough.
  * Numbers: 14, 2, 1, 8. */
 struct kev_count kev_list_prefix(
-    const uint8_t *table, size_t table_len, uint64_t node, const uint8_t *prefix, size_t prefix_len, uint8_t *out,
-    size_t out_len);
+    const uint8_t *table, kev_size table_len, uint64_t node, const uint8_t *prefix, kev_size prefix_len, uint8_t *out,
+    kev_size out_len);
 
 /* How many nodes the table holds.
  * Numbers: 14. */
-struct kev_count kev_node_count(const uint8_t *table, size_t table_len);
+struct kev_count kev_node_count(const uint8_t *table, kev_size table_len);
 
 /* The number of the node in place i; they ascend.
  * Numbers: 14, 8. */
-struct kev_node kev_node_number(const uint8_t *table, size_t table_len, size_t i);
+struct kev_node kev_node_number(const uint8_t *table, kev_size table_len, kev_size i);
 
 /* Heartbeat, max and last_gc of a node.
  * Numbers: 14, 2. */
-struct kev_header kev_node_header(const uint8_t *table, size_t table_len, uint64_t node);
+struct kev_header kev_node_header(const uint8_t *table, kev_size table_len, uint64_t node);
 
 /* How many records a node has, tombstones counted.
  * Numbers: 14, 2. */
-struct kev_count kev_record_count(const uint8_t *table, size_t table_len, uint64_t node);
+struct kev_count kev_record_count(const uint8_t *table, kev_size table_len, uint64_t node);
 
 /* The record in place j of a node, hidden or not, and where its key and value stand in the table; their keys ascend.
  * Numbers: 14, 2, 8. */
-struct kev_record kev_record_at(const uint8_t *table, size_t table_len, uint64_t node, size_t j);
+struct kev_record kev_record_at(const uint8_t *table, kev_size table_len, uint64_t node, kev_size j);
 
 /* The same of the record in place j of the node in place i.
  * Numbers: 14, 8. */
-struct kev_record kev_record_of(const uint8_t *table, size_t table_len, size_t i, size_t j);
+struct kev_record kev_record_of(const uint8_t *table, kev_size table_len, kev_size i, kev_size j);
 
 /* The same of the record of a key. Found is 0 where there is none.
  * Numbers: 14, 2, 1. */
 struct kev_record kev_record_by_key(
-    const uint8_t *table, size_t table_len, uint64_t node, const uint8_t *key, size_t key_len);
+    const uint8_t *table, kev_size table_len, uint64_t node, const uint8_t *key, kev_size key_len);
+
+/* All records of a node in one piece, hidden ones too, in key order: count rows of KEV_ROW bytes from table + at on (see kev_row).
+ * Numbers: 14, 2. */
+struct kev_rows kev_node_rows(const uint8_t *table, kev_size table_len, uint64_t node);
+
+/* The same of the records whose keys begin with the prefix, hidden ones too: keys ascend, so they stand together.
+ * Numbers: 14, 2, 1. */
+struct kev_rows kev_prefix_rows(
+    const uint8_t *table, kev_size table_len, uint64_t node, const uint8_t *prefix, kev_size prefix_len);
 
 /* The key of the record in place j of a node.
  * Numbers: 14, 2, 8. */
-struct kev_found kev_key_at(const uint8_t *table, size_t table_len, uint64_t node, size_t j);
+struct kev_found kev_key_at(const uint8_t *table, kev_size table_len, uint64_t node, kev_size j);
 
 /* The value of the record in place j of a node, hidden or not.
  * Numbers: 14, 2, 8. */
-struct kev_found kev_value_at(const uint8_t *table, size_t table_len, uint64_t node, size_t j);
+struct kev_found kev_value_at(const uint8_t *table, kev_size table_len, uint64_t node, kev_size j);
 
 /* ---- digests and deltas */
 
 /* The table's digest in this edition (KEV_V0, KEV_V1) without the excluded nodes, into the datagram from the place on. The count is its bytes, KEV_DIGEST at most.
  * Numbers: 14, 20, 8. */
 struct kev_count kev_write_digest(
-    const uint8_t *table, size_t table_len, uint64_t edition, const uint64_t *excluded, size_t excluded_len,
-    uint8_t *datagram, size_t datagram_len, size_t place);
+    const uint8_t *table, kev_size table_len, uint64_t edition, const uint64_t *excluded, kev_size excluded_len,
+    uint8_t *datagram, kev_size datagram_len, kev_size place);
 
 /* How many nodes the digest at the front of the bytes tells of, and where the bytes behind it begin. A digest of KEV_V1 is all the bytes.
  * Numbers: 20, 9, 13. */
-struct kev_digest kev_read_digest(uint64_t edition, const uint8_t *digest, size_t digest_len);
+struct kev_digest kev_read_digest(uint64_t edition, const uint8_t *digest, kev_size digest_len);
 
 /* What a digest tells of the node in place i, in the order of their numbers.
  * Numbers: 20, 9, 13, 8. */
-struct kev_entry kev_digest_entry(uint64_t edition, const uint8_t *digest, size_t digest_len, size_t i);
+struct kev_entry kev_digest_entry(uint64_t edition, const uint8_t *digest, kev_size digest_len, kev_size i);
 
 /* The delta for a peer's digest of this edition, of at most mtu bytes, without the excluded nodes, into the datagram from the place on, where mtu
  * bytes must be free. Ties are one number for each node of the table: of two nodes with as much to tell the smaller goes first.
  * Numbers: 14, 20, 7, 8, 15, 9, 13. */
 struct kev_computed kev_compute(
-    const uint8_t *table, size_t table_len, uint64_t edition, const uint8_t *digest, size_t digest_len, size_t mtu,
-    const uint64_t *excluded, size_t excluded_len, const uint64_t *ties, size_t ties_len, uint8_t *datagram,
-    size_t datagram_len, size_t place);
+    const uint8_t *table, kev_size table_len, uint64_t edition, const uint8_t *digest, kev_size digest_len, kev_size mtu,
+    const uint64_t *excluded, kev_size excluded_len, const uint64_t *ties, kev_size ties_len, uint8_t *datagram,
+    kev_size datagram_len, kev_size place);
 
 /* The verdict on a delta: its operations and node deltas.
  * Numbers: 13, 9, 1, 10, 11, 12. */
-struct kev_delta kev_read_delta(const uint8_t *delta, size_t delta_len);
+struct kev_delta kev_read_delta(const uint8_t *delta, kev_size delta_len);
 
 /* Takes a peer's delta into the table, at the receiver's clock. For each node delta an answer (KEV_REJECT and on), a byte each, at
  * the front of answers; nodes is how many. KEV_NODES places are always enough.
  * Numbers: 14, 13, 9, 1, 10, 11, 12, 8. */
 struct kev_applied kev_apply(
-    uint8_t *table, size_t table_len, const uint8_t *delta, size_t delta_len, uint64_t clock, uint8_t *answers,
-    size_t answers_len);
+    uint8_t *table, kev_size table_len, const uint8_t *delta, kev_size delta_len, uint64_t clock, uint8_t *answers,
+    kev_size answers_len);
 
 /* The listing of a delta in words, a line for each operation, or the one line of a refused delta. The count is its bytes.
  * KEV_LISTING bytes are always enough.
  * Numbers: 8. */
-struct kev_count kev_list_delta(const uint8_t *delta, size_t delta_len, uint8_t *out, size_t out_len);
+struct kev_count kev_list_delta(const uint8_t *delta, kev_size delta_len, uint8_t *out, kev_size out_len);
 
 /* The delta that a listing tells, at the front of out; bytes is its length. The text must be exactly what kev_list_delta gives for it,
  * to the end line with its counts. KEV_DELTA bytes are always enough. The call takes some 17,500 bytes of stack.
  * Numbers: 16, 13, 11, 12, 8. */
-struct kev_made kev_make_delta(const uint8_t *text, size_t text_len, uint8_t *out, size_t out_len);
+struct kev_made kev_make_delta(const uint8_t *text, kev_size text_len, uint8_t *out, kev_size out_len);
 
 /* One exchange of two tables in one memory: the follower's digest without the unasked nodes, the publisher's delta for it without
  * the unsent ones, the delta applied. Refused, it wrote nothing.
  * Numbers: 14, 20, 8, 7, 15. */
 struct kev_exchanged kev_exchange(
-    const uint8_t *publisher, size_t publisher_len, uint8_t *follower, size_t follower_len, uint64_t edition,
-    size_t mtu, const uint64_t *unasked, size_t unasked_len, const uint64_t *unsent, size_t unsent_len,
-    const uint64_t *ties, size_t ties_len, uint64_t clock, uint8_t *digest, size_t digest_len, uint8_t *delta,
-    size_t delta_len, uint8_t *answers, size_t answers_len);
+    const uint8_t *publisher, kev_size publisher_len, uint8_t *follower, kev_size follower_len, uint64_t edition,
+    kev_size mtu, const uint64_t *unasked, kev_size unasked_len, const uint64_t *unsent, kev_size unsent_len,
+    const uint64_t *ties, kev_size ties_len, uint64_t clock, uint8_t *digest, kev_size digest_len, uint8_t *delta,
+    kev_size delta_len, uint8_t *answers, kev_size answers_len);
 
 /* ---- the same calls on a table that every call kept: no check, and so no 14 */
 
 /* Numbers: 4. */
-uint64_t kev_good_add_node(uint8_t *table, size_t table_len, uint64_t node);
+uint64_t kev_good_add_node(uint8_t *table, kev_size table_len, uint64_t node);
 
 /* Numbers: 2. */
-uint64_t kev_good_remove_node(uint8_t *table, size_t table_len, uint64_t node);
+uint64_t kev_good_remove_node(uint8_t *table, kev_size table_len, uint64_t node);
 
 /* Numbers: none. */
-struct kev_heartbeat kev_good_last_heartbeat(const uint8_t *table, size_t table_len, uint64_t node);
+struct kev_heartbeat kev_good_last_heartbeat(const uint8_t *table, kev_size table_len, uint64_t node);
 
 /* Numbers: 10, 2, 1, 5, 6. */
 uint64_t kev_good_write(
-    uint8_t *table, size_t table_len, uint64_t node, const uint8_t *key, size_t key_len, const uint8_t *value,
-    size_t value_len, uint64_t wanted, uint64_t clock);
+    uint8_t *table, kev_size table_len, uint64_t node, const uint8_t *key, kev_size key_len, const uint8_t *value,
+    kev_size value_len, uint64_t wanted, uint64_t clock);
 
 /* Numbers: 2, 1, 3, 6. */
 uint64_t kev_good_delete(
-    uint8_t *table, size_t table_len, uint64_t node, const uint8_t *key, size_t key_len, uint64_t clock);
+    uint8_t *table, kev_size table_len, uint64_t node, const uint8_t *key, kev_size key_len, uint64_t clock);
 
 /* Numbers: 2, 1, 3, 6. */
 uint64_t kev_good_delete_after_ttl(
-    uint8_t *table, size_t table_len, uint64_t node, const uint8_t *key, size_t key_len, uint64_t clock);
+    uint8_t *table, kev_size table_len, uint64_t node, const uint8_t *key, kev_size key_len, uint64_t clock);
 
 /* Numbers: none. */
-uint64_t kev_good_remove_scheduled(uint8_t *table, size_t table_len, uint64_t clock, uint64_t grace);
+uint64_t kev_good_remove_scheduled(uint8_t *table, kev_size table_len, uint64_t clock, uint64_t grace);
 
 /* Numbers: 2. */
-struct kev_count kev_good_offer_heartbeat(uint8_t *table, size_t table_len, uint64_t node, uint64_t heartbeat);
+struct kev_count kev_good_offer_heartbeat(uint8_t *table, kev_size table_len, uint64_t node, uint64_t heartbeat);
 
 /* Numbers: 2, 6. */
-uint64_t kev_good_local_beat(uint8_t *table, size_t table_len, uint64_t node);
+uint64_t kev_good_local_beat(uint8_t *table, kev_size table_len, uint64_t node);
 
 /* Numbers: 2, 1. */
 struct kev_found kev_good_find(
-    const uint8_t *table, size_t table_len, uint64_t node, const uint8_t *key, size_t key_len);
+    const uint8_t *table, kev_size table_len, uint64_t node, const uint8_t *key, kev_size key_len);
 
 /* Numbers: 2, 1, 8. */
 struct kev_count kev_good_list_prefix(
-    const uint8_t *table, size_t table_len, uint64_t node, const uint8_t *prefix, size_t prefix_len, uint8_t *out,
-    size_t out_len);
+    const uint8_t *table, kev_size table_len, uint64_t node, const uint8_t *prefix, kev_size prefix_len, uint8_t *out,
+    kev_size out_len);
 
 /* Numbers: none. */
-struct kev_count kev_good_node_count(const uint8_t *table, size_t table_len);
+struct kev_count kev_good_node_count(const uint8_t *table, kev_size table_len);
 
 /* Numbers: 8. */
-struct kev_node kev_good_node_number(const uint8_t *table, size_t table_len, size_t i);
+struct kev_node kev_good_node_number(const uint8_t *table, kev_size table_len, kev_size i);
 
 /* Numbers: 2. */
-struct kev_header kev_good_node_header(const uint8_t *table, size_t table_len, uint64_t node);
+struct kev_header kev_good_node_header(const uint8_t *table, kev_size table_len, uint64_t node);
 
 /* Numbers: 2. */
-struct kev_count kev_good_record_count(const uint8_t *table, size_t table_len, uint64_t node);
+struct kev_count kev_good_record_count(const uint8_t *table, kev_size table_len, uint64_t node);
 
 /* Numbers: 2, 8. */
-struct kev_record kev_good_record_at(const uint8_t *table, size_t table_len, uint64_t node, size_t j);
+struct kev_record kev_good_record_at(const uint8_t *table, kev_size table_len, uint64_t node, kev_size j);
 
 /* Numbers: 8. */
-struct kev_record kev_good_record_of(const uint8_t *table, size_t table_len, size_t i, size_t j);
+struct kev_record kev_good_record_of(const uint8_t *table, kev_size table_len, kev_size i, kev_size j);
 
 /* Numbers: 2, 1. */
 struct kev_record kev_good_record_by_key(
-    const uint8_t *table, size_t table_len, uint64_t node, const uint8_t *key, size_t key_len);
+    const uint8_t *table, kev_size table_len, uint64_t node, const uint8_t *key, kev_size key_len);
+
+/* Numbers: 2. */
+struct kev_rows kev_good_node_rows(const uint8_t *table, kev_size table_len, uint64_t node);
+
+/* Numbers: 2, 1. */
+struct kev_rows kev_good_prefix_rows(
+    const uint8_t *table, kev_size table_len, uint64_t node, const uint8_t *prefix, kev_size prefix_len);
 
 /* Numbers: 2, 8. */
-struct kev_found kev_good_key_at(const uint8_t *table, size_t table_len, uint64_t node, size_t j);
+struct kev_found kev_good_key_at(const uint8_t *table, kev_size table_len, uint64_t node, kev_size j);
 
 /* Numbers: 2, 8. */
-struct kev_found kev_good_value_at(const uint8_t *table, size_t table_len, uint64_t node, size_t j);
+struct kev_found kev_good_value_at(const uint8_t *table, kev_size table_len, uint64_t node, kev_size j);
 
 /* Numbers: 20, 8. */
 struct kev_count kev_good_write_digest(
-    const uint8_t *table, size_t table_len, uint64_t edition, const uint64_t *excluded, size_t excluded_len,
-    uint8_t *datagram, size_t datagram_len, size_t place);
+    const uint8_t *table, kev_size table_len, uint64_t edition, const uint64_t *excluded, kev_size excluded_len,
+    uint8_t *datagram, kev_size datagram_len, kev_size place);
 
 /* Numbers: 20, 7, 8, 15, 9, 13. */
 struct kev_computed kev_good_compute(
-    const uint8_t *table, size_t table_len, uint64_t edition, const uint8_t *digest, size_t digest_len, size_t mtu,
-    const uint64_t *excluded, size_t excluded_len, const uint64_t *ties, size_t ties_len, uint8_t *datagram,
-    size_t datagram_len, size_t place);
+    const uint8_t *table, kev_size table_len, uint64_t edition, const uint8_t *digest, kev_size digest_len, kev_size mtu,
+    const uint64_t *excluded, kev_size excluded_len, const uint64_t *ties, kev_size ties_len, uint8_t *datagram,
+    kev_size datagram_len, kev_size place);
 
 /* Numbers: 13, 9, 1, 10, 11, 12, 8. */
 struct kev_applied kev_good_apply(
-    uint8_t *table, size_t table_len, const uint8_t *delta, size_t delta_len, uint64_t clock, uint8_t *answers,
-    size_t answers_len);
+    uint8_t *table, kev_size table_len, const uint8_t *delta, kev_size delta_len, uint64_t clock, uint8_t *answers,
+    kev_size answers_len);
 
 #ifdef __cplusplus
 }

@@ -68,7 +68,7 @@ static void local_calls(void) {
     GIVES(KEV_BAD_TABLE, kev_new_table(T(brief), KEV_PLAIN));
     CHECK(same(brief));
     GIVES(KEV_BAD_TABLE, kev_new_table(T(table), 3));
-    GIVES(KEV_BAD_TABLE, kev_new_table(T(table), (size_t)-1));
+    GIVES(KEV_BAD_TABLE, kev_new_table(T(table), (kev_size)-1));
     CHECK(same(table));
     GIVES(KEV_BAD_TABLE, kev_check(T(table)));
     GIVES(0, kev_new_table(T(table), KEV_GUARDED));
@@ -156,7 +156,7 @@ static void local_calls(void) {
     CHECK(kev_node_count(T(table)).count == 7 && kev_good_node_count(T(table)).count == 7);
     CHECK(kev_node_number(T(table), 6).node == 16 && kev_good_node_number(T(table), 6).node == 16);
     GIVES(KEV_NO_PLACE, kev_node_number(T(table), 7).number);
-    GIVES(KEV_NO_PLACE, kev_good_node_number(T(table), (size_t)-1).number);
+    GIVES(KEV_NO_PLACE, kev_good_node_number(T(table), (kev_size)-1).number);
     struct kev_header h = kev_node_header(T(table), 10), k = kev_good_node_header(T(table), 10);
     CHECK(h.number == 0 && h.max == 5 && h.last_gc == 0 && h.heartbeat == 0 && memcmp(&h, &k, sizeof h) == 0);
     GIVES(KEV_NO_NODE, kev_node_header(T(table), 99).number);
@@ -177,6 +177,28 @@ static void local_calls(void) {
     GIVES(KEV_NO_PLACE, kev_good_record_of(T(table), 7, 0).number);
     GIVES(KEV_NO_PLACE, kev_record_at(T(table), 10, 3).number);
     GIVES(KEV_NO_NODE, kev_record_at(T(table), 99, 0).number);
+    /* rows: every record of the node, hidden ones too, as the call for one record tells it; of a prefix those that begin with it */
+    struct kev_rows all = kev_node_rows(T(table), 10), known = kev_good_node_rows(T(table), 10), some;
+    CHECK(all.number == 0 && all.count == 3 && memcmp(&all, &known, sizeof all) == 0);
+    for (size_t i = 0; i < all.count; i++) {
+        r = kev_record_at(T(table), 10, i);
+        s = kev_row(table.at, all, i);
+        CHECK(memcmp(&r, &s, sizeof r) == 0);
+    }
+    GIVES(KEV_NO_NODE, kev_node_rows(T(table), 99).number);
+    GIVES(KEV_NO_NODE, kev_good_node_rows(T(table), 99).number);
+    some = kev_prefix_rows(T(table), 10, TEXT("tar"));
+    known = kev_good_prefix_rows(T(table), 10, TEXT("tar"));
+    CHECK(some.number == 0 && some.count == 1 && some.at == all.at + KEV_ROW && memcmp(&some, &known, sizeof some) == 0);
+    some = kev_prefix_rows(T(table), 10, TEXT("ta"));
+    CHECK(some.number == 0 && some.count == 2 && some.at == all.at && kev_row(table.at, some, 0).status == KEV_DELETE);
+    some = kev_prefix_rows(T(table), 10, NO_BYTES);
+    CHECK(some.number == 0 && some.count == 3 && some.at == all.at);
+    some = kev_prefix_rows(T(table), 10, TEXT("z"));
+    CHECK(some.number == 0 && some.count == 0 && some.at == all.at + 3 * KEV_ROW);
+    GIVES(KEV_NO_NODE, kev_prefix_rows(T(table), 99, TEXT("t")).number);
+    GIVES(KEV_TOO_LONG, kev_prefix_rows(T(table), 10, TEXT(long_key)).number);
+    GIVES(KEV_TOO_LONG, kev_good_prefix_rows(T(table), 10, TEXT(long_key)).number);
     r = kev_record_by_key(T(table), 10, TEXT("tariff"));
     s = kev_good_record_by_key(T(table), 10, TEXT("tariff"));
     CHECK(r.found == 1 && r.status == KEV_TTL && r.start == 5 && memcmp(&r, &s, sizeof r) == 0);
@@ -219,6 +241,8 @@ static void local_calls(void) {
     GIVES(KEV_BAD_TABLE, kev_record_count(T(table), 10).number);
     GIVES(KEV_BAD_TABLE, kev_record_at(T(table), 10, 0).number);
     GIVES(KEV_BAD_TABLE, kev_record_of(T(table), 0, 0).number);
+    GIVES(KEV_BAD_TABLE, kev_node_rows(T(table), 10).number);
+    GIVES(KEV_BAD_TABLE, kev_prefix_rows(T(table), 10, TEXT("a")).number);
     GIVES(KEV_BAD_TABLE, kev_record_by_key(T(table), 10, TEXT("a")).number);
     GIVES(KEV_BAD_TABLE, kev_key_at(T(table), 10, 0).number);
     GIVES(KEV_BAD_TABLE, kev_value_at(T(table), 10, 0).number);

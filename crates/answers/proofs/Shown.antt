@@ -20,7 +20,7 @@ use Rattle.digest_read.specs.Told.{placeValues, answerTold}
 use Rattle.digest_read.specs.declared.NodeDigest.{NodeDigest as Place}
 use Rattle.digest_read.specs.declared.DigestRead.the-variants as digest
 use Rattle.exchange.specs.Exchanging.{stepCode, exchangedTold}
-use Rattle.exchange.specs.declared.Step.{Step}
+use Rattle.exchange_ask.specs.declared.Step.{Step}
 use Rattle.exchange.specs.declared.Exchanged.the-variants as exchanged
 use Rattle.answers.specs.Shown.{valueAt, digestShown, entryShown, noEntry, placeShown, deltaShown, appliedShown, exchangedShown}
 use Rattle.answers.specs.declared.KevDigest.{KevDigest}

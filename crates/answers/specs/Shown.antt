@@ -22,6 +22,7 @@ use Rattle.answers.specs.declared.KevHeartbeat.{KevHeartbeat}
 use Rattle.answers.specs.declared.KevFound.{KevFound}
 use Rattle.answers.specs.declared.KevHeader.{KevHeader}
 use Rattle.answers.specs.declared.KevRecord.{KevRecord}
+use Rattle.answers.specs.declared.KevRows.{KevRows}
 use Rattle.answers.specs.declared.KevDigest.{KevDigest}
 use Rattle.answers.specs.declared.KevEntry.{KevEntry}
 use Rattle.answers.specs.declared.KevComputed.{KevComputed}
@@ -89,6 +90,9 @@ recordShown t =
 
 abbrev pub noRecord : (number : ℕ) → KevRecord
 noRecord n = record { number = n; found = 0; «key_at» = 0; «value_at» = 0; keylen = 0; valuelen = 0; version = 0; status = 0; start = 0 }
+
+abbrev pub rowsShown : (told : Told) → KevRows
+rowsShown t = record { number = t .number; at = valueAt 0 (t .values); count = valueAt 1 (t .values) }
 
 -- ---- digests
 

@@ -4,11 +4,12 @@ use delta_make::Made;
 use digest_read::Digest;
 use digest_read::DigestRead;
 use exchange::Exchanged;
-use exchange::Step;
+use exchange_ask::Step;
 use inspect::Count;
 use inspect::NodeHeader;
 use inspect::NodeNumber;
 use inspect::RecordRead;
+use inspect::Rows;
 use lookup::Found;
 use rules::Answer;
 use rules::Applied;
@@ -23,10 +24,10 @@ use rules::sizes;
 ghost use mathlib.Core.Path.{_≡_};
 ghost use Rattle.rules.specs.Answers.{answerTold, offeredTold, rememberedTold, listedTold, writtenTold, computedTold, readTold, appliedTold};
 ghost use Rattle.lookup.specs.Told.{foundTold};
-ghost use Rattle.inspect.specs.Told.{countTold, nodeNumberTold, nodeHeaderTold, recordReadTold};
+ghost use Rattle.inspect.specs.Told.{countTold, nodeNumberTold, nodeHeaderTold, recordReadTold, rowsTold};
 ghost use Rattle.digest_read.specs.Told.{digestTold};
 ghost use Rattle.exchange.specs.Exchanging.{exchangedTold, stepCode};
-ghost use Rattle.answers.specs.Shown.{numberShown, countShown, nodeShown, heartbeatShown, foundShown, headerShown, recordShown, noRecord};
+ghost use Rattle.answers.specs.Shown.{numberShown, countShown, nodeShown, heartbeatShown, foundShown, headerShown, recordShown, rowsShown, noRecord};
 ghost use Rattle.answers.specs.Shown.{digestShown, entryShown, noEntry, computedShown, deltaShown, appliedShown, exchangedShown, madeShown};
 
 // A count: of nodes, records, hits or bytes; of an offer, 1 where it was news.
@@ -81,6 +82,14 @@ pub struct KevRecord {
     pub version: u64,
     pub status: usize,
     pub start: u64,
+}
+
+// Records of a node in one piece: where the first of them begins in the lent table, and how many there are.
+#[repr(C)]
+pub struct KevRows {
+    pub number: u64,
+    pub at: usize,
+    pub count: usize,
 }
 
 // How many nodes a digest tells of, and where the bytes behind it begin; with 9, how many bytes the field lacks in which its bytes end.
@@ -298,6 +307,23 @@ pub fn header(read: NodeHeader) -> KevHeader
             heartbeat: 0,
             max: 0,
             last_gc: 0,
+        },
+    }
+}
+
+pub fn rows(read: Rows) -> KevRows
+    ensures { λ r. ⌜ r ≡ rowsShown (rowsTold read) ⌝ }
+{
+    match read {
+        Rows::Are { at, count } => KevRows {
+            number: 0,
+            at,
+            count,
+        },
+        Rows::Refused(why) => KevRows {
+            number: why.number(),
+            at: 0,
+            count: 0,
         },
     }
 }

@@ -83,7 +83,7 @@ fn apply_node(
     ensures { λ r. ⌜ Gives (nodeApplied mode clock (deltaOf (now (delta .entry)) «last_gc» from max at) (now (node .entry))) r (now (node .exit)) ⌝ }
 {
     let own = table_read::read_header(node);
-    let status = rules::check_delta_status(mode, own.last_gc, own.max, from, last_gc, max);
+    let status = delta_status::check_delta_status(mode, own.last_gc, own.max, from, last_gc, max);
     if is_left(status) {
         return answer_as(status, true);
     }

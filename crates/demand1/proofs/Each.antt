@@ -50,22 +50,25 @@ use Rattle.nodes.specs.New.{lentMade}
 use Rattle.lookup.specs.Lookup.{findRec, foundIn}
 use Rattle.lookup.specs.Told.{foundTold}
 use Rattle.lookup.specs.declared.Found.the-variants as found
-use Rattle.inspect.specs.Look.{elementAt, nodeCount, nodeHeader, nodeNumber, readKey, readRecord, recordByKey, recordCount, recordOfPlaces}
-use Rattle.inspect.specs.Told.{countTold, nodeHeaderTold, nodeNumberTold, recordReadTold}
+use Rattle.inspect.specs.Look.{elementAt, nodeCount, nodeHeader, nodeNumber, readKey, readRecord, recordByKey, recordCount, recordOfPlaces, nodeRows}
+use Rattle.inspect.specs.Told.{countTold, nodeHeaderTold, nodeNumberTold, recordReadTold, rowsTold}
 use Rattle.inspect.specs.declared.Count.the-variants as count
 use Rattle.inspect.specs.declared.NodeHeader.the-variants as header
 use Rattle.inspect.specs.declared.NodeNumber.the-variants as number
 use Rattle.inspect.specs.declared.RecordRead.the-variants as rec
+use Rattle.inspect.specs.declared.Rows.the-variants as rows
+use Rattle.prefix.specs.Rows.{prefixRows}
 use Rattle.inspect_text.specs.Texts.{textFound}
 use Rattle.inspect_text.specs.declared.Text.the-variants as text
 use Rattle.digest_read.specs.Held.{digestIn}
 use Rattle.digest_read.specs.Told.{digestTold}
 use Rattle.compute.specs.Asking.{askedOf}
-use Rattle.exchange.specs.Exchanging.{Lending, afterAsking, exchangedTold, lending, lentExchange, readyFor, readyOn, roomsFor, roomsOf}
+use Rattle.exchange.specs.Exchanging.{Lending, afterAsking, exchangedTold, lending, lentExchange, roomsOf}
+use Rattle.exchange_ask.specs.Asking.{readyFor, readyOn, roomsFor}
 use Rattle.exchange.specs.declared.Exchanged.{Exchanged}
-use Rattle.exchange.specs.declared.Step.the-variants.{Delta, Digest}
-use Rattle.exchange.specs.declared.Ready.{Ready}
-use Rattle.exchange.specs.declared.Ready.the-variants as ready
+use Rattle.exchange_ask.specs.declared.Step.the-variants.{Delta, Digest}
+use Rattle.exchange_ask.specs.declared.Ready.{Ready}
+use Rattle.exchange_ask.specs.declared.Ready.the-variants as ready
 use Rattle.exchange.proofs.Refusing.{is-ready, ready-done}
 use Rattle.demand1.specs.Calls as calls
 
@@ -391,6 +394,23 @@ keyed =
     and (calls.record-by-key (lent newly) (zeros 33) seven, from-good (λ a. recordReadTold a .number) (rec.Refused BadTable) (recordByKey 7 (zeros 33)) newly newly-obeys 1 refl)
     and no-more
 
+all-rows : AllShown calls.NodeRows (calls.possible calls.NodeRows)
+unfolding calls.leaves calls.refusals rowsTold nodeOf
+all-rows =
+    (calls.node-rows (lent newly) seven, from-good (λ a. rowsTold a .number) (rows.Refused BadTable) (nodeRows 7) newly newly-obeys 0 refl)
+    and (calls.node-rows [] seven, from-bad (λ a. rowsTold a .number) (rows.Refused BadTable) (nodeRows 7) 14 refl)
+    and (calls.node-rows (lent []) seven, from-good (λ a. rowsTold a .number) (rows.Refused BadTable) (nodeRows 7) [] none-obeys 2 refl)
+    and no-more
+
+some-rows : AllShown calls.PrefixRows (calls.possible calls.PrefixRows)
+unfolding calls.leaves calls.refusals rowsTold nodeOf zeros
+some-rows =
+    (calls.prefix-rows (lent newly) [] seven, from-good (λ a. rowsTold a .number) (rows.Refused BadTable) (prefixRows 7 []) newly newly-obeys 0 refl)
+    and (calls.prefix-rows [] [] seven, from-bad (λ a. rowsTold a .number) (rows.Refused BadTable) (prefixRows 7 []) 14 refl)
+    and (calls.prefix-rows (lent []) [] seven, from-good (λ a. rowsTold a .number) (rows.Refused BadTable) (prefixRows 7 []) [] none-obeys 2 refl)
+    and (calls.prefix-rows (lent newly) (zeros 33) seven, from-good (λ a. rowsTold a .number) (rows.Refused BadTable) (prefixRows 7 (zeros 33)) newly newly-obeys 1 refl)
+    and no-more
+
 texts : AllShown calls.FindText (calls.possible calls.FindText)
 unfolding calls.leaves calls.refusals foundTold nodeOf elementAt
 texts =
@@ -545,6 +565,8 @@ all-shown calls.RecordCount = record-counts
 all-shown calls.RecordAt = records-at
 all-shown calls.RecordOf = records-of
 all-shown calls.RecordByKey = keyed
+all-shown calls.NodeRows = all-rows
+all-shown calls.PrefixRows = some-rows
 all-shown calls.FindText = texts
 all-shown calls.WriteDigest = digests
 all-shown calls.ReadDigest = digest-reads

@@ -37,9 +37,10 @@ use Rattle.table.proofs.Wholes.{area-valid, valid-encode-whole, without-memory}
 use Rattle.table.proofs.Wholes as valid
 use Rattle.apply.proofs.Applied.{reads-is}
 use Rattle.nodes.specs.New.{lentMade}
-use Rattle.exchange.specs.Exchanging.{Lending, afterAsking, afterComputing, afterDigesting, lentAnswer, lentExchange, readyFor, roomsOf, threeCalls, lending}
-use Rattle.exchange.specs.declared.Ready.{Ready}
-use Rattle.exchange.specs.declared.Ready.the-variants as ready
+use Rattle.exchange.specs.Exchanging.{Lending, afterAsking, afterComputing, afterDigesting, lentAnswer, lentExchange, roomsOf, threeCalls, lending}
+use Rattle.exchange_ask.specs.Asking.{readyFor}
+use Rattle.exchange_ask.specs.declared.Ready.{Ready}
+use Rattle.exchange_ask.specs.declared.Ready.the-variants as ready
 use Rattle.exchange.proofs.Refusing.{IsReady, delta-made, delta-read, digest-told, ds, is-ready, sent}
 use Rattle.demand1.specs.Calls as calls
 
@@ -178,6 +179,8 @@ obeying (calls.record-count t i) = λ e. e
 obeying (calls.record-at t i j) = λ e. e
 obeying (calls.record-of t i j) = λ e. e
 obeying (calls.record-by-key t k i) = λ e. e
+obeying (calls.node-rows t i) = λ e. e
+obeying (calls.prefix-rows t k i) = λ e. e
 obeying (calls.find-text t i j x) = λ e. e
 obeying (calls.write-digest t edition excluded datagram place) = λ e. e
 obeying (calls.read-digest edition digest) = λ e. e

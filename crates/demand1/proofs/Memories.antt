@@ -22,9 +22,10 @@ use Rattle.rules.specs.declared.Refusal.the-variants.{BadTable}
 use Rattle.rules.specs.declared.Written.{Written}
 use Rattle.rules.proofs.Refusing.{whole-bytes}
 use Rattle.table.proofs.Wholes.{whole-tail}
-use Rattle.exchange.specs.Exchanging.{Lending, afterAsking, afterComputing, afterDigesting, lentAnswer, lentExchange, lending, readyFor, roomsOf, threeCalls}
-use Rattle.exchange.specs.declared.Ready.{Ready}
-use Rattle.exchange.specs.declared.Ready.the-variants as ready
+use Rattle.exchange.specs.Exchanging.{Lending, afterAsking, afterComputing, afterDigesting, lentAnswer, lentExchange, lending, roomsOf, threeCalls}
+use Rattle.exchange_ask.specs.Asking.{readyFor}
+use Rattle.exchange_ask.specs.declared.Ready.{Ready}
+use Rattle.exchange_ask.specs.declared.Ready.the-variants as ready
 use Rattle.exchange.proofs.Refusing.{IsReady, delta-made, digest-told, is-ready}
 use Rattle.demand1.specs.Calls as calls
 use Rattle.demand1.specs.Demand1.{memoriesIn}
@@ -105,6 +106,8 @@ remembered (calls.record-count t i) e = refl
 remembered (calls.record-at t i j) e = refl
 remembered (calls.record-of t i j) e = refl
 remembered (calls.record-by-key t k i) e = refl
+remembered (calls.node-rows t i) e = refl
+remembered (calls.prefix-rows t k i) e = refl
 remembered (calls.find-text t i j x) e = refl
 remembered (calls.write-digest t edition excluded datagram place) e = refl
 remembered (calls.read-digest edition digest) e = refl

@@ -37,10 +37,11 @@ use Rattle.rules.specs.declared.Written.the-variants as written
 use Rattle.rules.proofs.Refusing.{beat-refused, call-refused, compute-refused, digest-refused, lent-apply-refused, lent-refused, offer-refused, prefixed-refused, write-refused}
 use Rattle.rules.proofs.Memories.{add-whole-refused, remove-whole-refused, whole-refused}
 use Rattle.nodes.specs.New.{lentMade}
-use Rattle.exchange.specs.Exchanging.{ExchangeLent, Lending, afterAsking, allFour, exchangedTold, lending, lentExchange, readyFor, roomsOf}
+use Rattle.exchange.specs.Exchanging.{ExchangeLent, Lending, afterAsking, allFour, exchangedTold, lending, lentExchange, roomsOf}
+use Rattle.exchange_ask.specs.Asking.{readyFor}
 use Rattle.exchange.specs.declared.Exchanged.{Exchanged}
-use Rattle.exchange.specs.declared.Ready.{Ready}
-use Rattle.exchange.specs.declared.Ready.the-variants as ready
+use Rattle.exchange_ask.specs.declared.Ready.{Ready}
+use Rattle.exchange_ask.specs.declared.Ready.the-variants as ready
 use Rattle.exchange.proofs.Refusing.{is-ready, ready-done}
 use Rattle.demand1.specs.Calls as calls
 
@@ -189,6 +190,8 @@ nothing (calls.record-count t i) h = refl
 nothing (calls.record-at t i j) h = refl
 nothing (calls.record-of t i j) h = refl
 nothing (calls.record-by-key t k i) h = refl
+nothing (calls.node-rows t i) h = refl
+nothing (calls.prefix-rows t k i) h = refl
 nothing (calls.find-text t i j x) h = refl
 nothing (calls.write-digest t edition excluded datagram place) h =
     ap (λ (u : Bytes). t ∷ excluded ∷ u ∷ [])

@@ -46,23 +46,26 @@ use Rattle.nodes.specs.New.{lentMade}
 use Rattle.lookup.specs.Lookup.{findOn, findRec, foundIn, valuePlace}
 use Rattle.lookup.specs.Told.{foundTold}
 use Rattle.lookup.specs.declared.Found.the-variants as found
-use Rattle.inspect.specs.Look.{elementAt, headerOn, nodeCount, nodeHeader, nodeNumber, numberOn, readAt, readKey, readRec, readRecord, recordByKey, recordByKeyOn, recordCount, recordIn, recordOfPlaces, recordOn, recordsOn}
-use Rattle.inspect.specs.Told.{countTold, nodeHeaderTold, nodeNumberTold, recordReadTold}
+use Rattle.inspect.specs.Look.{elementAt, headerOn, nodeCount, nodeHeader, nodeNumber, numberOn, readAt, readKey, readRec, readRecord, recordByKey, recordByKeyOn, recordCount, recordIn, recordOfPlaces, recordOn, recordsOn, rowsOn, nodeRows}
+use Rattle.inspect.specs.Told.{countTold, nodeHeaderTold, nodeNumberTold, recordReadTold, rowsTold}
 use Rattle.inspect.specs.declared.Count.the-variants as count
 use Rattle.inspect.specs.declared.NodeHeader.the-variants as header
 use Rattle.inspect.specs.declared.NodeNumber.the-variants as number
 use Rattle.inspect.specs.declared.RecordRead.the-variants as rec
+use Rattle.inspect.specs.declared.Rows.the-variants as rows
+use Rattle.prefix.specs.Rows.{runRows, prefixRowsOn, prefixRows}
 use Rattle.inspect_text.specs.Texts.{placeOn, textFound, textOn}
 use Rattle.inspect_text.specs.declared.Text.{Text}
 use Rattle.digest_read.specs.Held.{digestIn, heldOf}
 use Rattle.digest_read.specs.Told.{digestTold}
 use Rattle.compute.specs.Asking.{askedOf, isFree, mtuFits}
 use Rattle.compute.specs.declared.Asked.the-variants as asked
-use Rattle.exchange.specs.Exchanging.{Lending, Rooms, afterAsking, exchangedTold, lending, lentExchange, readyFor, readyOn, roomsFor, roomsOf, unlessRefused}
+use Rattle.exchange.specs.Exchanging.{Lending, afterAsking, exchangedTold, lending, lentExchange, roomsOf}
+use Rattle.exchange_ask.specs.Asking.{Rooms, readyFor, readyOn, roomsFor, unlessRefused}
 use Rattle.exchange.specs.declared.Exchanged.{Exchanged}
-use Rattle.exchange.specs.declared.Ready.{Ready}
-use Rattle.exchange.specs.declared.Ready.the-variants as ready
-use Rattle.exchange.specs.declared.Step.the-variants.{Applying, Delta, Digest}
+use Rattle.exchange_ask.specs.declared.Ready.{Ready}
+use Rattle.exchange_ask.specs.declared.Ready.the-variants as ready
+use Rattle.exchange_ask.specs.declared.Step.the-variants.{Applying, Delta, Digest}
 use Rattle.rules.proofs.Writing.{write-is}
 use Rattle.exchange.proofs.Refusing.{is-ready, ready-done}
 use Rattle.demand1.specs.Calls as calls
@@ -375,6 +378,26 @@ keyed i k l =
     go start none = refl
     go start (some n) = limit start n (leb (length k) maxKey)
 
+all-rows : (i : ℕ) (l : Bytes) → Of calls.NodeRows (rowsTold (fromTable (rows.Refused BadTable) (nodeRows i) l))
+unfolding rowsTold among calls.refusals
+all-rows i l = from-table (λ a. Of calls.NodeRows (rowsTold a)) (rows.Refused BadTable) (nodeRows i) refl (λ t. go (nodeStart i t) (nodeOf i t)) l
+  where
+    go : (start : ℕ) (o : Option Node) → Of calls.NodeRows (rowsTold (rowsOn start o))
+    go start none = refl
+    go start (some n) = refl
+
+some-rows : (i : ℕ) (k l : Bytes) → Of calls.PrefixRows (rowsTold (fromTable (rows.Refused BadTable) (prefixRows i k) l))
+unfolding rowsTold among calls.refusals
+some-rows i k l = from-table (λ a. Of calls.PrefixRows (rowsTold a)) (rows.Refused BadTable) (prefixRows i k) refl (λ t. go (nodeStart i t) (nodeOf i t)) l
+  where
+    limit : (start : ℕ) (n : Node) (b : Bool) → Of calls.PrefixRows (rowsTold (pick b (runRows k start (n .recs)) (rows.Refused TooLong)))
+    limit start n true = refl
+    limit start n false = refl
+
+    go : (start : ℕ) (o : Option Node) → Of calls.PrefixRows (rowsTold (prefixRowsOn k start o))
+    go start none = refl
+    go start (some n) = limit start n (leb (length k) maxKey)
+
 texts : (x : Text) (i j : ℕ) (l : Bytes) → Of calls.FindText (foundTold (fromTable (found.Refused BadTable) (textFound x i j) l))
 unfolding foundTold among calls.refusals
 texts x i j l =
@@ -553,6 +576,8 @@ no-other (calls.record-count t i) = record-counts (i .value) t
 no-other (calls.record-at t i j) = records (i .value) j t
 no-other (calls.record-of t i j) = record-places i j t
 no-other (calls.record-by-key t k i) = keyed (i .value) k t
+no-other (calls.node-rows t i) = all-rows (i .value) t
+no-other (calls.prefix-rows t k i) = some-rows (i .value) k t
 no-other (calls.find-text t i j x) = texts x (i .value) j t
 no-other (calls.write-digest t edition excluded datagram place) = digests edition excluded place datagram t
 no-other (calls.read-digest edition digest) = digest-reads edition digest

@@ -15,8 +15,9 @@ use Rattle.rules.specs.declared.Mode.{Mode}
 use Rattle.nodes.specs.New.{lentMade}
 use Rattle.lookup.specs.Lookup.{lentFind}
 use Rattle.lookup.specs.Told.{foundTold}
-use Rattle.inspect.specs.Look.{lentNodeCount, lentNodeNumber, lentNodeHeader, lentRecordCount, lentReadRecord, lentRecordOf, lentRecordByKey}
-use Rattle.inspect.specs.Told.{countTold, nodeNumberTold, nodeHeaderTold, recordReadTold}
+use Rattle.inspect.specs.Look.{lentNodeCount, lentNodeNumber, lentNodeHeader, lentRecordCount, lentReadRecord, lentRecordOf, lentRecordByKey, lentNodeRows}
+use Rattle.inspect.specs.Told.{countTold, nodeNumberTold, nodeHeaderTold, recordReadTold, rowsTold}
+use Rattle.prefix.specs.Rows.{lentPrefixRows}
 use Rattle.inspect_text.specs.Texts.{lentTextFound}
 use Rattle.inspect_text.specs.declared.Text.{Text}
 use Rattle.digest_read.specs.Held.{digestIn}
@@ -56,6 +57,8 @@ pub data Kind : Type 0 where
   RecordAt : Kind
   RecordOf : Kind
   RecordByKey : Kind
+  NodeRows : Kind
+  PrefixRows : Kind
   FindText : Kind
   WriteDigest : Kind
   ReadDigest : Kind
@@ -87,6 +90,8 @@ pub data Call : Kind → Type 0 where
   record-at : (table : Bytes) (number : U64) (j : ℕ) → Call RecordAt
   record-of : (table : Bytes) (i j : ℕ) → Call RecordOf
   record-by-key : (table key : Bytes) (number : U64) → Call RecordByKey
+  node-rows : (table : Bytes) (number : U64) → Call NodeRows
+  prefix-rows : (table prefix : Bytes) (number : U64) → Call PrefixRows
   find-text : (table : Bytes) (number : U64) (j : ℕ) (text : Text) → Call FindText
   write-digest : (table : Bytes) (edition : ℕ) (excluded : List ℕ) (datagram : Bytes) (place : ℕ) → Call WriteDigest
   read-digest : (edition : ℕ) (digest : Bytes) → Call ReadDigest
@@ -117,6 +122,8 @@ lentTo (record-count t i) = t ∷ []
 lentTo (record-at t i j) = t ∷ []
 lentTo (record-of t i j) = t ∷ []
 lentTo (record-by-key t k i) = t ∷ k ∷ []
+lentTo (node-rows t i) = t ∷ []
+lentTo (prefix-rows t k i) = t ∷ k ∷ []
 lentTo (find-text t i j x) = t ∷ []
 lentTo (write-digest t edition excluded datagram place) = t ∷ excluded ∷ datagram ∷ []
 lentTo (read-digest edition digest) = digest ∷ []
@@ -151,6 +158,8 @@ tables RecordCount = 1
 tables RecordAt = 1
 tables RecordOf = 1
 tables RecordByKey = 1
+tables NodeRows = 1
+tables PrefixRows = 1
 tables FindText = 1
 tables WriteDigest = 1
 tables Compute = 1
@@ -184,6 +193,8 @@ leaves (record-count t i) = given (countTold (lentRecordCount (i .value) t)) (t 
 leaves (record-at t i j) = given (recordReadTold (lentReadRecord (i .value) j t)) (t ∷ [])
 leaves (record-of t i j) = given (recordReadTold (lentRecordOf i j t)) (t ∷ [])
 leaves (record-by-key t k i) = given (recordReadTold (lentRecordByKey (i .value) k t)) (t ∷ k ∷ [])
+leaves (node-rows t i) = given (rowsTold (lentNodeRows (i .value) t)) (t ∷ [])
+leaves (prefix-rows t k i) = given (rowsTold (lentPrefixRows (i .value) k t)) (t ∷ k ∷ [])
 leaves (find-text t i j x) = given (foundTold (lentTextFound x (i .value) j t)) (t ∷ [])
 leaves (write-digest t edition excluded datagram place) = asTold writtenTold (λ u. t ∷ excluded ∷ u ∷ []) (lentDigest edition excluded place datagram t)
 leaves (read-digest edition digest) = given (digestTold (digestIn edition digest)) (digest ∷ [])
@@ -218,6 +229,8 @@ refusals RecordCount = 14 ∷ 2 ∷ []
 refusals RecordAt = 14 ∷ 2 ∷ 8 ∷ []
 refusals RecordOf = 14 ∷ 8 ∷ []
 refusals RecordByKey = 14 ∷ 2 ∷ 1 ∷ []
+refusals NodeRows = 14 ∷ 2 ∷ []
+refusals PrefixRows = 14 ∷ 2 ∷ 1 ∷ []
 refusals FindText = 14 ∷ 2 ∷ 8 ∷ []
 refusals WriteDigest = 14 ∷ 20 ∷ 8 ∷ []
 refusals ReadDigest = 20 ∷ 9 ∷ 13 ∷ []
@@ -249,6 +262,8 @@ remembers RecordCount = false
 remembers RecordAt = false
 remembers RecordOf = false
 remembers RecordByKey = false
+remembers NodeRows = false
+remembers PrefixRows = false
 remembers FindText = false
 remembers WriteDigest = false
 remembers ReadDigest = false

@@ -18,10 +18,11 @@ use Rattle.rules.specs.declared.Applied.{Applied}
 use Rattle.rules.specs.declared.Applied.the-variants as applied
 use Rattle.demand3.specs.World.{Applying, Computing, DeltaSent, DigestSent, Digesting, Event, Exchange, afterDelta, afterDigest, sentAfter}
 use Rattle.demand3.specs.Demand3.{noRoom, wroteDelta, wroteDigest}
-use Rattle.exchange.specs.Exchanging.{ExchangeLent, Lending, afterAsking, afterComputing, afterDigesting, exchangedAs, lentAnswer, lentExchange, readyFor, roomsOf, threeCalls, withDigest}
+use Rattle.exchange.specs.Exchanging.{ExchangeLent, Lending, afterAsking, afterComputing, afterDigesting, exchangedAs, lentAnswer, lentExchange, roomsOf, threeCalls, withDigest}
+use Rattle.exchange_ask.specs.Asking.{readyFor}
 use Rattle.exchange.specs.declared.Exchanged.{Exchanged}
-use Rattle.exchange.specs.declared.Ready.{Ready}
-use Rattle.exchange.specs.declared.Ready.the-variants as ready
+use Rattle.exchange_ask.specs.declared.Ready.{Ready}
+use Rattle.exchange_ask.specs.declared.Ready.the-variants as ready
 use Rattle.exchange.proofs.Refusing.{digest-told, is-ready, ready-done}
 use Rattle.demand3_bytes.specs.LentWorld.{LentWorld, lentAfter, lentCalls, lentHappen, onWay}
 use Rattle.demand3_bytes.specs.LentDemand3.{lentGranted}

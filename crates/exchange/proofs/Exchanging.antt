@@ -19,11 +19,12 @@ use Rattle.rules.specs.declared.Computed.the-variants as computed
 use Rattle.rules.specs.declared.Applied.{Applied}
 use Rattle.compute.proofs.Calling.{good-table}
 use Rattle.digest_write.proofs.Outcomes as Outcomes
-use Rattle.exchange.specs.Exchanging.{AnswerLent, Lending, afterApplying, afterAsking, allFour, allThree, exchangedAs, lentAnswer, lentExchange, readyFor, roomsOf, threeCalls, withDigest}
-use Rattle.exchange.specs.declared.Step.{Step}
-use Rattle.exchange.specs.declared.Step.the-variants.{Delta, Digest}
-use Rattle.exchange.specs.declared.Ready.{Ready}
-use Rattle.exchange.specs.declared.Ready.the-variants as ready
+use Rattle.exchange.specs.Exchanging.{AnswerLent, Lending, afterApplying, afterAsking, allFour, allThree, exchangedAs, lentAnswer, lentExchange, roomsOf, threeCalls, withDigest}
+use Rattle.exchange_ask.specs.Asking.{readyFor}
+use Rattle.exchange_ask.specs.declared.Step.{Step}
+use Rattle.exchange_ask.specs.declared.Step.the-variants.{Delta, Digest}
+use Rattle.exchange_ask.specs.declared.Ready.{Ready}
+use Rattle.exchange_ask.specs.declared.Ready.the-variants as ready
 use Rattle.exchange.specs.declared.Exchanged.{Exchanged}
 use Rattle.exchange.specs.declared.Exchanged.the-variants as exchanged
 use Rattle.exchange.proofs.Datagrams.{delta-within, digest-within}

@@ -1,5 +1,4 @@
 pub mod Datagrams
-pub mod Asking
 pub mod FewNodes
 pub mod Refusing
 pub mod Exchanging

@@ -32,9 +32,10 @@ use Rattle.compute.specs.Asking.{askedOf}
 use Rattle.compute.specs.declared.Asked.{Asked}
 use Rattle.compute.specs.declared.Asked.the-variants as asked
 use Rattle.compute.proofs.Calling.{by-delta, good-table, granted, in-edition}
-use Rattle.exchange.specs.Exchanging.{Lending, afterComputing, afterDigesting, exchangedAs, lentAnswer, readyFor, readyOn, roomsFor, roomsOf, threeCalls, unlessRefused}
-use Rattle.exchange.specs.declared.Step.the-variants.{Applying, Delta, Digest}
-use Rattle.exchange.specs.declared.Ready.the-variants as ready
+use Rattle.exchange.specs.Exchanging.{Lending, afterComputing, afterDigesting, exchangedAs, lentAnswer, roomsOf, threeCalls}
+use Rattle.exchange_ask.specs.Asking.{readyFor, readyOn, roomsFor, unlessRefused}
+use Rattle.exchange_ask.specs.declared.Step.the-variants.{Applying, Delta, Digest}
+use Rattle.exchange_ask.specs.declared.Ready.the-variants as ready
 use Rattle.exchange.specs.declared.Exchanged.the-variants as exchanged
 use Rattle.exchange.proofs.FewNodes.{few-parts}
 

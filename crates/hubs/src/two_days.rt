@@ -4,7 +4,7 @@
 use crate::meeting;
 use crate::say;
 use exchange::Exchanged;
-use exchange::Step;
+use exchange_ask::Step;
 use inspect::Count;
 use inspect::NodeHeader;
 use inspect::RecordRead;

@@ -1,3 +1,4 @@
 mod Keyed
 pub mod Elements
+pub mod InRows
 pub mod Told

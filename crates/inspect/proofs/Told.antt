@@ -10,7 +10,7 @@ use Rattle.rules.specs.declared.Status.the-variants.{Set, Delete, Ttl}
 use Rattle.rules.specs.declared.Header.{Header}
 use Rattle.rules.specs.declared.Record.{Record}
 use Rattle.rules.proofs.Told.{number-is, value-is, values-long, need-is, not-refused, same-refusal}
-use Rattle.inspect.specs.Told.{countTold, nodeNumberTold, nodeHeaderTold, recordReadTold}
+use Rattle.inspect.specs.Told.{countTold, nodeNumberTold, nodeHeaderTold, recordReadTold, rowsTold}
 use Rattle.inspect.specs.declared.Count.{Count}
 use Rattle.inspect.specs.declared.Count.the-variants as count
 use Rattle.inspect.specs.declared.NodeNumber.{NodeNumber}
@@ -19,6 +19,8 @@ use Rattle.inspect.specs.declared.NodeHeader.{NodeHeader}
 use Rattle.inspect.specs.declared.NodeHeader.the-variants as header
 use Rattle.inspect.specs.declared.RecordRead.{RecordRead}
 use Rattle.inspect.specs.declared.RecordRead.the-variants as rec
+use Rattle.inspect.specs.declared.Rows.{Rows}
+use Rattle.inspect.specs.declared.Rows.the-variants as rows
 
 pub same-count : (a b : Count) → countTold a ≡ countTold b → a ≡ b
 unfolding countTold
@@ -73,3 +75,10 @@ same-record rec.Nothing (rec.Refused r) e = not-refused r (number-is e)
 same-record (rec.Refused r) (rec.Is k v q) e = not-refused r (sym (number-is e))
 same-record (rec.Refused r) rec.Nothing e = not-refused r (sym (number-is e))
 same-record (rec.Refused r) (rec.Refused s) e = ap rec.Refused (same-refusal r s (number-is e) (need-is e))
+
+pub same-rows : (a b : Rows) → rowsTold a ≡ rowsTold b → a ≡ b
+unfolding rowsTold
+same-rows (rows.Are a n) (rows.Are b m) e = ap₂ rows.Are (value-is e 0) (value-is e 1)
+same-rows (rows.Are a n) (rows.Refused r) e = not-refused r (number-is e)
+same-rows (rows.Refused r) (rows.Are a n) e = not-refused r (sym (number-is e))
+same-rows (rows.Refused r) (rows.Refused s) e = ap rows.Refused (same-refusal r s (number-is e) (need-is e))

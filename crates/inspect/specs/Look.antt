@@ -1,7 +1,7 @@
 -- The small readings: what a hub needs to print a table. Each is a reading of the table that the bytes are, or a refusal; in lent bytes 14 comes first.
 -- A node is named by its number (2 where there is none) or its place, a record by its place among the node's records in key order, or by its key (1
 -- where that is too long). A place past the end is 8, as document 01 has it for places. Hidden records are told too: their status says so. Of a record it
--- is also told where its key and its value stand in the table.
+-- is also told where its key and its value stand in the table. All records of a node are told in one piece too: where the first begins, and how many.
 use Prim.Native.Nat.{ℕ, zero, suc, _+_}
 use mathlib.Core.List.{List, [], _∷_}
 use mathlib.Core.Option.{Option, none, some}
@@ -26,6 +26,8 @@ use Rattle.inspect.specs.declared.NodeHeader.{NodeHeader}
 use Rattle.inspect.specs.declared.NodeHeader.the-variants as header
 use Rattle.inspect.specs.declared.RecordRead.{RecordRead}
 use Rattle.inspect.specs.declared.RecordRead.the-variants as rec
+use Rattle.inspect.specs.declared.Rows.{Rows}
+use Rattle.inspect.specs.declared.Rows.the-variants as rows
 
 -- what stands in place i, if the list goes so far
 unfoldable pub elementAt : {A : Type 0} (i : ℕ) (list : List A) → Option A
@@ -108,6 +110,16 @@ recordByKeyOn key start (some n) = pick (leb (length key) maxKey) (readKey key s
 abbrev pub recordByKey : (number : ℕ) (key : Bytes) (table : Table) → RecordRead
 recordByKey number key table = recordByKeyOn key (nodeStart number table) (nodeOf number table)
 
+-- ---- records in one piece
+
+-- all records of a node whose bytes begin at `start` in a table's, tombstones too: 2
+abbrev pub rowsOn : (start : ℕ) (held : Option Node) → Rows
+rowsOn start none = rows.Refused NoNode
+rowsOn start (some n) = rows.Are (start + recPlace 0) (length (n .recs))
+
+abbrev pub nodeRows : (number : ℕ) (table : Table) → Rows
+nodeRows number table = rowsOn (nodeStart number table) (nodeOf number table)
+
 -- ---- in lent bytes: 14 first
 
 abbrev pub lentNodeCount : (table : Bytes) → Count
@@ -130,3 +142,6 @@ lentRecordOf i j table = fromTable (rec.Refused BadTable) (recordOfPlaces i j) t
 
 abbrev pub lentRecordByKey : (number : ℕ) (key table : Bytes) → RecordRead
 lentRecordByKey number key table = fromTable (rec.Refused BadTable) (recordByKey number key) table
+
+abbrev pub lentNodeRows : (number : ℕ) (table : Bytes) → Rows
+lentNodeRows number table = fromTable (rows.Refused BadTable) (nodeRows number) table

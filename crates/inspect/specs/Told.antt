@@ -12,6 +12,8 @@ use Rattle.inspect.specs.declared.NodeHeader.{NodeHeader}
 use Rattle.inspect.specs.declared.NodeHeader.the-variants as header
 use Rattle.inspect.specs.declared.RecordRead.{RecordRead}
 use Rattle.inspect.specs.declared.RecordRead.the-variants as rec
+use Rattle.inspect.specs.declared.Rows.{Rows}
+use Rattle.inspect.specs.declared.Rows.the-variants as rows
 
 unfoldable pub countTold : (answer : Count) → Told
 countTold (count.Are n) = accepted (n ∷ [])
@@ -33,3 +35,7 @@ unfoldable pub recordReadTold : (answer : RecordRead) → Told
 recordReadTold (rec.Is k v r) = accepted (recordValues k v r)
 recordReadTold rec.Nothing = accepted []
 recordReadTold (rec.Refused r) = refused r []
+
+unfoldable pub rowsTold : (answer : Rows) → Told
+rowsTold (rows.Are at n) = accepted (at ∷ n ∷ [])
+rowsTold (rows.Refused r) = refused r []

@@ -19,8 +19,8 @@ ghost use Rattle.table.specs.Tests.{countOf, recsIn};
 ghost use Rattle.table.specs.Fits.{LaidNode};
 ghost use Rattle.inspect.specs.Look.{nodeCount, nodeNumber, nodeHeader, recordCount, readRec, recordOn, readRecord, recordOfPlaces};
 ghost use Rattle.inspect.specs.Look.{recordByKeyOn, recordByKey, lentReadRecord, lentRecordOf, lentRecordByKey};
-ghost use Rattle.inspect.specs.Look.{lentNodeCount, lentNodeNumber, lentNodeHeader, lentRecordCount};
-ghost use Rattle.inspect.specs.Told.{countTold, nodeNumberTold, nodeHeaderTold, recordReadTold};
+ghost use Rattle.inspect.specs.Look.{lentNodeCount, lentNodeNumber, lentNodeHeader, lentRecordCount, rowsOn, nodeRows, lentNodeRows};
+ghost use Rattle.inspect.specs.Told.{countTold, nodeNumberTold, nodeHeaderTold, recordReadTold, rowsTold};
 
 // How many there are.
 pub enum Count {
@@ -49,6 +49,12 @@ pub enum RecordRead {
     },
     // No such key.
     Nothing,
+    Refused(Refusal),
+}
+
+// Records of a node in one piece: where the first of them begins in the lent table, and how many there are. Each has its width there, one behind the other.
+pub enum Rows {
+    Are { at: usize, count: usize },
     Refused(Refusal),
 }
 
@@ -138,6 +144,39 @@ pub fn record_count(table: &[u8], number: u64) -> Count
         record_count_good(&table[..layout::AREA], number)
     } else {
         Count::Refused(Refusal::BadTable)
+    }
+}
+
+// All records of a node's bytes, which begin at `start` in the table.
+fn rows_in(node: &[u8], start: usize) -> Rows
+    requires { ⌜ LaidNode (now node) × (start ≤ tableWidth) ⌝ }
+    ensures { λ r. ⌜ r ≡ rowsOn start (some (decodeNode (now (node .entry)) .node)) ⌝ }
+{
+    Rows::Are {
+        at: start + layout::RECORDS,
+        count: fields::byte_at(node, layout::RECORD_COUNT),
+    }
+}
+
+// All records of a node of a good table, tombstones too: 2.
+pub fn node_rows_good(table: &[u8], number: u64) -> Rows
+    requires { ⌜ valid (now table) ≡ true ⌝ }
+    ensures { λ r. ⌜ r ≡ nodeRows number (decode (now (table .entry))) ⌝ }
+{
+    match table_read::node_span(table, number) {
+        Span::Held { start, end } => rows_in(&table[start..end], start),
+        Span::Missing => Rows::Refused(Refusal::NoNode),
+    }
+}
+
+// All records of a node: 14, 2.
+pub fn node_rows(table: &[u8], number: u64) -> Rows
+    ensures { λ r. ⌜ Says rowsTold (lentNodeRows number (now (table .entry))) r ⌝ }
+{
+    if table_check::check_table(table) {
+        node_rows_good(&table[..layout::AREA], number)
+    } else {
+        Rows::Refused(Refusal::BadTable)
     }
 }
 

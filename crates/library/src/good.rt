@@ -8,6 +8,7 @@ use answers::KevHeader;
 use answers::KevHeartbeat;
 use answers::KevNode;
 use answers::KevRecord;
+use answers::KevRows;
 use inspect_text::Text;
 use local_node::Kind;
 use rules::Applied;
@@ -26,10 +27,12 @@ ghost use Rattle.rules.specs.Lent.{lentPrefixed, lentDigest, lentCompute, both,
 ghost use Rattle.lookup.specs.Lookup.{lentFind};
 ghost use Rattle.lookup.specs.Told.{foundTold};
 ghost use Rattle.inspect.specs.Look.{lentNodeCount, lentNodeNumber, lentNodeHeader, lentRecordCount, lentReadRecord, lentRecordOf, lentRecordByKey};
-ghost use Rattle.inspect.specs.Told.{countTold, nodeNumberTold, nodeHeaderTold, recordReadTold};
+ghost use Rattle.inspect.specs.Look.{lentNodeRows};
+ghost use Rattle.inspect.specs.Told.{countTold, nodeNumberTold, nodeHeaderTold, recordReadTold, rowsTold};
+ghost use Rattle.prefix.specs.Rows.{lentPrefixRows};
 ghost use Rattle.inspect_text.specs.Texts.{lentTextFound};
 ghost use Rattle.inspect_text.specs.declared.Text.the-variants.{Key, Value};
-ghost use Rattle.answers.specs.Shown.{shownAs, numberShown, countShown, nodeShown, heartbeatShown, foundShown, headerShown, recordShown};
+ghost use Rattle.answers.specs.Shown.{shownAs, numberShown, countShown, nodeShown, heartbeatShown, foundShown, headerShown, recordShown, rowsShown};
 ghost use Rattle.answers.specs.Shown.{computedShown, appliedShown};
 
 // ---- the table and its nodes
@@ -245,6 +248,24 @@ pub extern "C" fn kev_good_record_by_key(table: &[u8], number: u64, key: &[u8]) 
     ensures { λ r. ⌜ r ≡ recordShown (recordReadTold (lentRecordByKey number (now (key .entry)) (now (table .entry)))) ⌝ }
 {
     answers::record(inspect::record_by_key_good(&table[..layout::AREA], number, key))
+}
+
+// All records of a node in one piece, tombstones too: 2.
+#[no_mangle]
+pub extern "C" fn kev_good_node_rows(table: &[u8], number: u64) -> KevRows
+    requires { ⌜ validWhole (now table) ≡ true ⌝ }
+    ensures { λ r. ⌜ r ≡ rowsShown (rowsTold (lentNodeRows number (now (table .entry)))) ⌝ }
+{
+    answers::rows(inspect::node_rows_good(&table[..layout::AREA], number))
+}
+
+// The same of those whose keys begin with the prefix: 2, 1.
+#[no_mangle]
+pub extern "C" fn kev_good_prefix_rows(table: &[u8], number: u64, prefix: &[u8]) -> KevRows
+    requires { ⌜ validWhole (now table) ≡ true ⌝ }
+    ensures { λ r. ⌜ r ≡ rowsShown (rowsTold (lentPrefixRows number (now (prefix .entry)) (now (table .entry)))) ⌝ }
+{
+    answers::rows(prefix::prefix_rows_good(&table[..layout::AREA], number, prefix))
 }
 
 // Where the key of the record in place `j` of a node stands in the table: 2, 8.

@@ -14,6 +14,7 @@ use answers::KevHeartbeat;
 use answers::KevMade;
 use answers::KevNode;
 use answers::KevRecord;
+use answers::KevRows;
 use inspect_text::Text;
 use rules::Heartbeat;
 use rules::Mode;
@@ -29,13 +30,15 @@ ghost use Rattle.rules.specs.Lent.{lentPrefixed, lentDigest, lentCompute, both,
 ghost use Rattle.lookup.specs.Lookup.{lentFind};
 ghost use Rattle.lookup.specs.Told.{foundTold};
 ghost use Rattle.inspect.specs.Look.{lentNodeCount, lentNodeNumber, lentNodeHeader, lentRecordCount, lentReadRecord, lentRecordOf, lentRecordByKey};
-ghost use Rattle.inspect.specs.Told.{countTold, nodeNumberTold, nodeHeaderTold, recordReadTold};
+ghost use Rattle.inspect.specs.Look.{lentNodeRows};
+ghost use Rattle.inspect.specs.Told.{countTold, nodeNumberTold, nodeHeaderTold, recordReadTold, rowsTold};
+ghost use Rattle.prefix.specs.Rows.{lentPrefixRows};
 ghost use Rattle.inspect_text.specs.Texts.{lentTextFound};
 ghost use Rattle.inspect_text.specs.declared.Text.the-variants.{Key, Value};
 ghost use Rattle.digest_read.specs.Held.{digestIn};
 ghost use Rattle.digest_read.specs.Told.{digestTold};
 ghost use Rattle.exchange.specs.Exchanging.{allFour, exchangedTold, lending, lentExchange};
-ghost use Rattle.answers.specs.Shown.{shownAs, numberShown, countShown, nodeShown, heartbeatShown, foundShown, headerShown, recordShown};
+ghost use Rattle.answers.specs.Shown.{shownAs, numberShown, countShown, nodeShown, heartbeatShown, foundShown, headerShown, recordShown, rowsShown};
 ghost use Rattle.answers.specs.Shown.{digestShown, entryShown, computedShown, deltaShown, appliedShown, exchangedShown};
 ghost use Rattle.answers.specs.Shown.{madeShown, shownBy};
 ghost use Rattle.listing_make.specs.Make.{lentMake};
@@ -232,6 +235,22 @@ pub extern "C" fn kev_record_by_key(table: &[u8], number: u64, key: &[u8]) -> Ke
     ensures { λ r. ⌜ r ≡ recordShown (recordReadTold (lentRecordByKey number (now (key .entry)) (now (table .entry)))) ⌝ }
 {
     answers::record(inspect::record_by_key(table, number, key))
+}
+
+// All records of a node in one piece, tombstones too: 14, 2.
+#[no_mangle]
+pub extern "C" fn kev_node_rows(table: &[u8], number: u64) -> KevRows
+    ensures { λ r. ⌜ r ≡ rowsShown (rowsTold (lentNodeRows number (now (table .entry)))) ⌝ }
+{
+    answers::rows(inspect::node_rows(table, number))
+}
+
+// The same of those whose keys begin with the prefix: 14, 2, 1.
+#[no_mangle]
+pub extern "C" fn kev_prefix_rows(table: &[u8], number: u64, prefix: &[u8]) -> KevRows
+    ensures { λ r. ⌜ r ≡ rowsShown (rowsTold (lentPrefixRows number (now (prefix .entry)) (now (table .entry)))) ⌝ }
+{
+    answers::rows(prefix::prefix_rows(table, number, prefix))
 }
 
 // Where the key of the record in place `j` of a node stands in the table: 14, 2, 8.

@@ -1,2 +1,4 @@
 mod Run
+mod Counted
 pub mod Hits
+pub mod Rows

@@ -2,6 +2,7 @@
 // the caller's list, one byte each, in key order from the front. Keys ascend, so those that begin with the prefix stand together, and both ends of them are
 // sought by halves. Where the list may be too short the hits are counted before the first is written, so that a call without room for them writes nothing.
 // `list_prefix` takes any bytes, and `list_good` a table known to be good, without the check.
+use inspect::Rows;
 use rules::Listed;
 use rules::Record;
 use rules::Refusal;
@@ -17,15 +18,17 @@ ghost use lib.ListN.{length};
 ghost use Rattle.fields.specs.Order.{startsWith};
 ghost use Rattle.fields.specs.Parts.{part};
 ghost use Rattle.rules.specs.Answers.{listedTold};
-ghost use Rattle.rules.specs.Given.{Gives, Tells};
+ghost use Rattle.rules.specs.Given.{Gives, Says, Tells};
 ghost use Rattle.rules.specs.Node.{hidden};
 ghost use Rattle.rules.specs.Table.{keysRise};
 ghost use Rattle.rules.specs.Local.{prefixOn, prefixed};
-ghost use Rattle.rules.specs.Layout.{recPlace, recWidth, decodeRec, decodeNode, decode, valid};
+ghost use Rattle.rules.specs.Layout.{recPlace, recWidth, tableWidth, decodeRec, decodeNode, decode, valid};
 ghost use Rattle.rules.specs.Lent.{lentPrefixed};
 ghost use Rattle.table.specs.Tests.{countOf, recsIn};
 ghost use Rattle.table.specs.Fits.{LaidNode};
+ghost use Rattle.inspect.specs.Told.{rowsTold};
 ghost use Rattle.prefix.specs.Run.{keyAt, FirstOf, RunOf, shownIn, shownInto};
+ghost use Rattle.prefix.specs.Rows.{prefixRowsOn, prefixRows, lentPrefixRows};
 
 // Whether the key of record `j` of a node's bytes begins with the prefix.
 fn begins(node: &[u8], j: usize, prefix: &[u8]) -> bool
@@ -148,5 +151,43 @@ pub fn list_prefix(table: &[u8], number: u64, prefix: &[u8], out: &mut [u8]) -> 
         list_good(&table[..layout::AREA], number, prefix, out)
     } else {
         Listed::Refused(Refusal::BadTable)
+    }
+}
+
+// The records of one node's bytes, which begin at `start` in the table, whose keys begin with the prefix: 1.
+fn rows_in(node: &[u8], start: usize, prefix: &[u8]) -> Rows
+    requires { ⌜ LaidNode (now node) × (keysRise (recsIn (now node)) ≡ true) × (start ≤ tableWidth) ⌝ }
+    ensures { λ r. ⌜ r ≡ prefixRowsOn (now (prefix .entry)) start (some (decodeNode (now (node .entry)) .node)) ⌝ }
+{
+    if Record::KEY < prefix.len() {
+        return Rows::Refused(Refusal::TooLong);
+    }
+    let low = run_start(node, prefix);
+    let high = run_end(node, prefix, low);
+    Rows::Are {
+        at: start + table::record_place(low),
+        count: high - low,
+    }
+}
+
+// The records of a node of a good table whose keys begin with the prefix, tombstones too: 2, 1.
+pub fn prefix_rows_good(table: &[u8], number: u64, prefix: &[u8]) -> Rows
+    requires { ⌜ valid (now table) ≡ true ⌝ }
+    ensures { λ r. ⌜ r ≡ prefixRows number (now (prefix .entry)) (decode (now (table .entry))) ⌝ }
+{
+    match table_read::node_span(table, number) {
+        Span::Held { start, end } => rows_in(&table[start..end], start, prefix),
+        Span::Missing => Rows::Refused(Refusal::NoNode),
+    }
+}
+
+// The records of a node whose keys begin with the prefix, tombstones too: 14, 2, 1.
+pub fn prefix_rows(table: &[u8], number: u64, prefix: &[u8]) -> Rows
+    ensures { λ r. ⌜ Says rowsTold (lentPrefixRows number (now (prefix .entry)) (now (table .entry))) r ⌝ }
+{
+    if table_check::check_table(table) {
+        prefix_rows_good(&table[..layout::AREA], number, prefix)
+    } else {
+        Rows::Refused(Refusal::BadTable)
     }
 }

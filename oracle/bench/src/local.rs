@@ -7,11 +7,11 @@ use std::hint::black_box;
 
 use judge::raw::Raw;
 use judge::timed::{self, Timed};
-use kevdarosh::{Mode, OwnedTable, Record, Status};
+use kevdarosh::{Mode, OwnedTable, Record, Status, TableView};
 
 use crate::inputs::{self, NODES, RECORDS};
 use crate::port::Port;
-use crate::{Asked, GRACE, NOW, OWNED, Rows, asked, over, repeat, time};
+use crate::{Aim, Asked, GRACE, NOW, OWNED, Rows, asked, over, repeat, time};
 
 const NODE: u64 = 1;
 const CALLS: usize = 256;
@@ -22,8 +22,8 @@ pub(crate) fn rows(rows: &mut Rows) {
     set_with_ttl(rows);
     delete_after_ttl(rows);
     heartbeats(rows);
-    come_and_go(rows, "fresh node removed and added, the last of eight, owned table", NODES - 1);
-    come_and_go(rows, "fresh node removed and added, the first of eight, owned table", 0);
+    come_and_go(rows, "fresh node removed and added, the last of eight", NODES - 1, both());
+    come_and_go(rows, "fresh node removed and added, the first of eight, the second full", 0, both());
     remove_full(rows);
     remembered(rows);
     versioned(rows);
@@ -84,6 +84,7 @@ fn set_with_ttl(rows: &mut Rows) {
     let (mut raw, mut table) = both();
     rows.measure_less(
         NAME,
+        OWNED,
         || {
             time(PASSES * keys.len(), || {
                 for pass in 0..PASSES {
@@ -116,6 +117,7 @@ fn delete_after_ttl(rows: &mut Rows) {
     let (mut raw, mut table) = both();
     rows.measure_less(
         NAME,
+        OWNED,
         || {
             time(PASSES * keys.len(), || {
                 for asked in (0..PASSES).flat_map(|_| &keys) {
@@ -140,6 +142,7 @@ fn heartbeats(rows: &mut Rows) {
     let (mut raw, mut table) = both();
     rows.measure_less(
         "local heartbeat, owned table",
+        OWNED,
         || repeat(CALLS, || black_box(&mut raw).beat()),
         name_made,
         || {
@@ -156,6 +159,7 @@ fn heartbeats(rows: &mut Rows) {
     let mut all_heard = true;
     rows.measure_less(
         "offered heartbeat, news, owned table",
+        OWNED,
         || {
             repeat(CALLS, || {
                 told += 1;
@@ -176,6 +180,7 @@ fn heartbeats(rows: &mut Rows) {
     let (mut any_news, mut any_heard) = (false, false);
     rows.measure_less(
         "offered heartbeat, no news, owned table",
+        OWNED,
         || repeat(CALLS, || any_news |= raw.offer(black_box(first))),
         name_made,
         || repeat(CALLS, || any_heard |= table.try_set_heartbeat(black_box(NODE), black_box(first)) != Ok(false)),
@@ -191,9 +196,8 @@ fn same_nodes(name: &str, raw: &Raw, table: &OwnedTable, node: u64) {
 }
 
 /// A fresh node is removed and added again; the time is that of both calls.
-fn come_and_go(rows: &mut Rows, name: &'static str, node: u64) {
+fn come_and_go(rows: &mut Rows, name: &'static str, node: u64, (mut raw, mut table): (Raw, Box<OwnedTable>)) {
     const PAIRS: usize = 64;
-    let (mut raw, mut table) = both();
     raw.remove(node);
     table.remove_node(node).expect("a node that is held");
     same_nodes(name, &raw, &table, node);
@@ -201,6 +205,7 @@ fn come_and_go(rows: &mut Rows, name: &'static str, node: u64) {
     table.add_node(node).expect("room for a node");
     rows.measure_less(
         name,
+        Aim::Nodes,
         || {
             repeat(PAIRS, || {
                 raw.remove(black_box(node));
@@ -221,12 +226,13 @@ fn come_and_go(rows: &mut Rows, name: &'static str, node: u64) {
 
 /// Node 1 with its 32 records is removed; the tables are made anew for each batch.
 fn remove_full(rows: &mut Rows) {
-    const NAME: &str = "node with 32 records removed, the second of eight, owned table";
+    const NAME: &str = "node with 32 records removed, the second of eight";
     const TABLES: usize = 4;
     let mut raws: Vec<Raw> = Vec::new();
     let mut tables: Vec<Box<OwnedTable>> = Vec::new();
     rows.measure_less(
         NAME,
+        Aim::Nodes,
         || {
             raws = (0..TABLES).map(|_| both().0).collect();
             time(TABLES, || raws.iter_mut().for_each(|raw| raw.remove(black_box(NODE))))
@@ -366,6 +372,10 @@ fn all_port(table: &OwnedTable) -> (usize, usize) {
     table.node_state(NODE).map_or((0, 0), |node| sum(node.key_values()))
 }
 
+fn all_lent(table: &TableView<'_>) -> (usize, usize) {
+    table.node_state(NODE).map_or((0, 0), |node| sum(node.key_values()))
+}
+
 /// Those with a prefix.
 fn prefixed_original<'a>(
     original: &'a Timed,
@@ -402,6 +412,23 @@ fn readings(rows: &mut Rows) {
         || {
             repeat(TIMES, || {
                 black_box(all_port(black_box(&table)));
+            })
+        },
+    );
+    let lent = TableView::over(table.as_bytes());
+    assert_eq!(all_lent(&lent), all_port(&table));
+    rows.measure(
+        "32 records of a node gone through",
+        "",
+        Aim::None,
+        || {
+            repeat(TIMES, || {
+                black_box(sum(all_original(black_box(&original), black_box(&name))));
+            })
+        },
+        || {
+            repeat(TIMES, || {
+                black_box(all_lent(black_box(&lent)));
             })
         },
     );

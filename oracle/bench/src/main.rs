@@ -1,5 +1,5 @@
 //! The port and the original Rust side by side, in one process and on the same inputs. Prints the tables of
-//! docs/SPEED.md: the calls of an owned table, then all others.
+//! docs/SPEED.md: the calls of an owned table, nodes that come and go there, then all others.
 //!
 //! A row has two sides. Each runs a batch of calls between two looks at the clock, so that the clock's cost does not
 //! count, and the two take turns, so that load on the machine hits both; the row shows the medians. Before a row is timed both sides do
@@ -40,6 +40,8 @@ enum Aim {
     Times(f64),
     /// `OWNED_MOST` times the original's: a row of the owned table.
     Owned,
+    /// Nodes that come and go in an owned table: no local calls, and no aim (DECISIONS 117).
+    Nodes,
     /// No aim: shown beside the others.
     None,
 }
@@ -107,26 +109,26 @@ impl Rows {
     fn measure_less(
         &mut self,
         name: &'static str,
+        aim: Aim,
         mut rust: impl FnMut() -> f64,
         mut more: impl FnMut() -> f64,
         mut port: impl FnMut() -> f64,
     ) {
         let [rust, more, port] = by_turns([&mut rust, &mut more, &mut port]);
-        self.0.push(Row { name, aim: OWNED, beside: "", rust: rust - more, port });
+        self.0.push(Row { name, aim, beside: "", rust: rust - more, port });
     }
 
-    /// The rows of an owned table, or the others.
-    fn print(&self, owned: bool) {
+    /// The rows of one of the three tables.
+    fn print(&self, shown: fn(&Aim) -> bool) {
         println!("| call | Rust ns | port ns | ratio | aim | |");
         println!("|---|---|---|---|---|---|");
-        for Row { name, aim, beside, rust, port } in self.0.iter().filter(|row| matches!(row.aim, Aim::Owned) == owned)
-        {
+        for Row { name, aim, beside, rust, port } in self.0.iter().filter(|row| shown(&row.aim)) {
             let ratio = port / rust;
             let verdict = |most: f64| (format!("{most}"), if ratio <= most { "met" } else { "MISSED" });
             let (aim, verdict) = match aim {
                 Aim::Times(most) => verdict(*most),
                 Aim::Owned => verdict(OWNED_MOST),
-                Aim::None => (String::new(), ""),
+                Aim::Nodes | Aim::None => (String::new(), ""),
             };
             let digits = if ratio < 1.0 { 3 } else { 2 };
             println!("| {name}{beside} | {rust:.0} | {port:.0} | {ratio:.digits$} | {aim} | {verdict} |");
@@ -610,9 +612,11 @@ fn main() {
     applying(&mut rows, "apply 16,384 bytes to a half full table", &half, &newer, APPLY, false, Aim::None);
     applying(&mut rows, "apply 16,384 bytes to a half full table, owned table", &half, &newer, APPLY, true, OWNED);
     println!("An owned table:\n");
-    rows.print(true);
+    rows.print(|aim| matches!(aim, Aim::Owned));
+    println!("\nNodes that come and go in an owned table:\n");
+    rows.print(|aim| matches!(aim, Aim::Nodes));
     println!("\nA lent table, and calls without a table:\n");
-    rows.print(false);
+    rows.print(|aim| matches!(aim, Aim::Times(_) | Aim::None));
 
     let (reset, _) = delta_of(&inputs::with_last_gc(&full, 200));
     let computing = [&full, &scattered].map(|table| deepest_compute(table));

@@ -1,12 +1,15 @@
 //! The library's side: each call by its C function, what was lent to it looked at afterwards, and the same call without the check.
 
-use script::table::{AREA_BYTES, Node, REMOVED_BYTES, Record, encode_with};
+use kevdarosh::{Status, TableView};
+use script::table::{AREA_BYTES, DELETE, KEY, NODE_BYTES, NODE_HEAD_BYTES, Node, RECORD_BYTES, REMOVED_BYTES, Record, VALUE, encode_with};
 use script::{Answer, Bytes, Call, DigestEntry, Verdict};
 
 use crate::ffi::{self, Kept};
 
 /// What stands in lent memory before a call.
 const MARK: u8 = 0xEE;
+/// Where the status stands in a record.
+const STATUS_AT: usize = 1 + KEY + 1 + VALUE + 8;
 /// More places than a call can want.
 const PLACES: u64 = 64;
 
@@ -35,6 +38,14 @@ fn verdict(code: u8) -> Verdict {
         3 => Verdict::Room,
         4 => Verdict::Unknown,
         _ => Verdict::Fenced,
+    }
+}
+
+fn status(status: Status) -> u8 {
+    match status {
+        Status::Set => 0,
+        Status::Deleted => 1,
+        Status::DeleteAfterTtl => 2,
     }
 }
 
@@ -77,6 +88,11 @@ fn ask<S: ffi::BytesMut>(table: &mut S, call: &Call) -> Told {
             list = vec![MARK; (*places).min(PLACES) as usize];
             let told = ffi::list_prefix(table, *node, prefix, &mut list);
             assert!(marked(&list[told.count..]), "a place behind the hits was written");
+            let rows = ffi::prefix_rows(table, *node, prefix);
+            assert_eq!(rows.number, if told.number == 8 { 0 } else { told.number });
+            if told.number == 0 {
+                assert_eq!(shown(table, ffi::node_rows(table, *node).at, rows), list[..told.count], "the rows of {prefix:?}");
+            }
             or(told.number, Answer::Ranks(list[..told.count].iter().map(|&place| place.into()).collect()))
         }
         Call::Digest { excluded, place, len, edition } => {
@@ -107,6 +123,13 @@ fn ask<S: ffi::BytesMut>(table: &mut S, call: &Call) -> Told {
         _ => unreachable!("answered without a table"),
     };
     Told { number, answer, list }
+}
+
+/// The places of the rows that are not hidden, the node's rows beginning at `all`.
+fn shown<S: ffi::Bytes>(table: &S, all: usize, rows: ffi::Rows) -> Vec<u8> {
+    let first = (rows.at - all) / RECORD_BYTES;
+    let hidden = |i: &usize| table.bytes()[rows.at + i * RECORD_BYTES + STATUS_AT] == DELETE;
+    (0..rows.count).filter(|i| !hidden(i)).map(|i| (first + i) as u8).collect()
 }
 
 fn plain(number: u64) -> (u64, Answer) {
@@ -246,6 +269,15 @@ impl Port {
                     Record { key, value, version: record.version, status: record.status as u8, start: record.start }
                 })
                 .collect();
+            // the same in one piece: its rows, and the crate's reading of them
+            let rows = ffi::node_rows(&table, number);
+            assert_eq!((rows.number, rows.at, rows.count), (0, 1 + i * NODE_BYTES + NODE_HEAD_BYTES, records.len()));
+            let view = TableView::over(table);
+            let again = view.node_state(number).map_err(|why| why.to_string())?.key_values_including_deleted();
+            let again = again.map(|it| (it.key.to_vec(), it.value.to_vec(), it.version, status(it.status), it.start));
+            let told = records.iter().map(|it| (it.key.clone(), it.value.clone(), it.version, it.status, it.start));
+            assert!(again.eq(told), "the rows of node {number}");
+            self.calls += 3;
             nodes.push(Node { number, heartbeat: header.heartbeat, max: header.max, last_gc: header.last_gc, records });
         }
         let tail = &table[AREA_BYTES..];

@@ -75,6 +75,14 @@ pub struct Record {
 
 #[repr(C)]
 #[derive(Clone, Copy)]
+pub struct Rows {
+    pub number: u64,
+    pub at: usize,
+    pub count: usize,
+}
+
+#[repr(C)]
+#[derive(Clone, Copy)]
 pub struct Digest {
     pub number: u64,
     pub count: usize,
@@ -254,6 +262,10 @@ unsafe extern "C" {
     fn kev_good_record_of(table: *const u8, table_len: usize, i: usize, j: usize) -> Record;
     fn kev_record_by_key(table: *const u8, table_len: usize, node: u64, key: *const u8, key_len: usize) -> Record;
     fn kev_good_record_by_key(table: *const u8, table_len: usize, node: u64, key: *const u8, key_len: usize) -> Record;
+    fn kev_node_rows(table: *const u8, table_len: usize, node: u64) -> Rows;
+    fn kev_good_node_rows(table: *const u8, table_len: usize, node: u64) -> Rows;
+    fn kev_prefix_rows(table: *const u8, table_len: usize, node: u64, prefix: *const u8, prefix_len: usize) -> Rows;
+    fn kev_good_prefix_rows(table: *const u8, table_len: usize, node: u64, prefix: *const u8, prefix_len: usize) -> Rows;
     fn kev_key_at(table: *const u8, table_len: usize, node: u64, j: usize) -> Found;
     fn kev_good_key_at(table: *const u8, table_len: usize, node: u64, j: usize) -> Found;
     fn kev_value_at(table: *const u8, table_len: usize, node: u64, j: usize) -> Found;
@@ -388,6 +400,18 @@ pub fn record_by_key<S: Bytes>(store: &S, node: u64, key: &[u8]) -> Record {
     let call = if S::GOOD { kev_good_record_by_key } else { kev_record_by_key };
     let table = store.bytes();
     unsafe { call(table.as_ptr(), table.len(), node, key.as_ptr(), key.len()) }
+}
+
+pub fn node_rows<S: Bytes>(store: &S, node: u64) -> Rows {
+    let call = if S::GOOD { kev_good_node_rows } else { kev_node_rows };
+    let table = store.bytes();
+    unsafe { call(table.as_ptr(), table.len(), node) }
+}
+
+pub fn prefix_rows<S: Bytes>(store: &S, node: u64, prefix: &[u8]) -> Rows {
+    let call = if S::GOOD { kev_good_prefix_rows } else { kev_prefix_rows };
+    let table = store.bytes();
+    unsafe { call(table.as_ptr(), table.len(), node, prefix.as_ptr(), prefix.len()) }
 }
 
 pub fn key_at<S: Bytes>(store: &S, node: u64, j: usize) -> Found {

@@ -64,12 +64,18 @@
 #![deny(unsafe_code)]
 #![warn(missing_docs)]
 
+// The library counts in 64 bits on every processor (`kev_size` of the header).
+#[cfg(not(target_pointer_width = "64"))]
+compile_error!("this crate is for processors whose usize has 64 bits; on smaller ones use include/kevdarosh.h, tools/library --for");
+
 mod ffi;
 mod refusal;
+mod row;
 mod table;
 mod wire;
 
 pub use refusal::{ExchangeRefused, Fault, ListingRefused, Refusal, Step};
+pub use row::Records;
 pub use table::{Answer, Answers, Computed, Header, LentTable, Mode, NodeState, OwnedTable, Record, Status, Table, TableView};
 pub use wire::{Datagrams, DeltaRead, Digest, Edition, Exchanged, NodeDigest, exchange, list_delta, make_delta, read_delta};
 

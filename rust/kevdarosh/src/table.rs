@@ -2,8 +2,9 @@
 
 use crate::ffi::{self, Bytes, BytesMut, Kept};
 use crate::refusal::{Fault, Refusal, accepted, refusal};
+use crate::row::Records;
 use crate::wire::Edition;
-use crate::{NODES, RECORDS, TABLE};
+use crate::{NODES, TABLE};
 
 /// How a table takes deltas that come late. It is chosen when the table is made, and stays in its bytes.
 #[derive(Clone, Copy, Debug, PartialEq, Eq)]
@@ -39,7 +40,8 @@ pub enum Status {
 }
 
 impl Status {
-    fn of(byte: usize) -> Status {
+    #[inline]
+    pub(crate) fn of(byte: usize) -> Status {
         match byte {
             0 => Status::Set,
             1 => Status::Deleted,
@@ -213,6 +215,7 @@ impl<S: Bytes> Table<S> {
     }
 
     /// A node, to read it: [`Refusal::NoNode`].
+    #[inline]
     pub fn node_state(&self, node: u64) -> Result<NodeState<'_, S>, Refusal> {
         // An owned table's header is read when it is asked for. A lent one's is read here, since each reading of it checks the table.
         let header = if S::GOOD { None } else { Some(ffi::node_header(&self.store, node)) };
@@ -221,6 +224,7 @@ impl<S: Bytes> Table<S> {
     }
 
     /// The value of a key, as those very bytes of the table; none where there is no such key, or its record is deleted.
+    #[inline]
     pub fn get(&self, node: u64, key: &[u8]) -> Result<Option<&[u8]>, Refusal> {
         let answer = ffi::find(&self.store, node, key);
         accepted(answer.number)?;
@@ -258,11 +262,13 @@ impl<S: Bytes> Table<S> {
     }
 
     /// The bytes of the table that an answer names.
+    #[inline]
     fn text(&self, start: usize, len: usize) -> &[u8] {
         &self.store.bytes()[start..start + len]
     }
 
     /// The record that was found.
+    #[inline]
     fn record(&self, found: ffi::Record) -> Record<'_> {
         Record {
             key: self.text(found.key_at, found.key_len),
@@ -271,11 +277,6 @@ impl<S: Bytes> Table<S> {
             status: Status::of(found.status),
             start: found.start,
         }
-    }
-
-    /// The place of a node that is held, among the nodes.
-    fn place(&self, node: u64) -> usize {
-        (0..NODES).find(|&i| ffi::node_number(&self.store, i).node == node).unwrap_or(NODES)
     }
 }
 
@@ -382,27 +383,21 @@ impl<'a, S: Bytes> NodeState<'a, S> {
     }
 
     /// The record of a key, deleted or not.
+    #[inline]
     pub fn get_versioned(&self, key: &[u8]) -> Result<Option<Record<'a>>, Refusal> {
         let answer = ffi::record_by_key(&self.table.store, self.node, key);
         accepted(answer.number)?;
         Ok((answer.found != 0).then(|| self.table.record(answer)))
     }
 
-    /// The record in a place, which has one. An owned table's node is sought once, and each record read by both places; of a lent table seeking would
-    /// check it too.
-    fn reading(&self) -> impl Fn(usize) -> Record<'a> + use<'a, S> {
-        let (table, node) = (self.table, self.node);
-        let place = if S::GOOD { table.place(node) } else { NODES };
-        move |j| table.record(if S::GOOD { ffi::record_of(&table.store, place, j) } else { ffi::record_at(&table.store, node, j) })
-    }
-
     /// All records, deleted ones too, in key order.
-    pub fn key_values_including_deleted(&self) -> impl Iterator<Item = Record<'a>> + use<'a, S> {
-        (0..ffi::record_count(&self.table.store, self.node).count).map(self.reading())
+    #[inline]
+    pub fn key_values_including_deleted(&self) -> Records<'a> {
+        Records::of(self.table.store.bytes(), ffi::node_rows(&self.table.store, self.node))
     }
 
     /// The keys and values that are not deleted, in key order.
-    pub fn key_values(&self) -> impl Iterator<Item = (&'a [u8], &'a [u8])> + use<'a, S> {
+    pub fn key_values(&self) -> impl DoubleEndedIterator<Item = (&'a [u8], &'a [u8])> + use<'a, S> {
         self.key_values_including_deleted().filter(|record| !record.is_hidden()).map(|record| (record.key, record.value))
     }
 
@@ -412,11 +407,10 @@ impl<'a, S: Bytes> NodeState<'a, S> {
     }
 
     /// The records that are not deleted and whose keys begin with the prefix, in key order: [`Refusal::TooLong`].
-    pub fn iter_prefix(&self, prefix: &[u8]) -> Result<impl Iterator<Item = Record<'a>> + use<'a, S>, Refusal> {
-        let mut places = [0; RECORDS];
-        let answer = ffi::list_prefix(&self.table.store, self.node, prefix, &mut places);
-        accepted(answer.number)?;
-        Ok(places.into_iter().take(answer.count).map(usize::from).map(self.reading()))
+    pub fn iter_prefix(&self, prefix: &[u8]) -> Result<impl DoubleEndedIterator<Item = Record<'a>> + use<'a, S>, Refusal> {
+        let rows = ffi::prefix_rows(&self.table.store, self.node, prefix);
+        accepted(rows.number)?;
+        Ok(Records::of(self.table.store.bytes(), rows).filter(|record| !record.is_hidden()))
     }
 }
 

@@ -190,3 +190,41 @@ fn numbers_and_words() {
     let error: &dyn std::error::Error = &Fault { refusal: Refusal::Cut, at: 3, need: 2 };
     assert_eq!(error.to_string(), "the bytes end inside a field, at byte 3, 2 bytes are lacking");
 }
+
+/// Going through records reads them in the table's bytes: each must be what the call for that record tells, in a full node with keys and values of every
+/// length, from the front and from the back, of all records and of those with a prefix.
+#[test]
+fn records_read_in_the_table() {
+    let mut table = OwnedTable::new(Mode::Plain);
+    for node in [1, 2, u64::MAX] {
+        table.add_node(node).unwrap();
+    }
+    let keys: Vec<Vec<u8>> = (0..32).map(|i| (0..=i).map(|j| if j < 3 { (i >> (2 - j) & 1) as u8 } else { 0xFF }).collect()).collect();
+    for (i, key) in keys.iter().enumerate() {
+        table.set(2, key, &vec![i as u8; 2 * i + 2]).unwrap();
+        match i % 4 {
+            1 => table.delete(2, key, u64::MAX - i as u64).unwrap(),
+            2 => table.delete_after_ttl(2, key, i as u64).unwrap(),
+            _ => {}
+        }
+    }
+    let lent = TableView::over(table.as_bytes());
+    let (owned, lent) = (table.node_state(2).unwrap(), lent.node_state(2).unwrap());
+    let mut sorted = keys.clone();
+    sorted.sort();
+    let told: Vec<_> = sorted.iter().map(|key| owned.get_versioned(key).unwrap().unwrap()).collect();
+    assert!(told.iter().any(|record| record.value.len() == 64) && told.iter().any(|record| record.key.len() == 32));
+    assert_eq!(owned.key_values_including_deleted().len(), 32);
+    assert_eq!(owned.key_values_including_deleted().collect::<Vec<_>>(), told);
+    assert_eq!(lent.key_values_including_deleted().collect::<Vec<_>>(), told);
+    assert!(owned.key_values_including_deleted().rev().eq(told.iter().rev().copied()));
+    assert!(owned.key_values().eq(told.iter().filter(|record| !record.is_hidden()).map(|record| (record.key, record.value))));
+    assert_eq!(owned.num_key_values(), 24);
+    for prefix in keys.iter().flat_map(|key| (0..=key.len()).map(|n| &key[..n])).chain([&[2][..], &[0xFF; 32]]) {
+        let hits: Vec<_> = told.iter().filter(|record| record.key.starts_with(prefix) && !record.is_hidden()).copied().collect();
+        assert_eq!(owned.iter_prefix(prefix).unwrap().collect::<Vec<_>>(), hits, "{prefix:?}");
+        assert_eq!(lent.iter_prefix(prefix).unwrap().rev().collect::<Vec<_>>(), hits.iter().rev().copied().collect::<Vec<_>>(), "{prefix:?}");
+    }
+    let other = table.node_state(1).unwrap();
+    assert_eq!((other.key_values_including_deleted().len(), other.iter_prefix(b"").unwrap().count()), (0, 0));
+}

@@ -1,11 +1,11 @@
--- `exchange::ask_good` meets its contract: 20 exactly where there is no such edition. Assumes nothing.
+-- `exchange_ask::ask_good` meets its contract: 20 exactly where there is no such edition. Assumes nothing.
 use mathlib.Core.Path.{_∙_, sym}
 use Rattle.rules.specs.Layout.{decode}
-use Rattle.exchange.specs.Exchanging.{Rooms, rooms}
-use Rattle.exchange.proofs.Asking.{in-edition, no-edition}
+use Rattle.exchange_ask.specs.Asking.{Rooms, rooms}
+use Rattle.exchange_ask.proofs.Asking.{in-edition, no-edition}
 use borrow.Author.Needs.{needs}
-use Rattle.exchange.proofs.ask_good.Statement.{statement}
-use Rattle.exchange.proofs.ask_good.Tie as tie
+use Rattle.exchange_ask.proofs.ask_good.Statement.{statement}
+use Rattle.exchange_ask.proofs.ask_good.Tie as tie
 
 abbrev entry : tie.After-is-edition → tie.Start
 entry c = c .before .before .before .before

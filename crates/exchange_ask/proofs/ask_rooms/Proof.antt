@@ -1,15 +1,15 @@
--- `exchange::ask_rooms` meets its contract: the tests are those of the definition, in its order. Assumes nothing.
+-- `exchange_ask::ask_rooms` meets its contract: the tests are those of the definition, in its order. Assumes nothing.
 use Prim.Native.Nat.{_≤_}
 use mathlib.Core.Path.{_≡_, _∙_, sym}
 use native.Mathlib.Omega.{arith}
 use lib.ListN.{length}
 use Rattle.rules.specs.Layout.{decode}
 use Rattle.table.proofs.Tables.{length-decode}
-use Rattle.exchange.specs.Exchanging.{Rooms, rooms}
-use Rattle.exchange.proofs.Asking.{no-answer-room, no-delta, no-digest-room, room-for-all}
+use Rattle.exchange_ask.specs.Asking.{Rooms, rooms}
+use Rattle.exchange_ask.proofs.Asking.{no-answer-room, no-delta, no-digest-room, room-for-all}
 use borrow.Author.Needs.{needs}
-use Rattle.exchange.proofs.ask_rooms.Statement.{statement}
-use Rattle.exchange.proofs.ask_rooms.Tie as tie
+use Rattle.exchange_ask.proofs.ask_rooms.Statement.{statement}
+use Rattle.exchange_ask.proofs.ask_rooms.Tie as tie
 
 abbrev entry : tie.After-digest-size → tie.Start
 entry c = c .before .before .before .before

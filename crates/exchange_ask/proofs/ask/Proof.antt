@@ -1,15 +1,15 @@
--- `exchange::ask` meets its contract: 14 exactly where a table is not valid, the follower's first. Assumes nothing.
+-- `exchange_ask::ask` meets its contract: 14 exactly where a table is not valid, the follower's first. Assumes nothing.
 use mathlib.Core.Path.{_≡_, _∙_, sym, refl}
 use mathlib.Core.Bool.{true}
 use Rattle.rules.specs.Whole.{validWhole}
 use Rattle.table.proofs.Tables.{valid-laid}
-use Rattle.exchange.specs.Exchanging.{Rooms, rooms}
-use Rattle.exchange.proofs.Asking.{both-good, follower-bad, publisher-bad}
+use Rattle.exchange_ask.specs.Asking.{Rooms, rooms}
+use Rattle.exchange_ask.proofs.Asking.{both-good, follower-bad, publisher-bad}
 use Rattle.table.proofs.Wholes.{area-valid}
 use Rattle.table_check.proofs.Entry.{area-long}
 use borrow.Author.Needs.{needs}
-use Rattle.exchange.proofs.ask.Statement.{statement}
-use Rattle.exchange.proofs.ask.Tie as tie
+use Rattle.exchange_ask.proofs.ask.Statement.{statement}
+use Rattle.exchange_ask.proofs.ask.Tie as tie
 
 abbrev entry : tie.After-check-table → tie.Start
 entry c = c .before .before .before .before

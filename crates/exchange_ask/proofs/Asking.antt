@@ -12,9 +12,9 @@ use Rattle.rules.specs.declared.Refusal.{Refusal}
 use Rattle.rules.specs.declared.Refusal.the-variants.{BadEdition, BadTable, NoPlace}
 use Rattle.compute.specs.Asking.{askedOf}
 use Rattle.compute.specs.declared.Asked.the-variants as asked
-use Rattle.exchange.specs.Exchanging.{Rooms, readyFor, readyOn, roomsFor}
-use Rattle.exchange.specs.declared.Step.the-variants.{Applying, Delta, Digest}
-use Rattle.exchange.specs.declared.Ready.the-variants as ready
+use Rattle.exchange_ask.specs.Asking.{Rooms, readyFor, readyOn, roomsFor}
+use Rattle.exchange_ask.specs.declared.Step.the-variants.{Applying, Delta, Digest}
+use Rattle.exchange_ask.specs.declared.Ready.the-variants as ready
 
 module _ (edition : ℕ) (unasked : List ℕ) (k : Rooms) (publisher follower : Table) (size : ℕ) (is : size ≡ length (digestBytes edition (digestOf unasked follower))) where
   pub no-digest-room : k .digest < size → ready.No Digest NoPlace ≡ roomsFor edition unasked k publisher follower

@@ -1,14 +1,14 @@
--- `rules::check_delta_status` meets its contract: step by step. Assumes nothing.
+-- `delta_status::check_delta_status` meets its contract: step by step. Assumes nothing.
 use Prim.Native.Nat.{ℕ, _≤_, _<_}
 use mathlib.Core.Bool.{true, false}
 use mathlib.Core.Path.{_≡_, _∙_, sym}
 use native.Mathlib.Omega.{arith}
 use borrow.Author.Needs.{needs}
 use borrow.Author.Tests.{lt-ltb, le-ltb, eq-eqb, ne-eqb}
 use Rattle.rules.specs.Apply.{Fence, statusOf, newerOf, waysOf}
 use Rattle.rules.specs.declared.DeltaStatus.the-variants.{Reject, ApplyAfterReset, Fenced}
-use Rattle.rules.proofs.check_delta_status.Statement.{statement}
-use Rattle.rules.proofs.check_delta_status.Tie as tie
+use Rattle.delta_status.proofs.check_delta_status.Statement.{statement}
+use Rattle.delta_status.proofs.check_delta_status.Tie as tie
 
 -- on plain numbers
 module _ (fence : Fence) (g m from gc max : ℕ) where

@@ -2,10 +2,10 @@ use Prim.Native.Nat.{ℕ, _≤_, _<_}
 use mathlib.Core.Path.{_≡_}
 use borrow.Author.Tests.{lt-ltb, le-ltb}
 use native.Mathlib.Omega.{arith}
 use Rattle.rules.specs.Apply.{newerOf}
 use Rattle.rules.specs.declared.DeltaStatus.the-variants.{Reject, Apply}
-use Rattle.rules.proofs.check_newer.Statement.{statement}
-use Rattle.rules.proofs.check_newer.Tie as tie
+use Rattle.delta_status.proofs.check_newer.Statement.{statement}
+use Rattle.delta_status.proofs.check_newer.Tie as tie
 
 module _ (m max : ℕ) where
   is : m < max → Apply ≡ newerOf m max

@@ -1,4 +1,4 @@
--- `rules::is_fenced` meets its contract: what no mode fences off, and then by the mode. Assumes nothing.
+-- `delta_status::is_fenced` meets its contract: what no mode fences off, and then by the mode. Assumes nothing.
 use Prim.Native.Nat.{ℕ, _≤_, _<_}
 use mathlib.Core.Path.{_≡_, refl}
 use mathlib.Core.Bool.{Bool, true, false, _&&_}
@@ -6,11 +6,11 @@ use native.Mathlib.Omega.{arith}
 use borrow.Author.Needs.{needs}
 use borrow.Author.Tests.{lt-ltb, le-ltb}
 use lib.Dec.{ltb}
 use Rattle.rules.specs.Apply.{waysOf}
 use Rattle.rules.specs.declared.Mode.{Mode}
 use Rattle.rules.specs.declared.Mode.the-variants.{Plain, Fenced, Guarded}
-use Rattle.rules.proofs.is_fenced.Statement.{statement}
-use Rattle.rules.proofs.is_fenced.Tie as tie
+use Rattle.delta_status.proofs.is_fenced.Statement.{statement}
+use Rattle.delta_status.proofs.is_fenced.Tie as tie
 
 never : (b : Bool) → false ≡ (b && false)
 never true = refl

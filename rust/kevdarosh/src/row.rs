@@ -1,0 +1,76 @@
+//! Records read in the table's own bytes, without a call for each.
+//!
+//! `kev_node_rows` and `kev_prefix_rows` say where they stand: rows of one width, one behind the other. That a row tells what `kev_record_at` tells of the same record is proved
+//! (`inspect: InRows.row-is`), and so is that all rows lie inside the table (`rows-inside`; `prefix: Rows.rows-among`). What is read here is checked once more by
+//! indexing, and held to that call by the tests and the fuzz.
+
+use core::iter::FusedIterator;
+
+use crate::ffi::Rows;
+use crate::table::{Record, Status};
+use crate::{KEY, VALUE};
+
+// A row, field behind field (docs/FORMAT.md, "A record slot").
+const KEY_LEN: usize = 0;
+const KEY_AT: usize = KEY_LEN + 1;
+const VALUE_LEN: usize = KEY_AT + KEY;
+const VALUE_AT: usize = VALUE_LEN + 1;
+const VERSION: usize = VALUE_AT + VALUE;
+const STATUS: usize = VERSION + 8;
+const START: usize = STATUS + 1;
+const ROW: usize = START + 8;
+
+/// Records of a node in key order. Each is read in the table's bytes when it is asked for.
+#[derive(Clone, Debug)]
+pub struct Records<'a> {
+    rows: &'a [u8],
+}
+
+impl<'a> Records<'a> {
+    #[inline]
+    pub(crate) fn of(table: &'a [u8], rows: Rows) -> Records<'a> {
+        Records { rows: &table[rows.at..rows.at + rows.count * ROW] }
+    }
+}
+
+impl<'a> Iterator for Records<'a> {
+    type Item = Record<'a>;
+
+    #[inline]
+    fn next(&mut self) -> Option<Record<'a>> {
+        let (row, rest) = self.rows.split_first_chunk()?;
+        self.rows = rest;
+        Some(record(row))
+    }
+
+    #[inline]
+    fn size_hint(&self) -> (usize, Option<usize>) {
+        let left = self.rows.len() / ROW;
+        (left, Some(left))
+    }
+}
+
+impl DoubleEndedIterator for Records<'_> {
+    #[inline]
+    fn next_back(&mut self) -> Option<Self::Item> {
+        let (rest, row) = self.rows.split_last_chunk()?;
+        self.rows = rest;
+        Some(record(row))
+    }
+}
+
+impl ExactSizeIterator for Records<'_> {}
+impl FusedIterator for Records<'_> {}
+
+/// The record of a row. The lengths of a good row are at most those of a key and a value; the compiler is told so by `min`.
+#[inline(always)]
+fn record(row: &[u8; ROW]) -> Record<'_> {
+    let number = |at: usize| u64::from_le_bytes(core::array::from_fn(|i| row[at + i]));
+    Record {
+        key: &row[KEY_AT..VALUE_LEN][..KEY.min(row[KEY_LEN].into())],
+        value: &row[VALUE_AT..VERSION][..VALUE.min(row[VALUE_LEN].into())],
+        version: number(VERSION),
+        status: Status::of(row[STATUS].into()),
+        start: number(START),
+    }
+}
