@@ -40,7 +40,7 @@ enum Aim {
     Times(f64),
     /// `OWNED_MOST` times the original's: a row of the owned table.
     Owned,
-    /// Nodes that come and go in an owned table: no local calls, and no aim (DECISIONS 117).
+    /// Nodes that come and go in an owned table: the same aim, in a table of their own (DECISIONS 130).
     Nodes,
     /// No aim: shown beside the others.
     None,
@@ -127,8 +127,8 @@ impl Rows {
             let verdict = |most: f64| (format!("{most}"), if ratio <= most { "met" } else { "MISSED" });
             let (aim, verdict) = match aim {
                 Aim::Times(most) => verdict(*most),
-                Aim::Owned => verdict(OWNED_MOST),
-                Aim::Nodes | Aim::None => (String::new(), ""),
+                Aim::Owned | Aim::Nodes => verdict(OWNED_MOST),
+                Aim::None => (String::new(), ""),
             };
             let digits = if ratio < 1.0 { 3 } else { 2 };
             println!("| {name}{beside} | {rust:.0} | {port:.0} | {ratio:.digits$} | {aim} | {verdict} |");
