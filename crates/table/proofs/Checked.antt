@@ -22,7 +22,7 @@ use Rattle.rules.specs.Layout.{nodePlace, nodeWidth, tableWidths, tableWidth, e
 use Rattle.table.specs.Tests.{nodeGood, nodesOf, tableTests, tableGood}
 use Rattle.table.proofs.Records.{every-no}
 use Rattle.table.proofs.Nodes.{obeys-entry, length-node, encode-decode-node, obeys-decode-node, node-good}
-use Rattle.table.proofs.Tables.{ObeysTable, table-obeys, obeys-table, node-obeys, length-table, table-field, nodes-room, nodes-count, behind-count, decode-encode, encode-decode, valid-obeys, valid-long, valid-by}
+use Rattle.table.proofs.Tables.{ObeysTable, table-obeys, obeys-table, node-obeys, length-table, table-field, nodes-room, nodes-count, room-zero, behind-count, decode-encode, encode-decode, valid-obeys, valid-long, valid-by}
 
 -- the bytes of a table that obeys pass the tests
 pub table-good : (t : Table) → obeys t ≡ true → tableGood (encode t) ≡ true
@@ -34,13 +34,8 @@ table-good t o =
     let one : (i : ℕ) → i < n → nodeGood (part (i * nodeWidth) nodeWidth (blocks maxNodes nodeWidth encodeNode t)) ≡ true =
     λ i h. ap nodeGood (block encodeNode nodeWidth length-node maxNodes t (p .few) i d h) ∙ node-good (getD t i d) (node-obeys t p (getD t i d) (in-at t i d h)) in
     let goods : allBlocks nodeGood nodeWidth n (drop (nodePlace 0) (encode t)) ≡ true = ap (allBlocks nodeGood nodeWidth n) (nodes-room t) ∙ at-all-blocks nodeGood nodeWidth n _ one in
-    let fl : length (flat encodeNode t) ≡ n * nodeWidth = length-flat encodeNode nodeWidth length-node t in
-    let rest : maxNodes * nodeWidth - n * nodeWidth ≡ (maxNodes - n) * nodeWidth = omega arith in
-    let zs : allZero (part (1 + n * nodeWidth) ((maxNodes - n) * nodeWidth) (encode t)) ≡ true =
-    rw (fl, rest) at
-    (fit-zeros (maxNodes * nodeWidth) 1 (flat encodeNode t) (encode t) (rw fl (omega (arith, p .few))) (table-field t 1 (omega arith)) (rw length-table (omega arith))) in
     let rise : rising (numbersOf (decode (encode t))) ≡ true = ap (λ (u : Table). rising (numbersOf u)) (decode-encode t o) ∙ p .rise in
-    rw (tableGood, eq-eqb (length (encode t)) tableWidth (length-table t), nodes-count t (p .few), le-leb n maxNodes (p .few), goods, rise, zs)
+    rw (tableGood, eq-eqb (length (encode t)) tableWidth (length-table t), nodes-count t (p .few), le-leb n maxNodes (p .few), goods, rise, room-zero t (p .few))
 
 -- ---- bytes that pass the tests
 
