@@ -1,7 +1,8 @@
 -- What is known of bytes that are laid out: how long they are, how many records or nodes they hold, that each record's lengths are within the
 -- sizes, and that each node of a table is laid out itself. Assumes nothing.
-use Prim.Native.Nat.{ℕ, suc, _*_, _-_, _≤_, _<_}
+use Prim.Native.Nat.{ℕ, suc, _+_, _*_, _-_, _≤_, _<_}
 use mathlib.Core.Path.{_≡_, ap, ap₂, sym, _∙_, subst}
+use mathlib.Core.Bool.{true}
 use mathlib.Core.List.{List, []}
 use native.Mathlib.Decide.{decLe}
 use native.Mathlib.Omega.{arith}
@@ -12,7 +13,7 @@ use Rattle.fields.specs.Blocks.{zeros, allZero}
 use Rattle.fields.specs.Widths.{offset}
 use Rattle.fields.proofs.Choice.{in-at, in-none}
 use Rattle.fields.proofs.Parts.{length-part}
-use Rattle.fields.proofs.Blocks.{part-zero}
+use Rattle.fields.proofs.Blocks.{zeros-within, zero-part}
 use Rattle.rules.specs.Sizes.{maxNodes, maxRecords, maxKey, maxValue, numbers}
 use Rattle.rules.specs.Node.{Rec}
 use Rattle.rules.specs.Table.{Entry}
@@ -62,9 +63,11 @@ module _ (b : List ℕ) (o : LaidNode b) where
   -- zeros stand behind its records
   pub laid-rest : part (recPlace (countOf b)) (nodeWidth - recPlace (countOf b)) b ≡ zeros (nodeWidth - recPlace (countOf b))
   laid-rest =
-      part-zero (recPlace (countOf b)) (nodeWidth - recPlace (countOf b)) (recPlace (countOf b)) ((maxRecords - countOf b) * recWidth) b
-      (ap₂ (λ (n : ℕ) (x : List ℕ). allZero (part (recPlace n) ((maxRecords - n) * recWidth) x)) (sym (length-recs b)) (sym (o .is)) ∙ rest-zero (decodeNode b) (o .fits .few))
-      (omega arith) (omega (arith, o .few)) (omega (arith, o .few, o .long))
+      let n : ℕ = countOf b in
+      let e : (maxRecords - n) * recWidth ≡ nodeWidth - recPlace n = omega (arith, o .few) in
+      let z : allZero (part (recPlace n) ((maxRecords - n) * recWidth) b) ≡ true =
+      ap₂ (λ (k : ℕ) (x : List ℕ). allZero (part (recPlace k) ((maxRecords - k) * recWidth) x)) (sym (length-recs b)) (sym (o .is)) ∙ rest-zero (decodeNode b) (o .fits .few) in
+      subst (λ (k : ℕ). part (recPlace n) k b ≡ zeros k) e (zero-part (recPlace n) ((maxRecords - n) * recWidth) b z (omega (arith, o .few, o .long)))
 
 module _ (l : List ℕ) (o : LaidTable l) where
   -- node i is laid out, and is the table's
@@ -82,9 +85,11 @@ module _ (l : List ℕ) (o : LaidTable l) where
   -- a place behind the nodes has the bytes of a fresh node with number 0
   free-is : (i : ℕ) → nodesOf l ≤ i → i < maxNodes → nodeBytes i l ≡ encodeNode (freshEntry 0)
   free-is i h g =
-      part-zero (nodePlace i) nodeWidth (nodePlace (nodesOf l)) ((maxNodes - nodesOf l) * nodeWidth) l
-      (ap₂ (λ (n : ℕ) (x : List ℕ). allZero (part (nodePlace n) ((maxNodes - n) * nodeWidth) x)) (sym (length-decode l)) (sym (o .is)) ∙ room-zero (decode l) (o .fits .few))
-      (omega arith) (omega (arith, o .few)) (omega (arith, o .few, o .long))
+      let n : ℕ = nodesOf l in
+      let z : allZero (part (nodePlace n) ((maxNodes - n) * nodeWidth) l) ≡ true =
+      ap₂ (λ (k : ℕ) (x : List ℕ). allZero (part (nodePlace k) ((maxNodes - k) * nodeWidth) x)) (sym (length-decode l)) (sym (o .is)) ∙ room-zero (decode l) (o .fits .few) in
+      let f : nodePlace n + (maxNodes - n) * nodeWidth ≤ length l = omega (arith, o .few, o .long) in
+      zeros-within (nodePlace i) nodeWidth (nodePlace n) ((maxNodes - n) * nodeWidth) l (zero-part (nodePlace n) ((maxNodes - n) * nodeWidth) l z f) (omega arith) (omega arith) f
       ∙ sym zero-node
 
   -- so that all eight places are laid out
