@@ -110,6 +110,15 @@ impl Timed {
         self.0.cluster.last_heartbeat_if_deleted(&node.0).map(u64::from)
     }
 
+    /// A fresh node, where there is none yet.
+    pub fn add_node(&mut self, node: &Name) {
+        self.0.cluster.node_state_mut_or_init(&node.0);
+    }
+
+    pub fn remove_node(&mut self, node: &Name) {
+        self.0.cluster.remove_node(&node.0);
+    }
+
     pub fn set(&mut self, node: &Name, key: &str, value: &str) {
         if let Some(state) = self.0.cluster.node_state_mut(&node.0) {
             state.set(key, value);
