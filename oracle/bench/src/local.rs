@@ -260,14 +260,15 @@ fn come_and_go_in_turn(rows: &mut Rows) {
     same_nodes(NAME, &raw, &table, 0);
 }
 
-/// A table of eight full nodes for each of its nodes, and that node with its name.
-fn full_tables() -> (Vec<(Timed, timed::Name)>, Vec<(Box<OwnedTable>, u64)>) {
+/// A table of eight full nodes for each of its nodes, and that node: the original's, and owned ones.
+fn rusts_full() -> Vec<(Timed, timed::Name)> {
     let full = inputs::full();
-    let owned = || Box::new(OwnedTable::from_bytes(&full).expect("a good table"));
-    (
-        IN_TURN.iter().map(|&node| (Timed::of(&full), timed::name(node))).collect(),
-        IN_TURN.iter().map(|&node| (owned(), node)).collect(),
-    )
+    IN_TURN.iter().map(|&node| (Timed::of(&full), timed::name(node))).collect()
+}
+
+fn ports_full() -> Vec<(Box<OwnedTable>, u64)> {
+    let full = inputs::full();
+    IN_TURN.iter().map(|&node| (Box::new(OwnedTable::from_bytes(&full).expect("a good table")), node)).collect()
 }
 
 /// Each node of a full table is removed, a fresh one is added among seven that are full, and both. The tables are made anew for each batch.
@@ -277,12 +278,12 @@ fn among_full(rows: &mut Rows) {
         ("node with 32 records removed and a fresh one added, all eight full, each in turn", 0, 2),
         ("fresh node added among seven full ones, each place in turn", 1, 2),
     ] {
-        let (mut rusts, mut ports) = full_tables();
+        let (mut rusts, mut ports) = (Vec::new(), Vec::new());
         rows.measure_less(
             name,
             Aim::Nodes,
             || {
-                rusts = full_tables().0;
+                rusts = rusts_full();
                 let mut step = |step| {
                     for (rust, node) in &mut rusts {
                         if step == 0 { rust.remove_node(black_box(node)) } else { rust.add_node(black_box(node)) }
@@ -293,7 +294,7 @@ fn among_full(rows: &mut Rows) {
             },
             || 0.0,
             || {
-                ports = full_tables().1;
+                ports = ports_full();
                 let mut step = |step| {
                     for (port, node) in &mut ports {
                         let node = black_box(*node);

@@ -5,6 +5,7 @@ use std::collections::HashSet;
 use std::time::Duration;
 
 use script::Side;
+use tokio::sync::watch;
 use tokio::time::set_clock;
 
 use crate::delta::{Delta, operation_bytes};
@@ -12,6 +13,7 @@ use crate::digest::Digest;
 use crate::hub::Hub;
 use crate::message::ProtocolVersion;
 use crate::serialize::{Deserializable, Serializable};
+use crate::state::ClusterState;
 use crate::types::{ChitchatId, VersionedValue};
 use crate::wire;
 
@@ -63,6 +65,11 @@ pub fn operations(stream: &[u8]) -> usize {
 /// The original's MTU at which it cuts a delta with so many Nodes where document 01 does at 16,384.
 pub fn mtu(nodes: usize) -> usize {
     16_384 + wire::NAME_EXTRA * nodes + 7
+}
+
+/// Makes an empty table; how many nodes it has.
+pub fn make() -> usize {
+    ClusterState::with_seed_addrs(watch::Receiver::holding(HashSet::new())).nodes().count()
 }
 
 pub struct Timed(Hub);
