@@ -70,7 +70,8 @@ fn raise_from(table: &mut [u8], i: usize, n: usize)
 // The nodes behind node `i` of `n` move down by one place.
 fn lower_behind(table: &mut [u8], i: usize, n: usize)
     requires { ⌜ LaidTable (now table) × (i < n) × (n ≤ maxNodes) ⌝ }
-    ensures { λ _. ⌜ now (table .exit) ≡ put (nodePlace i) (part (nodePlace i + nodeWidth) ((n - (i + 1)) * nodeWidth) (now (table .entry))) (now (table .entry)) ⌝ }
+    ensures { λ _. ⌜ now (table .exit) ≡ put (nodePlace i)
+        (part (nodePlace i + nodeWidth) ((n - (i + 1)) * nodeWidth) (now (table .entry))) (now (table .entry)) ⌝ }
 {
     let mut k = i;
     while k + 1 < n {

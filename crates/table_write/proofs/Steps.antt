@@ -1,33 +1,31 @@
 -- The stores of each writer, one after the other, on plain lists: what the last of them leaves is the changed node or table. Assumes nothing.
 use Prim.Native.Nat.{ℕ, suc, _+_, _*_, _-_, _≤_, _<_}
 use mathlib.Core.Path.{_≡_, ap, ap₂, sym, _∙_}
-use mathlib.Core.List.{List, [], _++_, append-nil, append-assoc}
+use mathlib.Core.List.{List, _++_, append-nil, append-assoc}
 use native.Mathlib.Omega.{arith}
 use native.Mathlib.Nat.{zero-add}
 use native.Mathlib.Numerals.{add-one}
 use lib.ListN.{length, drop, length-append, drop-of-length-le}
-use lib.Seq.{drop-at}
 use Rattle.fields.specs.Numbers.{bytesOf}
 use Rattle.fields.specs.Parts.{part, put}
-use Rattle.fields.specs.Blocks.{zeros, fit, insertAt, removeAt}
+use Rattle.fields.specs.Blocks.{zeros, fit}
 use Rattle.fields.specs.Widths.{joined, offset}
 use Rattle.fields.proofs.Numbers.{length-bytesOf}
 use Rattle.fields.proofs.Parts.{put-put, put-behind, put-further, length-put}
 use Rattle.fields.proofs.Blocks.{length-zeros, zeros-add, drop-zeros, length-fit, fit-pad}
-use Rattle.rules.specs.Sizes.{maxNodes, maxRecords, maxKey, maxValue}
+use Rattle.rules.specs.Sizes.{maxRecords, maxKey, maxValue}
 use Rattle.rules.specs.Node.{Rec, freshHeader}
 use Rattle.rules.specs.Delta.{statusByte}
-use Rattle.rules.specs.Layout.{recPlace, nodePlace, recWidths, recWidth, nodeWidths, nodeWidth, tableWidths, encodeRec, encodeNode, decodeNode, encode, decode}
+use Rattle.rules.specs.Layout.{recPlace, recWidths, recWidth, nodeWidths, nodeWidth, encodeRec, encodeNode, decodeNode}
 use Rattle.rules.specs.declared.Header.{Header}
 use Rattle.rules.specs.declared.Status.{Status}
-use Rattle.table.specs.Tests.{countOf, nodesOf}
-use Rattle.table.specs.Fits.{LaidNode, LaidTable}
+use Rattle.table.specs.Tests.{countOf}
+use Rattle.table.specs.Fits.{LaidNode}
 use Rattle.table.specs.Changes.{withRecAt, withNewRec, freshEntry, recOf}
-use Rattle.table.proofs.Tables.{length-decode}
 use Rattle.table.proofs.Laid.{laid-rest}
 use Rattle.table.proofs.Places.{length-recs}
 use Rattle.table_write.specs.Rows.{blocksIn, blockPlace, behindBlock, lessBlock, withoutBlock}
-use Rattle.table.proofs.Changed.{node-rec-set, node-rec-insert, table-insert, table-remove, fresh-bytes, put-beat, put-max, put-gc}
+use Rattle.table.proofs.Changed.{node-rec-set, node-rec-insert, fresh-bytes, put-beat, put-max, put-gc}
 
 -- ---- a text in its room
 

@@ -1,11 +1,9 @@
 -- `table_nodes::raise_from` meets its contract: from the last place down, those above are raised and those below are as they were. Assumes nothing.
 use Prim.Native.Nat.{ℕ, _+_, _-_, _≤_, _<_}
-use mathlib.Core.Path.{_≡_, refl, ap, sym, _∙_}
+use mathlib.Core.Path.{_≡_, refl, ap, _∙_}
 use mathlib.Core.List.{List}
 use native.Mathlib.Omega.{arith}
-use native.Mathlib.Nat.{add-zero}
 use lib.ListN.{length}
-use Rattle.fields.specs.Parts.{part, put}
 use Rattle.rules.specs.Layout.{nodePlace, nodeWidth}
 use Rattle.table_nodes.proofs.Moves.{upFrom, up-none, up-long, up-asked, up-done}
 use borrow.Author.Needs.{needs}
