@@ -64,7 +64,7 @@
 #![deny(unsafe_code)]
 #![warn(missing_docs)]
 
-// A table has more bytes than a slice of 16 bits can be long.
+// A listing has more bytes than a `usize` of 16 bits can count.
 #[cfg(not(any(target_pointer_width = "32", target_pointer_width = "64")))]
 compile_error!("this crate is for processors whose usize has 32 or 64 bits");
 
