@@ -92,6 +92,28 @@ def nodes():
     yield "remove 5"
 
 
+def nodes_used():
+    """Nodes with more and with fewer records move to each other's places, up and down: what stood behind the shorter one goes."""
+    for number, count in ((10, 2), (20, 0), (30, 5), (40, 1), (50, 32)):
+        yield f"add {number}"
+        for key in range(count):
+            yield f"write {number} {x(b'%02d' % key)} {x(bytes([48 + number // 10]) * (1 + key))} 0 9"
+    for number in (10, 30):
+        yield f"remove {number}"
+    for number in (5, 60, 25, 45):
+        yield f"add {number}"
+    yield f"write 25 {x(b'k')} {x(b'v')} 0 9"
+    for number in (5, 20, 60):
+        yield f"remove {number}"
+    yield "add 1"
+    yield "remove 50"
+    for number in (50, 41, 2):
+        yield f"add {number}"
+    for number in (1, 25, 40):
+        yield f"remove {number}"
+    yield "dump"
+
+
 def removed():
     """Removed nodes are remembered with their last heartbeats, sixteen of them; adding forgets one, and asking changes nothing."""
     yield "removed 1"
@@ -903,7 +925,7 @@ def malformed():
 
 
 SCRIPTS = {
-    "nodes": nodes, "beats": beats, "sizes": sizes, "versions": versions, "statuses": statuses, "wanted": wanted, "reading": reading, "keys": keys,
+    "nodes": nodes, "nodes-used": nodes_used, "beats": beats, "sizes": sizes, "versions": versions, "statuses": statuses, "wanted": wanted, "reading": reading, "keys": keys,
     "removal": removal, "removed": removed, "bad-memories": bad_memories,
     "digests": digests, "digest-reading": digest_reading, "editions": editions, "delta-reading": delta_reading, "lacking": lacking, "delta-lengths": delta_lengths, "asking": asking,
     "from": from_where, "in-line": in_line,

@@ -21,6 +21,7 @@ use Rattle.table.specs.Changes.{withMax, withGc, withRecs, freshEntry}
 use Rattle.table.specs.Tests.{countOf, recsIn}
 use Rattle.table.proofs.Nodes.{laid-node, decode-encode-node}
 use Rattle.table.proofs.Places.{length-recs}
+use Rattle.table.proofs.Laid.{fits-fresh}
 use Rattle.table_read.specs.Find.{headerOf}
 use Rattle.rules.specs.declared.Header.{Header}
 use Rattle.apply_node.specs.Taking.{hasRoom, Rising, Tried}
@@ -34,21 +35,17 @@ put-all vs l h = ap (λ (r : List ℕ). vs ++ r) (drop-of-length-le l {i = 0 + l
 
 -- a reset: a fresh node under the node's number, with the delta's last_gc
 module _ (b : List ℕ) (o : LaidNode b) (n : ℕ) (c₁ : List ℕ) (p : n ≡ natOf (part 0 8 b)) (q : c₁ ≡ encodeNode (freshEntry n)) where
-  fits-fresh : FitsEntry (freshEntry (decodeNode b .number))
-  fits-fresh =
-      record { number-high = o .fits .number-high; beat-high = omega arith; max-high = omega arith; gc-high = omega arith; few = omega arith; each = λ r m. absurd (in-none m) }
-
   fresh-is : c₁ ≡ encodeNode (freshEntry (decodeNode b .number))
   unfolding decodeNode
   fresh-is = q ∙ ap (λ (k : ℕ). encodeNode (freshEntry k)) p
 
   pub laid-fresh : LaidNode c₁
-  laid-fresh = subst LaidNode (sym fresh-is) (laid-node (freshEntry (decodeNode b .number)) fits-fresh)
+  laid-fresh = subst LaidNode (sym fresh-is) (laid-node (freshEntry (decodeNode b .number)) (fits-fresh (decodeNode b .number) (o .fits .number-high)))
 
   module _ (gc : ℕ) (c₂ : List ℕ) (r : c₂ ≡ encodeNode (withGc gc (decodeNode c₁))) where
     pub emptied-bytes : c₂ ≡ encodeNode (emptied gc (decodeNode b))
     emptied-bytes =
-        r ∙ ap (λ (e : Entry). encodeNode (withGc gc e)) (ap decodeNode fresh-is ∙ decode-encode-node (freshEntry (decodeNode b .number)) fits-fresh)
+        r ∙ ap (λ (e : Entry). encodeNode (withGc gc e)) (ap decodeNode fresh-is ∙ decode-encode-node (freshEntry (decodeNode b .number)) (fits-fresh (decodeNode b .number) (o .fits .number-high)))
 
 -- the node before the first record is taken
 module _ (b : List ℕ) (gc : ℕ) where

@@ -63,6 +63,31 @@ take-zeros n m h =
     let e : m ≡ n + (m - n) = omega arith in
     rw (e, ← zeros-add n (m - n)) (take-at (zeros n) (zeros (m - n)) n (length-zeros n))
 
+pub drop-zeros : (k n : ℕ) → k ≤ n → drop k (zeros n) ≡ zeros (n - k)
+drop-zeros k n h =
+    let e : n ≡ k + (n - k) = omega arith in
+    ap (λ (m : ℕ). drop k (zeros m)) e
+    ∙ ap (drop k) (sym (zeros-add k (n - k)))
+    ∙ drop-at (zeros k) (zeros (n - k)) k (length-zeros k)
+
+-- a part of zeros
+part-zeros : (a n m : ℕ) → a + n ≤ m → part a n (zeros m) ≡ zeros n
+unfolding part
+part-zeros a n m h = ap (take n) (drop-zeros a m (omega arith)) ∙ take-zeros n (m - a) (omega arith)
+
+-- and of a part that is zeros
+pub zeros-within : (at n a m : ℕ) (l : List ℕ) → part a m l ≡ zeros m → a ≤ at → at + n ≤ a + m → a + m ≤ length l → part at n l ≡ zeros n
+zeros-within at n a m l z h g f =
+    let e : at ≡ a + (at - a) = omega arith in
+    ap (λ (k : ℕ). part k n l) e
+    ∙ sym (part-part (at - a) n a m l (omega arith) f)
+    ∙ ap (part (at - a) n) z
+    ∙ part-zeros (at - a) n m (omega arith)
+
+-- as is one whose elements are all zero
+pub zero-part : (a m : ℕ) (l : List ℕ) → allZero (part a m l) ≡ true → a + m ≤ length l → part a m l ≡ zeros m
+zero-part a m l z f = zero-all (part a m l) z ∙ ap zeros (length-part a m l f)
+
 -- what is short enough stands whole
 pub fit-pad : (n : ℕ) (xs : List ℕ) → length xs ≤ n → fit n xs ≡ xs ++ zeros (n - length xs)
 unfolding fit

@@ -142,6 +142,25 @@ pub drop-put : (n d : ℕ) (vs l : List ℕ) → n ≤ length l → drop n (put 
 drop-put n d vs l h =
     ap (drop n) (sym (put-rest n d vs l h)) ∙ drop-at (take n l) (put d vs (drop n l)) n (length-take-le n l h)
 
+-- a part that ends before the put, and one that begins behind it
+pub part-before : (a n at : ℕ) (vs l : List ℕ) → a + n ≤ at → at ≤ length l → part a n (put at vs l) ≡ part a n l
+unfolding put
+part-before a n at vs l h g =
+    let f : a + n ≤ length (take at l) = rw (length-take-le at l g) h in
+    part-left a n (take at l) (vs ++ drop (at + length vs) l) f ∙ sym (part-left a n (take at l) (drop at l) f) ∙ ap (part a n) (take-append-drop at l)
+
+pub part-behind : (a n at : ℕ) (vs l : List ℕ) → at + length vs ≤ a → at + length vs ≤ length l → part a n (put at vs l) ≡ part a n l
+unfolding part put
+part-behind a n at vs l h g =
+    let m : ℕ = at + length vs in
+    let e : a ≡ m + (a - m) = omega arith in
+    let long : length (take at l ++ vs) ≡ m = simp (length-append, length-take) (omega arith) in
+    ap (λ (k : ℕ). part k n (put at vs l)) e
+    ∙ ap (part (m + (a - m)) n) (sym (append-assoc (take at l) vs (drop m l)))
+    ∙ part-right m (a - m) n (take at l ++ vs) (drop m l) long
+    ∙ part-drop (a - m) n m l
+    ∙ ap (λ (k : ℕ). part k n l) (sym e)
+
 -- ---- two puts, one after the other
 
 -- put again into what was put
@@ -161,6 +180,21 @@ put-append at vs ws l h =
     let long : length (take m l) ≡ m = length-take-le m l (omega arith) in
     let q : m + length ws ≡ at + (length vs + length ws) = omega arith in
     rw (put, take-append-le at (take m l) _ (rw long (omega arith)), take-take at m l (omega arith), drop-at (take m l) _ m long, q, length-append, append-assoc)
+
+-- what stands there already
+pub put-own : (at n : ℕ) (l : List ℕ) → at + n ≤ length l → put at (part at n l) l ≡ l
+unfolding put part
+put-own at n l h =
+    ap (λ (k : ℕ). take at l ++ (part at n l ++ drop (at + k) l)) (length-part at n l h)
+    ∙ ap (λ (r : List ℕ). take at l ++ (part at n l ++ r)) (sym (drop-drop n at l))
+    ∙ ap (λ (r : List ℕ). take at l ++ r) (take-append-drop n (drop at l))
+    ∙ take-append-drop at l
+
+-- so that what stands behind may be put too
+pub put-further : (at q : ℕ) (vs l : List ℕ) → at + (length vs + q) ≤ length l → put at vs l ≡ put at (vs ++ part (at + length vs) q l) l
+put-further at q vs l h =
+    ap (put at vs) (sym (put-own (at + length vs) q l (omega arith)))
+    ∙ put-append at vs (part (at + length vs) q l) l (rw (length-part (at + length vs) q l (omega arith)) h)
 
 -- two puts that do not touch, in either order
 pub put-swap : (a b : ℕ) (vs ws l : List ℕ) → a + length vs ≤ b → b + length ws ≤ length l → put a vs (put b ws l) ≡ put b ws (put a vs l)

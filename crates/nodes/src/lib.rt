@@ -46,7 +46,7 @@ pub fn add_good(table: &mut [u8], number: u64) -> Answer
             if sizes::NODES <= fields::byte_at(table, layout::NODE_COUNT) {
                 return Answer::Refused(Refusal::NinthNode);
             }
-            table_write::insert_node(table, i, number);
+            table_nodes::insert_node(table, i, number);
             Answer::Done
         }
     }
@@ -59,7 +59,7 @@ pub fn remove_good(table: &mut [u8], number: u64) -> Answer
 {
     match table_read::find_node(table, number) {
         Place::At(i) => {
-            table_write::remove_node(table, i);
+            table_nodes::remove_node(table, i);
             Answer::Done
         }
         Place::Free(_) => Answer::Refused(Refusal::NoNode),

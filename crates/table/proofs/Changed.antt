@@ -64,7 +64,7 @@ no-records : blocks maxRecords recWidth encodeRec [] ≡ zeros (maxRecords * rec
 unfolding flat
 no-records = blocks-is encodeRec recWidth length-rec maxRecords maxRecords [] refl
 
-zero-node : encodeNode (freshEntry 0) ≡ zeros nodeWidth
+pub zero-node : encodeNode (freshEntry 0) ≡ zeros nodeWidth
 unfolding encodeNode joined
 zero-node = rw (encodeNode, joined, no-records, bytes-zero 8, bytes-zero 1, append-nil) (simp zeros-add)
 

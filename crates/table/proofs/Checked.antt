@@ -1,5 +1,5 @@
 -- The tests of a table's bytes come to the same as `valid`, for a slice of any length and contents. Assumes nothing.
-use Prim.Native.Nat.{ℕ, _+_, _*_, _-_, _≤_, _<_}
+use Prim.Native.Nat.{ℕ, _*_, _-_, _≤_, _<_}
 use mathlib.Core.Path.{_≡_, refl, ap, sym, _∙_}
 use mathlib.Core.Bool.{Bool, true, false, _&&_}
 use mathlib.Core.List.{List, []}
@@ -10,11 +10,11 @@ use borrow.Author.Tests.{leb-true, le-leb, eqb-true, eq-eqb}
 use Rattle.fields.specs.Choice.{every}
 use Rattle.fields.specs.Numbers.{AreBytes}
 use Rattle.fields.specs.Parts.{part}
-use Rattle.fields.specs.Blocks.{flat, blocks, unblock, allZero, allBlocks}
+use Rattle.fields.specs.Blocks.{blocks, unblock, allZero, allBlocks}
 use Rattle.fields.proofs.Choice.{every-at, same-test, and-left, and-right, and-last, all-in, at-in, in-at}
 use Rattle.fields.proofs.Numbers.{part-back, bytes-part, bytes-drop}
 use Rattle.fields.proofs.Parts.{length-part, part-drop}
-use Rattle.fields.proofs.Blocks.{length-flat, length-unblock, unblock-at, block, blocks-back, all-blocks-at, at-all-blocks, fit-zeros}
+use Rattle.fields.proofs.Blocks.{length-unblock, unblock-at, block, blocks-back, all-blocks-at, at-all-blocks}
 use Rattle.fields.proofs.Widths.{joined-whole}
 use Rattle.rules.specs.Sizes.{maxNodes}
 use Rattle.rules.specs.Table.{Entry, Table, entryObeys, rising, numbersOf, obeys}
@@ -22,7 +22,7 @@ use Rattle.rules.specs.Layout.{nodePlace, nodeWidth, tableWidths, tableWidth, e
 use Rattle.table.specs.Tests.{nodeGood, nodesOf, tableTests, tableGood}
 use Rattle.table.proofs.Records.{every-no}
 use Rattle.table.proofs.Nodes.{obeys-entry, length-node, encode-decode-node, obeys-decode-node, node-good}
-use Rattle.table.proofs.Tables.{ObeysTable, table-obeys, obeys-table, node-obeys, length-table, table-field, nodes-room, nodes-count, behind-count, decode-encode, encode-decode, valid-obeys, valid-long, valid-by}
+use Rattle.table.proofs.Tables.{ObeysTable, table-obeys, obeys-table, node-obeys, length-table, nodes-room, nodes-count, room-zero, behind-count, decode-encode, encode-decode, valid-obeys, valid-long, valid-by}
 
 -- the bytes of a table that obeys pass the tests
 pub table-good : (t : Table) → obeys t ≡ true → tableGood (encode t) ≡ true
@@ -34,13 +34,8 @@ table-good t o =
     let one : (i : ℕ) → i < n → nodeGood (part (i * nodeWidth) nodeWidth (blocks maxNodes nodeWidth encodeNode t)) ≡ true =
     λ i h. ap nodeGood (block encodeNode nodeWidth length-node maxNodes t (p .few) i d h) ∙ node-good (getD t i d) (node-obeys t p (getD t i d) (in-at t i d h)) in
     let goods : allBlocks nodeGood nodeWidth n (drop (nodePlace 0) (encode t)) ≡ true = ap (allBlocks nodeGood nodeWidth n) (nodes-room t) ∙ at-all-blocks nodeGood nodeWidth n _ one in
-    let fl : length (flat encodeNode t) ≡ n * nodeWidth = length-flat encodeNode nodeWidth length-node t in
-    let rest : maxNodes * nodeWidth - n * nodeWidth ≡ (maxNodes - n) * nodeWidth = omega arith in
-    let zs : allZero (part (1 + n * nodeWidth) ((maxNodes - n) * nodeWidth) (encode t)) ≡ true =
-    rw (fl, rest) at
-    (fit-zeros (maxNodes * nodeWidth) 1 (flat encodeNode t) (encode t) (rw fl (omega (arith, p .few))) (table-field t 1 (omega arith)) (rw length-table (omega arith))) in
     let rise : rising (numbersOf (decode (encode t))) ≡ true = ap (λ (u : Table). rising (numbersOf u)) (decode-encode t o) ∙ p .rise in
-    rw (tableGood, eq-eqb (length (encode t)) tableWidth (length-table t), nodes-count t (p .few), le-leb n maxNodes (p .few), goods, rise, zs)
+    rw (tableGood, eq-eqb (length (encode t)) tableWidth (length-table t), nodes-count t (p .few), le-leb n maxNodes (p .few), goods, rise, room-zero t (p .few))
 
 -- ---- bytes that pass the tests
 

@@ -141,6 +141,17 @@ module _ (e : Entry) (o : FitsEntry e) where
   laid-node =
       record { long = length-node e; few = subst (λ (n : ℕ). n ≤ maxRecords) (sym count-is) (o .few); fits = subst FitsEntry (sym decode-encode-node) o; is = ap encodeNode decode-encode-node }
 
+-- zeros stand behind its records
+pub rest-zero : (e : Entry) → length (e .node .recs) ≤ maxRecords
+    → let n : ℕ = length (e .node .recs) in allZero (part (recPlace n) ((maxRecords - n) * recWidth) (encodeNode e)) ≡ true
+unfolding blocks
+rest-zero e few =
+    let n : ℕ = length (e .node .recs) in
+    let fl : length (flat encodeRec (e .node .recs)) ≡ n * recWidth = length-flat encodeRec recWidth length-rec (e .node .recs) in
+    let rest : maxRecords * recWidth - n * recWidth ≡ (maxRecords - n) * recWidth = omega arith in
+    rw (fl, rest) at
+    (fit-zeros (maxRecords * recWidth) (recPlace 0) (flat encodeRec (e .node .recs)) (encodeNode e) (rw fl (omega arith)) (node-field e 5 (omega arith)) (rw length-node (omega arith)))
+
 -- the bytes of a node that obeys pass the tests
 pub node-good : (e : Entry) → ObeysEntry e → nodeGood (encodeNode e) ≡ true
 unfolding nodeGood blocks
@@ -156,14 +167,9 @@ node-good e o =
     ∙ rec-good r (f .each r m) (e .node .max) (p .version-low) (p .version-high) in
     let goods : allBlocks (recGood (e .node .max)) recWidth n (drop (recPlace 0) (encodeNode e)) ≡ true =
     ap (allBlocks (recGood (e .node .max)) recWidth n) (room-is e f) ∙ at-all-blocks (recGood (e .node .max)) recWidth n _ one in
-    let fl : length (flat encodeRec (e .node .recs)) ≡ n * recWidth = length-flat encodeRec recWidth length-rec (e .node .recs) in
-    let rest : maxRecords * recWidth - n * recWidth ≡ (maxRecords - n) * recWidth = omega arith in
-    let zs : allZero (part (recPlace n) ((maxRecords - n) * recWidth) (encodeNode e)) ≡ true =
-    rw (fl, rest) at
-    (fit-zeros (maxRecords * recWidth) (recPlace 0) (flat encodeRec (e .node .recs)) (encodeNode e) (rw fl (omega (arith, o .few))) (node-field e 5 (omega arith)) (rw length-node (omega arith))) in
     let rise : keysRise (recsIn (encodeNode e)) ≡ true = ap (λ (x : Entry). keysRise (x .node .recs)) (decode-encode-node e f) ∙ o .rise in
     let other : differ (versions (recsIn (encodeNode e))) ≡ true = ap (λ (x : Entry). differ (versions (x .node .recs))) (decode-encode-node e f) ∙ o .differing in
-    rw (nodeGood, count-is e f, max-is e f, le-leb n maxRecords (o .few), goods, rise, other, zs)
+    rw (nodeGood, count-is e f, max-is e f, le-leb n maxRecords (o .few), goods, rise, other, rest-zero e (o .few))
 
 -- ---- bytes that pass the tests
 

@@ -1,7 +1,7 @@
 -- A table's bytes and back. A table that obeys and its bytes determine each other: it is read again from them (`decode-encode`), they are valid
 -- (`valid-encode`, so that calls can be chained), and valid bytes are those of the table that is read in them (`encode-decode`), which obeys.
 -- Assumes nothing.
-use Prim.Native.Nat.{ℕ, _*_, _≤_, _<_}
+use Prim.Native.Nat.{ℕ, _*_, _-_, _≤_, _<_}
 use mathlib.Core.Path.{_≡_, ap, sym, _∙_, subst}
 use mathlib.Core.Bool.{Bool, true}
 use mathlib.Core.List.{List, [], _∷_}
@@ -13,12 +13,12 @@ use borrow.Author.Tests.{leb-true, le-leb}
 use Rattle.fields.specs.Choice.{all, _∈_}
 use Rattle.fields.specs.Numbers.{natOf}
 use Rattle.fields.specs.Parts.{part}
-use Rattle.fields.specs.Blocks.{blocks, unblock}
+use Rattle.fields.specs.Blocks.{allZero, flat, blocks, unblock}
 use Rattle.fields.specs.Widths.{Widths, offset}
 use Rattle.fields.specs.Order.{sameBytes}
 use Rattle.fields.proofs.Choice.{every-at, and-left, and-right, and-intro, all-from}
 use Rattle.fields.proofs.Numbers.{length-bytesOf, nat-bytes}
-use Rattle.fields.proofs.Blocks.{length-blocks, length-unblock, blocks-read}
+use Rattle.fields.proofs.Blocks.{length-flat, length-blocks, length-unblock, blocks-read, fit-zeros}
 use Rattle.fields.proofs.Widths.{field, length-joined}
 use Rattle.fields.proofs.Ordered.{same-true, same-self}
 use Rattle.rules.specs.Sizes.{maxNodes}
@@ -51,6 +51,17 @@ nodes-room t = behind-count (encode t) (length-table t) ∙ table-field t 1 (ome
 
 pub nodes-count : (t : Table) → length t ≤ maxNodes → nodesOf (encode t) ≡ length t
 nodes-count t h = ap natOf (table-field t 0 (omega arith)) ∙ nat-bytes 1 (length t) (omega arith)
+
+-- zeros stand behind the nodes
+pub room-zero : (t : Table) → length t ≤ maxNodes
+    → let n : ℕ = length t in allZero (part (nodePlace n) ((maxNodes - n) * nodeWidth) (encode t)) ≡ true
+unfolding blocks
+room-zero t few =
+    let n : ℕ = length t in
+    let fl : length (flat encodeNode t) ≡ n * nodeWidth = length-flat encodeNode nodeWidth length-node t in
+    let rest : maxNodes * nodeWidth - n * nodeWidth ≡ (maxNodes - n) * nodeWidth = omega arith in
+    rw (fl, rest) at
+    (fit-zeros (maxNodes * nodeWidth) (nodePlace 0) (flat encodeNode t) (encode t) (rw fl (omega arith)) (table-field t 1 (omega arith)) (rw length-table (omega arith)))
 
 pub length-decode : (l : List ℕ) → length (decode l) ≡ nodesOf l
 unfolding decode

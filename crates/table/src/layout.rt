@@ -35,6 +35,9 @@ pub const RECORDS: usize = RECORD_COUNT + 1;
 
 pub const NODE: usize = RECORDS + Header::RECORDS * RECORD;
 
+// Two nodes, one behind the other.
+pub const PAIR: usize = NODE + NODE;
+
 // A table's area, its first bytes: count of nodes, room for 8 of them.
 pub const NODE_COUNT: usize = 0;
 

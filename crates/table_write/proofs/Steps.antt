@@ -1,41 +1,33 @@
 -- The stores of each writer, one after the other, on plain lists: what the last of them leaves is the changed node or table. Assumes nothing.
 use Prim.Native.Nat.{ℕ, suc, _+_, _*_, _-_, _≤_, _<_}
 use mathlib.Core.Path.{_≡_, ap, ap₂, sym, _∙_}
-use mathlib.Core.List.{List, [], _++_, append-nil, append-assoc}
+use mathlib.Core.List.{List, _++_, append-nil, append-assoc}
 use native.Mathlib.Omega.{arith}
 use native.Mathlib.Nat.{zero-add}
 use native.Mathlib.Numerals.{add-one}
 use lib.ListN.{length, drop, length-append, drop-of-length-le}
-use lib.Seq.{drop-at}
 use Rattle.fields.specs.Numbers.{bytesOf}
 use Rattle.fields.specs.Parts.{part, put}
-use Rattle.fields.specs.Blocks.{zeros, fit, insertAt, removeAt}
+use Rattle.fields.specs.Blocks.{zeros, fit}
 use Rattle.fields.specs.Widths.{joined, offset}
 use Rattle.fields.proofs.Numbers.{length-bytesOf}
-use Rattle.fields.proofs.Parts.{put-put, put-behind, length-put}
-use Rattle.fields.proofs.Blocks.{length-zeros, zeros-add, length-fit, fit-pad}
-use Rattle.rules.specs.Sizes.{maxNodes, maxRecords, maxKey, maxValue}
+use Rattle.fields.proofs.Parts.{put-put, put-behind, put-further, length-put}
+use Rattle.fields.proofs.Blocks.{length-zeros, zeros-add, drop-zeros, length-fit, fit-pad}
+use Rattle.rules.specs.Sizes.{maxRecords, maxKey, maxValue}
 use Rattle.rules.specs.Node.{Rec, freshHeader}
 use Rattle.rules.specs.Delta.{statusByte}
-use Rattle.rules.specs.Layout.{recPlace, nodePlace, recWidths, recWidth, nodeWidths, nodeWidth, tableWidths, encodeRec, encodeNode, decodeNode, encode, decode}
+use Rattle.rules.specs.Layout.{recPlace, recWidths, recWidth, nodeWidths, nodeWidth, encodeRec, encodeNode, decodeNode}
 use Rattle.rules.specs.declared.Header.{Header}
 use Rattle.rules.specs.declared.Status.{Status}
-use Rattle.table.specs.Tests.{countOf, nodesOf}
-use Rattle.table.specs.Fits.{LaidNode, LaidTable}
+use Rattle.table.specs.Tests.{countOf}
+use Rattle.table.specs.Fits.{LaidNode}
 use Rattle.table.specs.Changes.{withRecAt, withNewRec, freshEntry, recOf}
-use Rattle.table.proofs.Tables.{length-decode}
+use Rattle.table.proofs.Laid.{laid-rest}
 use Rattle.table.proofs.Places.{length-recs}
 use Rattle.table_write.specs.Rows.{blocksIn, blockPlace, behindBlock, lessBlock, withoutBlock}
-use Rattle.table.proofs.Changed.{node-rec-set, node-rec-insert, table-insert, table-remove, fresh-bytes, put-beat, put-max, put-gc}
+use Rattle.table.proofs.Changed.{node-rec-set, node-rec-insert, fresh-bytes, put-beat, put-max, put-gc}
 
 -- ---- a text in its room
-
-drop-zeros : (k n : ℕ) → k ≤ n → drop k (zeros n) ≡ zeros (n - k)
-drop-zeros k n h =
-    let e : n ≡ k + (n - k) = omega arith in
-    ap (λ (m : ℕ). drop k (zeros m)) e
-    ∙ ap (drop k) (sym (zeros-add k (n - k)))
-    ∙ drop-at (zeros k) (zeros (n - k)) k (length-zeros k)
 
 put-zeros : (room : ℕ) (text : List ℕ) → length text ≤ room → put 0 text (zeros room) ≡ fit room text
 unfolding put
@@ -151,36 +143,29 @@ abbrev put-header : Header → List ℕ → List ℕ
 put-header h l =
     put (offset nodeWidths 3) (bytesOf 8 (h .«last_gc»)) (put (offset nodeWidths 2) (bytesOf 8 (h .max)) (put (offset nodeWidths 1) (bytesOf 8 (h .heartbeat .0)) l))
 
+-- the bytes in use become zeros, and zeros stand behind them
+pub cleared-steps : (b s : List ℕ) → LaidNode b → (n : ℕ) → n ≡ recPlace (countOf b) → s ≡ put 0 (zeros n) b → s ≡ zeros nodeWidth
+cleared-steps b s o n en e =
+    let q : ℕ = nodeWidth - recPlace (countOf b) in
+    let z : List ℕ = zeros (recPlace (countOf b)) in
+    let zl : length z ≡ recPlace (countOf b) = length-zeros (recPlace (countOf b)) in
+    e
+    ∙ ap (λ (k : ℕ). put 0 (zeros k) b) en
+    ∙ put-further 0 q z b (rw zl (omega (arith, o .few, o .long)))
+    ∙ ap (λ (k : ℕ). put 0 (z ++ part k q b) b) (zero-add (length z) ∙ zl)
+    ∙ ap (λ (r : List ℕ). put 0 (z ++ r) b) (laid-rest b o)
+    ∙ ap (λ (r : List ℕ). put 0 r b) (zeros-add (recPlace (countOf b)) q ∙ ap zeros (omega (arith, o .few)))
+    ∙ put-whole (zeros nodeWidth) b (length-zeros nodeWidth ∙ sym (o .long))
+
 -- zeros, the number, and the header that `Header::new` gives
-pub fresh-steps : (b s1 s2 s3 s4 s5 : List ℕ) (k : ℕ) (h : Header) → h ≡ freshHeader → length b ≡ nodeWidth → s1 ≡ put 0 (zeros nodeWidth) b
+pub fresh-steps : (s1 s2 s3 s4 s5 : List ℕ) (k : ℕ) (h : Header) → h ≡ freshHeader → s1 ≡ zeros nodeWidth
     → s2 ≡ put (offset nodeWidths 0) (bytesOf 8 k) s1 → s3 ≡ put (offset nodeWidths 1) (bytesOf 8 (h .heartbeat .0)) s2
     → s4 ≡ put (offset nodeWidths 2) (bytesOf 8 (h .max)) s3 → s5 ≡ put (offset nodeWidths 3) (bytesOf 8 (h .«last_gc»)) s4 → s5 ≡ encodeNode (freshEntry k)
-fresh-steps b s1 s2 s3 s4 s5 k h new long e1 e2 e3 e4 e5 =
-    let cleared : s1 ≡ zeros nodeWidth = e1 ∙ put-whole (zeros nodeWidth) b (length-zeros nodeWidth ∙ sym long) in
-    let named : s2 ≡ encodeNode (freshEntry k) = e2 ∙ ap (put (offset nodeWidths 0) (bytesOf 8 k)) cleared ∙ fresh-bytes k in
+fresh-steps s1 s2 s3 s4 s5 k h new e1 e2 e3 e4 e5 =
+    let named : s2 ≡ encodeNode (freshEntry k) = e2 ∙ ap (put (offset nodeWidths 0) (bytesOf 8 k)) e1 ∙ fresh-bytes k in
     e5
     ∙ ap (put (offset nodeWidths 3) (bytesOf 8 (h .«last_gc»))) (e4 ∙ ap (put (offset nodeWidths 2) (bytesOf 8 (h .max))) e3)
     ∙ ap₂ put-header new named
     ∙ ap (λ (l : List ℕ). put (offset nodeWidths 3) (bytesOf 8 0) (put (offset nodeWidths 2) (bytesOf 8 0) l)) (put-beat (freshEntry k) 0)
     ∙ ap (put (offset nodeWidths 3) (bytesOf 8 0)) (put-max (freshEntry k) 0)
     ∙ put-gc (freshEntry k) 0
-
--- ---- the nodes of a table
-
-module _ (l : List ℕ) (o : LaidTable l) (i : ℕ) where
-  pub add-steps : (s1 s2 s3 : List ℕ) (n k : ℕ) → n ≡ nodesOf l → i ≤ nodesOf l → nodesOf l < maxNodes
-      → s1 ≡ put (nodePlace i + nodeWidth) (part (nodePlace i) ((n - i) * nodeWidth) l) l → s2 ≡ put (nodePlace i) (encodeNode (freshEntry k)) s1
-      → s3 ≡ put (offset tableWidths 0) (bytesOf 1 (n + 1)) s2 → s3 ≡ encode (insertAt i (freshEntry k) (decode l))
-  add-steps s1 s2 s3 n k en h g e1 e2 e3 =
-      let a : ℕ = nodePlace i in
-      let f : ℕ → List ℕ → List ℕ = λ m x. put (offset tableWidths 0) (bytesOf 1 (m + 1)) (put a (encodeNode (freshEntry k)) (put (a + nodeWidth) (part a ((m - i) * nodeWidth) x) x)) in
-      let all : s3 ≡ f n l = e3 ∙ ap (put (offset tableWidths 0) (bytesOf 1 (n + 1))) (e2 ∙ ap (put a (encodeNode (freshEntry k))) e1) in
-      all
-      ∙ ap₂ f (en ∙ sym (length-decode l)) (sym (o .is))
-      ∙ table-insert (decode l) (o .fits .few) i (freshEntry k) (rw length-decode h) (rw length-decode g)
-
-  pub node-gone : i < nodesOf l → withoutBlock (offset tableWidths 0) nodeWidth i l ≡ encode (removeAt i (decode l))
-  node-gone h =
-      ap₂ (λ (n : ℕ) (x : List ℕ). lessBlock (offset tableWidths 0) nodeWidth i n x) (sym (length-decode l)) (sym (o .is))
-      ∙ less-suc (offset tableWidths 0) nodeWidth i (length (decode l)) (encode (decode l))
-      ∙ table-remove (decode l) (o .fits .few) i (decodeNode []) (rw length-decode h)

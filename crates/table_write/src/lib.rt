@@ -1,4 +1,4 @@
-// Writing on a good table: a number of a node's header, a record, a node. Each function leaves exactly the bytes of the changed node or table; room
+// Writing on a good table: a number of a node's header, a record, a fresh node. Each function leaves exactly the bytes of the changed node or row; room
 // that falls free is cleared, so that what is removed leaves no byte behind.
 use rules::Header;
 use rules::Heartbeat;
@@ -11,11 +11,11 @@ ghost use Prim.Native.Nat.{_+_, _≤_, _<_};
 ghost use lib.ListN.{length};
 ghost use Rattle.fields.specs.Numbers.{bytesOf};
 ghost use Rattle.fields.specs.Parts.{put};
-ghost use Rattle.fields.specs.Blocks.{fit, insertAt, removeAt};
-ghost use Rattle.rules.specs.Sizes.{maxNodes, maxRecords, maxKey, maxValue};
-ghost use Rattle.rules.specs.Layout.{recWidth, nodeWidth, encodeRec, encodeNode, decodeNode, encode, decode};
-ghost use Rattle.table.specs.Tests.{countOf, nodesOf};
-ghost use Rattle.table.specs.Fits.{LaidNode, LaidTable};
+ghost use Rattle.fields.specs.Blocks.{zeros, fit};
+ghost use Rattle.rules.specs.Sizes.{maxRecords, maxKey, maxValue};
+ghost use Rattle.rules.specs.Layout.{recPlace, recWidth, nodeWidth, encodeRec, encodeNode, decodeNode};
+ghost use Rattle.table.specs.Tests.{countOf};
+ghost use Rattle.table.specs.Fits.{LaidNode};
 ghost use Rattle.table.specs.Changes.{withBeat, withMax, withGc, withRecAt, withNewRec, freshEntry, recOf};
 ghost use Rattle.table_write.specs.Rows.{blocksIn, blockPlace, withoutBlock};
 
@@ -128,37 +128,33 @@ pub fn set_last_gc(node: &mut [u8], last_gc: u64)
     fields::write_u64(node, layout::LAST_GC, last_gc);
 }
 
-// A fresh node with this number, whatever stood in the node's bytes.
+// How many bytes of a node are in use: its header and its records. Zeros stand behind them.
+pub fn used(node: &[u8]) -> usize
+    requires { ⌜ (length (now node) ≡ nodeWidth) × (countOf (now node) ≤ maxRecords) ⌝ }
+    ensures { λ r. ⌜ r ≡ recPlace (countOf (now (node .entry))) ⌝ }
+{
+    table::record_place(fields::byte_at(node, layout::RECORD_COUNT))
+}
+
+// A node's bytes become zeros.
+pub fn clear_node(node: &mut [u8])
+    requires { ⌜ LaidNode (now node) ⌝ }
+    ensures { λ _. ⌜ now (node .exit) ≡ zeros nodeWidth ⌝ }
+{
+    let n = used(node);
+    fields::clear(node, 0, n);
+}
+
+// A fresh node with this number takes a node's place.
 pub fn write_fresh(node: &mut [u8], number: u64)
-    requires { ⌜ length (now node) ≡ nodeWidth ⌝ }
+    requires { ⌜ LaidNode (now node) ⌝ }
     ensures { λ _. ⌜ now (node .exit) ≡ encodeNode (freshEntry number) ⌝ }
 {
     let header = Header::new();
     let beat = header.heartbeat;
-    fields::clear(node, 0, layout::NODE);
+    clear_node(node);
     fields::write_u64(node, layout::NUMBER, number);
     fields::write_u64(node, layout::HEARTBEAT, beat.0);
     fields::write_u64(node, layout::MAX, header.max);
     fields::write_u64(node, layout::LAST_GC, header.last_gc);
-}
-
-// A fresh node comes before node `i` of a table that has room.
-pub fn insert_node(table: &mut [u8], i: usize, number: u64)
-    requires { ⌜ LaidTable (now table) × (i ≤ nodesOf (now table)) × (nodesOf (now table) < maxNodes) ⌝ }
-    ensures { λ _. ⌜ now (table .exit) ≡ encode (insertAt i (freshEntry number) (decode (now (table .entry)))) ⌝ }
-{
-    let n = fields::byte_at(table, layout::NODE_COUNT);
-    let a = table::node_place(i);
-    let e = a + layout::NODE;
-    fields::move_up(table, a, e, fields::times(n - i, layout::NODE));
-    write_fresh(&mut table[a..e], number);
-    fields::write_byte(table, layout::NODE_COUNT, n + 1);
-}
-
-// Node `i` of a table goes.
-pub fn remove_node(table: &mut [u8], i: usize)
-    requires { ⌜ LaidTable (now table) × (i < nodesOf (now table)) ⌝ }
-    ensures { λ _. ⌜ now (table .exit) ≡ encode (removeAt i (decode (now (table .entry)))) ⌝ }
-{
-    remove_block(table, layout::NODE_COUNT, layout::NODE, i);
 }

@@ -8,6 +8,7 @@ use std::hint::black_box;
 use judge::raw::Raw;
 use judge::timed::{self, Timed};
 use kevdarosh::{Mode, OwnedTable, Record, Status, TableView};
+use script::table::AREA_BYTES;
 
 use crate::inputs::{self, NODES, RECORDS};
 use crate::port::Port;
@@ -24,7 +25,9 @@ pub(crate) fn rows(rows: &mut Rows) {
     heartbeats(rows);
     come_and_go(rows, "fresh node removed and added, the last of eight", NODES - 1, both());
     come_and_go(rows, "fresh node removed and added, the first of eight, the second full", 0, both());
+    come_and_go_in_turn(rows);
     remove_full(rows);
+    among_full(rows);
     remembered(rows);
     versioned(rows);
     readings(rows);
@@ -222,6 +225,93 @@ fn come_and_go(rows: &mut Rows, name: &'static str, node: u64, (mut raw, mut tab
     );
     same(name, &mut raw, &table);
     same_nodes(name, &raw, &table, node);
+}
+
+/// The eight nodes, in an order without a pattern.
+const IN_TURN: [u64; NODES as usize] = [3, 0, 6, 1, 5, 7, 2, 4];
+
+/// Each of the seven fresh nodes is removed and added again; the time is that of both calls.
+fn come_and_go_in_turn(rows: &mut Rows) {
+    const NAME: &str = "fresh node removed and added, each of seven in turn, the second of eight full";
+    let nodes: Vec<u64> = IN_TURN.into_iter().filter(|&node| node != NODE).collect();
+    let (mut raw, mut table) = both();
+    rows.measure_less(
+        NAME,
+        Aim::Nodes,
+        || {
+            time(PASSES * nodes.len(), || {
+                for &node in (0..PASSES).flat_map(|_| &nodes) {
+                    raw.remove(black_box(node));
+                    raw.add(black_box(node));
+                }
+            })
+        },
+        || 2.0 * name_made(),
+        || {
+            time(PASSES * nodes.len(), || {
+                for &node in (0..PASSES).flat_map(|_| &nodes) {
+                    black_box(table.remove_node(black_box(node)).is_ok());
+                    black_box(table.add_node(black_box(node)).is_ok());
+                }
+            })
+        },
+    );
+    same(NAME, &mut raw, &table);
+    same_nodes(NAME, &raw, &table, 0);
+}
+
+/// A table of eight full nodes for each of its nodes, and that node: the original's, and owned ones.
+fn rusts_full() -> Vec<(Timed, timed::Name)> {
+    let full = inputs::full();
+    IN_TURN.iter().map(|&node| (Timed::of(&full), timed::name(node))).collect()
+}
+
+fn ports_full() -> Vec<(Box<OwnedTable>, u64)> {
+    let full = inputs::full();
+    IN_TURN.iter().map(|&node| (Box::new(OwnedTable::from_bytes(&full).expect("a good table")), node)).collect()
+}
+
+/// Each node of a full table is removed, a fresh one is added among seven that are full, and both. The tables are made anew for each batch.
+fn among_full(rows: &mut Rows) {
+    for (name, timed_from, timed_to) in [
+        ("node with 32 records removed, all eight full, each in turn", 0, 1),
+        ("node with 32 records removed and a fresh one added, all eight full, each in turn", 0, 2),
+        ("fresh node added among seven full ones, each place in turn", 1, 2),
+    ] {
+        let (mut rusts, mut ports) = (Vec::new(), Vec::new());
+        rows.measure_less(
+            name,
+            Aim::Nodes,
+            || {
+                rusts = rusts_full();
+                let mut step = |step| {
+                    for (rust, node) in &mut rusts {
+                        if step == 0 { rust.remove_node(black_box(node)) } else { rust.add_node(black_box(node)) }
+                    }
+                };
+                (0..timed_from).for_each(&mut step);
+                time(IN_TURN.len(), || (timed_from..timed_to).for_each(&mut step))
+            },
+            || 0.0,
+            || {
+                ports = ports_full();
+                let mut step = |step| {
+                    for (port, node) in &mut ports {
+                        let node = black_box(*node);
+                        black_box(if step == 0 { port.remove_node(node) } else { port.add_node(node) }.is_ok());
+                    }
+                };
+                (0..timed_from).for_each(&mut step);
+                time(IN_TURN.len(), || (timed_from..timed_to).for_each(&mut step))
+            },
+        );
+        for ((rust, named), (port, node)) in rusts.iter().zip(&ports) {
+            assert!(rust.table()[..AREA_BYTES] == port.as_bytes()[..AREA_BYTES], "{name}");
+            if timed_to == 1 {
+                assert_eq!(Ok(rust.last_heartbeat(named)), port.last_heartbeat_if_deleted(*node), "{name}");
+            }
+        }
+    }
 }
 
 /// Node 1 with its 32 records is removed; the tables are made anew for each batch.

@@ -18,7 +18,7 @@ use std::hint::black_box;
 use std::time::Instant;
 
 use judge::timed::{self, Timed};
-use kevdarosh::Answer;
+use kevdarosh::{Answer, LentTable, Mode};
 use script::table::{AREA_BYTES, FENCED, GUARDED};
 
 use crate::inputs::{NODES, RECORDS};
@@ -542,11 +542,24 @@ fn deepest_apply(before: &[u8], delta: &[u8]) -> usize {
     deepest
 }
 
+/// An empty table is made in memory that is there.
+fn made(rows: &mut Rows) {
+    let mut bytes = inputs::full();
+    rows.measure(
+        "an empty table made",
+        "",
+        Aim::None,
+        || repeat(64, || assert_eq!(black_box(timed::make()), 0)),
+        || repeat(64, || assert!(black_box(LentTable::new_in(black_box(&mut bytes), Mode::Plain).is_ok()))),
+    );
+}
+
 fn main() {
     let full = inputs::full();
     let scattered = inputs::table(&inputs::all(), inputs::scattered);
     let fresh = inputs::table(&[], inputs::in_order);
     let mut rows = Rows::default();
+    made(&mut rows);
     check(&mut rows);
     lookup(&mut rows);
     sets(&mut rows, "set, changed", false, Aim::None, 2);

@@ -68,7 +68,7 @@ fn ask<S: ffi::BytesMut>(table: &mut S, call: &Call) -> Told {
         Call::Remove { node } => plain(ffi::remove_node(table, *node)),
         Call::Removed { node } => {
             let told = ffi::last_heartbeat(table, *node);
-            or(told.number, if told.found == 0 { Answer::None } else { Answer::Heartbeat(told.heartbeat) })
+            or(told.number, if told.found.get() == 0 { Answer::None } else { Answer::Heartbeat(told.heartbeat) })
         }
         Call::Write { node, key, value, status, now } => plain(ffi::write(table, *node, key, value, *status, *now)),
         Call::Delete { node, key, now } => plain(ffi::delete(table, *node, key, *now)),
@@ -77,47 +77,47 @@ fn ask<S: ffi::BytesMut>(table: &mut S, call: &Call) -> Told {
         Call::Gc { now, grace } => plain(ffi::remove_scheduled(table, *now, *grace)),
         Call::Offer { node, heartbeat } => {
             let told = ffi::offer_heartbeat(table, *node, *heartbeat);
-            or(told.number, if told.count == 0 { Answer::No } else { Answer::Yes })
+            or(told.number, if told.count.get() == 0 { Answer::No } else { Answer::Yes })
         }
         Call::Get { node, key } => {
             let told = ffi::find(table, *node, key);
-            let value = || table.bytes()[told.start..told.start + told.len].to_vec();
-            or(told.number, if told.found == 0 { Answer::None } else { Answer::Value(value()) })
+            let value = || table.bytes()[told.start.get()..told.start.get() + told.len.get()].to_vec();
+            or(told.number, if told.found.get() == 0 { Answer::None } else { Answer::Value(value()) })
         }
         Call::List { node, prefix, places } => {
             list = vec![MARK; (*places).min(PLACES) as usize];
             let told = ffi::list_prefix(table, *node, prefix, &mut list);
-            assert!(marked(&list[told.count..]), "a place behind the hits was written");
+            assert!(marked(&list[told.count.get()..]), "a place behind the hits was written");
             let rows = ffi::prefix_rows(table, *node, prefix);
             assert_eq!(rows.number, if told.number == 8 { 0 } else { told.number });
             if told.number == 0 {
-                assert_eq!(shown(table, ffi::node_rows(table, *node).at, rows), list[..told.count], "the rows of {prefix:?}");
+                assert_eq!(shown(table, ffi::node_rows(table, *node).at.get(), rows), list[..told.count.get()], "the rows of {prefix:?}");
             }
-            or(told.number, Answer::Ranks(list[..told.count].iter().map(|&place| place.into()).collect()))
+            or(told.number, Answer::Ranks(list[..told.count.get()].iter().map(|&place| place.into()).collect()))
         }
         Call::Digest { excluded, place, len, edition } => {
             list = vec![MARK; *len];
             let told = ffi::write_digest(table, *edition, excluded, &mut list, *place as usize);
             let start = (*place).min(*len as u64) as usize;
-            or(told.number, Answer::DigestWritten { datagram: list.clone(), start, end: start + told.count })
+            or(told.number, Answer::DigestWritten { datagram: list.clone(), start, end: start + told.count.get() })
         }
         Call::Compute { digest, mtu, excluded, ties, place, len, edition } => {
             list = vec![MARK; *len];
             let told = ffi::compute(table, *edition, given(digest), *mtu as usize, excluded, ties, &mut list, *place as usize);
             let start = (*place).min(*len as u64) as usize;
-            assert!(marked(&list[..start]) && marked(&list[start + told.bytes..]), "a byte outside the delta was written");
-            assert_eq!(told.number == 9, told.need > 0, "need");
-            or_cut(told.number, told.need, Answer::DeltaWritten { ops: told.ops, bytes: list[start..start + told.bytes].to_vec() })
+            assert!(marked(&list[..start]) && marked(&list[start + told.bytes.get()..]), "a byte outside the delta was written");
+            assert_eq!(told.number == 9, told.need.get() > 0, "need");
+            or_cut(told.number, told.need.get(), Answer::DeltaWritten { ops: told.ops.get(), bytes: list[start..start + told.bytes.get()].to_vec() })
         }
         Call::Apply { bytes, now, places } => {
             list = vec![MARK; (*places).min(PLACES) as usize];
             let told = ffi::apply(table, given(bytes), *now, &mut list);
-            assert!(marked(&list[told.nodes..]), "a place behind the answers was written");
+            assert!(marked(&list[told.nodes.get()..]), "a place behind the answers was written");
             match told.number {
-                0 => (0, Answer::Applied(list[..told.nodes].iter().copied().map(verdict).collect())),
-                9 => (9, Answer::Cut { at: Some(told.at), need: told.need }),
+                0 => (0, Answer::Applied(list[..told.nodes.get()].iter().copied().map(verdict).collect())),
+                9 => (9, Answer::Cut { at: Some(told.at.get()), need: told.need.get() }),
                 number @ (8 | 14) => (number, Answer::Refused(number as u8)),
-                number => (number, Answer::RefusedAt(number as u8, told.at)),
+                number => (number, Answer::RefusedAt(number as u8, told.at.get())),
             }
         }
         _ => unreachable!("answered without a table"),
@@ -127,9 +127,9 @@ fn ask<S: ffi::BytesMut>(table: &mut S, call: &Call) -> Told {
 
 /// The places of the rows that are not hidden, the node's rows beginning at `all`.
 fn shown<S: ffi::Bytes>(table: &S, all: usize, rows: ffi::Rows) -> Vec<u8> {
-    let first = (rows.at - all) / RECORD_BYTES;
-    let hidden = |i: &usize| table.bytes()[rows.at + i * RECORD_BYTES + STATUS_AT] == DELETE;
-    (0..rows.count).filter(|i| !hidden(i)).map(|i| (first + i) as u8).collect()
+    let first = (rows.at.get() - all) / RECORD_BYTES;
+    let hidden = |i: &usize| table.bytes()[rows.at.get() + i * RECORD_BYTES + STATUS_AT] == DELETE;
+    (0..rows.count.get()).filter(|i| !hidden(i)).map(|i| (first + i) as u8).collect()
 }
 
 fn plain(number: u64) -> (u64, Answer) {
@@ -198,19 +198,19 @@ impl Port {
 
     fn read_digest(&mut self, bytes: &[u8], edition: u64) -> Answer {
         let told = ffi::read_digest(edition, bytes);
-        self.calls += 2 + told.count as u64;
-        let entries = (0..told.count).map(|i| ffi::digest_entry(edition, bytes, i)).map(|entry| {
+        self.calls += 2 + told.count.get() as u64;
+        let entries = (0..told.count.get()).map(|i| ffi::digest_entry(edition, bytes, i)).map(|entry| {
             assert_eq!(entry.number, 0);
             DigestEntry { node: entry.node, heartbeat: entry.heartbeat, last_gc: entry.last_gc, max: entry.max }
         });
         let entries = entries.collect();
-        let past = ffi::digest_entry(edition, bytes, told.count).number;
+        let past = ffi::digest_entry(edition, bytes, told.count.get()).number;
         if told.number != 0 {
-            assert_eq!((told.number, told.count, told.rest), (past, 0, 0));
-            return or_cut(told.number, told.need, Answer::Done).1;
+            assert_eq!((told.number, told.count.get(), told.rest.get()), (past, 0, 0));
+            return or_cut(told.number, told.need.get(), Answer::Done).1;
         }
         assert_eq!(past, 8);
-        Answer::Digest { entries, rest: bytes.len() - told.rest }
+        Answer::Digest { entries, rest: bytes.len() - told.rest.get() }
     }
 
     fn read_delta(&mut self, bytes: &[u8]) -> Answer {
@@ -219,26 +219,26 @@ impl Port {
         let mut out = vec![MARK; 81_979];
         let listed = ffi::list_delta(bytes, &mut out);
         assert_eq!(listed.number, 0);
-        let text = &out[..listed.count];
+        let text = &out[..listed.count.get()];
         let last = text[..text.len() - 1].rsplit(|&byte| byte == b'\n').next().map(String::from_utf8_lossy).unwrap_or_default();
         // made again from its listing: the same bytes and none behind them; the line of a refused delta is none
         self.calls += 1;
         let mut again = vec![MARK; bytes.len() + 1];
         let made = ffi::make_delta(text, &mut again);
-        let same = again[..made.bytes] == bytes[..made.bytes] && marked(&again[made.bytes..]);
+        let same = again[..made.bytes.get()] == bytes[..made.bytes.get()] && marked(&again[made.bytes.get()..]);
         let wanted = if told.number == 0 { (0, bytes.len(), 0, 0, 0) } else { (16, 0, 1, 0, 0) };
-        assert!(same && (made.number, made.bytes, made.line, made.at, made.need) == wanted, "{last}");
+        assert!(same && (made.number, made.bytes.get(), made.line.get(), made.at.get(), made.need.get()) == wanted, "{last}");
         if told.number != 0 {
-            assert_eq!((told.ops, told.nodes), (0, 0));
-            assert!(last.starts_with(&format!("end=refused code={} at={}", told.number, told.at)), "{last}");
+            assert_eq!((told.ops.get(), told.nodes.get()), (0, 0));
+            assert!(last.starts_with(&format!("end=refused code={} at={}", told.number, told.at.get())), "{last}");
             if told.number == 9 {
-                assert!(last.ends_with(&format!(" need={}", told.need)), "{last}");
-                return Answer::Cut { at: Some(told.at), need: told.need };
+                assert!(last.ends_with(&format!(" need={}", told.need.get())), "{last}");
+                return Answer::Cut { at: Some(told.at.get()), need: told.need.get() };
             }
-            return Answer::RefusedAt(told.number as u8, told.at);
+            return Answer::RefusedAt(told.number as u8, told.at.get());
         }
-        assert_eq!(last, format!("end=ok ops={} bytes={}", told.ops, bytes.len()));
-        Answer::DeltaRead { ops: told.ops, nodes: told.nodes, bytes: bytes.len() }
+        assert_eq!(last, format!("end=ok ops={} bytes={}", told.ops.get(), bytes.len()));
+        Answer::DeltaRead { ops: told.ops.get(), nodes: told.nodes.get(), bytes: bytes.len() }
     }
 
     /// The table put together again from its readings by place.
@@ -251,12 +251,12 @@ impl Port {
             return if same { Ok(()) } else { Err("readings of a table that is not good".into()) };
         }
         let mut nodes = Vec::new();
-        for i in 0..count.count {
+        for i in 0..count.count.get() {
             let number = ffi::node_number(&table, i).node;
             let header = ffi::node_header(&table, number);
-            let records = ffi::record_count(&table, number).count;
+            let records = ffi::record_count(&table, number).count.get();
             self.calls += 3 + 5 * records as u64;
-            let text = |found: ffi::Found| table[found.start..found.start + found.len].to_vec();
+            let text = |found: ffi::Found| table[found.start.get()..found.start.get() + found.len.get()].to_vec();
             let records: Vec<Record> = (0..records)
                 .map(|j| {
                     let record = ffi::record_at(&table, number, j);
@@ -266,12 +266,12 @@ impl Port {
                     let (key, value) = (text(key_at), text(value_at));
                     assert_eq!(ffi::record_of(&table, i, j), record);
                     assert_eq!(ffi::record_by_key(&table, number, &key), record);
-                    Record { key, value, version: record.version, status: record.status as u8, start: record.start }
+                    Record { key, value, version: record.version, status: record.status.get() as u8, start: record.start }
                 })
                 .collect();
             // the same in one piece: its rows, and the crate's reading of them
             let rows = ffi::node_rows(&table, number);
-            assert_eq!((rows.number, rows.at, rows.count), (0, 1 + i * NODE_BYTES + NODE_HEAD_BYTES, records.len()));
+            assert_eq!((rows.number, rows.at.get(), rows.count.get()), (0, 1 + i * NODE_BYTES + NODE_HEAD_BYTES, records.len()));
             let view = TableView::over(table);
             let again = view.node_state(number).map_err(|why| why.to_string())?.key_values_including_deleted();
             let again = again.map(|it| (it.key.to_vec(), it.value.to_vec(), it.version, status(it.status), it.start));

@@ -5,6 +5,7 @@ use std::collections::HashSet;
 use std::time::Duration;
 
 use script::Side;
+use tokio::sync::watch;
 use tokio::time::set_clock;
 
 use crate::delta::{Delta, operation_bytes};
@@ -12,6 +13,7 @@ use crate::digest::Digest;
 use crate::hub::Hub;
 use crate::message::ProtocolVersion;
 use crate::serialize::{Deserializable, Serializable};
+use crate::state::ClusterState;
 use crate::types::{ChitchatId, VersionedValue};
 use crate::wire;
 
@@ -65,6 +67,11 @@ pub fn mtu(nodes: usize) -> usize {
     16_384 + wire::NAME_EXTRA * nodes + 7
 }
 
+/// Makes an empty table; how many nodes it has.
+pub fn make() -> usize {
+    ClusterState::with_seed_addrs(watch::Receiver::holding(HashSet::new())).nodes().count()
+}
+
 pub struct Timed(Hub);
 
 impl Timed {
@@ -108,6 +115,15 @@ impl Timed {
     /// The heartbeat that the original remembers of a removed node.
     pub fn last_heartbeat(&self, node: &Name) -> Option<u64> {
         self.0.cluster.last_heartbeat_if_deleted(&node.0).map(u64::from)
+    }
+
+    /// A fresh node, where there is none yet.
+    pub fn add_node(&mut self, node: &Name) {
+        self.0.cluster.node_state_mut_or_init(&node.0);
+    }
+
+    pub fn remove_node(&mut self, node: &Name) {
+        self.0.cluster.remove_node(&node.0);
     }
 
     pub fn set(&mut self, node: &Name, key: &str, value: &str) {

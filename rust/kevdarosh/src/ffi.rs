@@ -9,7 +9,7 @@
 //! - A `kev_good_..` function asks for a table that `kev_check` accepts. It is called for [`Kept`] alone, whose bytes are private to this module: they come
 //!   from `kev_new_table`, or `kev_check` accepted them, and after that only these functions write to them. Each leaves a table that the check
 //!   accepts again: that is proved of every call (docs/PROMISES.md, demand 1).
-//! - The structs are declared again in C's layout, field by field as in the header.
+//! - The structs are declared again in C's layout, field by field as in the header: its `uint64_t` is `u64`, its `kev_size` is [`Size`].
 //! - An answer's `start` and `len` lie inside the table (`lookup`, `inspect_text`: `Within`), and so do a record's texts, which are told by the same places
 //!   (`inspect_text`: `Same`). They are used by indexing, which checks once more.
 
@@ -19,18 +19,47 @@
 
 use crate::TABLE;
 
+/// A length, a count or a place, in 64 bits on every processor: `kev_size` of the header.
+#[repr(transparent)]
+#[derive(Clone, Copy, Debug, PartialEq, Eq)]
+pub struct Size(pub u64);
+
+impl Size {
+    /// Nothing is lost: a `usize` has 32 or 64 bits.
+    #[inline]
+    fn of(size: usize) -> Size {
+        Size(size as u64)
+    }
+
+    /// What came back of a call. It always fits, so where a `usize` has 32 bits the check finds nothing, and where it has 64 there is none: a place, a length
+    /// or a count is at most the length of a slice that was lent, a line at most one more, and what a field lacks is at most the 65,535 bytes that it can have.
+    #[inline]
+    pub fn get(self) -> usize {
+        match self.0.try_into() {
+            Ok(size) => size,
+            Err(_) => unreachable!("a size beyond what was lent"),
+        }
+    }
+}
+
+/// The length of what is lent.
+#[inline]
+fn len<T>(lent: &[T]) -> Size {
+    Size::of(lent.len())
+}
+
 #[repr(C)]
 #[derive(Clone, Copy)]
 pub struct Count {
     pub number: u64,
-    pub count: usize,
+    pub count: Size,
 }
 
 #[repr(C)]
 #[derive(Clone, Copy)]
 pub struct Heartbeat {
     pub number: u64,
-    pub found: usize,
+    pub found: Size,
     pub heartbeat: u64,
 }
 
@@ -45,9 +74,9 @@ pub struct NodeNumber {
 #[derive(Clone, Copy)]
 pub struct Found {
     pub number: u64,
-    pub found: usize,
-    pub start: usize,
-    pub len: usize,
+    pub found: Size,
+    pub start: Size,
+    pub len: Size,
 }
 
 #[repr(C)]
@@ -63,13 +92,13 @@ pub struct Header {
 #[derive(Clone, Copy, Debug, PartialEq, Eq)]
 pub struct Record {
     pub number: u64,
-    pub found: usize,
-    pub key_at: usize,
-    pub value_at: usize,
-    pub key_len: usize,
-    pub value_len: usize,
+    pub found: Size,
+    pub key_at: Size,
+    pub value_at: Size,
+    pub key_len: Size,
+    pub value_len: Size,
     pub version: u64,
-    pub status: usize,
+    pub status: Size,
     pub start: u64,
 }
 
@@ -77,17 +106,17 @@ pub struct Record {
 #[derive(Clone, Copy)]
 pub struct Rows {
     pub number: u64,
-    pub at: usize,
-    pub count: usize,
+    pub at: Size,
+    pub count: Size,
 }
 
 #[repr(C)]
 #[derive(Clone, Copy)]
 pub struct Digest {
     pub number: u64,
-    pub count: usize,
-    pub rest: usize,
-    pub need: usize,
+    pub count: Size,
+    pub rest: Size,
+    pub need: Size,
 }
 
 #[repr(C)]
@@ -104,48 +133,48 @@ pub struct Entry {
 #[derive(Clone, Copy)]
 pub struct Computed {
     pub number: u64,
-    pub ops: usize,
-    pub bytes: usize,
-    pub need: usize,
+    pub ops: Size,
+    pub bytes: Size,
+    pub need: Size,
 }
 
 #[repr(C)]
 #[derive(Clone, Copy)]
 pub struct Delta {
     pub number: u64,
-    pub ops: usize,
-    pub nodes: usize,
-    pub at: usize,
-    pub need: usize,
+    pub ops: Size,
+    pub nodes: Size,
+    pub at: Size,
+    pub need: Size,
 }
 
 #[repr(C)]
 #[derive(Clone, Copy)]
 pub struct Applied {
     pub number: u64,
-    pub nodes: usize,
-    pub at: usize,
-    pub need: usize,
+    pub nodes: Size,
+    pub at: Size,
+    pub need: Size,
 }
 
 #[repr(C)]
 #[derive(Clone, Copy)]
 pub struct Made {
     pub number: u64,
-    pub bytes: usize,
-    pub line: usize,
-    pub at: usize,
-    pub need: usize,
+    pub bytes: Size,
+    pub line: Size,
+    pub at: Size,
+    pub need: Size,
 }
 
 #[repr(C)]
 #[derive(Clone, Copy)]
 pub struct Exchanged {
     pub number: u64,
-    pub ops: usize,
-    pub bytes: usize,
-    pub nodes: usize,
-    pub step: usize,
+    pub ops: Size,
+    pub bytes: Size,
+    pub nodes: Size,
+    pub step: Size,
 }
 
 /// Where a table's bytes are, and whether they are known to be a good table. Only this module can say so.
@@ -224,246 +253,246 @@ impl Bytes for &mut [u8] {
 impl BytesMut for &mut [u8] {}
 
 unsafe extern "C" {
-    fn kev_check(table: *const u8, table_len: usize) -> u64;
-    fn kev_new_table(table: *mut u8, table_len: usize, mode: usize) -> u64;
-    fn kev_add_node(table: *mut u8, table_len: usize, node: u64) -> u64;
-    fn kev_good_add_node(table: *mut u8, table_len: usize, node: u64) -> u64;
-    fn kev_remove_node(table: *mut u8, table_len: usize, node: u64) -> u64;
-    fn kev_good_remove_node(table: *mut u8, table_len: usize, node: u64) -> u64;
-    fn kev_last_heartbeat(table: *const u8, table_len: usize, node: u64) -> Heartbeat;
-    fn kev_good_last_heartbeat(table: *const u8, table_len: usize, node: u64) -> Heartbeat;
-    fn kev_write(table: *mut u8, table_len: usize, node: u64, key: *const u8, key_len: usize, value: *const u8, value_len: usize, wanted: u64, clock: u64) -> u64;
-    fn kev_good_write(table: *mut u8, table_len: usize, node: u64, key: *const u8, key_len: usize, value: *const u8, value_len: usize, wanted: u64, clock: u64) -> u64;
-    fn kev_delete(table: *mut u8, table_len: usize, node: u64, key: *const u8, key_len: usize, clock: u64) -> u64;
-    fn kev_good_delete(table: *mut u8, table_len: usize, node: u64, key: *const u8, key_len: usize, clock: u64) -> u64;
-    fn kev_delete_after_ttl(table: *mut u8, table_len: usize, node: u64, key: *const u8, key_len: usize, clock: u64) -> u64;
-    fn kev_good_delete_after_ttl(table: *mut u8, table_len: usize, node: u64, key: *const u8, key_len: usize, clock: u64) -> u64;
-    fn kev_remove_scheduled(table: *mut u8, table_len: usize, clock: u64, grace: u64) -> u64;
-    fn kev_good_remove_scheduled(table: *mut u8, table_len: usize, clock: u64, grace: u64) -> u64;
-    fn kev_offer_heartbeat(table: *mut u8, table_len: usize, node: u64, heartbeat: u64) -> Count;
-    fn kev_good_offer_heartbeat(table: *mut u8, table_len: usize, node: u64, heartbeat: u64) -> Count;
-    fn kev_local_beat(table: *mut u8, table_len: usize, node: u64) -> u64;
-    fn kev_good_local_beat(table: *mut u8, table_len: usize, node: u64) -> u64;
-    fn kev_find(table: *const u8, table_len: usize, node: u64, key: *const u8, key_len: usize) -> Found;
-    fn kev_good_find(table: *const u8, table_len: usize, node: u64, key: *const u8, key_len: usize) -> Found;
-    fn kev_list_prefix(table: *const u8, table_len: usize, node: u64, prefix: *const u8, prefix_len: usize, out: *mut u8, out_len: usize) -> Count;
-    fn kev_good_list_prefix(table: *const u8, table_len: usize, node: u64, prefix: *const u8, prefix_len: usize, out: *mut u8, out_len: usize) -> Count;
-    fn kev_node_count(table: *const u8, table_len: usize) -> Count;
-    fn kev_good_node_count(table: *const u8, table_len: usize) -> Count;
-    fn kev_node_number(table: *const u8, table_len: usize, i: usize) -> NodeNumber;
-    fn kev_good_node_number(table: *const u8, table_len: usize, i: usize) -> NodeNumber;
-    fn kev_node_header(table: *const u8, table_len: usize, node: u64) -> Header;
-    fn kev_good_node_header(table: *const u8, table_len: usize, node: u64) -> Header;
-    fn kev_record_count(table: *const u8, table_len: usize, node: u64) -> Count;
-    fn kev_good_record_count(table: *const u8, table_len: usize, node: u64) -> Count;
-    fn kev_record_at(table: *const u8, table_len: usize, node: u64, j: usize) -> Record;
-    fn kev_good_record_at(table: *const u8, table_len: usize, node: u64, j: usize) -> Record;
-    fn kev_record_of(table: *const u8, table_len: usize, i: usize, j: usize) -> Record;
-    fn kev_good_record_of(table: *const u8, table_len: usize, i: usize, j: usize) -> Record;
-    fn kev_record_by_key(table: *const u8, table_len: usize, node: u64, key: *const u8, key_len: usize) -> Record;
-    fn kev_good_record_by_key(table: *const u8, table_len: usize, node: u64, key: *const u8, key_len: usize) -> Record;
-    fn kev_node_rows(table: *const u8, table_len: usize, node: u64) -> Rows;
-    fn kev_good_node_rows(table: *const u8, table_len: usize, node: u64) -> Rows;
-    fn kev_prefix_rows(table: *const u8, table_len: usize, node: u64, prefix: *const u8, prefix_len: usize) -> Rows;
-    fn kev_good_prefix_rows(table: *const u8, table_len: usize, node: u64, prefix: *const u8, prefix_len: usize) -> Rows;
-    fn kev_key_at(table: *const u8, table_len: usize, node: u64, j: usize) -> Found;
-    fn kev_good_key_at(table: *const u8, table_len: usize, node: u64, j: usize) -> Found;
-    fn kev_value_at(table: *const u8, table_len: usize, node: u64, j: usize) -> Found;
-    fn kev_good_value_at(table: *const u8, table_len: usize, node: u64, j: usize) -> Found;
-    fn kev_write_digest(table: *const u8, table_len: usize, edition: u64, excluded: *const u64, excluded_len: usize, datagram: *mut u8, datagram_len: usize, place: usize) -> Count;
-    fn kev_good_write_digest(table: *const u8, table_len: usize, edition: u64, excluded: *const u64, excluded_len: usize, datagram: *mut u8, datagram_len: usize, place: usize) -> Count;
-    fn kev_read_digest(edition: u64, digest: *const u8, digest_len: usize) -> Digest;
-    fn kev_digest_entry(edition: u64, digest: *const u8, digest_len: usize, i: usize) -> Entry;
-    fn kev_compute(table: *const u8, table_len: usize, edition: u64, digest: *const u8, digest_len: usize, mtu: usize, excluded: *const u64, excluded_len: usize, ties: *const u64, ties_len: usize, datagram: *mut u8, datagram_len: usize, place: usize) -> Computed;
-    fn kev_good_compute(table: *const u8, table_len: usize, edition: u64, digest: *const u8, digest_len: usize, mtu: usize, excluded: *const u64, excluded_len: usize, ties: *const u64, ties_len: usize, datagram: *mut u8, datagram_len: usize, place: usize) -> Computed;
-    fn kev_read_delta(delta: *const u8, delta_len: usize) -> Delta;
-    fn kev_apply(table: *mut u8, table_len: usize, delta: *const u8, delta_len: usize, clock: u64, answers: *mut u8, answers_len: usize) -> Applied;
-    fn kev_good_apply(table: *mut u8, table_len: usize, delta: *const u8, delta_len: usize, clock: u64, answers: *mut u8, answers_len: usize) -> Applied;
-    fn kev_list_delta(delta: *const u8, delta_len: usize, out: *mut u8, out_len: usize) -> Count;
-    fn kev_make_delta(text: *const u8, text_len: usize, out: *mut u8, out_len: usize) -> Made;
-    fn kev_exchange(publisher: *const u8, publisher_len: usize, follower: *mut u8, follower_len: usize, edition: u64, mtu: usize, unasked: *const u64, unasked_len: usize, unsent: *const u64, unsent_len: usize, ties: *const u64, ties_len: usize, clock: u64, digest: *mut u8, digest_len: usize, delta: *mut u8, delta_len: usize, answers: *mut u8, answers_len: usize) -> Exchanged;
+    fn kev_check(table: *const u8, table_len: Size) -> u64;
+    fn kev_new_table(table: *mut u8, table_len: Size, mode: Size) -> u64;
+    fn kev_add_node(table: *mut u8, table_len: Size, node: u64) -> u64;
+    fn kev_good_add_node(table: *mut u8, table_len: Size, node: u64) -> u64;
+    fn kev_remove_node(table: *mut u8, table_len: Size, node: u64) -> u64;
+    fn kev_good_remove_node(table: *mut u8, table_len: Size, node: u64) -> u64;
+    fn kev_last_heartbeat(table: *const u8, table_len: Size, node: u64) -> Heartbeat;
+    fn kev_good_last_heartbeat(table: *const u8, table_len: Size, node: u64) -> Heartbeat;
+    fn kev_write(table: *mut u8, table_len: Size, node: u64, key: *const u8, key_len: Size, value: *const u8, value_len: Size, wanted: u64, clock: u64) -> u64;
+    fn kev_good_write(table: *mut u8, table_len: Size, node: u64, key: *const u8, key_len: Size, value: *const u8, value_len: Size, wanted: u64, clock: u64) -> u64;
+    fn kev_delete(table: *mut u8, table_len: Size, node: u64, key: *const u8, key_len: Size, clock: u64) -> u64;
+    fn kev_good_delete(table: *mut u8, table_len: Size, node: u64, key: *const u8, key_len: Size, clock: u64) -> u64;
+    fn kev_delete_after_ttl(table: *mut u8, table_len: Size, node: u64, key: *const u8, key_len: Size, clock: u64) -> u64;
+    fn kev_good_delete_after_ttl(table: *mut u8, table_len: Size, node: u64, key: *const u8, key_len: Size, clock: u64) -> u64;
+    fn kev_remove_scheduled(table: *mut u8, table_len: Size, clock: u64, grace: u64) -> u64;
+    fn kev_good_remove_scheduled(table: *mut u8, table_len: Size, clock: u64, grace: u64) -> u64;
+    fn kev_offer_heartbeat(table: *mut u8, table_len: Size, node: u64, heartbeat: u64) -> Count;
+    fn kev_good_offer_heartbeat(table: *mut u8, table_len: Size, node: u64, heartbeat: u64) -> Count;
+    fn kev_local_beat(table: *mut u8, table_len: Size, node: u64) -> u64;
+    fn kev_good_local_beat(table: *mut u8, table_len: Size, node: u64) -> u64;
+    fn kev_find(table: *const u8, table_len: Size, node: u64, key: *const u8, key_len: Size) -> Found;
+    fn kev_good_find(table: *const u8, table_len: Size, node: u64, key: *const u8, key_len: Size) -> Found;
+    fn kev_list_prefix(table: *const u8, table_len: Size, node: u64, prefix: *const u8, prefix_len: Size, out: *mut u8, out_len: Size) -> Count;
+    fn kev_good_list_prefix(table: *const u8, table_len: Size, node: u64, prefix: *const u8, prefix_len: Size, out: *mut u8, out_len: Size) -> Count;
+    fn kev_node_count(table: *const u8, table_len: Size) -> Count;
+    fn kev_good_node_count(table: *const u8, table_len: Size) -> Count;
+    fn kev_node_number(table: *const u8, table_len: Size, i: Size) -> NodeNumber;
+    fn kev_good_node_number(table: *const u8, table_len: Size, i: Size) -> NodeNumber;
+    fn kev_node_header(table: *const u8, table_len: Size, node: u64) -> Header;
+    fn kev_good_node_header(table: *const u8, table_len: Size, node: u64) -> Header;
+    fn kev_record_count(table: *const u8, table_len: Size, node: u64) -> Count;
+    fn kev_good_record_count(table: *const u8, table_len: Size, node: u64) -> Count;
+    fn kev_record_at(table: *const u8, table_len: Size, node: u64, j: Size) -> Record;
+    fn kev_good_record_at(table: *const u8, table_len: Size, node: u64, j: Size) -> Record;
+    fn kev_record_of(table: *const u8, table_len: Size, i: Size, j: Size) -> Record;
+    fn kev_good_record_of(table: *const u8, table_len: Size, i: Size, j: Size) -> Record;
+    fn kev_record_by_key(table: *const u8, table_len: Size, node: u64, key: *const u8, key_len: Size) -> Record;
+    fn kev_good_record_by_key(table: *const u8, table_len: Size, node: u64, key: *const u8, key_len: Size) -> Record;
+    fn kev_node_rows(table: *const u8, table_len: Size, node: u64) -> Rows;
+    fn kev_good_node_rows(table: *const u8, table_len: Size, node: u64) -> Rows;
+    fn kev_prefix_rows(table: *const u8, table_len: Size, node: u64, prefix: *const u8, prefix_len: Size) -> Rows;
+    fn kev_good_prefix_rows(table: *const u8, table_len: Size, node: u64, prefix: *const u8, prefix_len: Size) -> Rows;
+    fn kev_key_at(table: *const u8, table_len: Size, node: u64, j: Size) -> Found;
+    fn kev_good_key_at(table: *const u8, table_len: Size, node: u64, j: Size) -> Found;
+    fn kev_value_at(table: *const u8, table_len: Size, node: u64, j: Size) -> Found;
+    fn kev_good_value_at(table: *const u8, table_len: Size, node: u64, j: Size) -> Found;
+    fn kev_write_digest(table: *const u8, table_len: Size, edition: u64, excluded: *const u64, excluded_len: Size, datagram: *mut u8, datagram_len: Size, place: Size) -> Count;
+    fn kev_good_write_digest(table: *const u8, table_len: Size, edition: u64, excluded: *const u64, excluded_len: Size, datagram: *mut u8, datagram_len: Size, place: Size) -> Count;
+    fn kev_read_digest(edition: u64, digest: *const u8, digest_len: Size) -> Digest;
+    fn kev_digest_entry(edition: u64, digest: *const u8, digest_len: Size, i: Size) -> Entry;
+    fn kev_compute(table: *const u8, table_len: Size, edition: u64, digest: *const u8, digest_len: Size, mtu: Size, excluded: *const u64, excluded_len: Size, ties: *const u64, ties_len: Size, datagram: *mut u8, datagram_len: Size, place: Size) -> Computed;
+    fn kev_good_compute(table: *const u8, table_len: Size, edition: u64, digest: *const u8, digest_len: Size, mtu: Size, excluded: *const u64, excluded_len: Size, ties: *const u64, ties_len: Size, datagram: *mut u8, datagram_len: Size, place: Size) -> Computed;
+    fn kev_read_delta(delta: *const u8, delta_len: Size) -> Delta;
+    fn kev_apply(table: *mut u8, table_len: Size, delta: *const u8, delta_len: Size, clock: u64, answers: *mut u8, answers_len: Size) -> Applied;
+    fn kev_good_apply(table: *mut u8, table_len: Size, delta: *const u8, delta_len: Size, clock: u64, answers: *mut u8, answers_len: Size) -> Applied;
+    fn kev_list_delta(delta: *const u8, delta_len: Size, out: *mut u8, out_len: Size) -> Count;
+    fn kev_make_delta(text: *const u8, text_len: Size, out: *mut u8, out_len: Size) -> Made;
+    fn kev_exchange(publisher: *const u8, publisher_len: Size, follower: *mut u8, follower_len: Size, edition: u64, mtu: Size, unasked: *const u64, unasked_len: Size, unsent: *const u64, unsent_len: Size, ties: *const u64, ties_len: Size, clock: u64, digest: *mut u8, digest_len: Size, delta: *mut u8, delta_len: Size, answers: *mut u8, answers_len: Size) -> Exchanged;
 }
 
 // ---- the calls, each by its name in the header; on a good table those without the check
 
 pub fn check(table: &[u8]) -> u64 {
-    unsafe { kev_check(table.as_ptr(), table.len()) }
+    unsafe { kev_check(table.as_ptr(), len(table)) }
 }
 
 pub fn new_table(table: &mut [u8], mode: usize) -> u64 {
-    unsafe { kev_new_table(table.as_mut_ptr(), table.len(), mode) }
+    unsafe { kev_new_table(table.as_mut_ptr(), len(table), Size::of(mode)) }
 }
 
 pub fn add_node<S: BytesMut>(store: &mut S, node: u64) -> u64 {
     let call = if S::GOOD { kev_good_add_node } else { kev_add_node };
     let table = store.lend();
-    unsafe { call(table.as_mut_ptr(), table.len(), node) }
+    unsafe { call(table.as_mut_ptr(), len(table), node) }
 }
 
 pub fn remove_node<S: BytesMut>(store: &mut S, node: u64) -> u64 {
     let call = if S::GOOD { kev_good_remove_node } else { kev_remove_node };
     let table = store.lend();
-    unsafe { call(table.as_mut_ptr(), table.len(), node) }
+    unsafe { call(table.as_mut_ptr(), len(table), node) }
 }
 
 pub fn last_heartbeat<S: Bytes>(store: &S, node: u64) -> Heartbeat {
     let call = if S::GOOD { kev_good_last_heartbeat } else { kev_last_heartbeat };
     let table = store.bytes();
-    unsafe { call(table.as_ptr(), table.len(), node) }
+    unsafe { call(table.as_ptr(), len(table), node) }
 }
 
 pub fn write<S: BytesMut>(store: &mut S, node: u64, key: &[u8], value: &[u8], wanted: u64, clock: u64) -> u64 {
     let call = if S::GOOD { kev_good_write } else { kev_write };
     let table = store.lend();
-    unsafe { call(table.as_mut_ptr(), table.len(), node, key.as_ptr(), key.len(), value.as_ptr(), value.len(), wanted, clock) }
+    unsafe { call(table.as_mut_ptr(), len(table), node, key.as_ptr(), len(key), value.as_ptr(), len(value), wanted, clock) }
 }
 
 pub fn delete<S: BytesMut>(store: &mut S, node: u64, key: &[u8], clock: u64) -> u64 {
     let call = if S::GOOD { kev_good_delete } else { kev_delete };
     let table = store.lend();
-    unsafe { call(table.as_mut_ptr(), table.len(), node, key.as_ptr(), key.len(), clock) }
+    unsafe { call(table.as_mut_ptr(), len(table), node, key.as_ptr(), len(key), clock) }
 }
 
 pub fn delete_after_ttl<S: BytesMut>(store: &mut S, node: u64, key: &[u8], clock: u64) -> u64 {
     let call = if S::GOOD { kev_good_delete_after_ttl } else { kev_delete_after_ttl };
     let table = store.lend();
-    unsafe { call(table.as_mut_ptr(), table.len(), node, key.as_ptr(), key.len(), clock) }
+    unsafe { call(table.as_mut_ptr(), len(table), node, key.as_ptr(), len(key), clock) }
 }
 
 pub fn remove_scheduled<S: BytesMut>(store: &mut S, clock: u64, grace: u64) -> u64 {
     let call = if S::GOOD { kev_good_remove_scheduled } else { kev_remove_scheduled };
     let table = store.lend();
-    unsafe { call(table.as_mut_ptr(), table.len(), clock, grace) }
+    unsafe { call(table.as_mut_ptr(), len(table), clock, grace) }
 }
 
 pub fn offer_heartbeat<S: BytesMut>(store: &mut S, node: u64, heartbeat: u64) -> Count {
     let call = if S::GOOD { kev_good_offer_heartbeat } else { kev_offer_heartbeat };
     let table = store.lend();
-    unsafe { call(table.as_mut_ptr(), table.len(), node, heartbeat) }
+    unsafe { call(table.as_mut_ptr(), len(table), node, heartbeat) }
 }
 
 pub fn local_beat<S: BytesMut>(store: &mut S, node: u64) -> u64 {
     let call = if S::GOOD { kev_good_local_beat } else { kev_local_beat };
     let table = store.lend();
-    unsafe { call(table.as_mut_ptr(), table.len(), node) }
+    unsafe { call(table.as_mut_ptr(), len(table), node) }
 }
 
 pub fn find<S: Bytes>(store: &S, node: u64, key: &[u8]) -> Found {
     let call = if S::GOOD { kev_good_find } else { kev_find };
     let table = store.bytes();
-    unsafe { call(table.as_ptr(), table.len(), node, key.as_ptr(), key.len()) }
+    unsafe { call(table.as_ptr(), len(table), node, key.as_ptr(), len(key)) }
 }
 
 pub fn list_prefix<S: Bytes>(store: &S, node: u64, prefix: &[u8], out: &mut [u8]) -> Count {
     let call = if S::GOOD { kev_good_list_prefix } else { kev_list_prefix };
     let table = store.bytes();
-    unsafe { call(table.as_ptr(), table.len(), node, prefix.as_ptr(), prefix.len(), out.as_mut_ptr(), out.len()) }
+    unsafe { call(table.as_ptr(), len(table), node, prefix.as_ptr(), len(prefix), out.as_mut_ptr(), len(out)) }
 }
 
 pub fn node_count<S: Bytes>(store: &S) -> Count {
     let call = if S::GOOD { kev_good_node_count } else { kev_node_count };
     let table = store.bytes();
-    unsafe { call(table.as_ptr(), table.len()) }
+    unsafe { call(table.as_ptr(), len(table)) }
 }
 
 pub fn node_number<S: Bytes>(store: &S, i: usize) -> NodeNumber {
     let call = if S::GOOD { kev_good_node_number } else { kev_node_number };
     let table = store.bytes();
-    unsafe { call(table.as_ptr(), table.len(), i) }
+    unsafe { call(table.as_ptr(), len(table), Size::of(i)) }
 }
 
 pub fn node_header<S: Bytes>(store: &S, node: u64) -> Header {
     let call = if S::GOOD { kev_good_node_header } else { kev_node_header };
     let table = store.bytes();
-    unsafe { call(table.as_ptr(), table.len(), node) }
+    unsafe { call(table.as_ptr(), len(table), node) }
 }
 
 pub fn record_count<S: Bytes>(store: &S, node: u64) -> Count {
     let call = if S::GOOD { kev_good_record_count } else { kev_record_count };
     let table = store.bytes();
-    unsafe { call(table.as_ptr(), table.len(), node) }
+    unsafe { call(table.as_ptr(), len(table), node) }
 }
 
 pub fn record_at<S: Bytes>(store: &S, node: u64, j: usize) -> Record {
     let call = if S::GOOD { kev_good_record_at } else { kev_record_at };
     let table = store.bytes();
-    unsafe { call(table.as_ptr(), table.len(), node, j) }
+    unsafe { call(table.as_ptr(), len(table), node, Size::of(j)) }
 }
 
 pub fn record_of<S: Bytes>(store: &S, i: usize, j: usize) -> Record {
     let call = if S::GOOD { kev_good_record_of } else { kev_record_of };
     let table = store.bytes();
-    unsafe { call(table.as_ptr(), table.len(), i, j) }
+    unsafe { call(table.as_ptr(), len(table), Size::of(i), Size::of(j)) }
 }
 
 pub fn record_by_key<S: Bytes>(store: &S, node: u64, key: &[u8]) -> Record {
     let call = if S::GOOD { kev_good_record_by_key } else { kev_record_by_key };
     let table = store.bytes();
-    unsafe { call(table.as_ptr(), table.len(), node, key.as_ptr(), key.len()) }
+    unsafe { call(table.as_ptr(), len(table), node, key.as_ptr(), len(key)) }
 }
 
 pub fn node_rows<S: Bytes>(store: &S, node: u64) -> Rows {
     let call = if S::GOOD { kev_good_node_rows } else { kev_node_rows };
     let table = store.bytes();
-    unsafe { call(table.as_ptr(), table.len(), node) }
+    unsafe { call(table.as_ptr(), len(table), node) }
 }
 
 pub fn prefix_rows<S: Bytes>(store: &S, node: u64, prefix: &[u8]) -> Rows {
     let call = if S::GOOD { kev_good_prefix_rows } else { kev_prefix_rows };
     let table = store.bytes();
-    unsafe { call(table.as_ptr(), table.len(), node, prefix.as_ptr(), prefix.len()) }
+    unsafe { call(table.as_ptr(), len(table), node, prefix.as_ptr(), len(prefix)) }
 }
 
 pub fn key_at<S: Bytes>(store: &S, node: u64, j: usize) -> Found {
     let call = if S::GOOD { kev_good_key_at } else { kev_key_at };
     let table = store.bytes();
-    unsafe { call(table.as_ptr(), table.len(), node, j) }
+    unsafe { call(table.as_ptr(), len(table), node, Size::of(j)) }
 }
 
 pub fn value_at<S: Bytes>(store: &S, node: u64, j: usize) -> Found {
     let call = if S::GOOD { kev_good_value_at } else { kev_value_at };
     let table = store.bytes();
-    unsafe { call(table.as_ptr(), table.len(), node, j) }
+    unsafe { call(table.as_ptr(), len(table), node, Size::of(j)) }
 }
 
 pub fn write_digest<S: Bytes>(store: &S, edition: u64, excluded: &[u64], datagram: &mut [u8], place: usize) -> Count {
     let call = if S::GOOD { kev_good_write_digest } else { kev_write_digest };
     let table = store.bytes();
-    unsafe { call(table.as_ptr(), table.len(), edition, excluded.as_ptr(), excluded.len(), datagram.as_mut_ptr(), datagram.len(), place) }
+    unsafe { call(table.as_ptr(), len(table), edition, excluded.as_ptr(), len(excluded), datagram.as_mut_ptr(), len(datagram), Size::of(place)) }
 }
 
 pub fn read_digest(edition: u64, digest: &[u8]) -> Digest {
-    unsafe { kev_read_digest(edition, digest.as_ptr(), digest.len()) }
+    unsafe { kev_read_digest(edition, digest.as_ptr(), len(digest)) }
 }
 
 pub fn digest_entry(edition: u64, digest: &[u8], i: usize) -> Entry {
-    unsafe { kev_digest_entry(edition, digest.as_ptr(), digest.len(), i) }
+    unsafe { kev_digest_entry(edition, digest.as_ptr(), len(digest), Size::of(i)) }
 }
 
 pub fn compute<S: Bytes>(store: &S, edition: u64, digest: &[u8], mtu: usize, excluded: &[u64], ties: &[u64], datagram: &mut [u8], place: usize) -> Computed {
     let call = if S::GOOD { kev_good_compute } else { kev_compute };
     let table = store.bytes();
-    unsafe { call(table.as_ptr(), table.len(), edition, digest.as_ptr(), digest.len(), mtu, excluded.as_ptr(), excluded.len(), ties.as_ptr(), ties.len(), datagram.as_mut_ptr(), datagram.len(), place) }
+    unsafe { call(table.as_ptr(), len(table), edition, digest.as_ptr(), len(digest), Size::of(mtu), excluded.as_ptr(), len(excluded), ties.as_ptr(), len(ties), datagram.as_mut_ptr(), len(datagram), Size::of(place)) }
 }
 
 pub fn read_delta(delta: &[u8]) -> Delta {
-    unsafe { kev_read_delta(delta.as_ptr(), delta.len()) }
+    unsafe { kev_read_delta(delta.as_ptr(), len(delta)) }
 }
 
 pub fn apply<S: BytesMut>(store: &mut S, delta: &[u8], clock: u64, answers: &mut [u8]) -> Applied {
     let call = if S::GOOD { kev_good_apply } else { kev_apply };
     let table = store.lend();
-    unsafe { call(table.as_mut_ptr(), table.len(), delta.as_ptr(), delta.len(), clock, answers.as_mut_ptr(), answers.len()) }
+    unsafe { call(table.as_mut_ptr(), len(table), delta.as_ptr(), len(delta), clock, answers.as_mut_ptr(), len(answers)) }
 }
 
 pub fn list_delta(delta: &[u8], out: &mut [u8]) -> Count {
-    unsafe { kev_list_delta(delta.as_ptr(), delta.len(), out.as_mut_ptr(), out.len()) }
+    unsafe { kev_list_delta(delta.as_ptr(), len(delta), out.as_mut_ptr(), len(out)) }
 }
 
 pub fn make_delta(text: &[u8], out: &mut [u8]) -> Made {
-    unsafe { kev_make_delta(text.as_ptr(), text.len(), out.as_mut_ptr(), out.len()) }
+    unsafe { kev_make_delta(text.as_ptr(), len(text), out.as_mut_ptr(), len(out)) }
 }
 
 pub fn exchange(publisher: &[u8], follower: &mut [u8], edition: u64, mtu: usize, unasked: &[u64], unsent: &[u64], ties: &[u64], clock: u64, digest: &mut [u8], delta: &mut [u8], answers: &mut [u8]) -> Exchanged {
-    unsafe { kev_exchange(publisher.as_ptr(), publisher.len(), follower.as_mut_ptr(), follower.len(), edition, mtu, unasked.as_ptr(), unasked.len(), unsent.as_ptr(), unsent.len(), ties.as_ptr(), ties.len(), clock, digest.as_mut_ptr(), digest.len(), delta.as_mut_ptr(), delta.len(), answers.as_mut_ptr(), answers.len()) }
+    unsafe { kev_exchange(publisher.as_ptr(), len(publisher), follower.as_mut_ptr(), len(follower), edition, Size::of(mtu), unasked.as_ptr(), len(unasked), unsent.as_ptr(), len(unsent), ties.as_ptr(), len(ties), clock, digest.as_mut_ptr(), len(digest), delta.as_mut_ptr(), len(delta), answers.as_mut_ptr(), len(answers)) }
 }

@@ -64,9 +64,9 @@
 #![deny(unsafe_code)]
 #![warn(missing_docs)]
 
-// The library counts in 64 bits on every processor (`kev_size` of the header).
-#[cfg(not(target_pointer_width = "64"))]
-compile_error!("this crate is for processors whose usize has 64 bits; on smaller ones use include/kevdarosh.h, tools/library --for");
+// A listing has more bytes than a `usize` of 16 bits can count.
+#[cfg(not(any(target_pointer_width = "32", target_pointer_width = "64")))]
+compile_error!("this crate is for processors whose usize has 32 or 64 bits");
 
 mod ffi;
 mod refusal;

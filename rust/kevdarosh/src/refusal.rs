@@ -2,6 +2,8 @@
 
 use core::fmt::{Display, Formatter, Result};
 
+use crate::ffi::Size;
+
 macro_rules! refusals {
     ($($number:literal $name:ident $words:literal;)*) => {
         /// Why a call was refused. A refused call changed nothing. The numbers are those of documents 01 and 02.
@@ -76,8 +78,8 @@ pub struct Fault {
 
 impl Fault {
     /// A number that is not 0 is a refusal's.
-    pub(crate) fn unless(number: u64, at: usize, need: usize) -> core::result::Result<(), Fault> {
-        accepted(number).map_err(|refusal| Fault { refusal, at, need })
+    pub(crate) fn unless(number: u64, at: Size, need: Size) -> core::result::Result<(), Fault> {
+        accepted(number).map_err(|refusal| Fault { refusal, at: at.get(), need: need.get() })
     }
 }
 

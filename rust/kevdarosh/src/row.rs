@@ -29,7 +29,8 @@ pub struct Records<'a> {
 impl<'a> Records<'a> {
     #[inline]
     pub(crate) fn of(table: &'a [u8], rows: Rows) -> Records<'a> {
-        Records { rows: &table[rows.at..rows.at + rows.count * ROW] }
+        let (at, count) = (rows.at.get(), rows.count.get());
+        Records { rows: &table[at..at + count * ROW] }
     }
 }
 

@@ -1,6 +1,6 @@
 //! Tables, their nodes and records.
 
-use crate::ffi::{self, Bytes, BytesMut, Kept};
+use crate::ffi::{self, Bytes, BytesMut, Kept, Size};
 use crate::refusal::{Fault, Refusal, accepted, refusal};
 use crate::row::Records;
 use crate::wire::Edition;
@@ -41,7 +41,7 @@ pub enum Status {
 
 impl Status {
     #[inline]
-    pub(crate) fn of(byte: usize) -> Status {
+    pub(crate) fn of(byte: u64) -> Status {
         match byte {
             0 => Status::Set,
             1 => Status::Deleted,
@@ -211,7 +211,7 @@ impl<S: Bytes> Table<S> {
     pub fn nodes(&self) -> Result<impl Iterator<Item = u64> + '_, Refusal> {
         let answer = ffi::node_count(&self.store);
         accepted(answer.number)?;
-        Ok((0..answer.count).map(|i| ffi::node_number(&self.store, i).node))
+        Ok((0..answer.count.get()).map(|i| ffi::node_number(&self.store, i).node))
     }
 
     /// A node, to read it: [`Refusal::NoNode`].
@@ -228,21 +228,21 @@ impl<S: Bytes> Table<S> {
     pub fn get(&self, node: u64, key: &[u8]) -> Result<Option<&[u8]>, Refusal> {
         let answer = ffi::find(&self.store, node, key);
         accepted(answer.number)?;
-        Ok((answer.found != 0).then(|| self.text(answer.start, answer.len)))
+        Ok((answer.found.0 != 0).then(|| self.text(answer.start, answer.len)))
     }
 
     /// The last heartbeat of a node that was removed; none where the table does not remember it. It remembers the last sixteen.
     pub fn last_heartbeat_if_deleted(&self, node: u64) -> Result<Option<u64>, Refusal> {
         let answer = ffi::last_heartbeat(&self.store, node);
         accepted(answer.number)?;
-        Ok((answer.found != 0).then_some(answer.heartbeat))
+        Ok((answer.found.0 != 0).then_some(answer.heartbeat))
     }
 
     /// The table's digest without the excluded nodes, in this edition, at the front of the datagram: how many bytes. [`crate::DIGEST`] bytes are always enough.
     pub fn compute_digest(&self, edition: Edition, excluded: &[u64], datagram: &mut [u8]) -> Result<usize, Refusal> {
         let answer = ffi::write_digest(&self.store, edition.number(), excluded, datagram, 0);
         accepted(answer.number)?;
-        Ok(answer.count)
+        Ok(answer.count.get())
     }
 
     /// The delta for a peer's digest of this edition, of at most `mtu` bytes, without the excluded nodes, at the front of the datagram. Of two nodes with as much to tell the
@@ -257,13 +257,14 @@ impl<S: Bytes> Table<S> {
         datagram: &mut [u8],
     ) -> Result<Computed, Fault> {
         let answer = ffi::compute(&self.store, edition.number(), digest, mtu, excluded, ties, datagram, 0);
-        Fault::unless(answer.number, 0, answer.need)?;
-        Ok(Computed { ops: answer.ops, bytes: answer.bytes })
+        Fault::unless(answer.number, Size(0), answer.need)?;
+        Ok(Computed { ops: answer.ops.get(), bytes: answer.bytes.get() })
     }
 
     /// The bytes of the table that an answer names.
     #[inline]
-    fn text(&self, start: usize, len: usize) -> &[u8] {
+    fn text(&self, start: Size, len: Size) -> &[u8] {
+        let (start, len) = (start.get(), len.get());
         &self.store.bytes()[start..start + len]
     }
 
@@ -274,7 +275,7 @@ impl<S: Bytes> Table<S> {
             key: self.text(found.key_at, found.key_len),
             value: self.text(found.value_at, found.value_len),
             version: found.version,
-            status: Status::of(found.status),
+            status: Status::of(found.status.0),
             start: found.start,
         }
     }
@@ -326,7 +327,7 @@ impl<S: BytesMut> Table<S> {
     pub fn try_set_heartbeat(&mut self, node: u64, heartbeat: u64) -> Result<bool, Refusal> {
         let answer = ffi::offer_heartbeat(&mut self.store, node, heartbeat);
         accepted(answer.number)?;
-        Ok(answer.count != 0)
+        Ok(answer.count.0 != 0)
     }
 
     /// Takes a peer's delta, at the receiver's clock.
@@ -334,7 +335,7 @@ impl<S: BytesMut> Table<S> {
         let mut codes = [0; NODES];
         let answer = ffi::apply(&mut self.store, delta, clock, &mut codes);
         Fault::unless(answer.number, answer.at, answer.need)?;
-        Ok(Answers { codes, count: answer.nodes })
+        Ok(Answers { codes, count: answer.nodes.get() })
     }
 }
 
@@ -387,7 +388,7 @@ impl<'a, S: Bytes> NodeState<'a, S> {
     pub fn get_versioned(&self, key: &[u8]) -> Result<Option<Record<'a>>, Refusal> {
         let answer = ffi::record_by_key(&self.table.store, self.node, key);
         accepted(answer.number)?;
-        Ok((answer.found != 0).then(|| self.table.record(answer)))
+        Ok((answer.found.0 != 0).then(|| self.table.record(answer)))
     }
 
     /// All records, deleted ones too, in key order.

@@ -1,6 +1,6 @@
 //! Digests and deltas as bytes.
 
-use crate::ffi;
+use crate::ffi::{self, Size};
 use crate::refusal::{BAD_LINE, ExchangeRefused, Fault, ListingRefused, Refusal, Step, accepted};
 
 /// The editions of a digest, chitchat's `ProtocolVersion`.
@@ -48,8 +48,8 @@ impl<'a> Digest<'a> {
     /// Reads the digest at the front of the bytes: [`Refusal::Cut`], [`Refusal::TooMany`].
     pub fn read(edition: Edition, bytes: &'a [u8]) -> Result<Digest<'a>, Fault> {
         let answer = ffi::read_digest(edition.number(), bytes);
-        Fault::unless(answer.number, 0, answer.need)?;
-        Ok(Digest { edition, bytes, count: answer.count, rest: answer.rest })
+        Fault::unless(answer.number, Size(0), answer.need)?;
+        Ok(Digest { edition, bytes, count: answer.count.get(), rest: answer.rest.get() })
     }
 
     /// How many nodes it tells of.
@@ -90,14 +90,14 @@ pub struct DeltaRead {
 pub fn read_delta(delta: &[u8]) -> Result<DeltaRead, Fault> {
     let answer = ffi::read_delta(delta);
     Fault::unless(answer.number, answer.at, answer.need)?;
-    Ok(DeltaRead { ops: answer.ops, nodes: answer.nodes })
+    Ok(DeltaRead { ops: answer.ops.get(), nodes: answer.nodes.get() })
 }
 
 /// The listing of a delta in words at the front of the buffer, or the one line of a refused delta: how many bytes. [`crate::LISTING`] bytes are always enough.
 pub fn list_delta(delta: &[u8], out: &mut [u8]) -> Result<usize, Refusal> {
     let answer = ffi::list_delta(delta, out);
     accepted(answer.number)?;
-    Ok(answer.count)
+    Ok(answer.count.get())
 }
 
 /// The delta that a listing tells, at the front of the buffer: how many bytes. Every line must be exactly as [`list_delta`] writes it, to the end line with its counts.
@@ -119,10 +119,10 @@ pub fn list_delta(delta: &[u8], out: &mut [u8]) -> Result<usize, Refusal> {
 pub fn make_delta(text: &[u8], out: &mut [u8]) -> Result<usize, ListingRefused> {
     let answer = ffi::make_delta(text, out);
     if answer.number == BAD_LINE {
-        return Err(ListingRefused::Line(answer.line));
+        return Err(ListingRefused::Line(answer.line.get()));
     }
     Fault::unless(answer.number, answer.at, answer.need).map_err(ListingRefused::Delta)?;
-    Ok(answer.bytes)
+    Ok(answer.bytes.get())
 }
 
 /// What an exchange came to.
@@ -160,12 +160,12 @@ pub fn exchange(
     let Datagrams { digest, delta, answers } = datagrams;
     let answer = ffi::exchange(publisher, follower, edition.number(), mtu, unasked, unsent, ties, clock, digest, delta, answers);
     accepted(answer.number).map_err(|refusal| ExchangeRefused {
-        step: match answer.step {
+        step: match answer.step.0 {
             1 => Step::Digest,
             2 => Step::Delta,
             _ => Step::Applying,
         },
         refusal,
     })?;
-    Ok(Exchanged { ops: answer.ops, bytes: answer.bytes, nodes: answer.nodes })
+    Ok(Exchanged { ops: answer.ops.get(), bytes: answer.bytes.get(), nodes: answer.nodes.get() })
 }

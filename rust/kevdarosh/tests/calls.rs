@@ -1,6 +1,6 @@
 //! Every call of the crate, on an owned and on a lent table; the refusals by number.
 
-use kevdarosh::{Answer, DIGEST, Datagrams, Digest, Edition, Fault, LISTING, LentTable, ListingRefused, Mode, OwnedTable, Refusal, Status, Step, TABLE, TableView, exchange, list_delta, make_delta, read_delta};
+use kevdarosh::{Answer, DIGEST, Datagrams, Digest, Edition, ExchangeRefused, Fault, LISTING, LentTable, ListingRefused, Mode, OwnedTable, Refusal, Status, Step, TABLE, TableView, exchange, list_delta, make_delta, read_delta};
 
 /// The same story for both kinds of table.
 macro_rules! story {
@@ -136,6 +136,8 @@ fn an_exchange_in_one_call() {
     publisher.set(7, b"total", b"1").unwrap();
     let mut follower = vec![0; TABLE];
     LentTable::new_in(&mut follower, Mode::Plain).unwrap().add_node(7).unwrap();
+    let unanswered = exchange(publisher.as_bytes(), &mut follower.clone(), Edition::V1, 1_400, [&[], &[], &[0]], 5, Datagrams { digest: &mut [0; DIGEST], delta: &mut [0; 1_400], answers: &mut [] });
+    assert_eq!(unanswered.unwrap_err(), ExchangeRefused { step: Step::Applying, refusal: Refusal::NoPlace });
     let (mut digest, mut delta, mut answers) = ([0; DIGEST], [0; 1_400], [9; 8]);
     let mut run = |mtu: usize, ties: &[u64]| {
         let datagrams = Datagrams { digest: &mut digest, delta: &mut delta, answers: &mut answers };

@@ -1,5 +1,6 @@
 //! Three hubs (examples/hub.rs) through a relay that loses, doubles and delays datagrams by a seed. One is killed and started again from its file. It ends when
-//! all tables agree, and fails if a deleted reading is seen again. HUBS_SEED chooses the seed.
+//! all tables agree, and fails if a deleted reading is seen again. HUBS_SEED chooses the seed. HUBS_RUNNER is the emulator that a hub runs under, with its words,
+//! where the tests are for another processor.
 
 use std::io::{BufRead, BufReader, Write};
 use std::net::{SocketAddr, UdpSocket};
@@ -93,8 +94,11 @@ struct Shown {
 
 impl Hub {
     fn start(own: usize, folder: &std::path::Path, peers: &[SocketAddr], hubs: &Mutex<[Option<SocketAddr>; HUBS]>) -> Hub {
-        let example = PathBuf::from(std::env::current_exe().unwrap()).ancestors().nth(2).unwrap().join("examples/hub");
-        let mut child = Command::new(&example)
+        let example = std::env::current_exe().unwrap().ancestors().nth(2).unwrap().join("examples/hub");
+        let runner = std::env::var("HUBS_RUNNER").unwrap_or_default();
+        let mut words = runner.split_whitespace().map(PathBuf::from).chain([example.clone()]);
+        let mut child = Command::new(words.next().unwrap())
+            .args(words)
             .args([&own.to_string(), "1,2,3", folder.join(format!("hub{own}.table")).to_str().unwrap(), GRACE])
             .args(peers.iter().map(|peer| peer.to_string()))
             .stdin(Stdio::piped())

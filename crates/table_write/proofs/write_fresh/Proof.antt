@@ -7,8 +7,8 @@ use Rattle.table_write.proofs.write_fresh.Tie as tie
 new-requires : tie.Need-new-requires
 new-requires c κs = search needs
 
-clear-requires : tie.Need-clear-requires
-clear-requires c κs = search needs
+clear-node-requires : tie.Need-clear-node-requires
+clear-node-requires c κs = search needs
 
 write-u64-requires : tie.Need-write-u64-requires
 write-u64-requires c κs = search needs
@@ -34,7 +34,7 @@ returns c =
     let cleared = number .before .before .before .before in
     let made = cleared .before .before .before in
     let st = made .before .before in
-    fresh-steps (st .args .node .now) _ _ _ _ _ (st .args .number) (made .new .result) (made .new .ensures) (st .pre) (cleared .clear .ensures) (number .write-u64 .ensures)
+    fresh-steps _ _ _ _ _ (st .args .number) (made .new .result) (made .new .ensures) (cleared .clear-node .ensures) (number .write-u64 .ensures)
     (beat .write-u642 .ensures) (max .write-u643 .ensures) (gc .write-u644 .ensures)
 
 pub write-fresh-spec : {M : Type 1} → statement M
@@ -42,7 +42,7 @@ write-fresh-spec =
     tie.close
     (tie.spec
     new-requires
-    clear-requires
+    clear-node-requires
     write-u64-requires
     write-u64-requires-2
     write-u64-requires-3
