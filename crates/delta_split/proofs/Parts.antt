@@ -169,14 +169,14 @@ module _ (take : Taking) (xs ys : List Part) (t : Table) (list list₁ list₂ :
         table-is = e ∙ ap (λ (s : Stream). s .table) (sym all);
       }
 
+-- what holds of three things holds of three that are the same
+pub by-three : {A : Type 0} (P : A → A → A → Type 0) {w w′ one one′ two two′ : A} → w ≡ w′ → one ≡ one′ → two ≡ two′ → P w′ one′ two′ → P w one two
+by-three {A} P {w} {w′} {one} {one′} {two} {two′} e f g s =
+    subst (λ (x : A). P x one two) (sym e) (subst (λ (x : A). P w′ x two) (sym f) (subst (λ (x : A). P w′ one′ x) (sym g) s))
+
 -- of three outcomes, the last of them being the later one's
 abbrev Says : (whole one two last : ApplyOutcome) → Type 0
 Says w one two last = AsUncut (w .answer) (one .answer) (two .answer) (w .list) (one .list) (two .list) (w .table) (last .table)
-
-said : {w w′ one one′ two two′ : ApplyOutcome} (last : ApplyOutcome → ApplyOutcome → ApplyOutcome) → w ≡ w′ → one ≡ one′ → two ≡ two′ → Says w′ one′ two′ (last one′ two′) → Says w one two (last one two)
-said {w} {w′} {one} {one′} {two} {two′} last e f g s =
-    subst (λ (x : ApplyOutcome). Says x one two (last one two)) (sym e)
-    (subst (λ (x : ApplyOutcome). Says w′ x two (last x two)) (sym f) (subst (λ (x : ApplyOutcome). Says w′ one′ x (last one′ x)) (sym g) s))
 
 module _ (ways : Ways) (lawful : Lawful ways) (cuttable : Cuttable ways) (b : List ℕ) (are : AreBytes b) (place : ℕ) (at : place ∈ cutPlaces (ways .reads b)) (now : ℕ) (t : Table)
     (list list₁ list₂ : List ℕ) (h : wanted (ways .reads b) ≤ length list) (h₁ : wanted (ways .reads (take place b)) ≤ length list₁)
@@ -220,7 +220,7 @@ module _ (ways : Ways) (lawful : Lawful ways) (cuttable : Cuttable ways) (b : Li
       AsUncut (w .answer) (o .first .answer) (o .second .answer) (w .list) (o .first .list) (o .second .list) (w .table) (o .second .table)
   cut-in-order =
       let u : Table = applyEach (applyNode ways now) xs t .table in
-      said (λ one two. two) whole-call (first-call t) (ap (λ (o : ApplyOutcome). apply ways (drop place b) now (o .table) list₂) (first-call t) ∙ second-call u)
+      by-three (λ w one two. Says w one two two) whole-call (first-call t) (ap (λ (o : ApplyOutcome). apply ways (drop place b) now (o .table) list₂) (first-call t) ∙ second-call u)
       (together (applyNode ways now) xs ys t list list₁ list₂ room room₁ room₂ t u refl refl (applyEach (applyNode ways now) ys u .table) refl)
 
   -- the second part, then the first
@@ -230,7 +230,7 @@ module _ (ways : Ways) (lawful : Lawful ways) (cuttable : Cuttable ways) (b : Li
   cut-reversed =
       let v : Table = applyEach (applyNode ways now) ys t .table in
       let s = each-swapped (applyNode ways now) xs ys t (cut .apart) in
-      said (λ one two. one) whole-call (ap (λ (o : ApplyOutcome). apply ways (take place b) now (o .table) list₁) (second-call t) ∙ first-call v) (second-call t)
+      by-three (λ w one two. Says w one two one) whole-call (ap (λ (o : ApplyOutcome). apply ways (take place b) now (o .table) list₁) (second-call t) ∙ first-call v) (second-call t)
       (together (applyNode ways now) xs ys t list list₁ list₂ room room₁ room₂ v t (s .0) (sym (s .2)) (applyEach (applyNode ways now) xs v .table) (s .1))
 
 -- ---- document 01's reading, in every mode

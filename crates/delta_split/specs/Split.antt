@@ -1,7 +1,7 @@
 -- Two datagrams for one (ticket 14 of document 02). A gateway cuts a delta at the start of a Node operation and sends what stands before it and what stands
 -- from it on. Applied one after the other, in either order and at the same time of receipt, the two do what the uncut delta does. The theorems are in
 -- proofs/Parts, of tables in any ways that allow it, and in proofs/LentParts, of lent bytes in any mode.
-use Prim.Native.Nat.{ℕ, _+_}
+use Prim.Native.Nat.{ℕ, _+_, _≤_}
 use mathlib.Core.Path.{_≡_}
 use mathlib.Core.List.{List, [], _∷_, _++_}
 use lib.ListN.{length, take, drop}
@@ -32,6 +32,10 @@ cutPlaces (Faulty r at) = []
 abbrev pub wanted : Ops → ℕ
 wanted (Good ops) = length (partsOf ops)
 wanted (Faulty r at) = 0
+
+-- there are places for the answers to the uncut delta, and to each part
+abbrev pub Roomy : (ways : Ways) (bytes : Bytes) (place : ℕ) (list list₁ list₂ : Bytes) → Type 0
+Roomy ways b place l l₁ l₂ = (wanted (ways .reads b) ≤ length l) × (wanted (ways .reads (take place b)) ≤ length l₁) × (wanted (ways .reads (drop place b)) ≤ length l₂)
 
 -- ---- the two calls, on a table and on lent bytes
 
