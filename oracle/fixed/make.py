@@ -727,6 +727,35 @@ P, F, G, H = range(4)
 A, B = "x61", "x62"
 
 
+def two_datagrams():
+    """A delta with every kind of answer, whole on hub 0; cut at each Node, the first part first on hub 1, the second first on hub 2: the same answers and tables."""
+    before = (node(1) + kv(b"a", b"1", 1) + kv(b"b", b"2", 4), node(2, 9) + kv(b"c", b"3", 2), node(3) + kv(b"d", b"4", 3),
+              node(4) + b"".join(kv(b"%02d" % i, b"x", i + 1) for i in range(32)), node(5) + kv(b"e", b"5", 7))
+    parts = (node(1, 0, 4) + kv(b"a", b"", 5, 1) + kv(b"f", b"6", 6, 2), node(2, 0, 2) + kv(b"g", b"7", 5), node(9) + kv(b"h", b"8", 1),
+             node(3, 8) + kv(b"i", b"9", 2) + kv(b"j", b"", 9, 1), node(4, 0, 32) + kv(b"zz", b"x", 40), node(5, 0, 8) + top(9))
+
+    def fresh(hub, mode):
+        yield f"hub {hub}"
+        yield f"make {mode}"
+        yield from (f"add {number}" for number in range(1, 6))
+        yield apply(*before, now=3)
+
+    for mode in (0, 1, 2):
+        yield from fresh(0, mode)
+        yield apply(*parts, now=50)
+        for cut in range(len(parts) + 1):
+            for hub in (1, 2):
+                yield from fresh(hub, mode)
+                halves = [parts[:cut], parts[cut:]]
+                for half in halves if hub == 1 else reversed(halves):
+                    yield apply(*half, now=50)
+    for hub in (1, 2):
+        yield from fresh(hub, 0)
+        halves = [parts[0][:25 + 14 + 1], parts[0][25 + 14 + 1:]]
+        for half in halves if hub == 1 else reversed(halves):
+            yield apply(half, now=50)
+
+
 def net(*modes):
     for hub, mode in reversed(list(enumerate(modes))):
         yield f"hub {hub}"
@@ -929,7 +958,7 @@ SCRIPTS = {
     "removal": removal, "removed": removed, "bad-memories": bad_memories,
     "digests": digests, "digest-reading": digest_reading, "editions": editions, "delta-reading": delta_reading, "lacking": lacking, "delta-lengths": delta_lengths, "asking": asking,
     "from": from_where, "in-line": in_line,
-    "cuts": cuts, "longest-record": longest_record, "verdicts": verdicts, "taking": taking, "room-counts": room, "fence": fence, "guard": guard, "exchange": exchange,
+    "cuts": cuts, "longest-record": longest_record, "verdicts": verdicts, "taking": taking, "room-counts": room, "fence": fence, "guard": guard, "two-datagrams": two_datagrams, "exchange": exchange,
     "net-triangle": triangle, "net-line": line, "net-relay": relay, "net-owner": owner, "net-behind": behind,
     "bad-tables": bad_tables, "malformed": malformed,
 }

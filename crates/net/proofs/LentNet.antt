@@ -14,10 +14,9 @@ use Rattle.rules.proofs.Keeps.{mode-lawful}
 use Rattle.rules.proofs.Memories.{add-keeps-whole, remove-keeps-whole, same-nodes}
 use Rattle.rules.proofs.Obeys.{OkTable, facts-table}
 use Rattle.rules.proofs.Refusing.{whole-bytes}
-use Rattle.rules.proofs.Tables.{applied-table, numbers-each, numbers-remove}
-use Rattle.rules.specs.Apply.{Ways, apply, applyNode, waysOf}
+use Rattle.rules.proofs.Tables.{numbers-apply, numbers-remove}
+use Rattle.rules.specs.Apply.{apply, waysOf}
 use Rattle.rules.specs.Compute.{compute}
-use Rattle.rules.specs.Delta.{partsOf}
 use Rattle.rules.specs.Given.{Given, given}
 use Rattle.rules.specs.Lent.{addWhole, fromTable, lentApply, lentNew, onTable, onWhole, removeWhole}
 use Rattle.rules.specs.Local.{Outcome, call, gc, localBeat, offer}
@@ -59,10 +58,6 @@ encoded w o =
 new-in : (m : Mode) → Holds m [] (lentNew m)
 unfolding lentNew
 new-in m = encoded (record { mode = m; memory = []; table = [] }) (without-memory m [] none-obeys)
-
-numbers-apply : (ways : Ways) (delta : List ℕ) (now : ℕ) (t : Table) (answers : List ℕ) → numbersOf (apply ways delta now t answers .table) ≡ numbersOf t
-numbers-apply ways delta now t answers =
-    applied-table ways delta now t answers (λ u. numbersOf u ≡ numbersOf t) refl (λ ops q. numbers-each (applyNode ways now) (partsOf ops) t)
 
 -- what the calls leave of them
 module _ (m : Mode) (b : List ℕ) (i : In m b) where

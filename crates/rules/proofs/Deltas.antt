@@ -86,7 +86,7 @@ op-long (NodeOp n g f) = omega arith
 op-long (KeyValueOp r) = omega arith
 op-long (SetMaxVersionOp m) = omega arith
 
-not-end : (o : Op) (l : List ℕ) (x : Ops) → unlessEnd (opBytes o ++ l) x ≡ x
+pub not-end : (o : Op) (l : List ℕ) (x : Ops) → unlessEnd (opBytes o ++ l) x ≡ x
 unfolding opBytes
 not-end (NodeOp n g f) l x = refl
 not-end (KeyValueOp r) l x = refl

@@ -222,6 +222,10 @@ applied-table ways b now t l P stay took = go (ways .reads b) refl
     go (Good ops) q = room (partsOf ops) (took ops q) (leb (length (partsOf ops)) (length l))
     go (Faulty r at) q = stay
 
+-- no node comes or goes
+pub numbers-apply : (ways : Ways) (b : List ℕ) (now : ℕ) (t : Table) (l : List ℕ) → numbersOf (apply ways b now t l .table) ≡ numbersOf t
+numbers-apply ways b now t l = applied-table ways b now t l (λ u. numbersOf u ≡ numbersOf t) refl (λ ops q. numbers-each (applyNode ways now) (partsOf ops) t)
+
 -- ---- what computing sends
 
 -- a stale node is of the table, and behind there

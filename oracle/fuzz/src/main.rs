@@ -7,6 +7,7 @@
 //! - where it is refused, no lent byte has changed,
 //! - where it is accepted, the check accepts the table that it leaves, and what was not to be written is as it was,
 //! - on a good table, the same call without the check tells and leaves the same,
+//! - where a delta was applied, its two parts do the same in either order, cut at a Node; cut elsewhere, the second is refused with 11,
 //! - now and then, the readings by place give the very table again.
 
 #[allow(dead_code)]

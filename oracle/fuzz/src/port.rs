@@ -125,6 +125,24 @@ fn ask<S: ffi::BytesMut>(table: &mut S, call: &Call) -> Told {
     Told { number, answer, list }
 }
 
+/// Where the operations of a delta that was accepted begin, and whether they are Nodes.
+fn operations(delta: &[u8]) -> Vec<(usize, bool)> {
+    let (mut at, mut ops) = (0, Vec::new());
+    while at < delta.len() {
+        ops.push((at, delta[at] == 0));
+        at += match delta[at] {
+            0 => 25,
+            1 => {
+                let key = usize::from(u16::from_le_bytes([delta[at + 1], delta[at + 2]]));
+                let behind = at + 3 + key;
+                14 + key + usize::from(u16::from_le_bytes([delta[behind], delta[behind + 1]]))
+            }
+            _ => 9,
+        };
+    }
+    ops
+}
+
 /// The places of the rows that are not hidden, the node's rows beginning at `all`.
 fn shown<S: ffi::Bytes>(table: &S, all: usize, rows: ffi::Rows) -> Vec<u8> {
     let first = (rows.at.get() - all) / RECORD_BYTES;
@@ -193,7 +211,42 @@ impl Port {
                 return Err(format!("{call:?}: without the check it gives {}, and {} with it", other.answer, told.answer));
             }
         }
+        if let (Call::Apply { bytes, now, .. }, Answer::Applied(verdicts)) = (call, &told.answer) {
+            self.cut(&before, given(bytes), *now, &told.list[..verdicts.len()])?;
+        }
         Ok(told.answer)
+    }
+
+    /// A delta that was accepted, cut at one of its operations. At a Node: its two parts, in either order, leave the same table and give the same answers.
+    /// Elsewhere: what follows is refused with 11.
+    fn cut(&mut self, before: &[u8], delta: &[u8], now: u64, answers: &[u8]) -> Result<(), String> {
+        let ops = operations(delta);
+        let Some(&(place, is_node)) = ops.get(self.calls as usize % ops.len().max(1)) else { return Ok(()) };
+        let (one, two) = delta.split_at(place);
+        if !is_node {
+            self.calls += 1;
+            let told = ffi::read_delta(two);
+            let right = (told.number, told.at.get()) == (11, 0);
+            return if right { Ok(()) } else { Err(format!("cut at {place}: the rest is answered with {}", told.number)) };
+        }
+        let nodes = ops.iter().filter(|&&(at, is_node)| is_node && at < place).count();
+        for order in [[0, 1], [1, 0]] {
+            let (mut table, mut list) = (before.to_vec(), vec![MARK; answers.len()]);
+            let (first, second) = list.split_at_mut(nodes);
+            let mut parts = [(one, first), (two, second)];
+            for i in order {
+                let (part, list) = &mut parts[i];
+                self.calls += 1;
+                let told = ffi::apply(&mut &mut table[..], part, now, list);
+                if (told.number, told.nodes.get()) != (0, list.len()) {
+                    return Err(format!("cut at {place}: part {i} is answered with {} for {} nodes", told.number, told.nodes.get()));
+                }
+            }
+            if table != self.table || list != answers {
+                return Err(format!("cut at {place}, in the order {order:?}: not as the uncut delta"));
+            }
+        }
+        Ok(())
     }
 
     fn read_digest(&mut self, bytes: &[u8], edition: u64) -> Answer {

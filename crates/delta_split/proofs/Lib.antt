@@ -1,0 +1,4 @@
+pub mod Cutting
+pub mod Each
+pub mod Parts
+pub mod LentParts
