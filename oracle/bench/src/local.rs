@@ -482,6 +482,78 @@ fn prefixed_port(table: &OwnedTable, prefix: &[u8]) -> (usize, usize) {
 }
 
 /// All records of a node, and those of a prefix, with their keys and values.
+/// What a call told is looked at, and no more.
+fn drop_told<T>(told: T) {
+    black_box(told);
+}
+
+/// Heartbeat, max and last_gc of a node, how many keys it has, and the nodes that are held.
+fn small_readings(rows: &mut Rows, original: &Timed, table: &OwnedTable) {
+    const TIMES: usize = 64;
+    let names: Vec<(u64, timed::Name)> = IN_TURN.iter().map(|&node| (node, timed::name(node))).collect();
+    let header = |node: u64| {
+        let node = table.node_state(node).ok()?;
+        Some((node.heartbeat(), node.max_version(), node.last_gc_version()))
+    };
+    let count = |node: u64| Some(table.node_state(node).ok()?.num_key_values());
+    let nodes = || table.nodes().map_or(0, Iterator::sum::<u64>);
+    for (node, name) in &names {
+        assert!(header(*node).is_some() && header(*node) == original.header(name), "a node's header");
+        assert_eq!(count(*node), original.num_key_values(name), "how many keys");
+    }
+    assert_eq!(nodes(), original.nodes(), "the nodes");
+    let asked = asked(&inputs::all());
+    let contains =
+        |it: &Asked| table.node_state(it.number).and_then(|node| node.contains_key(it.key.as_bytes())) == Ok(true);
+    assert!(asked.iter().all(|it| contains(it) && original.contains_key(&it.name, &it.key)), "a key of a node");
+    rows.measure(
+        "whether a node has a key, owned table",
+        "",
+        OWNED,
+        || over(&asked, |it| drop_told(original.contains_key(black_box(&it.name), black_box(&it.key)))),
+        || over(&asked, |it| drop_told(contains(black_box(it)))),
+    );
+    rows.measure(
+        "heartbeat, max and last_gc of a node, owned table",
+        "",
+        OWNED,
+        || {
+            time(TIMES * names.len(), || {
+                (0..TIMES).flat_map(|_| &names).for_each(|(_, name)| drop_told(original.header(black_box(name))))
+            })
+        },
+        || {
+            time(TIMES * names.len(), || {
+                (0..TIMES).flat_map(|_| &names).for_each(|(node, _)| drop_told(header(black_box(*node))))
+            })
+        },
+    );
+    rows.measure(
+        "how many keys a node has, owned table",
+        "",
+        OWNED,
+        || {
+            time(TIMES * names.len(), || {
+                (0..TIMES)
+                    .flat_map(|_| &names)
+                    .for_each(|(_, name)| drop_told(original.num_key_values(black_box(name))))
+            })
+        },
+        || {
+            time(TIMES * names.len(), || {
+                (0..TIMES).flat_map(|_| &names).for_each(|(node, _)| drop_told(count(black_box(*node))))
+            })
+        },
+    );
+    rows.measure(
+        "the 8 nodes gone through, owned table",
+        "",
+        OWNED,
+        || repeat(TIMES, || drop_told(black_box(original).nodes())),
+        || repeat(TIMES, || drop_told(nodes())),
+    );
+}
+
 fn readings(rows: &mut Rows) {
     const TIMES: usize = 16;
     let original = Timed::of(&inputs::full());
@@ -522,6 +594,7 @@ fn readings(rows: &mut Rows) {
             })
         },
     );
+    small_readings(rows, &original, &table);
     let prefixes = [
         ("prefix listing, 32 hits gone through, owned table", "key-01-", RECORDS),
         ("prefix listing, 2 hits gone through, owned table", "key-01-3", 2),

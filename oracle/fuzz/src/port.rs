@@ -333,6 +333,10 @@ impl Port {
             self.calls += 3;
             nodes.push(Node { number, heartbeat: header.heartbeat, max: header.max, last_gc: header.last_gc, records });
         }
+        let view = TableView::over(table);
+        let listed = view.nodes().map_err(|why| why.to_string())?;
+        assert!(listed.eq(nodes.iter().map(|node| node.number)), "the numbers of the nodes");
+        self.calls += 1;
         let tail = &table[AREA_BYTES..];
         let number = |bytes: &[u8]| u64::from_le_bytes(bytes.try_into().expect("eight bytes"));
         let removed: Vec<(u64, u64)> = tail[3..]

@@ -93,9 +93,29 @@ impl Timed {
         self.0.cluster.node_state(&node.0)?.get(key)
     }
 
+    pub fn contains_key(&self, node: &Name, key: &str) -> bool {
+        self.0.cluster.node_state(&node.0).is_some_and(|state| state.contains_key(key))
+    }
+
     /// The record of a key, whether it is deleted or not.
     pub fn get_versioned(&self, node: &Name, key: &str) -> Option<&VersionedValue> {
         self.0.cluster.node_state(&node.0)?.get_versioned(key)
+    }
+
+    /// The numbers of the nodes, added up.
+    pub fn nodes(&self) -> u64 {
+        self.0.cluster.nodes().map(|id| id.generation_id).sum()
+    }
+
+    /// Heartbeat, max and last_gc of a node.
+    pub fn header(&self, node: &Name) -> Option<(u64, u64, u64)> {
+        let state = self.0.cluster.node_state(&node.0)?;
+        Some((state.heartbeat().into(), state.max_version(), state.last_gc_version()))
+    }
+
+    /// How many keys of a node are not deleted.
+    pub fn num_key_values(&self, node: &Name) -> Option<usize> {
+        Some(self.0.cluster.node_state(&node.0)?.num_key_values())
     }
 
     /// The keys and values of a node.

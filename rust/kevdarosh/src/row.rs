@@ -1,14 +1,15 @@
-//! Records read in the table's own bytes, without a call for each.
+//! Records and the numbers of nodes read in the table's own bytes, without a call for each.
 //!
 //! `kev_node_rows` and `kev_prefix_rows` say where they stand: rows of one width, one behind the other. That a row tells what `kev_record_at` tells of the same record is proved
 //! (`inspect: InRows.row-is`), and so is that all rows lie inside the table (`rows-inside`; `prefix: Rows.rows-among`). What is read here is checked once more by
-//! indexing, and held to that call by the tests and the fuzz.
+//! indexing, and held to that call by the tests and the fuzz. So it is with the numbers of the nodes: `kev_node_count` says how many there are, and that number i stands where its place
+//! begins is proved (`table: Places.number-at`).
 
 use core::iter::FusedIterator;
 
 use crate::ffi::Rows;
 use crate::table::{Record, Status};
-use crate::{KEY, VALUE};
+use crate::{KEY, RECORDS, VALUE};
 
 // A row, field behind field (docs/FORMAT.md, "A record slot").
 const KEY_LEN: usize = 0;
@@ -19,6 +20,22 @@ const VERSION: usize = VALUE_AT + VALUE;
 const STATUS: usize = VERSION + 8;
 const START: usize = STATUS + 1;
 const ROW: usize = START + 8;
+
+// A node slot: its number, heartbeat, max, last_gc and count, then its rows (docs/FORMAT.md). The first stands behind the count of nodes.
+const HEAD: usize = 8 + 8 + 8 + 8 + 1;
+const NODE: usize = HEAD + RECORDS * ROW;
+const NODES_AT: usize = 1;
+
+/// The numbers of the first `count` nodes.
+#[inline]
+pub(crate) fn numbers(table: &[u8], count: usize) -> impl ExactSizeIterator<Item = u64> + '_ {
+    (0..count).map(move |i| number(table, NODES_AT + i * NODE))
+}
+
+#[inline]
+fn number(bytes: &[u8], at: usize) -> u64 {
+    bytes[at..].first_chunk().map_or(0, |bytes| u64::from_le_bytes(*bytes))
+}
 
 /// Records of a node in key order. Each is read in the table's bytes when it is asked for.
 #[derive(Clone, Debug)]

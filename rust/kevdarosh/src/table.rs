@@ -1,8 +1,10 @@
 //! Tables, their nodes and records.
 
+use core::cell::OnceCell;
+
 use crate::ffi::{self, Bytes, BytesMut, Kept, Size};
 use crate::refusal::{Fault, Refusal, accepted, refusal};
-use crate::row::Records;
+use crate::row::{self, Records};
 use crate::wire::Edition;
 use crate::{NODES, TABLE};
 
@@ -207,19 +209,21 @@ impl<S: Bytes> Table<S> {
         })
     }
 
-    /// The numbers of the nodes, ascending.
-    pub fn nodes(&self) -> Result<impl Iterator<Item = u64> + '_, Refusal> {
+    /// The numbers of the nodes, ascending. A lent table is checked once for them.
+    #[inline]
+    pub fn nodes(&self) -> Result<impl ExactSizeIterator<Item = u64> + '_, Refusal> {
         let answer = ffi::node_count(&self.store);
         accepted(answer.number)?;
-        Ok((0..answer.count.get()).map(|i| ffi::node_number(&self.store, i).node))
+        Ok(row::numbers(self.store.bytes(), answer.count.get()))
     }
 
     /// A node, to read it: [`Refusal::NoNode`].
     #[inline]
     pub fn node_state(&self, node: u64) -> Result<NodeState<'_, S>, Refusal> {
-        // An owned table's header is read when it is asked for. A lent one's is read here, since each reading of it checks the table.
-        let header = if S::GOOD { None } else { Some(ffi::node_header(&self.store, node)) };
-        accepted(header.map_or_else(|| ffi::record_count(&self.store, node).number, |header| header.number))?;
+        // An owned table's header is read when it is asked for, once. A lent one's is read here, since each reading of it checks the table.
+        let header = OnceCell::new();
+        let number = if S::GOOD { ffi::record_count(&self.store, node).number } else { header.get_or_init(|| ffi::node_header(&self.store, node)).number };
+        accepted(number)?;
         Ok(NodeState { table: self, node, header })
     }
 
@@ -343,7 +347,8 @@ impl<S: BytesMut> Table<S> {
 pub struct NodeState<'a, S> {
     table: &'a Table<S>,
     node: u64,
-    header: Option<ffi::Header>,
+    /// What was read of its header. The table is borrowed, so it cannot change meanwhile.
+    header: OnceCell<ffi::Header>,
 }
 
 impl<'a, S: Bytes> NodeState<'a, S> {
@@ -353,22 +358,26 @@ impl<'a, S: Bytes> NodeState<'a, S> {
     }
 
     /// Heartbeat, max and last_gc.
+    #[inline]
     pub fn header(&self) -> Header {
-        let header = self.header.unwrap_or_else(|| ffi::node_header(&self.table.store, self.node));
+        let header = self.header.get_or_init(|| ffi::node_header(&self.table.store, self.node));
         Header { heartbeat: header.heartbeat, max_version: header.max, last_gc_version: header.last_gc }
     }
 
     /// How often its owner has beaten.
+    #[inline]
     pub fn heartbeat(&self) -> u64 {
         self.header().heartbeat
     }
 
     /// The highest version that it has heard of.
+    #[inline]
     pub fn max_version(&self) -> u64 {
         self.header().max_version
     }
 
     /// The highest version that was removed.
+    #[inline]
     pub fn last_gc_version(&self) -> u64 {
         self.header().last_gc_version
     }

@@ -230,3 +230,24 @@ fn records_read_in_the_table() {
     let other = table.node_state(1).unwrap();
     assert_eq!((other.key_values_including_deleted().len(), other.iter_prefix(b"").unwrap().count()), (0, 0));
 }
+
+#[test]
+fn nodes_and_headers_are_read_once() {
+    let numbers = [0, 1, 255, 256, 1 << 32, (1 << 63) - 1, 1 << 63, u64::MAX];
+    let mut table = OwnedTable::new(Mode::Plain);
+    for (i, &number) in numbers.iter().enumerate() {
+        assert_eq!(table.nodes().unwrap().len(), i);
+        table.add_node(number).unwrap();
+        for value in [b"1", b"2"] {
+            table.set(number, b"k", value).unwrap();
+        }
+        table.inc_heartbeat(number).unwrap();
+        assert!(table.nodes().unwrap().eq(numbers[..=i].iter().copied()));
+        let view = TableView::over(table.as_bytes());
+        assert!(view.nodes().unwrap().eq(numbers[..=i].iter().copied()));
+        let (owned, lent) = (table.node_state(number).unwrap(), view.node_state(number).unwrap());
+        assert_eq!((owned.heartbeat(), owned.max_version(), owned.last_gc_version()), (1, 2, 0));
+        assert_eq!((lent.heartbeat(), lent.max_version(), lent.last_gc_version()), (1, 2, 0));
+        assert_eq!(owned.header(), lent.header());
+    }
+}
