@@ -1,24 +1,11 @@
 -- The number and the values that are told of what a lookup over both finds tell it. Assumes nothing.
-use mathlib.Core.Path.{_≡_, refl, ap, ap₂, sym, _∙_}
+use mathlib.Core.Path.{_≡_, refl, ap₂, sym}
 use native.Mathlib.Omega.{arith}
 use Rattle.rules.proofs.Told.{number-is, value-is, values-long, need-is, not-refused, same-refusal}
-use Rattle.overrides.specs.Both.{whichCode}
-use Rattle.overrides.specs.declared.Which.{Which}
-use Rattle.overrides.specs.declared.Which.the-variants as which
+use Rattle.overrides.proofs.Both.{same-which}
 use Rattle.over_find.specs.Told.{foundOverTold}
 use Rattle.over_find.specs.declared.FoundOver.{FoundOver}
 use Rattle.over_find.specs.declared.FoundOver.the-variants.{InOverrides, InTable, Nothing, Refused}
-
-pub same-which : (a b : Which) → whichCode a ≡ whichCode b → a ≡ b
-same-which which.Neither which.Neither e = refl
-same-which which.Neither which.Overrides e = absurd (omega arith)
-same-which which.Neither which.Table e = absurd (omega arith)
-same-which which.Overrides which.Neither e = absurd (omega arith)
-same-which which.Overrides which.Overrides e = refl
-same-which which.Overrides which.Table e = absurd (omega arith)
-same-which which.Table which.Neither e = absurd (omega arith)
-same-which which.Table which.Overrides e = absurd (omega arith)
-same-which which.Table which.Table e = refl
 
 pub same-found-over : (a b : FoundOver) → foundOverTold a ≡ foundOverTold b → a ≡ b
 unfolding foundOverTold

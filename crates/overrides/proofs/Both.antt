@@ -3,6 +3,7 @@ use Prim.Native.Nat.{ℕ}
 use mathlib.Core.Path.{_≡_, refl, ap, sym, _∙_, subst}
 use mathlib.Core.Bool.{Bool, true, false}
 use mathlib.Core.List.{List}
+use native.Mathlib.Omega.{arith}
 use Rattle.fields.proofs.Choice.{pick-true, pick-false}
 use Rattle.rules.specs.Given.{Given, given, Gives}
 use Rattle.rules.specs.Node.{Node}
@@ -12,9 +13,21 @@ use Rattle.rules.specs.Layout.{decodeNode}
 use Rattle.rules.specs.Whole.{decodeWhole, validWhole}
 use Rattle.table_read.proofs.Entry.{read-good, read-bad}
 use Rattle.overrides.specs.Overrides.{validNode}
-use Rattle.overrides.specs.Both.{fromBoth}
+use Rattle.overrides.specs.Both.{whichCode, fromBoth}
 use Rattle.overrides.specs.declared.Which.{Which}
 use Rattle.overrides.specs.declared.Which.the-variants as which
+
+-- the number tells it
+pub same-which : (a b : Which) → whichCode a ≡ whichCode b → a ≡ b
+same-which which.Neither which.Neither e = refl
+same-which which.Neither which.Overrides e = absurd (omega arith)
+same-which which.Neither which.Table e = absurd (omega arith)
+same-which which.Overrides which.Neither e = absurd (omega arith)
+same-which which.Overrides which.Overrides e = refl
+same-which which.Overrides which.Table e = absurd (omega arith)
+same-which which.Table which.Neither e = absurd (omega arith)
+same-which which.Table which.Overrides e = absurd (omega arith)
+same-which which.Table which.Table e = refl
 
 module _ {A : Type 0} (bad : Which → A) (rule : Node → Table → A) (o t : List ℕ) {first : Bool} (e : first ≡ validNode o) where
   pub bad-over : first ≡ false → bad which.Overrides ≡ fromBoth bad rule o t

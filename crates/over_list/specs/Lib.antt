@@ -1,0 +1,3 @@
+pub mod Merged
+pub mod Turns
+pub mod Told
