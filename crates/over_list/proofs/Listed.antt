@@ -4,7 +4,7 @@ use Prim.Native.Nat.{ℕ, zero, suc, _+_, _-_, _≤_, _<_}
 use mathlib.Core.Path.{_≡_, refl, ap, ap₂, sym, _∙_, subst}
 use mathlib.Core.Bool.{Bool, true, false, not, _&&_, true≢false, false≢true}
 use mathlib.Core.List.{List, [], _∷_}
-use mathlib.Core.Logic.{_⊎_, inl, inr}
+use mathlib.Core.Option.{some}
 use native.Mathlib.Omega.{arith}
 use native.Mathlib.Nat.{add-zero, zero-add}
 use lib.ListN.{length}
@@ -16,16 +16,25 @@ use Rattle.fields.specs.Parts.{put}
 use Rattle.fields.proofs.Choice.{pick-true, pick-false}
 use Rattle.fields.proofs.Ordered.{same-true, eq-same, less-other, same-false}
 use Rattle.rules.specs.Given.{Gives}
-use Rattle.rules.specs.Node.{Rec, hidden, hits}
-use Rattle.rules.specs.Table.{keysRise}
-use Rattle.rules.specs.declared.Refusal.the-variants.{NoPlace}
+use Rattle.rules.specs.Sizes.{maxKey}
+use Rattle.rules.specs.Node.{Rec, Node, hidden, hits}
+use Rattle.rules.specs.Table.{keysRise, nodeOf}
+use Rattle.rules.specs.Layout.{decodeNode, decode, valid}
+use Rattle.rules.specs.declared.Refusal.the-variants.{NoPlace, TooLong}
 use Rattle.rules.proofs.Records.{Above, Sorted, keyOf}
-use Rattle.rules.proofs.Obeys.{keys-sorted, sorted-keys}
-use Rattle.lookup.specs.Lookup.{valuePlace, foundRec, findRec}
+use Rattle.rules.proofs.Obeys.{OkNode, keys-sorted, sorted-keys, table-facts}
+use Rattle.rules.proofs.Calls.{node-ok-in}
+use Rattle.table.specs.Tests.{recsIn}
+use Rattle.table.proofs.Nodes.{ObeysEntry, entry-obeys}
+use Rattle.table.proofs.Tables.{valid-obeys}
+use Rattle.table_read.specs.Find.{nodeStart}
+use Rattle.lookup.specs.Lookup.{valuePlace, findRec, findOn}
 use Rattle.lookup.specs.declared.Found.{Found}
 use Rattle.lookup.specs.declared.Found.the-variants as one
+use Rattle.overrides.specs.Overrides.{validNode}
 use Rattle.overrides.specs.declared.Which.the-variants as which
-use Rattle.over_find.specs.Over.{overOf, firstOf}
+use Rattle.overrides.proofs.Valid.{over-obeys}
+use Rattle.over_find.specs.Over.{overOf, firstOf, foundOver}
 use Rattle.over_find.specs.declared.FoundOver.{FoundOver}
 use Rattle.over_find.specs.declared.FoundOver.the-variants.{InOverrides, InTable, Nothing, Refused}
 use Rattle.over_list.specs.Merged.{Hit, hit, keyOfHit, overPlace, hitsIn, layOver, overlaid, placesOf, recsOf, listing, listInto}
@@ -142,7 +151,7 @@ module _ (k : List ℕ) (start : ℕ) where
 
 -- among the hits of one side it is listed where the lookup in that side finds it, if the key begins with the prefix
 module _ (k p : List ℕ) (start base at : ℕ) (asFound : Found → FoundOver) (none : asFound one.Nothing ≡ Nothing)
-    (some : (j : ℕ) (r : Rec) → j < 128 → placeOf start (hit (base + j) r) ≡ asFound (one.At (valuePlace at j) (length (r .kv .value)))) (starts : startsWith p k ≡ true) where
+    (shows : (j : ℕ) (r : Rec) → j < 128 → placeOf start (hit (base + j) r) ≡ asFound (one.At (valuePlace at j) (length (r .kv .value)))) (starts : startsWith p k ≡ true) where
   side : (l : List Rec) (j : ℕ) → j + length l ≤ 128 → Sorted l → listedAt k start (hitsIn p (base + j) l) ≡ asFound (findRec k at j l)
   unfolding hitsIn listedAt findRec Sorted
   side [] j h s = sym none
@@ -164,7 +173,7 @@ module _ (k p : List ℕ) (start base at : ℕ) (asFound : Found → FoundOver) 
           → listedAt k start (pick u (hit (base + j) r ∷ hitsIn p (suc (base + j)) l) (hitsIn p (suc (base + j)) l))
           ≡ asFound (pick t (pick v one.Nothing (one.At (valuePlace at j) (length (r .kv .value)))) (findRec k at (suc j) l))
       go true e true q true w ih = absurd (false≢true (sym (ap₂ (λ (x y : Bool). x && not y) (begins e) w) ∙ q))
-      go true e true q false w ih = pick-true (sameBytes k (keyOf r)) (placeOf start (hit (base + j) r)) rest e ∙ some j r (omega arith)
+      go true e true q false w ih = pick-true (sameBytes k (keyOf r)) (placeOf start (hit (base + j) r)) rest e ∙ shows j r (omega arith)
       go true e false q true w ih = absent e ∙ sym none
       go true e false q false w ih = absurd (true≢false (sym (ap₂ (λ (x y : Bool). x && not y) (begins e) w) ∙ q))
       go false e true q v w ih = pick-false (sameBytes k (keyOf r)) (placeOf start (hit (base + j) r)) rest e ∙ ih
@@ -229,3 +238,35 @@ pub other-unlisted : (k p : List ℕ) (start : ℕ) (o n : List Rec) → startsW
 unfolding listing
 other-unlisted k p start o n e =
     overlaid-listed k start (hitsIn p overPlace o) (hitsIn p 0 n) ∙ ap₂ orElse (side-other k p start overPlace o e) (side-other k p start 0 n e)
+
+-- ---- the same of lent bytes: the listing of valid overrides and a node of a good table, and the lookup over both
+
+-- a search for a key gives a place or nothing
+searched : (P : Found → Type 0) (k : List ℕ) (at : ℕ) → P one.Nothing → ((s n : ℕ) → P (one.At s n)) → (j : ℕ) (l : List Rec) → P (findRec k at j l)
+unfolding findRec
+searched P k at x y j [] = x
+searched P k at x y j (r ∷ l) = go (sameBytes k (keyOf r)) (hidden (r .kv .status)) (searched P k at x y (suc j) l)
+  where
+    go : (t u : Bool) → P (findRec k at (suc j) l) → P (pick t (pick u one.Nothing (one.At (valuePlace at j) (length (r .kv .value)))) (findRec k at (suc j) l))
+    go true true ih = x
+    go true false ih = y (valuePlace at j) (length (r .kv .value))
+    go false u ih = ih
+
+pub where-found : (i : ℕ) (k p b l : List ℕ) (m : Node) → validNode b ≡ true → valid l ≡ true → nodeOf i (decode l) ≡ some m → length k ≤ maxKey → startsWith p k ≡ true
+    → listedAt k (nodeStart i (decode l)) (listing p (recsIn b) (m .recs)) ≡ foundOver i k (decodeNode b .node) (decode l)
+where-found i k p b l m o v h short starts =
+    listed-found k p start (recsIn b) (m .recs) starts (own .few) (node .few) (own .rise) (sorted-keys (m .recs) (node .sorted))
+    ∙ searched (λ (f : Found). firstOf (findRec k 0 0 (recsIn b)) (inTable f) ≡ overOf (findRec k 0 0 (recsIn b)) f) k start refl (λ s n. refl) 0 (m .recs)
+    ∙ ap₂ overOf (sym (short-is (findRec k 0 0 (recsIn b)))) (sym (ap (findOn k start) h ∙ short-is (findRec k start 0 (m .recs))))
+  where
+    start : ℕ
+    start = nodeStart i (decode l)
+
+    own : ObeysEntry (decodeNode b)
+    own = entry-obeys (decodeNode b) (over-obeys b o)
+
+    node : OkNode m
+    node = node-ok-in i (decode l) (table-facts (decode l) (valid-obeys l v)) h
+
+    short-is : (f : Found) → pick (leb (length k) maxKey) f (one.Refused TooLong) ≡ f
+    short-is f = pick-true (leb (length k) maxKey) f (one.Refused TooLong) (le-leb (length k) maxKey short)
