@@ -99,7 +99,7 @@ module _ (plan : Plan) (ready : Ready plan) (i : ℕ) (hears : (x y : ℕ) → T
         low : g ≤ max (a .last-gc) (a .max)
         low =
             gc-below due (a .last-gc) (max (a .last-gc) (a .max)) (a .recs) (omega arith)
-            (λ r m. let b = ok .tables x .honest j .honest .within (r .kv) (r, m, refl) in omega arith)
+            (λ r m q. let b = ok .tables x .honest j .honest .within (r .kv) (r, m, refl) in omega arith)
 
         go : (b : Bool) → ltb (a .last-gc) g ≡ b → Turns hears (nodes (w .hubs)) x a (remove due a)
         go true p = let c = ltb-true (a .last-gc) g p in let d = low in settles (omega arith) (omega arith)
