@@ -1,11 +1,10 @@
 -- The laws of the calls that come in more than one form (specs/Forms), each with a case for each form. What the worlds and nets do with a removal or a
 -- computing rests on these and on nothing else. Assumes nothing.
-use Prim.Native.Nat.{_<_, _≤_, ℕ}
-use mathlib.Core.Bool.{Bool, _&&_, false, false≢true, true}
+use Prim.Native.Nat.{_<_, ℕ}
+use mathlib.Core.Bool.{Bool, false≢true, true}
 use mathlib.Core.List.{List, [], _∷_}
 use mathlib.Core.Option.{some}
-use mathlib.Core.Path.{_≡_, refl}
-use lib.Dec.{leb}
+use mathlib.Core.Path.{_∙_, _≡_, ap, refl}
 use lib.ListN.{length}
 use borrow.Author.Tests.{leb-true}
 use Rattle.fields.specs.Choice.{_∈_}
@@ -13,20 +12,21 @@ use Rattle.fields.specs.Numbers.{Bytes}
 use Rattle.fields.specs.Parts.{part, put}
 use Rattle.rules.proofs.Accepted.{delta-bytes}
 use Rattle.rules.proofs.Accepted as line
-use Rattle.rules.proofs.Tables.{partAt}
-use Rattle.rules.specs.Compute.{compute, toldOf, written}
+use Rattle.rules.proofs.Tables.{numbers-remove, partAt}
+use Rattle.rules.specs.Compute.{toldOf, written}
 use Rattle.rules.specs.Delta.{NodeDelta, deltaBytes, partsOf}
 use Rattle.rules.specs.Digest.{Entries, NodeDigest, readDigest}
 use Rattle.rules.specs.Given.{Given, given}
 use Rattle.rules.specs.Lent.{fromTable, onTable}
 use Rattle.rules.specs.Local.{gc, gives}
-use Rattle.rules.specs.Node.{Rec, due}
-use Rattle.rules.specs.Table.{Entry, Table, obeys, removeAll}
+use Rattle.rules.specs.Node.{Rec, due, remove}
+use Rattle.rules.specs.Table.{Entry, Table, numbersOf, obeys, removeAll}
 use Rattle.rules.specs.declared.Answer.the-variants as plain
 use Rattle.rules.specs.declared.Computed.{Computed}
 use Rattle.rules.specs.declared.Computed.the-variants as computed
 use Rattle.rules.specs.declared.Refusal.{Refusal}
 use Rattle.rules.specs.declared.Refusal.the-variants.{BadTable}
+use Rattle.demand3.proofs.EachNode.{nodeAt, removed}
 use Rattle.demand3.proofs.Nearer.{Stirs, line-stirs}
 use Rattle.demand3.proofs.OnTheWay.{PartFor, Sendable, computed-part, computed-sendable}
 use Rattle.demand3.specs.Demand3.{leastWidth, wideEnough}
@@ -38,6 +38,13 @@ use Rattle.demand3.specs.Forms.{ByClock, InLine, Order, Removal, compute
 pub removal-is : (removal : Removal) (t : Table) → (due : ℕ → Rec → Bool) × (removedBy removal t ≡ removeAll due t)
 unfolding gc
 removal-is (ByClock now grace) t = (λ i. due now grace, refl)
+
+pub removed-numbers : (removal : Removal) (t : Table) → numbersOf (removedBy removal t) ≡ numbersOf t
+removed-numbers removal t = let x = removal-is removal t in ap numbersOf (x .1) ∙ numbers-remove (x .0) t
+
+-- seen from a node
+pub removed-node : (removal : Removal) (t : Table) (i : ℕ) → (due : Rec → Bool) × (nodeAt i (removedBy removal t) ≡ remove due (nodeAt i t))
+removed-node removal t i = let x = removal-is removal t in (x .0 i, ap (nodeAt i) (x .1) ∙ removed i t (x .0))
 
 -- of lent bytes it is 14, or leaves the bytes of what it leaves of the table
 pub lent-removal : (removal : Removal) (l : Bytes) → lentRemovedBy removal l ≡ onTable (plain.Refused BadTable) (λ t. gives plain.Done (removedBy removal t)) l .lent

@@ -1,6 +1,6 @@
 -- Every moment of a run: both tables hold their nodes and obey the rules, every delta that was ever computed is one that reading accepts, and each
 -- node's facts hold. Each event keeps this, and is a step of every node.
-use Prim.Native.Nat.{_<_, _≤_, suc, zero, ℕ}
+use Prim.Native.Nat.{_<_, suc, zero, ℕ}
 use mathlib.Core.Bool.{Bool, false, true, true≢false}
 use mathlib.Core.List.{List, [], _∷_}
 use mathlib.Core.Logic.{_⊎_, inl, inr}
