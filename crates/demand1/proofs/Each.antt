@@ -18,15 +18,15 @@ use Rattle.rules.specs.Sizes.{numbers, top}
 use Rattle.rules.specs.Answers.{Told, answerTold, appliedTold, computedTold, listedTold, offeredTold, readTold, rememberedTold, writtenTold}
 use Rattle.rules.specs.Apply.{apply, plainWays, waysOf}
 use Rattle.rules.specs.Compute as computing
-use Rattle.rules.specs.Delta.{NodeOp, Op, deltaBytes, deltaRead, follow, opBytes, partsOf, readDelta, readKeyValue, readNode, readOp, readOps, readSetMaxVersion}
-use Rattle.rules.specs.Digest.{digestBytes, digestOf, headWidth, readDigest, readEntries, tellAll, writeDigest}
+use Rattle.rules.specs.Delta.{Good, NodeOp, Op, SetMaxVersionOp, deltaBytes, deltaRead, follow, opBytes, partsOf, readDelta, readKeyValue, readNode, readOp, readOps, readSetMaxVersion, sizeOf}
+use Rattle.rules.specs.Digest.{digestBytes, digestOf, headWidth, readDigest, readEntries, tell, tellAll, writeDigest}
 use Rattle.rules.specs.Given.{Given, given}
 use Rattle.rules.specs.Layout.{decode, encode}
 use Rattle.rules.specs.Memory.{apart, heartbeatOf, memoryObeys, removedNumbers}
 use Rattle.rules.specs.Whole.{Whole, decodeMemory, decodeWhole, encodeWhole, obeysWhole, validWhole, wholeWidth}
 use Rattle.rules.specs.declared.Mode.the-variants as mode
 use Rattle.rules.specs.Lent.{TableAndList, addWhole, both, fromTable, lentApply, lentApplyAs, lentNew, lentRemoved, onTable, onWhole, rememberedAs, removeWhole, storedIn, storedApply}
-use Rattle.rules.specs.Listing.{decimal, digits, listing, listingOf}
+use Rattle.rules.specs.Listing.{decimal, digits, listing, listingOf, opLine}
 use Rattle.rules.specs.Local.{Outcome, add, call, gc, localBeat, offer, prefixed, removeNode, write}
 use Rattle.rules.specs.Node.{Deleting, DeletingAfterTtl, Node, Rec, act, beats, decide, find, fresh, hitsFrom, offerOf, wish}
 use Rattle.rules.specs.Table.{Table, among, differ, entryObeys, keysRise, nodeObeys, nodeOf, numbersOf, obeys, recObeys, rising, setNode, versions}
@@ -62,6 +62,9 @@ use Rattle.inspect_text.specs.Texts.{textFound}
 use Rattle.inspect_text.specs.declared.Text.the-variants as text
 use Rattle.digest_read.specs.Held.{digestIn}
 use Rattle.digest_read.specs.Told.{digestTold}
+use Rattle.listing_read.specs.Unlist.{front, readLine, readLines, unlist, valueFrom}
+use Rattle.listing_make.specs.Make.{madeTold, placed}
+use Rattle.answers.specs.Shown.{entryTold}
 use Rattle.compute.specs.Asking.{askedOf}
 use Rattle.exchange.specs.Exchanging.{Lending, afterAsking, exchangedTold, lending, lentExchange, roomsOf}
 use Rattle.exchange_ask.specs.Asking.{readyFor, readyOn, roomsFor}
@@ -440,6 +443,16 @@ digest-reads =
     and (calls.read-digest 0 (9 ∷ 0 ∷ []), refl)
     and no-more
 
+entries : AllShown calls.DigestEntry (calls.possible calls.DigestEntry)
+unfolding calls.leaves calls.refusals entryTold digestIn readDigest readEntries natOf unblock tell tellAll zeros
+entries =
+    (calls.digest-entry (zeros 32) 1 0, refl)
+    and (calls.digest-entry [] 2 0, refl)
+    and (calls.digest-entry [] 0 0, refl)
+    and (calls.digest-entry (9 ∷ 0 ∷ []) 0 0, refl)
+    and (calls.digest-entry [] 1 0, refl)
+    and no-more
+
 -- ---- deltas
 
 computes : AllShown calls.Compute (calls.possible calls.Compute)
@@ -499,6 +512,21 @@ unfolding calls.leaves calls.refusals writtenTold listing listingOf decimal digi
 shows =
     (calls.list-delta [] (zeros 100), refl)
     and (calls.list-delta [] [], refl)
+    and no-more
+
+-- the listing of any operations, as if they were accepted
+abbrev telling : (ops : List Op) → Bytes
+telling ops = listingOf (Good ops) (length (deltaBytes ops))
+
+makes : AllShown calls.MakeDelta (calls.possible calls.MakeDelta)
+unfolding calls.leaves calls.refusals madeTold placed unlist readLines readLine front valueFrom startsWith sameBytes listingOf opLine decimal digits readDelta readOps readOp readNode readSetMaxVersion follow natOf among deltaBytes opBytes flat bytesOf ninth sizeOf
+makes =
+    (calls.make-delta (telling []) [], refl)
+    and (calls.make-delta [] [], refl)
+    and (calls.make-delta (telling (ninth 9)) [], refl)
+    and (calls.make-delta (telling (SetMaxVersionOp 0 ∷ [])) [], refl)
+    and (calls.make-delta (telling (NodeOp 7 0 0 ∷ NodeOp 7 0 0 ∷ [])) [], refl)
+    and (calls.make-delta (telling (NodeOp 7 0 0 ∷ [])) [], refl)
     and no-more
 
 -- ---- exchanges
@@ -570,10 +598,12 @@ all-shown calls.PrefixRows = some-rows
 all-shown calls.FindText = texts
 all-shown calls.WriteDigest = digests
 all-shown calls.ReadDigest = digest-reads
+all-shown calls.DigestEntry = entries
 all-shown calls.Compute = computes
 all-shown calls.ReadDelta = delta-reads
 all-shown calls.Apply = applies
 all-shown calls.ListDelta = shows
+all-shown calls.MakeDelta = makes
 all-shown calls.Exchange = exchanges
 
 pub each : (k : calls.Kind) (n : ℕ) → among n (calls.possible k) ≡ true → (c : calls.Call k) × (calls.leaves c .answer .number ≡ n)
