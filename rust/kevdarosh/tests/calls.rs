@@ -109,6 +109,24 @@ macro_rules! story {
 }
 
 #[test]
+fn one_write_under_either_status() {
+    let mut table = OwnedTable::new(Mode::Plain);
+    table.add_node(7).unwrap();
+    for (wanted, told) in [
+        (Wanted::Set, (Status::Set, 1, 0)),
+        (Wanted::Set, (Status::Set, 1, 0)),
+        (Wanted::Ttl(10), (Status::DeleteAfterTtl, 2, 10)),
+        (Wanted::Ttl(20), (Status::DeleteAfterTtl, 2, 10)),
+        (Wanted::Set, (Status::Set, 3, 0)),
+    ] {
+        table.write(7, b"k", b"v", wanted).unwrap();
+        let node = table.node_state(7).unwrap();
+        let record = node.get_versioned(b"k").unwrap().unwrap();
+        assert_eq!((record.status, record.version, record.start), told);
+    }
+}
+
+#[test]
 fn an_owned_and_a_lent_table_do_the_same() {
     let owned = story!(OwnedTable::new(Mode::Fenced));
     let mut bytes = vec![1; TABLE];
