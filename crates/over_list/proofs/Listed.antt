@@ -242,7 +242,7 @@ other-unlisted k p start o n e =
 -- ---- the same of lent bytes: the listing of valid overrides and a node of a good table, and the lookup over both
 
 -- a search for a key gives a place or nothing
-searched : (P : Found → Type 0) (k : List ℕ) (at : ℕ) → P one.Nothing → ((s n : ℕ) → P (one.At s n)) → (j : ℕ) (l : List Rec) → P (findRec k at j l)
+pub searched : (P : Found → Type 0) (k : List ℕ) (at : ℕ) → P one.Nothing → ((s n : ℕ) → P (one.At s n)) → (j : ℕ) (l : List Rec) → P (findRec k at j l)
 unfolding findRec
 searched P k at x y j [] = x
 searched P k at x y j (r ∷ l) = go (sameBytes k (keyOf r)) (hidden (r .kv .status)) (searched P k at x y (suc j) l)
