@@ -27,7 +27,7 @@ use Rattle.table.specs.Fits.{LaidNode}
 use Rattle.table.proofs.Places.{recAt, recs-drop, length-recs}
 use Rattle.prefix.specs.Run.{RunOf}
 use Rattle.over_list.specs.Merged.{Hit, hit, keyOfHit, overPlace, hitsIn, overlaid, placesOf, listing}
-use Rattle.over_list.specs.Turns.{nextKey, turnAs, shownOnce, turnOf, leftIn}
+use Rattle.over_list.specs.Turns.{nextKey, shownOnce, bothTurn, turnOf, leftIn}
 use Rattle.over_list.specs.declared.Turn.{Turn}
 use Rattle.over_list.proofs.Laying.{AllAbove, none-above, hits-above, over-first, node-first, both-first}
 
@@ -267,7 +267,7 @@ module _ (k o n : List ℕ) (laid : LaidNode o) (rises : keysRise (recsIn o) ≡
     same-is : a < aEnd → b < bEnd → keyOf r ≡ keyOf s → TurnIs k o n a aEnd b bEnd (turnOf Same a b r s)
     same-is h g e = go (hidden (r .kv .status)) refl
       where
-        go : (t : Bool) → hidden (r .kv .status) ≡ t → TurnIs k o n a aEnd b bEnd (pick t (turnAs b (shownOnce s) 1 1) (turnAs (overPlace + a) 1 1 1))
+        go : (t : Bool) → hidden (r .kv .status) ≡ t → TurnIs k o n a aEnd b bEnd (bothTurn t a b s)
         go true q =
             record {
               splits =

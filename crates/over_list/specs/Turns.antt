@@ -1,5 +1,6 @@
 -- One turn of the merging: which of the two keys comes next, what is listed of it, and how far each side goes.
 use Prim.Native.Nat.{ℕ, _+_}
+use mathlib.Core.Bool.{Bool, true, false}
 use lib.Dec.{eqb}
 use lib.ListN.{drop}
 use Rattle.fields.specs.Choice.{pick}
@@ -24,10 +25,14 @@ turnAs hit listed over node = record { hit = hit; listed = listed; over = over; 
 abbrev pub shownOnce : (rec : Rec) → ℕ
 shownOnce r = pick (hidden (r .kv .status)) 0 1
 
--- where both have the key, the override is listed if it is not hidden, else the node's record if that is not
+-- both have the key: the override is listed if it is not hidden, else the node's record if that is not
+abbrev pub bothTurn : (hides : Bool) (a b : ℕ) (shared : Rec) → Turn
+bothTurn true a b s = turnAs b (shownOnce s) 1 1
+bothTurn false a b s = turnAs (overPlace + a) 1 1 1
+
 abbrev pub turnOf : (order : Order) (a b : ℕ) (own shared : Rec) → Turn
 turnOf Less a b r s = turnAs (overPlace + a) (shownOnce r) 1 0
-turnOf Same a b r s = pick (hidden (r .kv .status)) (turnAs b (shownOnce s) 1 1) (turnAs (overPlace + a) 1 1 1)
+turnOf Same a b r s = bothTurn (hidden (r .kv .status)) a b s
 turnOf More a b r s = turnAs b (shownOnce s) 0 1
 
 -- what is left to be listed from record a of the overrides and record b of the node on

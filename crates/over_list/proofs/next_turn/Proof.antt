@@ -8,11 +8,10 @@ use borrow.Author.Tests.{eqb-true, eqb-false}
 use Rattle.fields.specs.Choice.{pick}
 use Rattle.fields.specs.declared.Order.{Order}
 use Rattle.fields.specs.declared.Order.the-variants.{Less, Same, More}
-use Rattle.fields.proofs.Choice.{pick-true, pick-false}
 use Rattle.rules.specs.Node.{Rec, hidden}
 use Rattle.table.specs.Places.{recAt}
 use Rattle.over_list.specs.Merged.{overPlace}
-use Rattle.over_list.specs.Turns.{nextKey, turnAs, shownOnce, turnOf}
+use Rattle.over_list.specs.Turns.{nextKey, turnAs, bothTurn, turnOf}
 use Rattle.over_list.specs.declared.Turn.{Turn}
 use borrow.Author.Needs.{needs}
 use Rattle.over_list.proofs.next_turn.Statement.{statement}
@@ -107,8 +106,7 @@ returns c =
     let k = c .before .before .before .before in
     let t = k .before .before .before .args in
     as-turn _ Same (t .a) (t .b) (recAt (t .a) (t .overrides .now)) (recAt (t .b) (t .node .now)) (answered k Same (c .before .before .enum-told2 .given .1)) _
-    (sym (pick-false (hidden (recAt (t .a) (t .overrides .now) .kv .status)) (turnAs (t .b) (shownOnce (recAt (t .b) (t .node .now))) 1 1) (turnAs (overPlace + t .a) 1 1 1)
-    (not-hidden _ (sym (c .before .is-shown .ensures) ∙ c .if1 .taken))))
+    (sym (ap (λ (h : Bool). bothTurn h (t .a) (t .b) (recAt (t .b) (t .node .now))) (not-hidden (hidden (recAt (t .a) (t .overrides .now) .kv .status)) (sym (c .before .is-shown .ensures) ∙ c .if1 .taken))))
 
 shown-once-requires-2 : tie.Need-shown-once-requires-2
 shown-once-requires-2 c κs =
@@ -138,8 +136,7 @@ returns-3 c =
     let t = k .before .before .before .args in
     as-turn _ Same (t .a) (t .b) (recAt (t .a) (t .overrides .now)) (recAt (t .b) (t .node .now)) (answered k Same (c .before .before .before .enum-told2 .given .1)) _
     (ap (λ (m : ℕ). turnAs (t .b) m 1 1) (c .shown-once2 .ensures)
-    ∙ sym (pick-true (hidden (recAt (t .a) (t .overrides .now) .kv .status)) (turnAs (t .b) (shownOnce (recAt (t .b) (t .node .now))) 1 1) (turnAs (overPlace + t .a) 1 1 1)
-    (is-hidden _ (sym (c .before .before .is-shown .ensures) ∙ c .before .if1 .left))))
+    ∙ sym (ap (λ (h : Bool). bothTurn h (t .a) (t .b) (recAt (t .b) (t .node .now))) (is-hidden (hidden (recAt (t .a) (t .overrides .now) .kv .status)) (sym (c .before .before .is-shown .ensures) ∙ c .before .if1 .left))))
 
 returns-4 : tie.Need-returns-4
 returns-4 c =
