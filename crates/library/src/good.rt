@@ -205,12 +205,7 @@ pub extern "C" fn kev_good_find_over(
     requires { ⌜ (validNode (now overrides) ≡ true) × (validWhole (now table) ≡ true) ⌝ }
     ensures { λ r. ⌜ r ≡ foundOverShown (foundOverTold (lentFindOver number (now (key .entry)) (now (overrides .entry)) (now (table .entry)))) ⌝ }
 {
-    answers::found_over(over_find::find_over_good(
-        overrides,
-        &table[..layout::AREA],
-        number,
-        key,
-    ))
+    answers::found_over(over_find::find_over_good(overrides, &table[..layout::AREA], number, key))
 }
 
 // The merged listing of such overrides and the node, a byte for each hit; the count is how many: 2, 1, 8.

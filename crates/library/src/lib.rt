@@ -222,13 +222,7 @@ pub extern "C" fn kev_write_override(
     ensures { λ r. ⌜ Gives (shownAs answerTold numberShown (lentWriteOverride wanted (now (value .entry)) clock (now (key .entry)) (now (overrides .entry))))
         r (now (overrides .exit)) ⌝ }
 {
-    answers::number(overrides::write_override(
-        overrides,
-        key,
-        value,
-        local::wanted(wanted),
-        clock,
-    ))
+    answers::number(overrides::write_override(overrides, key, value, local::wanted(wanted), clock))
 }
 
 // The key's override is emptied, hidden and scheduled: 14, 1, 3, 6.
@@ -242,11 +236,7 @@ pub extern "C" fn kev_delete_override(overrides: &mut [u8], key: &[u8], clock: u
 
 // The key's override keeps its value and is scheduled: 14, 1, 3, 6.
 #[no_mangle]
-pub extern "C" fn kev_delete_override_after_ttl(
-    overrides: &mut [u8],
-    key: &[u8],
-    clock: u64,
-) -> u64
+pub extern "C" fn kev_delete_override_after_ttl(overrides: &mut [u8], key: &[u8], clock: u64) -> u64
     ensures { λ r. ⌜ Gives (shownAs answerTold numberShown (lentCallOverride (DeletingAfterTtl clock) (now (key .entry)) (now (overrides .entry))))
         r (now (overrides .exit)) ⌝ }
 {
