@@ -68,8 +68,8 @@ pub struct KevFound {
     pub len: usize,
 }
 
-// Where a text stands in the lent overrides, `over` is 1, or in the lent table, `over` is 0; `found` is 1 where there is one. With 14, `which` is 1 for the overrides
-// and 2 for the table.
+// Where a text stands in the lent overrides, `over` is 1, or in the lent table, `over` is 0; `found` is 1 where there is one. With 14, `which` is 1 for
+// the overrides and 2 for the table.
 #[repr(C)]
 pub struct KevFoundOver {
     pub number: u64,

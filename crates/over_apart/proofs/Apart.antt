@@ -1,7 +1,7 @@
 -- Overrides are never gossiped: by their length they are no table, and every call that gossips asks that first. Assumes nothing.
 use Prim.Native.Nat.{ℕ}
 use mathlib.Core.Bool.{Bool, true, false, true≢false}
-use mathlib.Core.List.{List, [], _∷_}
+use mathlib.Core.List.{[], _∷_}
 use mathlib.Core.Logic.{_⊎_, inl, inr}
 use mathlib.Core.Path.{_≡_, _∙_, ap, refl, sym, subst}
 use native.Mathlib.Omega.{arith}

@@ -1,6 +1,5 @@
 -- Overrides never enter a digest or delta (document 02, ticket 10). They could only by a call that writes one or takes one; such a call takes a table, and to
 -- overrides that are lent for a table it answers 14 and changes nothing. The theorem is in proofs/Apart.
-use Prim.Native.Nat.{ℕ}
 use mathlib.Core.Bool.{true}
 use mathlib.Core.Path.{_≡_}
 use lib.ListN.{take}

@@ -3,7 +3,7 @@
 use Prim.Native.Nat.{ℕ, _+_, _≤_, _<_}
 use mathlib.Core.Path.{_≡_, refl, ap, ap₂, sym, _∙_, subst}
 use mathlib.Core.Bool.{Bool, true, false}
-use mathlib.Core.List.{List, []}
+use mathlib.Core.List.{List}
 use mathlib.Core.Option.{Option, none, some}
 use native.Mathlib.Omega.{arith}
 use native.Mathlib.Nat.{zero-add}
@@ -34,16 +34,15 @@ use Rattle.table_read.specs.declared.Place.{Place}
 use Rattle.table_read.specs.declared.Place.the-variants as place
 use Rattle.table_read.proofs.Searched.{rec-in, rec-found, rec-missing}
 use Rattle.lookup.specs.Lookup as whole
-use Rattle.lookup.specs.Lookup.{valuePlace, foundRec, findRec, findOn, foundIn, valueIn, handed, Hands}
+use Rattle.lookup.specs.Lookup.{valuePlace, foundRec, findRec, findOn, foundIn, valueIn, handed}
 use Rattle.lookup.specs.declared.Found.{Found}
 use Rattle.lookup.specs.declared.Found.the-variants as one
 use Rattle.lookup.proofs.Values.{value-place, value-nowhere, found-means, area-stands}
 use Rattle.overrides.specs.Overrides.{validNode}
 use Rattle.overrides.specs.Both.{fromBoth}
-use Rattle.overrides.specs.declared.Which.{Which}
 use Rattle.overrides.specs.declared.Which.the-variants as which
 use Rattle.overrides.proofs.Valid.{over-laid, over-rises}
-use Rattle.over_find.specs.Over.{orElse, overFound, ruledOver, lookupOver, lentLookupOver, overOf, foundOver, lentFindOver, startOf, lenOf, isOver, Within, HandsOver, partOver}
+use Rattle.over_find.specs.Over.{orElse, overFound, ruledOver, lookupOver, lentLookupOver, overOf, foundOver, lentFindOver, startOf, isOver, Within, HandsOver, partOver}
 use Rattle.over_find.specs.declared.FoundOver.{FoundOver}
 use Rattle.over_find.specs.declared.FoundOver.the-variants.{InOverrides, InTable, Nothing, Refused}
 

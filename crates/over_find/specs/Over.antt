@@ -16,7 +16,6 @@ use Rattle.lookup.specs.Lookup.{findOn, foundIn, handed, Hands}
 use Rattle.lookup.specs.declared.Found.{Found}
 use Rattle.lookup.specs.declared.Found.the-variants as one
 use Rattle.overrides.specs.Both.{fromBoth}
-use Rattle.overrides.specs.declared.Which.{Which}
 use Rattle.overrides.specs.declared.Which.the-variants as which
 use Rattle.over_find.specs.declared.FoundOver.{FoundOver}
 use Rattle.over_find.specs.declared.FoundOver.the-variants.{InOverrides, InTable, Nothing, Refused}

@@ -1,6 +1,6 @@
-// Looking a value up in overrides and a node of a table, both lent. `find_over` tells in which of the two it stands and where, or that there is none, or why the
-// call is refused and, with 14, of which; `lookup_over` hands out the value as those very bytes of one of the two slices. Both take any bytes. A name with `good`
-// in it is for overrides and the area of a table known to be good, without the checks.
+// Looking a value up in overrides and a node of a table, both lent. `find_over` tells in which of the two it stands and where, or that there is none, or
+// why the call is refused and, with 14, of which; `lookup_over` hands out the value as those very bytes of one of the two slices. Both take any bytes. A
+// name with `good` in it is for overrides and the area of a table known to be good, without the checks.
 use lookup::Found;
 use overrides::Which;
 use rules::Refusal;
@@ -112,8 +112,8 @@ pub fn lookup_over_good<'a>(
     )
 }
 
-// The value of the key as those very bytes of the lent overrides or of the lent table; where there is none or the call is refused, the empty part at the table's
-// front. `find_over` tells these apart.
+// The value of the key as those very bytes of the lent overrides or of the lent table; where there is none or the call is refused, the empty part at the
+// table's front. `find_over` tells these apart.
 pub fn lookup_over<'a>(overrides: &'a [u8], table: &'a [u8], number: u64, key: &[u8]) -> &'a [u8]
     ensures { λ r. ⌜ HandsOver (lentValueOver number (now (key .entry)) (now (overrides .entry)) (now (table .entry)))
         (overrides .entry .ptr) (table .entry .ptr) (now r) (r .ptr) ⌝ }

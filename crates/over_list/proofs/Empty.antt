@@ -1,6 +1,6 @@
 -- Over overrides without a record the merged listing is the ordinary one. Assumes nothing.
 use Prim.Native.Nat.{ℕ, suc}
-use mathlib.Core.Path.{_≡_, refl, ap, sym, _∙_}
+use mathlib.Core.Path.{_≡_, refl, ap, _∙_}
 use mathlib.Core.Bool.{Bool, true, false}
 use mathlib.Core.List.{List, [], _∷_}
 use mathlib.Core.Option.{Option, none, some}
@@ -24,7 +24,7 @@ use Rattle.rules.specs.declared.Refusal.the-variants.{BadTable, NoPlace, TooLon
 use Rattle.overrides.specs.Overrides.{validNode}
 use Rattle.overrides.specs.Both.{fromBoth}
 use Rattle.overrides.specs.declared.Which.the-variants as which
-use Rattle.over_list.specs.Merged.{Hit, overPlace, hitsIn, overlaid, placesOf, listing, listInto, listOn, listOver, lentListOver}
+use Rattle.over_list.specs.Merged.{hitsIn, overlaid, placesOf, listing, listInto, listOn, listOver, lentListOver}
 use Rattle.over_list.specs.declared.ListedOver.{ListedOver}
 use Rattle.over_list.specs.declared.ListedOver.the-variants as listed
 

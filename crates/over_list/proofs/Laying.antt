@@ -1,18 +1,18 @@
 -- Laying hits over hits: what comes first of two sides whose keys rise, what stands in the outcome, how many there are, and that keys rise in it. Assumes nothing.
 use Prim.Native.Nat.{ℕ, suc, _+_, _≤_, zero-le}
 use mathlib.Core.Path.{_≡_, refl, ap, sym, _∙_, subst}
-use mathlib.Core.Bool.{Bool, true, false, not, _&&_}
+use mathlib.Core.Bool.{Bool, true, false}
 use mathlib.Core.List.{List, [], _∷_}
-use mathlib.Core.Logic.{_⊎_, inl, inr, ⊎-elim}
+use mathlib.Core.Logic.{_⊎_, inl, inr}
 use native.Mathlib.Omega.{arith}
 use lib.ListN.{length}
 use Rattle.fields.specs.Choice.{pick, _∈_, here, later}
-use Rattle.fields.specs.Order.{sameBytes, lessBytes, startsWith}
+use Rattle.fields.specs.Order.{sameBytes, lessBytes}
 use Rattle.fields.proofs.Choice.{in-none, in-cons, pick-true, pick-false}
 use Rattle.fields.proofs.Ordered.{same-true, eq-same, less-same, less-not, less-total, less-trans}
-use Rattle.rules.specs.Node.{Rec, hidden, hits}
+use Rattle.rules.specs.Node.{Rec, hits}
 use Rattle.rules.proofs.Records.{Above, Sorted, keyOf}
-use Rattle.over_list.specs.Merged.{Hit, hit, keyOfHit, hitsIn, layOver, overlaid, placesOf, recsOf}
+use Rattle.over_list.specs.Merged.{Hit, hit, keyOfHit, hitsIn, layOver, overlaid, recsOf}
 
 -- every key of the hits comes after k
 unfoldable pub AllAbove : List ℕ → List Hit → Type 0

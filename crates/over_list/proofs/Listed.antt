@@ -1,6 +1,6 @@
 -- What the merged listing is, in the words of the ticket: it has each key once, rising; and a key is listed exactly where the lookup finds it, in the same slice.
 -- There are at most as many hits as records. Assumes nothing.
-use Prim.Native.Nat.{ℕ, zero, suc, _+_, _-_, _≤_, _<_}
+use Prim.Native.Nat.{ℕ, suc, _+_, _-_, _≤_, _<_}
 use mathlib.Core.Path.{_≡_, refl, ap, ap₂, sym, _∙_, subst}
 use mathlib.Core.Bool.{Bool, true, false, not, _&&_, true≢false, false≢true}
 use mathlib.Core.List.{List, [], _∷_}
@@ -10,11 +10,11 @@ use native.Mathlib.Nat.{add-zero, zero-add}
 use lib.ListN.{length}
 use lib.Dec.{leb}
 use borrow.Author.Tests.{le-leb, lt-leb}
-use Rattle.fields.specs.Choice.{pick, _∈_, here, later}
+use Rattle.fields.specs.Choice.{pick, here, later}
 use Rattle.fields.specs.Order.{sameBytes, lessBytes, startsWith}
 use Rattle.fields.specs.Parts.{put}
 use Rattle.fields.proofs.Choice.{pick-true, pick-false}
-use Rattle.fields.proofs.Ordered.{same-true, eq-same, less-other, same-false}
+use Rattle.fields.proofs.Ordered.{same-true, less-other, same-false}
 use Rattle.rules.specs.Given.{Gives}
 use Rattle.rules.specs.Sizes.{maxKey}
 use Rattle.rules.specs.Node.{Rec, Node, hidden, hits}

@@ -8,17 +8,16 @@ use mathlib.Core.Logic.{_⊎_, inl, inr}
 use native.Mathlib.Omega.{arith}
 use native.Mathlib.Numerals.{add-one}
 use native.Mathlib.Nat.{add-zero}
-use lib.ListN.{length, take, drop, drop-of-length-le}
+use lib.ListN.{take, drop, drop-of-length-le}
 use lib.Dec.{eqb}
 use borrow.Author.Tests.{eqb-true, eqb-false}
-use Rattle.fields.specs.Choice.{pick, _∈_, here, later}
-use Rattle.fields.specs.Order.{sameBytes, lessBytes, startsWith, orderOf}
+use Rattle.fields.specs.Choice.{pick, _∈_}
+use Rattle.fields.specs.Order.{lessBytes, startsWith, orderOf}
 use Rattle.fields.specs.declared.Order.{Order}
 use Rattle.fields.specs.declared.Order.the-variants.{Less, Same, More}
 use Rattle.fields.proofs.Choice.{in-cons}
 use Rattle.fields.proofs.Ordered.{same-true, less-trans, order-same, order-less, order-more}
-use Rattle.rules.specs.Sizes.{maxRecords}
-use Rattle.rules.specs.Node.{Rec, hidden, hits}
+use Rattle.rules.specs.Node.{Rec, hidden}
 use Rattle.rules.specs.Table.{keysRise}
 use Rattle.rules.proofs.Records.{Above, Sorted, keyOf}
 use Rattle.rules.proofs.Obeys.{keys-sorted}
@@ -26,7 +25,7 @@ use Rattle.table.specs.Tests.{countOf, recsIn}
 use Rattle.table.specs.Fits.{LaidNode}
 use Rattle.table.proofs.Places.{recAt, recs-drop, length-recs}
 use Rattle.prefix.specs.Run.{RunOf}
-use Rattle.over_list.specs.Merged.{Hit, hit, keyOfHit, overPlace, hitsIn, overlaid, placesOf, listing}
+use Rattle.over_list.specs.Merged.{Hit, hit, overPlace, hitsIn, overlaid, placesOf, listing}
 use Rattle.over_list.specs.Turns.{nextKey, shownOnce, bothTurn, turnOf, leftIn}
 use Rattle.over_list.specs.declared.Turn.{Turn}
 use Rattle.over_list.proofs.Laying.{AllAbove, none-above, hits-above, over-first, node-first, both-first}

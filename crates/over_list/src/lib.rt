@@ -1,6 +1,7 @@
-// The merged prefix listing of overrides and a node of a table, both lent: each key once, in key order, the override's record where it is not hidden. A hit is a byte:
-// the place of the record in the node, or 128 and its place in the overrides. There are at most 64 of them. They are gathered before the first goes to the caller's
-// list, so that a call without room for them writes nothing. `list_over` takes any bytes, and `list_over_good` overrides and the area of a table known to be good.
+// The merged prefix listing of overrides and a node of a table, both lent: each key once, in key order, the override's record where it is not hidden. A
+// hit is a byte: the place of the record in the node, or 128 and its place in the overrides. There are at most 64 of them. They are gathered before the
+// first goes to the caller's list, so that a call without room for them writes nothing. `list_over` takes any bytes, and `list_over_good` overrides and
+// the area of a table known to be good.
 use fields::Order;
 use overrides::Which;
 use rules::Header;
@@ -54,7 +55,8 @@ fn shown_once(node: &[u8], j: usize) -> usize
 
 // How the next key of the overrides stands to the next of the node; a side that is at its end comes last.
 fn next_key(overrides: &[u8], a: usize, a_end: usize, node: &[u8], b: usize, b_end: usize) -> Order
-    requires { ⌜ LaidNode (now overrides) × LaidNode (now node) × (a ≤ «a_end») × («a_end» ≤ countOf (now overrides)) × (b ≤ «b_end») × («b_end» ≤ countOf (now node)) ⌝ }
+    requires { ⌜ LaidNode (now overrides) × LaidNode (now node) × (a ≤ «a_end») × («a_end» ≤ countOf (now overrides))
+        × (b ≤ «b_end») × («b_end» ≤ countOf (now node)) ⌝ }
     ensures { λ r. ⌜ r ≡ nextKey a «a_end» b «b_end» (now (overrides .entry)) (now (node .entry)) ⌝ }
 {
     if a == a_end {
@@ -71,7 +73,8 @@ fn next_key(overrides: &[u8], a: usize, a_end: usize, node: &[u8], b: usize, b_e
 
 // One turn of the merging, of two sides that are not both at their ends.
 fn next_turn(overrides: &[u8], a: usize, a_end: usize, node: &[u8], b: usize, b_end: usize) -> Turn
-    requires { ⌜ LaidNode (now overrides) × LaidNode (now node) × (a ≤ «a_end») × («a_end» ≤ countOf (now overrides)) × (b ≤ «b_end») × («b_end» ≤ countOf (now node))
+    requires { ⌜ LaidNode (now overrides) × LaidNode (now node) × (a ≤ «a_end») × («a_end» ≤ countOf (now overrides))
+        × (b ≤ «b_end») × («b_end» ≤ countOf (now node))
         × (a + b < «a_end» + «b_end») ⌝ }
     ensures { λ r. ⌜ r ≡ turnOf (nextKey a «a_end» b «b_end» (now (overrides .entry)) (now (node .entry))) a b
         (recAt a (now (overrides .entry))) (recAt b (now (node .entry))) ⌝ }
@@ -108,7 +111,8 @@ fn next_turn(overrides: &[u8], a: usize, a_end: usize, node: &[u8], b: usize, b_
     }
 }
 
-// The hits of the overrides' bytes and of a node's, to the front of a list of 64 places, and how many they are. A byte that is not listed is written over by the next.
+// The hits of the overrides' bytes and of a node's, to the front of a list of 64 places, and how many they are. A byte that is not listed is written
+// over by the next.
 fn merge(overrides: &[u8], node: &[u8], prefix: &[u8], out: &mut [u8]) -> usize
     requires { ⌜ LaidNode (now overrides) × (keysRise (recsIn (now overrides)) ≡ true) × LaidNode (now node) × (keysRise (recsIn (now node)) ≡ true)
         × (length (now out) ≡ 64) ⌝ }

@@ -1,11 +1,11 @@
 -- What a call on overrides and a table answers once both checks have said what the bytes are. Assumes nothing.
 use Prim.Native.Nat.{ℕ}
-use mathlib.Core.Path.{_≡_, refl, ap, sym, _∙_, subst}
+use mathlib.Core.Path.{_≡_, refl, sym, _∙_, subst}
 use mathlib.Core.Bool.{Bool, true, false}
 use mathlib.Core.List.{List}
 use native.Mathlib.Omega.{arith}
 use Rattle.fields.proofs.Choice.{pick-true, pick-false}
-use Rattle.rules.specs.Given.{Given, given, Gives}
+use Rattle.rules.specs.Given.{Given, Gives}
 use Rattle.rules.specs.Node.{Node}
 use Rattle.rules.specs.Table.{Table}
 use Rattle.rules.specs.Lent.{fromTable}

@@ -1,6 +1,6 @@
 -- Every writing call leaves valid overrides valid. Assumes nothing.
 use Prim.Native.Nat.{ℕ, _<_}
-use mathlib.Core.Path.{_≡_, refl, ap, sym, _∙_, subst}
+use mathlib.Core.Path.{_≡_, sym, subst}
 use mathlib.Core.Bool.{Bool, true, false}
 use mathlib.Core.List.{List}
 use lib.Dec.{eqb}
@@ -10,7 +10,7 @@ use Rattle.fields.specs.Choice.{pick}
 use Rattle.fields.proofs.Choice.{pick-true}
 use Rattle.rules.specs.Given.{Given, given}
 use Rattle.rules.specs.Sizes.{numbers}
-use Rattle.rules.specs.Node.{Node, Call, Setting, SettingTtl, Deleting, DeletingAfterTtl, decide, act, due, remove}
+use Rattle.rules.specs.Node.{Node, Call, Setting, SettingTtl, decide, act, due, remove}
 use Rattle.rules.specs.Table.{Entry, entryObeys}
 use Rattle.rules.specs.Delta.{statusByte}
 use Rattle.rules.specs.Layout.{nodeWidth, encodeNode, decodeNode}

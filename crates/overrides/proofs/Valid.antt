@@ -1,6 +1,6 @@
 -- Bytes that are valid overrides: how long they are, what is read in them, and that they are written again from it. The check of a node's bytes, behind a look
 -- at the length, says whether they are. Assumes nothing.
-use Prim.Native.Nat.{ℕ, _<_}
+use Prim.Native.Nat.{ℕ}
 use mathlib.Core.Path.{_≡_, refl, ap, sym, _∙_, subst}
 use mathlib.Core.Bool.{Bool, true, false}
 use mathlib.Core.List.{List}
@@ -10,13 +10,11 @@ use Rattle.fields.specs.Numbers.{AreBytes}
 use Rattle.fields.specs.Order.{sameBytes}
 use Rattle.fields.proofs.Choice.{same-test, and-left, and-right, and-intro}
 use Rattle.fields.proofs.Ordered.{same-true, eq-same}
-use Rattle.rules.specs.Sizes.{numbers}
 use Rattle.rules.specs.Table.{Entry, entryObeys, keysRise}
 use Rattle.rules.specs.Layout.{nodeWidth, encodeNode, decodeNode}
 use Rattle.rules.specs.Whole.{wholeWidth, validWhole}
 use Rattle.table.specs.Fits.{LaidNode}
 use Rattle.table.specs.Tests.{nodeGood, recsIn}
-use Rattle.table.specs.Changes.{freshEntry}
 use Rattle.table.proofs.Nodes.{ObeysEntry, entry-obeys, obeys-entry, fits-entry, length-node, laid-node, node-good, decode-encode-node, encode-decode-node, obeys-decode-node}
 use Rattle.table.proofs.Wholes.{whole-long}
 use Rattle.overrides.specs.Overrides.{validNode}

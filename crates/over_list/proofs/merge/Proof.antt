@@ -8,7 +8,6 @@ use native.Mathlib.Numerals.{add-one}
 use lib.ListN.{length, take, set, length-set}
 use lib.Seq.{length-take-le, take-set-le, take-suc-set}
 use Rattle.table.specs.Tests.{recsIn}
-use Rattle.table.specs.Places.{recAt}
 use Rattle.over_list.specs.Merged.{placesOf, listing}
 use Rattle.over_list.specs.Turns.{leftIn}
 use Rattle.over_list.proofs.Turning.{TurnIs, all-left, none-left, turn-is}
