@@ -10,6 +10,7 @@ pub mod OneNode
 pub mod EachNode
 pub mod OnTheWay
 pub mod Nearer
+pub mod Planned
 pub mod Forms
 pub mod Moments
 pub mod Quiet
