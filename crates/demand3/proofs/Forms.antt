@@ -4,10 +4,10 @@ use Prim.Native.Nat.{_<_, ℕ}
 use mathlib.Core.Bool.{Bool, false≢true, not, true}
 use mathlib.Core.List.{List, [], _∷_}
 use mathlib.Core.Option.{some}
-use mathlib.Core.Path.{_∙_, _≡_, ap, refl}
+use mathlib.Core.Path.{_∙_, _≡_, ap, refl, subst, sym}
 use lib.ListN.{length}
 use borrow.Author.Tests.{leb-true}
-use Rattle.fields.specs.Choice.{_∈_}
+use Rattle.fields.specs.Choice.{_∈_, here}
 use Rattle.fields.specs.Numbers.{Bytes}
 use Rattle.fields.specs.Parts.{part, put}
 use Rattle.rules.proofs.Accepted.{delta-bytes}
@@ -88,7 +88,7 @@ comes edition excluded (AsPlanned nodes counts) mtu place d t l ok = go _ (plann
   where
     stirs : (ds : List NodeDigest) → accepts excluded nodes counts mtu ds t ≡ true → (ns : List ℕ) → nodes ≡ ns → not (isNone ns) ≡ true → Stirs t (deltaBy excluded nodes counts ds t)
     stirs ds taken [] q wide = absurd (false≢true wide)
-    stirs ds taken (i ∷ is) q wide = planned-stirs excluded nodes counts mtu ds t ok taken i is q
+    stirs ds taken (i ∷ is) q wide = planned-stirs excluded nodes counts mtu ds t ok taken i (subst (λ (l : List ℕ). i ∈ l) (sym q) (here refl))
 
     go : (o : Given Computed (List ℕ)) → planner.PlanComes edition excluded nodes counts mtu place d t l o → Comes edition excluded (AsPlanned nodes counts) mtu place d t l o
     go o (planner.refuses r) = refuses r

@@ -17,4 +17,5 @@ pub mod Quiet
 pub mod Whole
 pub mod Closing
 pub mod Demand3
+pub mod Planner
 pub mod Witnesses

@@ -6,6 +6,7 @@ use mathlib.Core.List.{List, [], _∷_}
 use mathlib.Core.Option.{some}
 use mathlib.Core.Path.{_∙_, _≡_, subst, sym}
 use lib.ListN.{length}
+use Rattle.fields.specs.Choice.{_∈_}
 use Rattle.rules.proofs.Sending.{nodeDelta}
 use Rattle.rules.proofs.Tables.{partAt}
 use Rattle.rules.specs.Compute.{fromOf, stale, staleOf, toldOf}
@@ -60,5 +61,5 @@ module _ (excluded nodes counts : List ℕ) (mtu : ℕ) (ds : List NodeDigest) (
       enough : 0 < length (stale (fromOf (nodeAt i t .last-gc) (toldOf i ds .last-gc) (toldOf i ds .max)) (nodeAt i t .recs)) → 0 < x .count
       enough h = count-some (x .count) (staleOf (x .of)) (x .fits) (subst (λ (l : List KeyValue). 0 < length l) (sym stale-is) h)
 
-  pub planned-stirs : (i : ℕ) (is : List ℕ) → nodes ≡ i ∷ is → Stirs t (deltaBy excluded nodes counts ds t)
-  planned-stirs i is e = let x = planned-some excluded nodes counts mtu ds t ok yes i is e in (i, x .0, x .1, planned-moves i (x .0) (x .1))
+  pub planned-stirs : (i : ℕ) → i ∈ nodes → Stirs t (deltaBy excluded nodes counts ds t)
+  planned-stirs i m = let x = planned-some excluded nodes counts mtu ds t ok yes i m in (i, x .0, x .1, planned-moves i (x .0) (x .1))

@@ -1,5 +1,6 @@
--- What the runs of FourRuns show: one exchange too few does not end, and the claims fail of a late delta. Assumes nothing.
+-- What the runs of FourRuns show: one exchange too few does not end, empty plans do not end, and the claims fail of a late delta. Assumes nothing.
 use Prim.Native.Nat.{ℕ}
+use mathlib.Core.Bool.{true}
 use mathlib.Core.List.{[], _∷_}
 use mathlib.Core.Option.{Option, none, some}
 use mathlib.Core.Path.{_∙_, _≡_, ap, refl, subst, sym}
@@ -18,9 +19,9 @@ use Rattle.rules.specs.Local.{call, gc}
 use Rattle.rules.specs.Node.{KeyValue, Node, Rec, act, decide, find, lastGc, remove, store, wish, write}
 use Rattle.rules.specs.Table.{among, nodeOf, removeAll, setNode, versions}
 use Rattle.demand3.proofs.EachNode.{nodeAt, orFresh}
-use Rattle.demand3.proofs.Runs.{late, tight}
+use Rattle.demand3.proofs.Runs.{idle-stays, late, tight}
 use Rattle.demand3.specs.Demand3.{Holds, SameMax, Sound}
-use Rattle.demand3.proofs.FourRuns.{caughtUp, dead, oneRecord, pairIn, seven, whole}
+use Rattle.demand3.proofs.FourRuns.{allGranted, caughtUp, dead, idle, oneRecord, pairIn, seven, whole}
 use Rattle.demand3.specs.World.{World, after, freshTable, happen, start}
 
 -- a node with this pair
@@ -38,6 +39,20 @@ one-too-few s =
     let a = p .1 in
     let b = f .1 in
     omega arith
+
+-- with any accepted plans the count does not hold: as many exchanges as it asks for, nothing refused, and no max is equal
+pub empty-plans-fail : (allGranted plainWays idle oneRecord ≡ true) × (SameMax (after plainWays idle oneRecord .publisher) (after plainWays idle oneRecord .follower) → ⊥)
+empty-plans-fail = (idle-stays .0, not-same)
+  where
+    not-same : SameMax (after plainWays idle oneRecord .publisher) (after plainWays idle oneRecord .follower) → ⊥
+    not-same s =
+        let w : World = after plainWays idle oneRecord in
+        let p = with-pair (nodeOf 7 (w .publisher)) 3 3 (idle-stays .2) in
+        let f = with-pair (nodeOf 7 (w .follower)) 0 0 (idle-stays .3) in
+        let e : nodeAt 7 (w .follower) .max ≡ nodeAt 7 (w .publisher) .max = s 7 (nodeAt 7 (w .publisher)) (nodeAt 7 (w .follower)) (p .0) (f .0) in
+        let a = p .1 in
+        let b = f .1 in
+        omega arith
 
 -- the publisher has no k any more, and the follower has it
 not-there : (r : Rec) → r ∈ nodeAt 7 (caughtUp .publisher) .recs → r .kv ≡ dead → ⊥

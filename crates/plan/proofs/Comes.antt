@@ -6,7 +6,7 @@ use mathlib.Core.Path.{_≡_, refl}
 use native.Mathlib.Omega.{arith}
 use lib.Dec.{leb}
 use lib.ListN.{length}
-use borrow.Author.Tests.{leb-true}
+use borrow.Author.Tests.{le-leb, leb-true}
 use Rattle.fields.proofs.Parts.{part-put}
 use Rattle.fields.specs.Choice.{pick}
 use Rattle.fields.specs.Parts.{part, put}
@@ -65,3 +65,12 @@ module _ (edition : ℕ) (excluded nodes counts : List ℕ) (mtu place : ℕ) (d
       → place + mtu ≤ length l
       → part place (length (deltaBytes (deltaBy excluded nodes counts ds t))) (put place (deltaBytes (deltaBy excluded nodes counts ds t)) l) ≡ deltaBytes (deltaBy excluded nodes counts ds t)
   plan-bytes ds h g = part-put place (deltaBytes (deltaBy excluded nodes counts ds t)) l (omega arith)
+
+  -- an accepted plan is written, where no number before 23 comes
+  pub plan-written : isEdition edition ≡ true → leastMtu ≤ mtu → mtu ≤ maxDelta → place + mtu ≤ length l
+      → (ds : List NodeDigest) (rest : List ℕ) → readDigest edition d ≡ Entries ds rest
+      → accepts excluded nodes counts mtu ds t ≡ true
+      → computePlan edition excluded nodes counts mtu place d t l ≡ written (deltaBy excluded nodes counts ds t) place l
+  unfolding computePlan
+  plan-written known least most room ds rest read fine =
+      rw (known, le-leb leastMtu mtu least, le-leb mtu maxDelta most, le-leb place (length l) (omega arith), le-leb mtu (length l - place) (omega arith), read, fine)

@@ -3,13 +3,14 @@
 use Prim.Native.Nat.{_+_, _<_, _≤_, suc, zero, ℕ}
 use mathlib.Core.Bool.{Bool, _&&_, false, false≢true, true}
 use mathlib.Core.List.{List, [], _++_, _∷_, append-nil}
+use mathlib.Core.Logic.{_⊎_, inl, inr}
 use mathlib.Core.Option.{Option, none, some}
 use mathlib.Core.Path.{_∙_, _≡_, ap, refl, subst, sym}
 use native.Mathlib.Omega.{arith}
 use lib.Dec.{eqb, leb}
 use lib.ListN.{length, take}
 use borrow.Author.Tests.{eq-eqb, eqb-true, leb-true, lt-ltb, ne-eqb}
-use Rattle.fields.proofs.Choice.{and-left, and-right}
+use Rattle.fields.proofs.Choice.{and-left, and-right, in-cons, in-none}
 use Rattle.fields.specs.Choice.{_∈_, here, later, pick}
 use Rattle.rules.proofs.Accepted.{OkStale, append-small, body-chain, body-small, from-small}
 use Rattle.rules.proofs.Deltas.{AllSmall, Chain}
@@ -173,16 +174,31 @@ part-planned ss i (j ∷ is) (c ∷ cs) {d} ok e = go (named j ss) refl ok e (pa
             record { of = s; named-so = subst (λ (k : ℕ). named k ss ≡ some s) n q; count = c; fits = fit; delta-is = cc }
         at false p fit e = ih (and-right (lineFits c (some s)) _ ok) (rw p at e)
 
--- the first named node has a part
-pub first-part : (ss : List StaleNode) (i : ℕ) (is cs : List ℕ) → linesFit ss (i ∷ is) cs ≡ true → (d : NodeDelta) × (partAt i (partsOf (planOps ss (i ∷ is) cs)) ≡ some d)
+-- each named node has a part
+pub named-part : (ss : List StaleNode) (is cs : List ℕ) → linesFit ss is cs ≡ true → (i : ℕ) → i ∈ is → (d : NodeDelta) × (partAt i (partsOf (planOps ss is cs)) ≡ some d)
 unfolding planOps partsOf partAt linesFit
-first-part ss i is [] ok = absurd (false≢true ok)
-first-part ss i is (c ∷ cs) ok = go (named i ss) refl ok
+named-part ss [] cs ok i m = absurd (in-none m)
+named-part ss (j ∷ is) [] ok i m = absurd (false≢true ok)
+named-part ss (j ∷ is) (c ∷ cs) ok i m = go (named j ss) refl ok (in-cons m) (named-part ss is cs)
   where
-    go : (o : Option StaleNode) → named i ss ≡ o → (lineFits c o && linesFit ss is cs) ≡ true → (d : NodeDelta) × (partAt i (partsOf (lineOps c o ++ planOps ss is cs)) ≡ some d)
-    go none q ok = absurd (false≢true ok)
-    go (some s) q ok =
-        (record { from = fromFor s; last-gc = s .node .last-gc; recs = recsOf (bodyOps (s .node .max) (take c (staleOf s)) ++ planOps ss is cs); max = maxOf 0 (bodyOps (s .node .max) (take c (staleOf s)) ++ planOps ss is cs) }, rw (eq-eqb i (s .number) (named-is i ss q .1)))
+    Has : List Op → Type 0
+    Has ops = (d : NodeDelta) × (partAt i (partsOf ops) ≡ some d)
+
+    go : (o : Option StaleNode) → named j ss ≡ o → (lineFits c o && linesFit ss is cs) ≡ true → (i ≡ j) ⊎ (i ∈ is) → (linesFit ss is cs ≡ true → (k : ℕ) → k ∈ is → (d : NodeDelta) × (partAt k (partsOf (planOps ss is cs)) ≡ some d)) → Has (lineOps c o ++ planOps ss is cs)
+    go none q ok x ih = absurd (false≢true ok)
+    go (some s) q ok x ih =
+        let fit : countFits c (staleOf s) ≡ true = and-left (lineFits c (some s)) _ ok in
+        let parts = line-parts (s .number) (s .node .last-gc) (fromFor s) (s .node .max) c (staleOf s) (planOps ss is cs) fit (rest-recs ss is cs) (rest-max ss is cs) in
+        let found = at (eqb i (s .number)) refl x in
+        (found .0, ap (partAt i) parts ∙ found .1)
+      where
+        mine : NodeDelta
+        mine = record { from = fromFor s; last-gc = s .node .last-gc; recs = take c (staleOf s); max = carried true (s .node .max) (staleOf s) (take c (staleOf s)) }
+
+        at : (b : Bool) → eqb i (s .number) ≡ b → (i ≡ j) ⊎ (i ∈ is) → (d : NodeDelta) × (pick (eqb i (s .number)) (some mine) (partAt i (partsOf (planOps ss is cs))) ≡ some d)
+        at true p x = (mine, rw p)
+        at false p (inl e) = absurd (false≢true (sym p ∙ eq-eqb i (s .number) (e ∙ named-is j ss q .1)))
+        at false p (inr k) = let r = ih (and-right (lineFits c (some s)) _ ok) i k in (r .0, rw p (r .1))
 
 pub length-numbers : (t : Table) → length (numbersOf t) ≡ length t
 unfolding numbersOf

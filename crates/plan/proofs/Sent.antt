@@ -5,7 +5,7 @@ use mathlib.Core.Bool.{_&&_, false≢true, true}
 use mathlib.Core.List.{List, [], _∷_}
 use mathlib.Core.Logic.{_⊎_, inl, inr}
 use mathlib.Core.Option.{Option, none, some}
-use mathlib.Core.Path.{_∙_, _≡_, refl, subst, subst₂, sym}
+use mathlib.Core.Path.{_∙_, _≡_, refl, subst, sym}
 use native.Mathlib.Omega.{arith}
 use lib.Dec.{leb}
 use lib.ListN.{length}
@@ -23,7 +23,7 @@ use Rattle.rules.specs.Node.{KeyValue}
 use Rattle.rules.specs.Sizes.{maxDelta, maxNodes}
 use Rattle.rules.specs.Table.{Table, among, differ, numbersOf, obeys}
 use Rattle.plan.proofs.Few.{few}
-use Rattle.plan.proofs.Lines.{PlannedPart, first-part, length-numbers, named-is, part-planned, plan-chain, plan-small}
+use Rattle.plan.proofs.Lines.{PlannedPart, length-numbers, named-is, named-part, part-planned, plan-chain, plan-small}
 use Rattle.plan.specs.Plan.{accepts, countFits, deltaBy, lineFits, linesFit, named, staleFor}
 
 -- where there are stale records a count that fits is not 0
@@ -92,11 +92,7 @@ module _ (excluded nodes counts : List ℕ) (mtu : ℕ) (ds : List NodeDigest) (
   unfolding deltaBy
   planned-part i d e = part-planned ss i nodes counts all-fit e
 
-  -- a plan that is not empty has a part
-  pub planned-some : (i : ℕ) (is : List ℕ) → nodes ≡ i ∷ is → (d : NodeDelta) × (partAt i (partsOf (deltaBy excluded nodes counts ds t)) ≡ some d)
-  planned-some i is e = go counts refl
-    where
-      go : (cs : List ℕ) → counts ≡ cs → (d : NodeDelta) × (partAt i (partsOf (deltaBy excluded nodes counts ds t)) ≡ some d)
-      go cs q =
-          subst₂ (λ (a b : List ℕ). (d : NodeDelta) × (partAt i (partsOf (deltaBy excluded a b ds t)) ≡ some d)) (sym e) (sym q)
-          (unfold deltaBy in first-part ss i is cs (subst₂ (λ (a b : List ℕ). linesFit ss a b ≡ true) e q all-fit))
+  -- and it brings something of each node that it names
+  pub planned-some : (i : ℕ) → i ∈ nodes → (d : NodeDelta) × (partAt i (partsOf (deltaBy excluded nodes counts ds t)) ≡ some d)
+  unfolding deltaBy
+  planned-some i m = named-part ss nodes counts all-fit i m
