@@ -2,7 +2,7 @@
 -- brings some node nearer. Assumes nothing.
 use Prim.Native.Nat.{_<_, _≤_, ℕ}
 use mathlib.Core.Bool.{true}
-use mathlib.Core.List.{List, [], _∷_}
+use mathlib.Core.List.{List, []}
 use mathlib.Core.Option.{some}
 use mathlib.Core.Path.{_∙_, _≡_, subst, sym}
 use lib.ListN.{length}

@@ -15,7 +15,7 @@ use Rattle.rules.specs.Lent.{fromTable}
 use Rattle.rules.specs.Node.{Node}
 use Rattle.rules.specs.Sizes.{maxDelta}
 use Rattle.rules.specs.Table.{nodeOf, obeys}
-use Rattle.rules.specs.Whole.{validWhole}
+use Rattle.rules.specs.Whole.{obeysWhole, validWhole}
 use Rattle.rules.specs.declared.Computed.{Computed}
 use Rattle.rules.specs.declared.Mode.{Mode}
 use Rattle.plan.proofs.Comes.{plan-written}
@@ -30,6 +30,7 @@ use Rattle.demand3_bytes.specs.LentWorld.{LentWorld, lentAfter, lentStar
 
 -- a valid table obeys the rules
 good : (l : List ℕ) → validWhole l ≡ true → obeys (tableIn l) ≡ true
+unfolding obeysWhole
 good l v = and-left (obeys (tableIn l)) _ (whole-obeys l v)
 
 -- a planned computing of a valid table is the table's
