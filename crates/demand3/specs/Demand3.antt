@@ -146,7 +146,7 @@ granted ways (Applying now l) w = possible ways (Applying now l) && isApplied wa
 granted ways (Sending edition digest excluded order mtu place l) w = true
 granted ways (Arriving k now l) w = true
 
--- A whole exchange is a digest, a delta and its applying, in this order, with no node excluded, an MTU of 135 or more, nothing lost and nothing
+-- A whole exchange is a digest, a delta and its applying, in this order, with no node excluded and an MTU of 135 or more, or by a plan that names a node; nothing lost and nothing
 -- refused, and both ends use one edition: the delta is computed in the edition that the digest was written in. Beats, offers and late deltas may fall
 -- between its steps. The stages: none has begun, its digest is written in an edition, its delta is computed.
 pub data Stage : Type 0 where
