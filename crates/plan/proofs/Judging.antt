@@ -8,7 +8,7 @@ use native.Mathlib.Omega.{arith}
 use lib.Dec.{eqb, leb, ltb}
 use lib.ListN.{length, length-append}
 use borrow.Author.Tests.{eqb-true, eqb-false, le-leb, leb-true, leb-false, lt-leb, le-ltb, lt-ltb, ltb-true, ltb-false, ne-eqb, eq-eqb}
-use Rattle.fields.proofs.Choice.{and-last, and-no}
+use Rattle.fields.proofs.Choice.{and-last, and-no, and-right}
 use Rattle.fields.specs.Blocks.{flat}
 use Rattle.fields.specs.Choice.{pick}
 use Rattle.fields.specs.Numbers.{Bytes}
@@ -173,6 +173,12 @@ module _ (excluded : List ℕ) (ds : List NodeDigest) (i c : ℕ) where
       go false true m = refl
       go false false true = refl
       go false false false = count-law c (staleOf s) size left
+
+  -- a line that is not at fault fits
+  pub fault-fits : (before : List ℕ) (left : ℕ) (o : Option Node) → lineFault excluded before left ds i c o ≡ none → lineSize ds i c o ≤ left
+  fault-fits before left o e =
+      let whole = sym (line-law before left o) ∙ ap noFault e in
+      leb-true _ _ (and-right (lineFits c (staleIf excluded ds i o)) _ (and-right (not (among i before)) _ whole))
 
   -- the bytes of a line that fits
   line-size : (o : Option Node) → lineFits c (staleIf excluded ds i o) ≡ true → length (deltaBytes (lineOps c (staleIf excluded ds i o))) ≡ lineSize ds i c o
