@@ -1,3 +1,12 @@
+-- `compute_plan::judge_known` meets its contract: 7, the digest's numbers, or what the lines come to. Assumes nothing.
+use mathlib.Core.Path.{_∙_, _≡_, ap, sym}
+use Rattle.rules.specs.Digest.{Entries, readDigest}
+use Rattle.rules.specs.Layout.{decode}
+use Rattle.digest_read.proofs.Reading.{read-nodes, read-refused}
+use Rattle.digest_read.proofs.Values.{same-digest}
+use Rattle.digest_read.specs.Held.{entriesIn, restOf}
+use Rattle.digest_read.specs.declared.Digest.{Digest}
+use Rattle.compute_plan.proofs.Calling.{said-digest, said-lines, said-mtu}
 use borrow.Author.Needs.{needs}
 use Rattle.compute_plan.proofs.judge_known.Statement.{statement}
 use Rattle.compute_plan.proofs.judge_known.Tie as tie
@@ -6,6 +15,9 @@ use Rattle.compute_plan.proofs.judge_known.Lts as lts
 use Rattle.compute.proofs.mtu_fits.Reads as mtu-fits-reads
 use Rattle.digest_read.proofs.read_digest.Reads as read-digest-reads
 use Rattle.plan_lines.proofs.judge_lines.Reads as judge-lines-reads
+
+abbrev entry : tie.After-mtu-fits → tie.Start
+entry c = c .before .before .before .before .before .before
 
 -- src/lib.rt:161:8
 mtu-fits-requires : tie.Need-mtu-fits-requires
@@ -29,15 +41,32 @@ enum-known-read c = search needs
 
 -- src/lib.rt:164:9
 returns : tie.Need-returns
-returns c = ?
+returns c =
+    let told = c .before in
+    let digest = told .before .before in
+    let m = digest .before .before in
+    let a = entry m .args in
+    let d = same-digest _ _ (digest .read-digest .ensures) in
+    let read = read-nodes (a .edition) (a .digest .now) _ _ (sym (ap (λ (x : Digest). x .read) d) ∙ told .enum-told .given .1)
+    ∙ ap (λ (x : Digest). Entries (entriesIn x) (restOf (readDigest (a .edition) (a .digest .now)))) (sym d) in
+    c .judge-lines .ensures
+    ∙ said-lines (a .excluded .now) (a .nodes .now) (a .counts .now) (a .mtu) (readDigest (a .edition) (a .digest .now)) (decode (a .table .now)) (sym (m .mtu-fits .ensures) ∙ digest .before .if1 .taken) _ _ read
 
 -- src/lib.rt:164:9
 returns-2 : tie.Need-returns-2
-returns-2 c = ?
+returns-2 c =
+    let digest = c .before .before .before in
+    let m = digest .before .before in
+    let a = entry m .args in
+    let read = read-refused (a .edition) (a .digest .now) _ (sym (ap (λ (x : Digest). x .read) (same-digest _ _ (digest .read-digest .ensures))) ∙ c .before .read .given .1) in
+    said-digest (a .excluded .now) (a .nodes .now) (a .counts .now) (a .mtu) (readDigest (a .edition) (a .digest .now)) (decode (a .table .now)) (sym (m .mtu-fits .ensures) ∙ digest .before .if1 .taken) _ read
 
 -- src/lib.rt:148:1
 returns-3 : tie.Need-returns-3
-returns-3 c = ?
+returns-3 c =
+    let m = c .before in
+    let a = entry m .args in
+    said-mtu (a .excluded .now) (a .nodes .now) (a .counts .now) (a .mtu) (readDigest (a .edition) (a .digest .now)) (decode (a .table .now)) (sym (m .mtu-fits .ensures) ∙ c .if1 .left)
 
 pub judge-known-spec : {M : Type 1} → statement M
 judge-known-spec =
