@@ -1,3 +1,5 @@
 pub mod Held
 pub mod Judging
 pub mod Said
+pub mod Refusing
+pub mod Cases
