@@ -8,7 +8,7 @@ use native.Mathlib.Omega.{arith}
 use lib.Dec.{eqb, leb, ltb}
 use lib.ListN.{length, length-append}
 use borrow.Author.Tests.{eqb-true, eqb-false, le-leb, leb-true, leb-false, lt-leb, le-ltb, lt-ltb, ltb-true, ltb-false, ne-eqb, eq-eqb}
-use Rattle.fields.proofs.Choice.{and-last, and-no}
+use Rattle.fields.proofs.Choice.{and-last, and-no, and-right}
 use Rattle.fields.specs.Blocks.{flat}
 use Rattle.fields.specs.Choice.{pick}
 use Rattle.fields.specs.Numbers.{Bytes}
@@ -174,6 +174,12 @@ module _ (excluded : List ℕ) (ds : List NodeDigest) (i c : ℕ) where
       go false false true = refl
       go false false false = count-law c (staleOf s) size left
 
+  -- a line that is not at fault fits
+  pub fault-fits : (before : List ℕ) (left : ℕ) (o : Option Node) → lineFault excluded before left ds i c o ≡ none → lineSize ds i c o ≤ left
+  fault-fits before left o e =
+      let whole = sym (line-law before left o) ∙ ap noFault e in
+      leb-true _ _ (and-right (lineFits c (staleIf excluded ds i o)) _ (and-right (not (among i before)) _ whole))
+
   -- the bytes of a line that fits
   line-size : (o : Option Node) → lineFits c (staleIf excluded ds i o) ≡ true → length (deltaBytes (lineOps c (staleIf excluded ds i o))) ≡ lineSize ds i c o
   line-size none e = absurd (false≢true e)
@@ -311,6 +317,12 @@ lines-number excluded ds t (i ∷ is) (c ∷ cs) line before left =
     go none ih = ih
     go (some why) ih = refl
 
+-- what is said of a plan that is looked at is 0 or 23
+pub said-number : (excluded nodes counts : List ℕ) (mtu : ℕ) (ds : List NodeDigest) (t : Table)
+    → judgedTold (judge excluded nodes counts mtu ds t) .number ≡ pick (isAccepted (judge excluded nodes counts mtu ds t)) 0 23
+unfolding judge
+said-number excluded nodes counts mtu ds t = lines-number excluded ds t nodes counts 0 [] mtu
+
 -- Where a whole MTU is free, what is said of a plan has the number that computing by it gives: 0 exactly where its delta is written.
 pub same-number : (edition : ℕ) (excluded nodes counts : List ℕ) (mtu place : ℕ) (digest : Bytes) (t : Table) (l : Bytes) → obeys t ≡ true → fitsAt place mtu l ≡ true
     → judgedTold (judgePlan edition excluded nodes counts mtu digest t) .number ≡ computedTold (computePlan edition excluded nodes counts mtu place digest t l .answer) .number
@@ -320,11 +332,8 @@ same-number edition excluded nodes counts mtu place digest t l ok free =
   where
     by : (ds : List NodeDigest) (b : Bool) → accepts excluded nodes counts mtu ds t ≡ b
         → judgedTold (judge excluded nodes counts mtu ds t) .number ≡ computedTold (pick b (written (deltaBy excluded nodes counts ds t) place l) (given (computed.Refused BadPlan) l) .answer) .number
-    by ds b q = said ∙ ap (λ (x : Bool). pick x 0 23) (judged-accepts excluded nodes counts mtu ds t ok ∙ q) ∙ is b
+    by ds b q = said-number excluded nodes counts mtu ds t ∙ ap (λ (x : Bool). pick x 0 23) (judged-accepts excluded nodes counts mtu ds t ok ∙ q) ∙ is b
       where
-        said : judgedTold (judge excluded nodes counts mtu ds t) .number ≡ pick (isAccepted (judge excluded nodes counts mtu ds t)) 0 23
-        said = unfold judge in lines-number excluded ds t nodes counts 0 [] mtu
-
         is : (b : Bool) → pick b 0 23 ≡ computedTold (pick b (written (deltaBy excluded nodes counts ds t) place l) (given (computed.Refused BadPlan) l) .answer) .number
         is true = refl
         is false = refl

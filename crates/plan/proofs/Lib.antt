@@ -5,3 +5,6 @@ pub mod Lines
 pub mod Comes
 pub mod Sent
 pub mod Can
+pub mod Said
+pub mod Refusing
+pub mod Cases

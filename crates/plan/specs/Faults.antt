@@ -98,11 +98,12 @@ abbrev pub judgeOn : (excluded nodes counts : List ℕ) (mtu : ℕ) (read : Dige
 judgeOn excluded nodes counts mtu (Entries ds rest) t = judge excluded nodes counts mtu ds t
 judgeOn excluded nodes counts mtu (Refused r) t = judged.Refused r
 
+abbrev pub judgeFor : (excluded nodes counts : List ℕ) (mtu : ℕ) (read : DigestRead) (table : Table) → Judged
+judgeFor excluded nodes counts mtu read t = pick (leb leastMtu mtu && leb mtu maxDelta) (judgeOn excluded nodes counts mtu read t) (judged.Refused BadMtu)
+
 unfoldable pub judgePlan : (edition : ℕ) (excluded nodes counts : List ℕ) (mtu : ℕ) (digest : Bytes) (table : Table) → Judged
 judgePlan edition excluded nodes counts mtu digest t =
-    pick (isEdition edition)
-    (pick (leb leastMtu mtu && leb mtu maxDelta) (judgeOn excluded nodes counts mtu (readDigest edition digest) t) (judged.Refused BadMtu))
-    (judged.Refused BadEdition)
+    pick (isEdition edition) (judgeFor excluded nodes counts mtu (readDigest edition digest) t) (judged.Refused BadEdition)
 
 -- on lent memory: 14, then as above
 abbrev pub lentJudge : (edition : ℕ) (excluded nodes counts : List ℕ) (mtu : ℕ) (digest table : Bytes) → Judged
