@@ -40,7 +40,7 @@ pub fn delta(
     counts: &[u64],
 ) -> Option<(usize, Vec<u8>)> {
     let stale = stale_nodes(table, digest, excluded);
-    let named_once = |number| nodes.iter().filter(|&other| other == number).count() == 1;
+    let named_once = |number: &u64| nodes.iter().filter(|&other| other == number).count() == 1;
     let counted = |stale: &Stale, count: u64| match stale.records().len() as u64 {
         0 => count == 0,
         all => (1..=all).contains(&count),
