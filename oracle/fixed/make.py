@@ -675,6 +675,10 @@ def plans():
         yield from ask(nodes, counts)
     for nodes, excluded in (("1,1", "1"), ("2,1", "1"), ("9", "9"), ("6", "6"), ("1,6", "6"), ("1,1", "2")):
         yield from ask(nodes, "1,1"[:len(nodes)], excluded)
+    # Nothing but a max, and the digest is not at the beginning.
+    for told_max in (3, 6, 7):
+        yield from plan("3", "0", digest((3, 0, 0, told_max)), 16384)
+    yield from plan("3", "1", digest((3, 0, 0, 6)), 16384)
     # What the digest leaves out counts as (0,0); what it tells twice, as it is told last.
     yield from plan("6", "1", digest(), 16384)
     yield from plan("4,6,7", "2,1,4", digest((5, 0, 0, 9)), 16384)
