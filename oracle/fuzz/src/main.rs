@@ -76,9 +76,13 @@ impl Run {
         for line in lines {
             let mut call = Call::parse(line).ok_or_else(|| format!("not a call: {line}"))?;
             match &mut call {
-                Call::ReadDigest { bytes, .. } | Call::ReadDelta { bytes } | Call::Apply { bytes, .. } | Call::Table { bytes } | Call::Compute { digest: bytes, .. } => {
-                    write_out(bytes, &digest, &delta)
-                }
+                Call::ReadDigest { bytes, .. }
+                | Call::ReadDelta { bytes }
+                | Call::Apply { bytes, .. }
+                | Call::Table { bytes }
+                | Call::Compute { digest: bytes, .. }
+                | Call::Plan { digest: bytes, .. }
+                | Call::PlanFault { digest: bytes, .. } => write_out(bytes, &digest, &delta),
                 _ => {}
             }
             self.lines += 1;
