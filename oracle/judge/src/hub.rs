@@ -415,6 +415,72 @@ impl Hub {
         }
     }
 
+    /// The operations that the original has for one node, without a limit: none where the digest is not behind with it.
+    fn alone(&self, digest: &Digest, number: u64) -> Outcome<Vec<Vec<u8>>> {
+        const NO_LIMIT: usize = 1 << 20;
+        let others: Vec<ChitchatId> = self.cluster.nodes().filter(|id| id.generation_id != number).cloned().collect();
+        rand::set_ties(self.cluster.nodes().map(|id| (id.generation_id, 0)).collect::<Vec<_>>().into_iter());
+        ask(|| operations(&self.cluster.compute_partial_delta_respecting_mtu(digest, NO_LIMIT, &others.iter().collect())))
+    }
+
+    /// Layer: held, excluded, named before, the counts, the bytes, lists of unequal length. Original: whether a node is stale, its from, its records in
+    /// their order, its SetMaxVersion. The first line at fault and the number of its fault, else the operations.
+    fn plan(
+        &self,
+        digest: &Digest,
+        mtu: usize,
+        excluded: &[u64],
+        nodes: &[u64],
+        counts: &[u64],
+    ) -> Outcome<Result<Vec<Vec<u8>>, (usize, u8)>> {
+        let mut sent: Vec<Vec<u8>> = Vec::new();
+        for line in 0..nodes.len().max(counts.len()) {
+            let (Some(number), Some(&count)) = (nodes.get(line), counts.get(line)) else {
+                return Ok(Err((line, 8)));
+            };
+            if !self.cluster.nodes().any(|id| id.generation_id == *number) {
+                return Ok(Err((line, 1)));
+            }
+            if excluded.contains(number) {
+                return Ok(Err((line, 2)));
+            }
+            if nodes[..line].contains(number) {
+                return Ok(Err((line, 3)));
+            }
+            let whole = self.alone(digest, *number)?;
+            let stale = whole.iter().filter(|op| op[0] == wire::TAG_KEY_VALUE).count();
+            let sends = if stale == 0 { whole.len() } else { 1 + count.min(stale as u64) as usize };
+            if whole.is_empty() {
+                return Ok(Err((line, 4)));
+            }
+            if count > stale as u64 {
+                return Ok(Err((line, 5)));
+            }
+            if count == 0 && stale > 0 {
+                return Ok(Err((line, 6)));
+            }
+            sent.extend(whole.into_iter().take(sends));
+            if sent.iter().map(Vec::len).sum::<usize>() > mtu {
+                return Ok(Err((line, 7)));
+            }
+        }
+        Ok(Ok(sent))
+    }
+
+    /// 20, 7, 8 where a datagram is lent, then the digest's.
+    fn plan_asked(digest: &[u8], mtu: u64, edition: u64, lent: Option<(u64, usize)>) -> Outcome<(Digest, usize)> {
+        edition_of(edition)?;
+        if !(MTU_LEAST..=MTU_MOST).contains(&mtu) {
+            return Err(Answer::Refused(7));
+        }
+        let mtu = mtu as usize;
+        if let Some((place, len)) = lent {
+            free(place, len, mtu)?;
+        }
+        let (digest, _rest) = read_digest(digest, edition)?;
+        Ok((digest, mtu))
+    }
+
     /// Whether a fenced or guarded table answers Fenced. Where the delta is from the future step 1 comes first, and the original rejects it.
     fn fences(&self, node: &NodeState, delta: &NodeDelta) -> bool {
         let (own_max, own_last_gc) = (node.max_version(), node.last_gc_version());
@@ -492,6 +558,16 @@ impl Hub {
             Call::Digest { excluded, place, len, edition } => self.write_digest(excluded, *place, *len, *edition),
             Call::Compute { digest, mtu, excluded, ties, place, len, edition } => {
                 self.compute(given(digest), *mtu, excluded, ties, *place, *len, *edition)
+            }
+            Call::Plan { digest, mtu, excluded, nodes, counts, place, len, edition } => {
+                let (digest, mtu) = Hub::plan_asked(given(digest), *mtu, *edition, Some((*place, *len)))?;
+                let sent = self.plan(&digest, mtu, excluded, nodes, counts)?.map_err(|_| Answer::Refused(23))?;
+                Ok(Answer::DeltaWritten { ops: sent.len(), bytes: sent.concat() })
+            }
+            Call::PlanFault { digest, mtu, excluded, nodes, counts, edition } => {
+                let (digest, mtu) = Hub::plan_asked(given(digest), *mtu, *edition, None)?;
+                self.plan(&digest, mtu, excluded, nodes, counts)?.map_err(|(line, why)| Answer::AtFault { line, why })?;
+                Ok(Answer::Done)
             }
             Call::Apply { bytes, now, places } => self.apply(given(bytes), *now, *places),
             _ => unreachable!("answered without a table"),

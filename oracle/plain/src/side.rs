@@ -1,5 +1,7 @@
 //! The calls of a script, with document 01's order of refusals.
 
+use std::collections::BTreeMap;
+
 use script::{Answer, Bytes, Call, DigestEntry, Side};
 
 use crate::local::{Refused, Scheduled, Unread};
@@ -87,6 +89,55 @@ fn compute_delta(
     Ok(Answer::DeltaWritten { ops, bytes })
 }
 
+/// 7 and what the digest says; `free` asks 8 between them.
+fn plan_asked(
+    digest: &[u8],
+    mtu: u64,
+    edition: u64,
+    free: impl FnOnce(usize) -> Result<(), Answer>,
+) -> Result<(BTreeMap<u64, digest::Entry>, usize), Answer> {
+    let edition = edition_of(edition)?;
+    if mtu < 100 || mtu > 16_384 {
+        return Err(Answer::Refused(7));
+    }
+    let mtu = mtu as usize;
+    free(mtu)?;
+    let (digest, _rest) = digest::read(digest, edition).map_err(unread)?;
+    Ok((digest, mtu))
+}
+
+fn compute_plan(
+    table: &Table,
+    digest: &[u8],
+    mtu: u64,
+    excluded: &[u64],
+    (nodes, counts): (&[u64], &[u64]),
+    place: u64,
+    len: usize,
+    edition: u64,
+) -> Result<Answer, Answer> {
+    let (digest, mtu) = plan_asked(digest, mtu, edition, |mtu| room(place, len, mtu).map(|_| ()))?;
+    match compute::plan(table, &digest, mtu, excluded, nodes, counts) {
+        Ok((ops, bytes)) => Ok(Answer::DeltaWritten { ops, bytes }),
+        Err(_) => Err(Answer::Refused(23)),
+    }
+}
+
+fn plan_fault(
+    table: &Table,
+    digest: &[u8],
+    mtu: u64,
+    excluded: &[u64],
+    (nodes, counts): (&[u64], &[u64]),
+    edition: u64,
+) -> Result<Answer, Answer> {
+    let (digest, mtu) = plan_asked(digest, mtu, edition, |_| Ok(()))?;
+    match compute::plan(table, &digest, mtu, excluded, nodes, counts) {
+        Ok(_) => Ok(Answer::Done),
+        Err((line, wrong)) => Err(Answer::AtFault { line, why: wrong as u8 }),
+    }
+}
+
 fn apply_delta(table: &mut Table, bytes: &[u8], now: u64, places: u64) -> Result<Answer, Answer> {
     let delta = read_delta(bytes)?;
     if delta.nodes.len() as u64 > places {
@@ -128,6 +179,12 @@ fn answer_good(table: &mut Table, call: &Call) -> Result<Answer, Answer> {
         Call::Digest { excluded, place, len, edition } => write_digest(table, excluded, *place, *len, *edition),
         Call::Compute { digest, mtu, excluded, ties, place, len, edition } => {
             compute_delta(table, given(digest), *mtu, excluded, ties, *place, *len, *edition)
+        }
+        Call::Plan { digest, mtu, excluded, nodes, counts, place, len, edition } => {
+            compute_plan(table, given(digest), *mtu, excluded, (nodes, counts), *place, *len, *edition)
+        }
+        Call::PlanFault { digest, mtu, excluded, nodes, counts, edition } => {
+            plan_fault(table, given(digest), *mtu, excluded, (nodes, counts), *edition)
         }
         Call::Apply { bytes, now, places } => apply_delta(table, given(bytes), *now, *places),
         _ => unreachable!("answered without a table"),

@@ -62,6 +62,11 @@ pub enum Answer {
         nodes: usize,
         bytes: usize,
     },
+    /// Number 23: the first line of the plan that is at fault, and the number of its fault.
+    AtFault {
+        line: usize,
+        why: u8,
+    },
     Applied(Vec<Verdict>),
     Table(Vec<u8>),
     /// The original cannot be asked: the text is no UTF-8.
@@ -121,6 +126,7 @@ impl Display for Answer {
             Answer::DigestWritten { datagram, .. } => write!(f, "bytes {}", hex(datagram)),
             Answer::DeltaWritten { ops, bytes } => write!(f, "ops={ops} bytes={} {}", bytes.len(), hex(bytes)),
             Answer::DeltaRead { ops, nodes, bytes } => write!(f, "ops={ops} nodes={nodes} bytes={bytes}"),
+            Answer::AtFault { line, why } => write!(f, "refused 23 line={line} why={why}"),
             Answer::Applied(verdicts) => {
                 f.write_str("answers ")?;
                 list(f, verdicts, |f, verdict| write!(f, "{verdict}"))

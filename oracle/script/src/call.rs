@@ -32,6 +32,10 @@ pub enum Call {
     ReadDigest { bytes: Bytes, edition: u64 },
     ReadDelta { bytes: Bytes },
     Compute { digest: Bytes, mtu: u64, excluded: Vec<u64>, ties: Vec<u64>, place: u64, len: usize, edition: u64 },
+    /// Computing by a plan: node numbers, and how many stale records of each.
+    Plan { digest: Bytes, mtu: u64, excluded: Vec<u64>, nodes: Vec<u64>, counts: Vec<u64>, place: u64, len: usize, edition: u64 },
+    /// The first line of a plan that is at fault.
+    PlanFault { digest: Bytes, mtu: u64, excluded: Vec<u64>, nodes: Vec<u64>, counts: Vec<u64>, edition: u64 },
     Apply { bytes: Bytes, now: u64, places: u64 },
     Table { bytes: Bytes },
     Dump,
@@ -142,6 +146,24 @@ impl Call {
                 len: w.size()?,
                 edition: w.number()?,
             },
+            "plan" => Call::Plan {
+                digest: w.bytes()?,
+                mtu: w.number()?,
+                excluded: w.numbers()?,
+                nodes: w.numbers()?,
+                counts: w.numbers()?,
+                place: w.number()?,
+                len: w.size()?,
+                edition: w.number()?,
+            },
+            "planfault" => Call::PlanFault {
+                digest: w.bytes()?,
+                mtu: w.number()?,
+                excluded: w.numbers()?,
+                nodes: w.numbers()?,
+                counts: w.numbers()?,
+                edition: w.number()?,
+            },
             "apply" => Call::Apply { bytes: w.bytes()?, now: w.number()?, places: w.number()? },
             "table" => Call::Table { bytes: w.bytes()? },
             "dump" => Call::Dump,
@@ -166,6 +188,17 @@ mod tests {
                 ties: vec![5, 6],
                 place: 0,
                 len: 200,
+                edition: 1
+            })
+        );
+        assert_eq!(
+            Call::parse("planfault x 100 9 2,1 0 1"),
+            Some(Call::PlanFault {
+                digest: Bytes::Given(vec![]),
+                mtu: 100,
+                excluded: vec![9],
+                nodes: vec![2, 1],
+                counts: vec![0],
                 edition: 1
             })
         );
