@@ -478,7 +478,7 @@ computes =
     and no-more
 
 plans : AllShown calls.ComputePlan (0 ∷ 14 ∷ 20 ∷ 7 ∷ 8 ∷ 9 ∷ 13 ∷ 23 ∷ [])
-unfolding calls.leaves computedTold computePlan accepts deltaBy linesFit planOps differ deltaBytes flat readDigest readEntries natOf unblock tellAll zeros
+unfolding calls.leaves computedTold computePlan accepts deltaBy linesFit planOps differ among deltaBytes flat readDigest readEntries natOf unblock tellAll zeros
 plans =
     (calls.compute-plan (lent []) 0 (0 ∷ 0 ∷ []) [] [] [] (zeros 100) 100 0, from-good (λ (a : Given Computed Bytes). computedTold (a .answer) .number) (given (computed.Refused BadTable) (zeros 100)) (λ t. computePlan 0 [] [] [] 100 0 (0 ∷ 0 ∷ []) t (zeros 100)) [] none-obeys 0 refl)
     and (calls.compute-plan [] 0 [] [] [] [] [] 100 0, from-bad (λ (a : Given Computed Bytes). computedTold (a .answer) .number) (given (computed.Refused BadTable) []) (λ t. computePlan 0 [] [] [] 100 0 [] t []) 14 refl)

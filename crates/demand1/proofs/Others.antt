@@ -74,8 +74,8 @@ use Rattle.listing_make.specs.Make.{lentMake, madeTold}
 use Rattle.listing_make.proofs.Numbers.{made-numbers}
 use Rattle.answers.specs.Shown.{entryTold, placeTold}
 use Rattle.demand1.specs.Calls as calls
-use Rattle.plan.proofs.Judging.{said-number}
-use Rattle.plan.specs.Faults.{judgeOn, judgePlan, judgedTold}
+use Rattle.plan.proofs.Judging.{isAccepted, said-number}
+use Rattle.plan.specs.Faults.{judge, judgeOn, judgePlan, judgedTold}
 use Rattle.plan.specs.Plan.{accepts, computePlan, deltaBy, planOn}
 use Rattle.plan.specs.declared.Judged.{Judged}
 use Rattle.plan.specs.declared.Judged.the-variants as judged
@@ -521,7 +521,7 @@ judges edition excluded nodes counts mtu told l =
     read : (t : Table) → Of calls.PlanFault (judgedTold (judgeOn excluded nodes counts mtu (digest.readDigest edition told) t))
     read t =
         digest-comes (λ x. Of calls.PlanFault (judgedTold (judgeOn excluded nodes counts mtu x t))) refl (λ n. refl) refl
-        (λ ds rest. by _ _ (said-number excluded nodes counts mtu ds t)) edition told
+        (λ ds rest. by (judgedTold (judge excluded nodes counts mtu ds t) .number) (isAccepted (judge excluded nodes counts mtu ds t)) (said-number excluded nodes counts mtu ds t)) edition told
 
     go : (t : Table) (a b : Bool) → Of calls.PlanFault (judgedTold (pick a (pick b (judgeOn excluded nodes counts mtu (digest.readDigest edition told) t) (judged.Refused BadMtu)) (judged.Refused BadEdition)))
     go t false b = refl

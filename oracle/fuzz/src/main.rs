@@ -128,6 +128,7 @@ fn kind(answer: &Answer) -> String {
     match answer {
         Answer::Refused(number) | Answer::RefusedAt(number, _) => format!("refused{number:02}"),
         Answer::Cut { .. } => "refused09".into(),
+        Answer::AtFault { .. } => "refused23".into(),
         Answer::Applied(_) => "applied".into(),
         Answer::DeltaWritten { .. } => "delta-written".into(),
         Answer::DeltaRead { .. } => "delta-read".into(),
