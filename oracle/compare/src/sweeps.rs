@@ -283,6 +283,21 @@ fn plans() -> Vec<String> {
             }
         }
     }
+    lines.extend(plans_of_eight());
+    lines
+}
+
+/// A line for each of eight nodes, and one or two behind them in either list.
+fn plans_of_eight() -> Vec<String> {
+    let mut lines = vec!["new".to_string()];
+    for number in 1..=8 {
+        lines.extend([format!("add {number}"), format!("write {number} x61 x31 0 9")]);
+    }
+    for nodes in ["", ",8", ",9", ",1,2"] {
+        for counts in ["", ",0", ",1", ",1,1"] {
+            lines.extend(plan("x0000", 328, "-", &format!("1,2,3,4,5,6,7,8{nodes}"), &format!("1,1,1,1,1,1,1,1{counts}"), 0));
+        }
+    }
     lines
 }
 
