@@ -21,10 +21,9 @@ const DIGEST: usize = 258;
 
 const DELTA: usize = rules::sizes::LONGEST_DELTA;
 
-// The calls that write a delta: by a plan, or in document 01's order.
-fn delta_call(
+// The two calls that write a delta.
+fn plan_call(
     desk: Desk,
-    verb: usize,
     table: &[u8],
     delta: &mut [u8],
     bytes: &[u8],
@@ -35,10 +34,25 @@ fn delta_call(
         at: desk.out,
         len: desk.delta,
     };
-    let kept = match verb {
-        verbs::PLAN => replay_peers::plan(table, bytes, line, delta, held, out),
-        _ => replay_peers::compute(table, bytes, line, delta, held, out),
+    let kept = replay_peers::plan(table, bytes, line, delta, held, out);
+    let mut after = desk.with_out(kept.at);
+    after.delta = kept.len;
+    after
+}
+
+fn compute_call(
+    desk: Desk,
+    table: &[u8],
+    delta: &mut [u8],
+    bytes: &[u8],
+    line: &[u8],
+    out: &mut [u8],
+) -> Desk {
+    let held = Kept {
+        at: desk.out,
+        len: desk.delta,
     };
+    let kept = replay_peers::compute(table, bytes, line, delta, held, out);
     let mut after = desk.with_out(kept.at);
     after.delta = kept.len;
     after
@@ -60,7 +74,8 @@ fn bytes_call(
         verbs::READ_DELTA => desk.with_out(replay_peers::read_delta(bytes, out, at)),
         verbs::APPLY => desk.with_out(replay_peers::apply(table, bytes, line, out, at)),
         verbs::PLAN_FAULT => desk.with_out(replay_peers::plan_fault(table, bytes, line, out, at)),
-        _ => delta_call(desk, verb, table, delta, bytes, line, out),
+        verbs::PLAN => plan_call(desk, table, delta, bytes, line, out),
+        _ => compute_call(desk, table, delta, bytes, line, out),
     }
 }
 
