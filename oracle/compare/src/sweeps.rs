@@ -6,7 +6,7 @@ use script::table::{self, Node, RECORDS, Record, SET};
 use crate::damage::texts_are_utf8;
 use crate::pieces::{Op, delta, digest};
 
-const SWEEPS: [(&str, fn() -> Vec<String>); 19] = [
+const SWEEPS: [(&str, fn() -> Vec<String>); 20] = [
     ("bench", bench),
     ("writes", writes),
     ("wanted", wanted),
@@ -19,6 +19,7 @@ const SWEEPS: [(&str, fn() -> Vec<String>); 19] = [
     ("cuts", cuts),
     ("brim", brim),
     ("plans", plans),
+    ("plan-numbers", plan_numbers),
     ("plan-cuts", plan_cuts),
     ("plan-brim", plan_brim),
     ("exchanges", exchanges),
@@ -296,6 +297,27 @@ fn plans_of_eight() -> Vec<String> {
     for nodes in ["", ",8", ",9", ",1,2"] {
         for counts in ["", ",0", ",1", ",1,1"] {
             lines.extend(plan("x0000", 328, "-", &format!("1,2,3,4,5,6,7,8{nodes}"), &format!("1,1,1,1,1,1,1,1{counts}"), 0));
+        }
+    }
+    lines
+}
+
+/// Every choice of the things that a plan can be refused for: which one is told?
+fn plan_numbers() -> Vec<String> {
+    let mut lines = Vec::new();
+    for table in ["new", "table x"] {
+        lines.extend(["new", "add 1", "write 1 x61 x31 0 9"].map(String::from));
+        if table != "new" {
+            lines.push(table.to_string());
+        }
+        for (edition, mtu, len) in [0, 1, 2].into_iter().flat_map(|edition| [99, 100, 16_385].map(|mtu| (edition, mtu, mtu))) {
+            for digest in [digest(edition, &[]), digest(edition, &[[1, 0, 0, 1]])[..31].to_vec(), digest(edition, &[[1, 0, 0, 0]; 9])] {
+                for (counts, short) in ["1", "2", "-"].into_iter().flat_map(|counts| [0, 1].map(|short| (counts, short))) {
+                    let asked = format!("{} {mtu} - 1 {counts}", hex(&digest));
+                    lines.push(format!("planfault {asked} {edition}"));
+                    lines.push(format!("plan {asked} 0 {} {edition}", len - short));
+                }
+            }
         }
     }
     lines

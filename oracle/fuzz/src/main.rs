@@ -22,6 +22,8 @@ mod maker;
 #[allow(dead_code)]
 #[path = "../../compare/src/pieces.rs"]
 mod pieces;
+#[path = "../../compare/src/plans.rs"]
+mod plans;
 mod port;
 #[allow(dead_code)]
 #[path = "../../compare/src/random.rs"]
