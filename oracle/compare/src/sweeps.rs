@@ -288,7 +288,7 @@ fn plans() -> Vec<String> {
     lines
 }
 
-/// A line for each of eight nodes, and one or two behind them in either list.
+/// A line for each of eight nodes, and one or two behind them in either list; and one line, with its node excluded, held or not.
 fn plans_of_eight() -> Vec<String> {
     let mut lines = vec!["new".to_string()];
     for number in 1..=8 {
@@ -299,6 +299,7 @@ fn plans_of_eight() -> Vec<String> {
             lines.extend(plan("x0000", 328, "-", &format!("1,2,3,4,5,6,7,8{nodes}"), &format!("1,1,1,1,1,1,1,1{counts}"), 0));
         }
     }
+    lines.extend(["8", "9"].into_iter().flat_map(|number| plan("x0000", 100, "9,8", number, "1", 0)));
     lines
 }
 
