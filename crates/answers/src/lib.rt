@@ -32,7 +32,8 @@ ghost use Rattle.exchange.specs.Exchanging.{exchangedTold, stepCode};
 ghost use Rattle.listing_make.specs.Make.{madeTold};
 ghost use Rattle.plan.specs.Faults.{judgedTold};
 ghost use Rattle.answers.specs.Shown.{numberShown, countShown, nodeShown, heartbeatShown, foundShown, headerShown, recordShown, rowsShown, noRecord};
-ghost use Rattle.answers.specs.Shown.{digestShown, entryTold, entryShown, computedShown, judgedShown, deltaShown, appliedShown, exchangedShown, madeShown};
+ghost use Rattle.answers.specs.Shown.{digestShown, entryTold, entryShown, computedShown, judgedShown};
+ghost use Rattle.answers.specs.Shown.{deltaShown, appliedShown, exchangedShown, madeShown};
 
 // A count: of nodes, records, hits or bytes; of an offer, 1 where it was news.
 #[repr(C)]

@@ -1,8 +1,8 @@
 -- Computing by a plan, case by case: refused by its numbers, by the digest, by a line at fault, or done. Assumes nothing.
 use Prim.Native.Nat.{ℕ, suc, _+_, _-_, _≤_}
-use mathlib.Core.Bool.{Bool, _&&_, false, false≢true, true}
+use mathlib.Core.Bool.{Bool, false, false≢true, true}
 use mathlib.Core.List.{List, [], _∷_}
-use mathlib.Core.Path.{_∙_, _≡_, ap, refl, subst, sym}
+use mathlib.Core.Path.{_∙_, _≡_, ap, refl, sym}
 use native.Mathlib.Nat.{add-zero, zero-add}
 use native.Mathlib.Omega.{arith}
 use lib.Dec.{leb}
@@ -15,7 +15,7 @@ use Rattle.fields.proofs.Parts.{length-part}
 use Rattle.fields.specs.Choice.{pick}
 use Rattle.fields.specs.Numbers.{Bytes}
 use Rattle.fields.specs.Parts.{put}
-use Rattle.rules.specs.Compute.{StaleNode, written}
+use Rattle.rules.specs.Compute.{StaleNode}
 use Rattle.rules.specs.Delta.{Op, deltaBytes}
 use Rattle.rules.specs.Digest.{DigestRead, Entries, NodeDigest, Refused, fitsAt, isEdition, readDigest}
 use Rattle.rules.specs.Given.{Given, Gives, given}
@@ -28,7 +28,7 @@ use Rattle.rules.specs.declared.Refusal.{Refusal}
 use Rattle.rules.specs.declared.Refusal.the-variants.{BadEdition, BadMtu, BadPlan, BadTable, NoPlace}
 use Rattle.compute.specs.Asking.{mtuFits}
 use Rattle.compute.specs.Lined.{atFront}
-use Rattle.compute_write.proofs.Steps.{gives, gives-as}
+use Rattle.compute_write.proofs.Steps.{gives}
 use Rattle.compute_write.specs.declared.Sent.{Sent}
 use Rattle.plan.proofs.Judging.{isAccepted, judged-accepts}
 use Rattle.plan.specs.Faults.{judge, judgeFor, judgeOn, judgePlan, lentJudge}

@@ -1,11 +1,11 @@
 -- Evidence, and no part of a promise: small plans, each telling the right rule from a wrong one. In each row stands what the rules give, and what document 02
 -- says. That every row holds is one statement, `all-hold`.
 -- Assumes nothing.
-use Prim.Native.Nat.{ℕ, _-_}
+use Prim.Native.Nat.{ℕ}
 use mathlib.Core.Bool.{Bool, false, true}
-use mathlib.Core.List.{List, [], _++_, _∷_}
+use mathlib.Core.List.{List, [], _∷_}
 use mathlib.Core.Path.{_≡_, refl}
-use lib.ListN.{length, replicate}
+use lib.ListN.{replicate}
 use Rattle.fields.specs.Blocks.{flat}
 use Rattle.fields.specs.Choice.{all}
 use Rattle.fields.specs.Numbers.{Bytes, bytesOf, natOf}
@@ -14,7 +14,7 @@ use Rattle.rules.specs.Answers.{computedTold}
 use Rattle.rules.specs.Compute.{byVersion, fromOf, keyValueOps, stale, staleNodes, toldOf}
 use Rattle.rules.specs.Delta.{KeyValueOp, NodeOp, Op, SetMaxVersionOp, deltaBytes, opBytes, sizeOf, textBytes}
 use Rattle.rules.specs.Digest.{NodeDigest, readDigest, readEntries, tellAll}
-use Rattle.rules.specs.Node.{KeyValue, Node, Rec, beats}
+use Rattle.rules.specs.Node.{Rec, beats}
 use Rattle.rules.specs.Table.{Entry, Table, among, differ, nodeOf}
 use Rattle.rules.specs.declared.Status.the-variants.{Set}
 use Rattle.plan.specs.Faults.{judge, judgeFrom, judgedTold}
@@ -31,10 +31,6 @@ unfoldable pub holds : Case → Bool
 holds c = sameBytes (c .rules) (c .paper)
 
 -- ---- what the rows are made of
-
--- a record of this version, whose key is one byte and whose value has so many
-abbrev rec : ℕ → ℕ → Rec
-rec v n = record { kv = record { key = v ∷ []; value = replicate n 118; version = v; status = Set }; start = 0 }
 
 abbrev entry : ℕ → ℕ → ℕ → List Rec → Entry
 entry i g m rs = record { number = i; node = record { heartbeat = beats 0; max = m; last-gc = g; recs = rs } }

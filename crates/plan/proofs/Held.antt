@@ -6,14 +6,14 @@ use mathlib.Core.Option.{Option, none, some}
 use mathlib.Core.Path.{_∙_, _≡_, ap, refl, sym}
 use native.Mathlib.Omega.{arith}
 use lib.Dec.{eqb, ltb}
-use borrow.Author.Tests.{eqb-true, ne-eqb}
-use Rattle.fields.specs.Choice.{_∈_, here, later, pick}
+use borrow.Author.Tests.{eqb-true}
+use Rattle.fields.specs.Choice.{_∈_, pick}
 use Rattle.rules.proofs.Calls.{node-in}
 use Rattle.rules.proofs.Obeys.{Ascending, number-in}
 use Rattle.rules.specs.Compute.{StaleNode, staleNode, staleNodes, toldOf}
 use Rattle.rules.specs.Digest.{NodeDigest}
 use Rattle.rules.specs.Node.{Node}
-use Rattle.rules.specs.Table.{Entry, Table, among, nodeOf, numbersOf}
+use Rattle.rules.specs.Table.{Table, among, nodeOf, numbersOf}
 use Rattle.plan.specs.Faults.{staleHeld}
 use Rattle.plan.specs.Plan.{named, staleFor}
 

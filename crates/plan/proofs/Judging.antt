@@ -15,7 +15,7 @@ use Rattle.fields.specs.Numbers.{Bytes}
 use Rattle.rules.proofs.Obeys.{Ascending, table-facts}
 use Rattle.rules.specs.Answers.{computedTold}
 use Rattle.rules.specs.Compute.{StaleNode, staleOf, toldOf, written}
-use Rattle.rules.specs.Delta.{Op, deltaBytes, opBytes}
+use Rattle.rules.specs.Delta.{Op, deltaBytes}
 use Rattle.rules.specs.Digest.{DigestRead, Entries, NodeDigest, Refused, fitsAt, isEdition, readDigest}
 use Rattle.rules.specs.Given.{given}
 use Rattle.rules.specs.Node.{KeyValue, Node}
@@ -25,7 +25,7 @@ use Rattle.rules.specs.declared.Computed.the-variants as computed
 use Rattle.rules.specs.declared.Refusal.the-variants.{BadEdition, BadMtu, BadPlan, NoPlace}
 use Rattle.plan.proofs.Held.{named-held, sendable, staleIf}
 use Rattle.plan.specs.declared.Fault.{Fault}
-use Rattle.plan.specs.declared.Fault.the-variants.{Alone, Excluded, NamedBefore, NoFit, NotHeld, TooFew, TooMany, UpToDate}
+use Rattle.plan.specs.declared.Fault.the-variants.{Excluded, NamedBefore, NoFit, TooFew, TooMany, UpToDate}
 use Rattle.plan.specs.declared.Judged.{Judged}
 use Rattle.plan.specs.declared.Judged.the-variants as judged
 use Rattle.plan.specs.Faults.{countFault, judge, judgeFrom, judgeOn, judgePlan, judgedTold, lineFault, lineSize, orElse, sizeOfLine, staleHeld}

@@ -1,6 +1,6 @@
 -- The first line of a plan that is at fault, and why. Lines are counted from 0. That there is none exactly where the plan is accepted is proved (proofs/Judging).
 use Prim.Native.Nat.{ℕ, suc, _-_}
-use mathlib.Core.Bool.{Bool, _&&_}
+use mathlib.Core.Bool.{_&&_}
 use mathlib.Core.List.{List, [], _∷_, _++_}
 use mathlib.Core.Option.{Option, none, some}
 use lib.ListN.{length}
@@ -12,7 +12,7 @@ use Rattle.rules.specs.Sizes.{leastMtu, maxDelta}
 use Rattle.rules.specs.Node.{Node, KeyValue}
 use Rattle.rules.specs.Table.{Table, among, nodeOf}
 use Rattle.rules.specs.Digest.{NodeDigest, DigestRead, Entries, Refused, isEdition, readDigest}
-use Rattle.rules.specs.Delta.{Op, deltaBytes}
+use Rattle.rules.specs.Delta.{deltaBytes}
 use Rattle.rules.specs.Compute.{StaleNode, toldOf, staleNode, staleOf}
 use Rattle.rules.specs.Lent.{fromTable}
 use Rattle.rules.specs.declared.Refusal.the-variants.{BadMtu, BadTable, BadEdition, BadPlan}

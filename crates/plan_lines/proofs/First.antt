@@ -1,23 +1,21 @@
 -- The first of some places in their order, one after the other; the bytes of the records at them. Assumes nothing.
-use Prim.Native.Nat.{ℕ, suc, _+_, _*_, _-_, _≤_, _<_}
+use Prim.Native.Nat.{ℕ, suc, _+_, _-_, _≤_, _<_}
 use mathlib.Core.Bool.{Bool, false, true}
-use mathlib.Core.List.{List, [], _∷_, _++_, map}
+use mathlib.Core.List.{List, [], _∷_}
 use mathlib.Core.Path.{_∙_, _≡_, ap, refl, subst, sym}
 use native.Mathlib.Omega.{arith}
 use lib.Dec.{ltb}
-use lib.ListN.{getD, length, length-append, length-map, take}
+use lib.ListN.{getD, length, length-append, take}
 use lib.Seq.{length-take-le, take-all}
 use borrow.Author.Tests.{ltb-false, ltb-true}
-use Rattle.fields.proofs.Choice.{in-at, in-take}
+use Rattle.fields.proofs.Choice.{in-at}
 use Rattle.fields.specs.Blocks.{flat}
-use Rattle.fields.specs.Choice.{_∈_, pick}
+use Rattle.fields.specs.Choice.{pick}
 use Rattle.fields.specs.Numbers.{Bytes}
-use Rattle.rules.proofs.Sending.{recordSize, size-max, size-node, size-record}
-use Rattle.rules.specs.Compute.{bodyOps, keyValueOps, stale}
-use Rattle.rules.specs.Delta.{KeyValueOp, NodeOp, Op, SetMaxVersionOp, deltaBytes, sizeOf}
+use Rattle.rules.proofs.Sending.{size-max, size-node, size-record}
+use Rattle.rules.specs.Compute.{keyValueOps}
+use Rattle.rules.specs.Delta.{KeyValueOp, Op, SetMaxVersionOp, deltaBytes, sizeOf}
 use Rattle.rules.specs.Layout.{decode, decodeRec}
-use Rattle.rules.specs.Node.{KeyValue, Rec}
-use Rattle.rules.specs.Sizes.{maxRecords}
 use Rattle.rules.specs.Table.{Table}
 use Rattle.table.proofs.Tables.{length-decode}
 use Rattle.table.specs.Changes.{freshEntry}
@@ -27,7 +25,7 @@ use Rattle.table_read.specs.Find.{entryAt}
 use Rattle.compute_stale.proofs.Arranged.{length-span, listed-first}
 use Rattle.compute_stale.specs.Arranged.{listed}
 use Rattle.compute_write.specs.Sending.{nodeOpAt, recordAt}
-use Rattle.plan_lines.specs.Lines.{lineAt, opsAt, recordsAt, taken}
+use Rattle.plan_lines.specs.Lines.{opsAt, recordsAt, taken}
 
 -- ---- places
 

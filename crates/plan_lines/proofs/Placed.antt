@@ -1,21 +1,20 @@
 -- A line of a plan, case by case, once its node was found at a place of the table. Assumes nothing.
 use Prim.Native.Nat.{ℕ, zero, suc, _+_, _≤_, _<_}
-use mathlib.Core.Bool.{Bool, _&&_, false, not, true}
+use mathlib.Core.Bool.{Bool, _&&_, false, true}
 use mathlib.Core.List.{List, [], _∷_, map}
 use mathlib.Core.Option.{Option, none, some}
-use mathlib.Core.Path.{_∙_, _≡_, ap, refl, subst, sym}
+use mathlib.Core.Path.{_∙_, _≡_, ap, refl, sym}
 use native.Mathlib.Omega.{arith}
 use lib.Dec.{eqb, leb, ltb}
 use lib.ListN.{getD, length, length-map, take}
-use borrow.Author.Tests.{eq-eqb, eqb-true, le-ltb, leb-true, lt-ltb, lt-leb, le-leb, ltb-true, ltb-false, ne-eqb}
-use Rattle.fields.proofs.Choice.{and-left, and-right}
+use borrow.Author.Tests.{eq-eqb, eqb-true, le-ltb, lt-ltb, lt-leb, le-leb, ltb-true, ltb-false}
 use Rattle.fields.specs.Choice.{pick}
 use Rattle.fields.specs.Numbers.{Bytes}
 use Rattle.fields.specs.declared.Order.{Order}
 use Rattle.fields.specs.declared.Order.the-variants.{Less, More, Same}
 use Rattle.rules.proofs.Obeys.{table-facts}
-use Rattle.rules.specs.Compute.{bodyOps, fromFor, keyValueOps, stale, staleOf, toldOf}
-use Rattle.rules.specs.Delta.{Op, deltaBytes}
+use Rattle.rules.specs.Compute.{bodyOps, stale, staleOf, toldOf}
+use Rattle.rules.specs.Delta.{deltaBytes}
 use Rattle.rules.specs.Digest.{NodeDigest}
 use Rattle.rules.specs.Layout.{decode, decodeRec, valid}
 use Rattle.rules.specs.Node.{KeyValue, Node, Rec}
@@ -25,7 +24,7 @@ use Rattle.table.proofs.Places.{length-recs, nodeBytes}
 use Rattle.table.proofs.Tables.{valid-obeys}
 use Rattle.table.specs.Changes.{freshEntry}
 use Rattle.table.specs.Fits.{LaidTable}
-use Rattle.table.specs.Tests.{nodesOf, recsIn}
+use Rattle.table.specs.Tests.{nodesOf}
 use Rattle.table_read.proofs.Located.{count-low, entry-at, recs-are}
 use Rattle.table_read.proofs.Searched.{node-found, node-in, node-missing}
 use Rattle.table_read.specs.Find.{entryAt, findBy, findNode, further, numberOrder, seek, toNode}
@@ -42,7 +41,6 @@ use Rattle.compute.specs.Lined.{fromAt}
 use Rattle.plan.proofs.Held.{named-held, sendable, staleIf}
 use Rattle.plan.specs.Faults.{countFault, lineFault, lineSize, sizeOfLine, staleHeld}
 use Rattle.plan.specs.Plan.{lineOps, named, staleFor}
-use Rattle.plan.specs.declared.Fault.{Fault}
 use Rattle.plan.specs.declared.Fault.the-variants.{Excluded, NamedBefore, NoFit, NotHeld, TooFew, TooMany, UpToDate}
 use Rattle.plan_lines.specs.Lines.{asLine, lineAt, opsAt}
 use Rattle.plan_lines.specs.declared.Line.{Line}

@@ -1,6 +1,5 @@
 -- Operations that fit are written whole; and some behind others, into the part of the datagram that is left. Assumes nothing.
 use Prim.Native.Nat.{ℕ, _+_, _-_, _≤_}
-use mathlib.Core.Bool.{true}
 use mathlib.Core.List.{List, [], _∷_, _++_}
 use mathlib.Core.Path.{_∙_, _≡_, ap, refl, subst, sym}
 use native.Mathlib.Nat.{add-assoc, add-zero, sub-zero, zero-add}
@@ -8,7 +7,6 @@ use native.Mathlib.Omega.{arith}
 use lib.Dec.{leb}
 use lib.ListN.{drop, length, length-append, length-drop, take, take-append-drop}
 use borrow.Author.Tests.{le-leb}
-use borrow.Rule.Slice.PartMut.{putMid}
 use Rattle.fields.proofs.Choice.{pick-true}
 use Rattle.fields.proofs.Lent.{lent-rest, seen-rest}
 use Rattle.fields.proofs.Parts.{length-put, put-behind, put-nil, put-rest}
@@ -18,7 +16,7 @@ use Rattle.fields.specs.Parts.{put}
 use Rattle.rules.proofs.Accepted.{cut-bytes}
 use Rattle.rules.specs.Compute.{cut}
 use Rattle.rules.specs.Delta.{KeyValueOp, NodeOp, Op, SetMaxVersionOp, deltaBytes, opBytes, sizeOf}
-use Rattle.rules.specs.Given.{Given, Gives, given}
+use Rattle.rules.specs.Given.{Gives, given}
 use Rattle.plan.proofs.Judging.{bytes-append}
 use Rattle.compute.specs.Lined.{atFront}
 use Rattle.compute_write.proofs.Steps.{Reached, Writing, back, gives, lent, outcome, writing}

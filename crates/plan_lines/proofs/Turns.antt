@@ -2,13 +2,12 @@
 use Prim.Native.Nat.{ℕ, suc, _+_, _-_, _≤_, _<_}
 use mathlib.Core.List.{List, [], _∷_, _++_}
 use mathlib.Core.Option.{Option, none, some}
-use mathlib.Core.Path.{_∙_, _≡_, ap, refl, subst, sym}
+use mathlib.Core.Path.{_∙_, _≡_, ap, refl, sym}
 use native.Mathlib.Numerals.{add-one}
 use native.Mathlib.Omega.{arith}
 use lib.ListN.{drop, drop-of-length-le, getD, length, take}
 use lib.Seq.{drop-cons, take-suc}
 use Rattle.rules.specs.Compute.{StaleNode}
-use Rattle.rules.specs.Delta.{Op}
 use Rattle.rules.specs.Digest.{NodeDigest}
 use Rattle.rules.specs.Table.{Table, nodeOf}
 use Rattle.plan.proofs.Judging.{fault-fits}

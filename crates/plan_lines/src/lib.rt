@@ -69,7 +69,8 @@ fn size_of(table: &[u8], p: usize, from: u64, at: &[usize], n: usize, count: usi
 fn weigh(table: &[u8], p: usize, from: u64, count: u64, left: usize) -> Line
     requires { ⌜ LaidTable (now table) × (p < nodesOf (now table)) ⌝ }
     ensures { λ r. ⌜ r ≡ asLine (countFault count (stale from (entryAt (decode (now (table .entry))) p .node .recs))
-        (length (deltaBytes (lineAt (decode (now (table .entry))) p from count))) left) (length (deltaBytes (lineAt (decode (now (table .entry))) p from count))) ⌝ }
+        (length (deltaBytes (lineAt (decode (now (table .entry))) p from count))) left)
+        (length (deltaBytes (lineAt (decode (now (table .entry))) p from count))) ⌝ }
 {
     let stale = compute_stale::stale_places(table::node_of(table, p), from);
     let at = stale.at;
@@ -100,7 +101,8 @@ fn judge_line(
     count: u64,
 ) -> Line
     requires { ⌜ valid (now table) ≡ true ⌝ }
-    ensures { λ r. ⌜ r ≡ asLine (lineFault (now (excluded .entry)) (now (before .entry)) left (entriesIn digest) number count (nodeOf number (decode (now (table .entry)))))
+    ensures { λ r. ⌜ r ≡ asLine (lineFault (now (excluded .entry)) (now (before .entry)) left (entriesIn digest) number count
+        (nodeOf number (decode (now (table .entry)))))
         (lineSize (entriesIn digest) number count (nodeOf number (decode (now (table .entry))))) ⌝ }
 {
     let Place::At(p) = table_read::find_node(table, number) else {

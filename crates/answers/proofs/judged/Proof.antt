@@ -8,11 +8,6 @@ use Rattle.answers.specs.Shown.{judgedShown}
 use borrow.Author.Needs.{needs}
 use Rattle.answers.proofs.judged.Statement.{statement}
 use Rattle.answers.proofs.judged.Tie as tie
-use Rattle.answers.proofs.judged.Reads as reads
-use Rattle.answers.proofs.judged.Lts as lts
-use Rattle.plan.proofs.Fault.code.Reads as code-reads
-use Rattle.rules.proofs.Refusal.need.Reads as need-reads
-use Rattle.rules.proofs.Refusal.number.Reads as number-reads
 
 -- src/lib.rt:474:29
 enum-told : tie.Need-enum-told

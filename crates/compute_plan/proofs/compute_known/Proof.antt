@@ -14,12 +14,6 @@ use Rattle.compute_plan.proofs.Calling.{bad-digest, bad-mtu, by-plan, f
 use borrow.Author.Needs.{needs}
 use Rattle.compute_plan.proofs.compute_known.Statement.{statement}
 use Rattle.compute_plan.proofs.compute_known.Tie as tie
-use Rattle.compute_plan.proofs.compute_known.Reads as reads
-use Rattle.compute_plan.proofs.compute_known.Lts as lts
-use Rattle.compute.proofs.is_free.Reads as is-free-reads
-use Rattle.compute.proofs.mtu_fits.Reads as mtu-fits-reads
-use Rattle.compute_plan.proofs.write_plan.Reads as write-plan-reads
-use Rattle.digest_read.proofs.read_digest.Reads as read-digest-reads
 
 abbrev entry : tie.After-mtu-fits → tie.Start
 entry c = c .before .before .before .before .before .before .before

@@ -8,10 +8,6 @@ use Rattle.compute_plan.proofs.Calling.{bad-table, good-table}
 use borrow.Author.Needs.{needs}
 use Rattle.compute_plan.proofs.compute_plan.Statement.{statement}
 use Rattle.compute_plan.proofs.compute_plan.Tie as tie
-use Rattle.compute_plan.proofs.compute_plan.Reads as reads
-use Rattle.compute_plan.proofs.compute_plan.Lts as lts
-use Rattle.compute_plan.proofs.compute_plan_good.Reads as compute-plan-good-reads
-use Rattle.table_check.proofs.check_table.Reads as check-table-reads
 
 abbrev entry : tie.After-check-table → tie.Start
 entry c = c .before .before .before .before .before .before .before

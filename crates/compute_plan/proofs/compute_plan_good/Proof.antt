@@ -6,10 +6,6 @@ use Rattle.compute_plan.proofs.Calling.{in-edition, no-edition}
 use borrow.Author.Needs.{needs}
 use Rattle.compute_plan.proofs.compute_plan_good.Statement.{statement}
 use Rattle.compute_plan.proofs.compute_plan_good.Tie as tie
-use Rattle.compute_plan.proofs.compute_plan_good.Reads as reads
-use Rattle.compute_plan.proofs.compute_plan_good.Lts as lts
-use Rattle.compute_plan.proofs.compute_known.Reads as compute-known-reads
-use Rattle.rules.proofs.wire.is_edition.Reads as is-edition-reads
 
 abbrev entry : tie.After-is-edition → tie.Start
 entry c = c .before .before .before .before .before .before .before

@@ -1,5 +1,5 @@
 -- `compute_plan::judge_known` meets its contract: 7, the digest's numbers, or what the lines come to. Assumes nothing.
-use mathlib.Core.Path.{_∙_, _≡_, ap, sym}
+use mathlib.Core.Path.{_∙_, ap, sym}
 use Rattle.rules.specs.Digest.{Entries, readDigest}
 use Rattle.rules.specs.Layout.{decode}
 use Rattle.digest_read.proofs.Reading.{read-nodes, read-refused}
@@ -10,11 +10,6 @@ use Rattle.compute_plan.proofs.Calling.{said-digest, said-lines, said-m
 use borrow.Author.Needs.{needs}
 use Rattle.compute_plan.proofs.judge_known.Statement.{statement}
 use Rattle.compute_plan.proofs.judge_known.Tie as tie
-use Rattle.compute_plan.proofs.judge_known.Reads as reads
-use Rattle.compute_plan.proofs.judge_known.Lts as lts
-use Rattle.compute.proofs.mtu_fits.Reads as mtu-fits-reads
-use Rattle.digest_read.proofs.read_digest.Reads as read-digest-reads
-use Rattle.plan_lines.proofs.judge_lines.Reads as judge-lines-reads
 
 abbrev entry : tie.After-mtu-fits → tie.Start
 entry c = c .before .before .before .before .before .before

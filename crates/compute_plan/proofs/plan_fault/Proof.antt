@@ -6,10 +6,6 @@ use Rattle.compute_plan.proofs.Calling.{said-bad-table, said-good-table
 use borrow.Author.Needs.{needs}
 use Rattle.compute_plan.proofs.plan_fault.Statement.{statement}
 use Rattle.compute_plan.proofs.plan_fault.Tie as tie
-use Rattle.compute_plan.proofs.plan_fault.Reads as reads
-use Rattle.compute_plan.proofs.plan_fault.Lts as lts
-use Rattle.compute_plan.proofs.plan_fault_good.Reads as plan-fault-good-reads
-use Rattle.table_check.proofs.check_table.Reads as check-table-reads
 
 abbrev entry : tie.After-check-table → tie.Start
 entry c = c .before .before .before .before .before .before

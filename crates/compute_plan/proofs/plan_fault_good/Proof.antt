@@ -5,10 +5,6 @@ use Rattle.compute_plan.proofs.Calling.{said-in-edition, said-no-editio
 use borrow.Author.Needs.{needs}
 use Rattle.compute_plan.proofs.plan_fault_good.Statement.{statement}
 use Rattle.compute_plan.proofs.plan_fault_good.Tie as tie
-use Rattle.compute_plan.proofs.plan_fault_good.Reads as reads
-use Rattle.compute_plan.proofs.plan_fault_good.Lts as lts
-use Rattle.compute_plan.proofs.judge_known.Reads as judge-known-reads
-use Rattle.rules.proofs.wire.is_edition.Reads as is-edition-reads
 
 abbrev entry : tie.After-is-edition → tie.Start
 entry c = c .before .before .before .before .before .before

@@ -1,23 +1,16 @@
 -- `compute_plan::write_plan` meets its contract: the plan's delta, or 23. Assumes nothing.
-use Prim.Native.Nat.{_≤_}
-use mathlib.Core.Bool.{false, true}
-use mathlib.Core.Path.{_∙_, _≡_, ap, subst, sym}
+use mathlib.Core.Bool.{true}
+use mathlib.Core.Path.{_∙_, _≡_, ap}
 use native.Mathlib.Omega.{arith}
-use lib.ListN.{length}
 use Rattle.rules.specs.Layout.{decode}
 use Rattle.table.proofs.Tables.{valid-obeys}
 use Rattle.digest_read.specs.Held.{entriesIn}
 use Rattle.plan.proofs.Judging.{isAccepted}
 use Rattle.plan.specs.Plan.{accepts}
-use Rattle.plan.specs.declared.Judged.{Judged}
 use Rattle.compute_plan.proofs.Calling.{accepted-is, as-long, not-taken, part-long, taken-whole, within}
 use borrow.Author.Needs.{needs}
 use Rattle.compute_plan.proofs.write_plan.Statement.{statement}
 use Rattle.compute_plan.proofs.write_plan.Tie as tie
-use Rattle.compute_plan.proofs.write_plan.Reads as reads
-use Rattle.compute_plan.proofs.write_plan.Lts as lts
-use Rattle.plan_lines.proofs.judge_lines.Reads as judge-lines-reads
-use Rattle.plan_lines.proofs.write_lines.Reads as write-lines-reads
 
 abbrev entry : tie.After-judge-lines → tie.Start
 entry c = c .before .before .before .before .before .before

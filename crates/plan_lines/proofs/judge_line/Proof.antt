@@ -1,6 +1,5 @@
 -- `plan_lines::judge_line` meets its contract: missing, excluded, named before, up to date, or weighed. Assumes nothing.
-use Prim.Native.Nat.{_<_}
-use mathlib.Core.Bool.{false, true}
+use mathlib.Core.Bool.{false}
 use mathlib.Core.List.{[]}
 use mathlib.Core.Path.{_∙_, _≡_, sym}
 use Rattle.rules.specs.Layout.{decode}
@@ -14,12 +13,6 @@ use Rattle.plan_lines.proofs.Placed.{found-in, is-left-out, is-level, i
 use borrow.Author.Needs.{needs}
 use Rattle.plan_lines.proofs.judge_line.Statement.{statement}
 use Rattle.plan_lines.proofs.judge_line.Tie as tie
-use Rattle.plan_lines.proofs.judge_line.Reads as reads
-use Rattle.plan_lines.proofs.judge_line.Lts as lts
-use Rattle.compute.proofs.stale_from.Reads as stale-from-reads
-use Rattle.plan_lines.proofs.weigh.Reads as weigh-reads
-use Rattle.table_read.proofs.find_node.Reads as find-node-reads
-use Rattle.table_read.proofs.is_excluded.Reads as is-excluded-reads
 
 -- the node is found
 abbrev Found : Type 0

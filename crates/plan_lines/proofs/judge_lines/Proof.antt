@@ -1,5 +1,5 @@
 -- `plan_lines::judge_lines` meets its contract: what the lines from j on come to is what all come to. Assumes nothing.
-use Prim.Native.Nat.{ℕ, _+_, _-_, _≤_, _<_}
+use Prim.Native.Nat.{_+_, _-_, _≤_}
 use mathlib.Core.Path.{_∙_, _≡_, refl, sym}
 use native.Mathlib.Omega.{arith}
 use lib.ListN.{length}
@@ -10,9 +10,6 @@ use Rattle.digest_read.specs.Held.{entriesIn}
 use Rattle.plan_lines.proofs.Turns.{all-lines, at-fault, from-line, line-good, lone-count, lone-node, no-line}
 use Rattle.plan_lines.proofs.judge_lines.Statement.{statement}
 use Rattle.plan_lines.proofs.judge_lines.Tie as tie
-use Rattle.plan_lines.proofs.judge_lines.Reads as reads
-use Rattle.plan_lines.proofs.judge_lines.Lts as lts
-use Rattle.plan_lines.proofs.judge_line.Reads as judge-line-reads
 
 abbrev Inv-loop : tie.InvT-loop
 Inv-loop table digest mtu excluded nodes counts left₀ j₀ left j =

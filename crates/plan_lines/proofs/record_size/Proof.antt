@@ -18,8 +18,6 @@ use Rattle.plan_lines.proofs.First.{record-low}
 use borrow.Author.Needs.{needs}
 use Rattle.plan_lines.proofs.record_size.Statement.{statement}
 use Rattle.plan_lines.proofs.record_size.Tie as tie
-use Rattle.plan_lines.proofs.record_size.Reads as reads
-use Rattle.plan_lines.proofs.record_size.Lts as lts
 
 abbrev entry : tie.After-record-of → tie.Start
 entry c = c .before .before .before

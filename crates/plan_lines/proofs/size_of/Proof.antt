@@ -5,19 +5,15 @@ use mathlib.Core.Path.{_∙_, _≡_, ap, refl, subst, sym}
 use native.Mathlib.Omega.{arith}
 use lib.ListN.{getD, length, take}
 use borrow.Author.Needs.{needs}
-use Rattle.rules.specs.Delta.{KeyValueOp, deltaBytes, sizeOf}
+use Rattle.rules.specs.Delta.{deltaBytes}
 use Rattle.rules.specs.Layout.{decode}
 use Rattle.table_read.specs.Find.{entryAt}
 use Rattle.compute_stale.proofs.Arranged.{listed-in, listed-lower}
 use Rattle.compute_stale.specs.Arranged.{AllBelow, listed}
-use Rattle.compute_write.specs.Sending.{recordAt}
 use Rattle.plan_lines.specs.Lines.{recordsAt}
 use Rattle.plan_lines.proofs.First.{count-taken, next-record, next-taken, no-record, no-size, none-taken, record-low, some-size}
 use Rattle.plan_lines.proofs.size_of.Statement.{statement}
 use Rattle.plan_lines.proofs.size_of.Tie as tie
-use Rattle.plan_lines.proofs.size_of.Reads as reads
-use Rattle.plan_lines.proofs.size_of.Lts as lts
-use Rattle.plan_lines.proofs.record_size.Reads as record-size-reads
 
 abbrev Inv-loop : tie.InvT-loop
 Inv-loop table p from at n count size₀ end k₀ size k =

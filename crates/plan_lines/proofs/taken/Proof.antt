@@ -4,8 +4,6 @@ use borrow.Author.Tests.{le-ltb, lt-ltb}
 use Rattle.fields.proofs.Choice.{pick-false, pick-true}
 use Rattle.plan_lines.proofs.taken.Statement.{statement}
 use Rattle.plan_lines.proofs.taken.Tie as tie
-use Rattle.plan_lines.proofs.taken.Reads as reads
-use Rattle.plan_lines.proofs.taken.Lts as lts
 
 returns : tie.Need-returns
 returns c = let a = c .before .args in sym (pick-true _ _ _ (lt-ltb (a .count) (a .stale) (c .if1 .taken)))

@@ -18,11 +18,6 @@ use Rattle.plan_lines.proofs.Placed as placed
 use borrow.Author.Needs.{needs}
 use Rattle.plan_lines.proofs.weigh.Statement.{statement}
 use Rattle.plan_lines.proofs.weigh.Tie as tie
-use Rattle.plan_lines.proofs.weigh.Reads as reads
-use Rattle.plan_lines.proofs.weigh.Lts as lts
-use Rattle.compute_stale.proofs.stale_places.Reads as stale-places-reads
-use Rattle.plan_lines.proofs.size_of.Reads as size-of-reads
-use Rattle.table.proofs.node_of.Reads as node-of-reads
 
 abbrev Found : Type 0
 Found = tie.After-stale-places

@@ -1,6 +1,6 @@
 -- `plan_lines::write_line` meets its contract: the Node, the SetMaxVersion where it is due, and the records, one behind the other. Assumes nothing.
-use Prim.Native.Nat.{ℕ, _+_, _-_, _≤_, _<_}
-use mathlib.Core.List.{List, [], _++_, _∷_, append-nil}
+use Prim.Native.Nat.{ℕ, _+_, _-_, _≤_}
+use mathlib.Core.List.{List, [], _++_, append-nil}
 use mathlib.Core.Path.{_∙_, _≡_, ap, subst, sym}
 use native.Mathlib.Omega.{arith}
 use lib.ListN.{length, take}
@@ -22,14 +22,6 @@ use Rattle.plan_lines.proofs.Sums.{one-first, rest-long, rest-room, res
 use borrow.Author.Needs.{needs}
 use Rattle.plan_lines.proofs.write_line.Statement.{statement}
 use Rattle.plan_lines.proofs.write_line.Tie as tie
-use Rattle.plan_lines.proofs.write_line.Reads as reads
-use Rattle.plan_lines.proofs.write_line.Lts as lts
-use Rattle.compute_stale.proofs.stale_places.Reads as stale-places-reads
-use Rattle.compute_write.proofs.write_max.Reads as write-max-reads
-use Rattle.compute_write.proofs.write_node.Reads as write-node-reads
-use Rattle.plan_lines.proofs.taken.Reads as taken-reads
-use Rattle.plan_lines.proofs.write_records.Reads as write-records-reads
-use Rattle.table.proofs.node_of.Reads as node-of-reads
 
 -- ---- the places of the walk that the proof speaks of
 

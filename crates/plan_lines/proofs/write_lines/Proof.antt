@@ -1,7 +1,7 @@
 -- `plan_lines::write_lines` meets its contract: the lines that are left, behind those that are written, have the whole's outcome. Assumes nothing.
-use Prim.Native.Nat.{ℕ, _+_, _-_, _≤_, _<_}
+use Prim.Native.Nat.{_+_, _-_, _≤_}
 use mathlib.Core.List.{List, _++_}
-use mathlib.Core.Path.{_∙_, _≡_, ap, refl, subst, sym}
+use mathlib.Core.Path.{_∙_, ap, subst}
 use native.Mathlib.Omega.{arith}
 use lib.ListN.{drop, getD, length, length-append}
 use borrow.Author.Needs.{needs}
@@ -16,9 +16,6 @@ use Rattle.plan_lines.proofs.Sums.{Summed, all-summed, lent-long, line-
 use Rattle.plan_lines.proofs.Turns.{next-line, no-lines}
 use Rattle.plan_lines.proofs.write_lines.Statement.{statement}
 use Rattle.plan_lines.proofs.write_lines.Tie as tie
-use Rattle.plan_lines.proofs.write_lines.Reads as reads
-use Rattle.plan_lines.proofs.write_lines.Lts as lts
-use Rattle.plan_lines.proofs.write_named.Reads as write-named-reads
 
 abbrev Inv-loop : tie.InvT-loop
 Inv-loop table digest excluded nodes counts datagram₀ ops₀ used₀ j₀ datagram ops used j =

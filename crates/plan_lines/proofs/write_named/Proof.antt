@@ -1,5 +1,5 @@
 -- `plan_lines::write_named` meets its contract: the node's line, or nothing where it has none. Assumes nothing.
-use Prim.Native.Nat.{ℕ, _≤_, _<_}
+use Prim.Native.Nat.{_≤_}
 use mathlib.Core.List.{List}
 use mathlib.Core.Path.{_∙_, _≡_, ap, subst, sym}
 use lib.ListN.{length}
@@ -17,11 +17,6 @@ use Rattle.plan_lines.proofs.Sums.{sent-none, sent-whole}
 use borrow.Author.Needs.{needs}
 use Rattle.plan_lines.proofs.write_named.Statement.{statement}
 use Rattle.plan_lines.proofs.write_named.Tie as tie
-use Rattle.plan_lines.proofs.write_named.Reads as reads
-use Rattle.plan_lines.proofs.write_named.Lts as lts
-use Rattle.compute.proofs.stale_from.Reads as stale-from-reads
-use Rattle.plan_lines.proofs.write_line.Reads as write-line-reads
-use Rattle.table_read.proofs.find_node.Reads as find-node-reads
 
 -- the node is found
 abbrev Found : Type 0

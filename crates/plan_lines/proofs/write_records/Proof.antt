@@ -1,11 +1,9 @@
 -- `plan_lines::write_records` meets its contract: what is left to be written, behind what has been, has the whole's outcome. Assumes nothing.
-use Prim.Native.Nat.{ℕ, _+_, _-_, _≤_, _<_}
-use mathlib.Core.List.{List, [], _∷_}
-use mathlib.Core.Path.{_∙_, _≡_, ap, refl, sym}
+use Prim.Native.Nat.{_+_, _-_, _≤_}
+use mathlib.Core.List.{List, _∷_}
 use native.Mathlib.Omega.{arith}
 use lib.ListN.{getD, length, take}
 use borrow.Author.Needs.{needs}
-use Rattle.fields.specs.Numbers.{Bytes}
 use Rattle.rules.specs.Delta.{KeyValueOp, Op}
 use Rattle.rules.specs.Layout.{decode}
 use Rattle.rules.specs.Table.{Table}
@@ -18,9 +16,6 @@ use Rattle.plan_lines.specs.Lines.{recordsAt}
 use Rattle.plan_lines.proofs.First.{next-op, no-op}
 use Rattle.plan_lines.proofs.write_records.Statement.{statement}
 use Rattle.plan_lines.proofs.write_records.Tie as tie
-use Rattle.plan_lines.proofs.write_records.Reads as reads
-use Rattle.plan_lines.proofs.write_records.Lts as lts
-use Rattle.compute_write.proofs.write_record.Reads as write-record-reads
 
 abbrev Inv-loop : tie.InvT-loop
 Inv-loop table p at n end datagram₀ ops₀ used₀ k₀ datagram ops used k =
