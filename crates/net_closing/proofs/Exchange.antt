@@ -39,7 +39,7 @@ use Rattle.net.specs.Net.{Net, Plan, after, happen}
 use Rattle.net_closing.specs.Closing.{Asked, Heard, PartIn, exchangeIn, opsIn}
 
 -- a digest is read in one of the two editions alone
-read-edition : (edition : ℕ) (l : List ℕ) (ds : List NodeDigest) (rest : List ℕ) → readDigest edition l ≡ Entries ds rest → isEdition edition ≡ true
+pub read-edition : (edition : ℕ) (l : List ℕ) (ds : List NodeDigest) (rest : List ℕ) → readDigest edition l ≡ Entries ds rest → isEdition edition ≡ true
 unfolding readDigest readEntries
 read-edition edition l ds rest e = go (eqb edition 0) refl (eqb edition 1) refl e
   where

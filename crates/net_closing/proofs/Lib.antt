@@ -8,4 +8,5 @@ pub mod Wide
 pub mod Ends
 pub mod Owner
 pub mod Enough
+pub mod Planned
 pub mod LentClosing

@@ -21,6 +21,43 @@ const DIGEST: usize = 258;
 
 const DELTA: usize = rules::sizes::LONGEST_DELTA;
 
+// The two calls that write a delta.
+fn plan_call(
+    desk: Desk,
+    table: &[u8],
+    delta: &mut [u8],
+    bytes: &[u8],
+    line: &[u8],
+    out: &mut [u8],
+) -> Desk {
+    let held = Kept {
+        at: desk.out,
+        len: desk.delta,
+    };
+    let kept = replay_peers::plan(table, bytes, line, delta, held, out);
+    let mut after = desk.with_out(kept.at);
+    after.delta = kept.len;
+    after
+}
+
+fn compute_call(
+    desk: Desk,
+    table: &[u8],
+    delta: &mut [u8],
+    bytes: &[u8],
+    line: &[u8],
+    out: &mut [u8],
+) -> Desk {
+    let held = Kept {
+        at: desk.out,
+        len: desk.delta,
+    };
+    let kept = replay_peers::compute(table, bytes, line, delta, held, out);
+    let mut after = desk.with_out(kept.at);
+    after.delta = kept.len;
+    after
+}
+
 // The calls of an exchange that take bytes.
 fn bytes_call(
     desk: Desk,
@@ -36,16 +73,9 @@ fn bytes_call(
         verbs::READ_DIGEST => desk.with_out(replay_peers::read_digest(bytes, line, out, at)),
         verbs::READ_DELTA => desk.with_out(replay_peers::read_delta(bytes, out, at)),
         verbs::APPLY => desk.with_out(replay_peers::apply(table, bytes, line, out, at)),
-        _ => {
-            let held = Kept {
-                at,
-                len: desk.delta,
-            };
-            let kept = replay_peers::compute(table, bytes, line, delta, held, out);
-            let mut after = desk.with_out(kept.at);
-            after.delta = kept.len;
-            after
-        }
+        verbs::PLAN_FAULT => desk.with_out(replay_peers::plan_fault(table, bytes, line, out, at)),
+        verbs::PLAN => plan_call(desk, table, delta, bytes, line, out),
+        _ => compute_call(desk, table, delta, bytes, line, out),
     }
 }
 

@@ -41,12 +41,16 @@ pub const READ_DELTA: usize = 18;
 
 pub const COMPUTE: usize = 19;
 
-pub const APPLY: usize = 20;
+pub const PLAN: usize = 20;
 
-pub const NOTHING: usize = 21;
+pub const PLAN_FAULT: usize = 21;
+
+pub const APPLY: usize = 22;
+
+pub const NOTHING: usize = 23;
 
 // How many words a line of each call has.
-const WORDS: [usize; 21] = [
+const WORDS: [usize; 23] = [
     6,
     4,
     4,
@@ -67,13 +71,15 @@ const WORDS: [usize; 21] = [
     3,
     2,
     8,
+    9,
+    7,
     4,
 ];
 
 // The call of the line. One with another count of words than its call has asks for none.
 pub fn asked(line: &[u8]) -> usize {
     let names =
-        b"write delete deletettl get list add remove removed beat offer gc new make hub table dump digest readdigest readdelta compute apply";
+        b"write delete deletettl get list add remove removed beat offer gc new make hub table dump digest readdigest readdelta compute plan planfault apply";
     let verb = read::place_of(names, read::word(line, 0));
     if NOTHING <= verb {
         return NOTHING;

@@ -6,5 +6,6 @@ mod compute;
 mod delta;
 mod digest;
 mod local;
+mod plan;
 pub mod side;
 mod table;

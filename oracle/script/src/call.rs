@@ -32,6 +32,10 @@ pub enum Call {
     ReadDigest { bytes: Bytes, edition: u64 },
     ReadDelta { bytes: Bytes },
     Compute { digest: Bytes, mtu: u64, excluded: Vec<u64>, ties: Vec<u64>, place: u64, len: usize, edition: u64 },
+    /// Computing by a plan: how many stale records of which nodes. The two lists may differ in length.
+    Plan { digest: Bytes, mtu: u64, excluded: Vec<u64>, nodes: Vec<u64>, counts: Vec<u64>, place: u64, len: usize, edition: u64 },
+    /// Asks for the first line of a plan that is at fault.
+    PlanFault { digest: Bytes, mtu: u64, excluded: Vec<u64>, nodes: Vec<u64>, counts: Vec<u64>, edition: u64 },
     Apply { bytes: Bytes, now: u64, places: u64 },
     Table { bytes: Bytes },
     Dump,
@@ -142,6 +146,24 @@ impl Call {
                 len: w.size()?,
                 edition: w.number()?,
             },
+            "plan" => Call::Plan {
+                digest: w.bytes()?,
+                mtu: w.number()?,
+                excluded: w.numbers()?,
+                nodes: w.numbers()?,
+                counts: w.numbers()?,
+                place: w.number()?,
+                len: w.size()?,
+                edition: w.number()?,
+            },
+            "planfault" => Call::PlanFault {
+                digest: w.bytes()?,
+                mtu: w.number()?,
+                excluded: w.numbers()?,
+                nodes: w.numbers()?,
+                counts: w.numbers()?,
+                edition: w.number()?,
+            },
             "apply" => Call::Apply { bytes: w.bytes()?, now: w.number()?, places: w.number()? },
             "table" => Call::Table { bytes: w.bytes()? },
             "dump" => Call::Dump,
@@ -170,12 +192,37 @@ mod tests {
             })
         );
         assert_eq!(
+            Call::parse("plan x0000 100 9 7,8 1,18446744073709551615,0 3 200 0"),
+            Some(Call::Plan {
+                digest: Bytes::Given(vec![0, 0]),
+                mtu: 100,
+                excluded: vec![9],
+                nodes: vec![7, 8],
+                counts: vec![1, u64::MAX, 0],
+                place: 3,
+                len: 200,
+                edition: 0
+            })
+        );
+        assert_eq!(
+            Call::parse("planfault @digest 100 - - 4 1"),
+            Some(Call::PlanFault {
+                digest: Bytes::LastDigest,
+                mtu: 100,
+                excluded: vec![],
+                nodes: vec![],
+                counts: vec![4],
+                edition: 1
+            })
+        );
+        assert_eq!(
             Call::parse("write 18446744073709551615 x x00ff 3 7"),
             Some(Call::Write { node: u64::MAX, key: vec![], value: vec![0, 255], status: 3, now: 7 })
         );
         let calls = ["", "write 1 x x 0", "write 1 x x x 0 0", "write 1 x x -1 0", "get 1 xA0", "get 1 x0", "hub 4"];
         let numbers = ["add -1", "add +1", "add :", "add  1", "digest +1 0 2 0", "digest - 0 2"];
-        for wrong in calls.into_iter().chain(numbers) {
+        let plans = ["plan x0000 100 - 7 1 0 100", "plan x0000 100 - 7 -1 0 100 0", "planfault x0000 100 - 7 1", "planfault x0000 100 - 7 1 0 100 0"];
+        for wrong in calls.into_iter().chain(numbers).chain(plans) {
             assert_eq!(Call::parse(wrong), None, "{wrong:?}");
         }
     }

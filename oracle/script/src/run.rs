@@ -43,7 +43,9 @@ impl<S: Side> Desk<S> {
             | Call::ReadDelta { bytes }
             | Call::Apply { bytes, .. }
             | Call::Table { bytes }
-            | Call::Compute { digest: bytes, .. } => self.write_out(bytes),
+            | Call::Compute { digest: bytes, .. }
+            | Call::Plan { digest: bytes, .. }
+            | Call::PlanFault { digest: bytes, .. } => self.write_out(bytes),
             _ => {}
         }
         let answer = match &call {

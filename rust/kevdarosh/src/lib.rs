@@ -74,7 +74,7 @@ mod row;
 mod table;
 mod wire;
 
-pub use refusal::{ExchangeRefused, Fault, ListingRefused, Refusal, Step};
+pub use refusal::{ExchangeRefused, Fault, LineFault, ListingRefused, PlanFault, Refusal, Step};
 pub use row::Records;
 pub use table::{Answer, Answers, Computed, Header, LentTable, Mode, NodeState, OwnedTable, Record, Status, Table, TableView, Wanted};
 pub use wire::{Datagrams, DeltaRead, Digest, Edition, Exchanged, NodeDigest, exchange, list_delta, make_delta, read_delta};
