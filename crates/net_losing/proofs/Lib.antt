@@ -1,0 +1,4 @@
+pub mod Grown
+pub mod Fit
+pub mod Firm
+pub mod Losing
