@@ -2,3 +2,5 @@ pub mod Grown
 pub mod Fit
 pub mod Firm
 pub mod Losing
+pub mod Back
+pub mod Sharp
