@@ -13,25 +13,24 @@ use Rattle.fields.specs.Choice.{_∈_, here, later, pick}
 use Rattle.rules.proofs.Calls.{node-in}
 use Rattle.rules.proofs.Digests.{read-written}
 use Rattle.rules.proofs.Obeys.{OkTable, facts-table, number-in}
-use Rattle.rules.proofs.Sending.{emit}
-use Rattle.rules.proofs.Tables.{answer-each, node-entry, node-there, partAt}
+use Rattle.rules.proofs.Tables.{answer-each, node-entry, node-there, partAt, repeated}
 use Rattle.rules.proofs.Taking.{taken-node}
 use Rattle.rules.specs.Apply.{Lawful, Stream, Ways, applyNode, deltaStatus, outcome}
-use Rattle.rules.specs.Compute.{deltaFor, ordered, staleNodes}
-use Rattle.rules.specs.Delta.{NodeDelta, deltaBytes}
+use Rattle.rules.specs.Delta.{NodeDelta, Op, deltaBytes, nothingRead, partsOf}
 use Rattle.rules.specs.Digest.{Entries, NodeDigest, digestBytes, digestOf, readDigest}
 use Rattle.rules.specs.Node.{Node}
-use Rattle.rules.specs.Sizes.{maxDelta}
 use Rattle.rules.specs.Table.{Entry, Table, nodeOf, numbersOf, obeys}
 use Rattle.rules.specs.declared.NodeAnswer.{NodeAnswer}
 use Rattle.rules.specs.declared.NodeAnswer.the-variants as node
 use Rattle.demand3.proofs.EachNode.{nodeAt, orFresh, unbeaten}
-use Rattle.demand3.proofs.Moments.{InOrder, Moment, moment, moment-claims, moments}
-use Rattle.demand3.proofs.Nearer.{Small, Tells, Way, lack, lack-falls, next, queued, sent, sum, sum-le, sum-lt, sum-none, sum-some, told-held}
+use Rattle.demand3.proofs.Forms.{Made}
+use Rattle.demand3.proofs.Moments.{InOrder, Moment, moment, moment-claims, moments, read-once}
+use Rattle.demand3.proofs.Nearer.{Tells, Way, lack, lack-behind, next, stirred, sum, sum-le, sum-lt, sum-none, sum-some, told-held}
 use Rattle.demand3.proofs.Needed.{Onward, needed-most, needed-none, onward-gc, onward-same, onward-then}
 use Rattle.demand3.proofs.Quiet.{AllBeaten, Calm, beaten-on, calm, lack-ours, lacks, lacks-stays, onward-lacks, way-arriving, way-beating, way-offering, way-sending}
 use Rattle.demand3.proofs.Whole.{answered, asked, stream, taken}
-use Rattle.demand3.specs.Demand3.{Answered, Asked, NotBegun, SameMax, Stage, allQuiet, ending, granted, holdings, leastWidth, onward, quiet, unlimited, wholes}
+use Rattle.demand3.specs.Demand3.{Answered, Asked, NotBegun, SameMax, Stage, allQuiet, ending, granted, holdings, onward, quiet, unlimited, wholes, wideEnough}
+use Rattle.demand3.specs.Forms.{Order, opsBy}
 use Rattle.demand3.specs.World.{Applying, Arriving, Beating, Computing, DeltaSent, DigestSent, Digesting, Event, Followers, Offering, Removing, Sending, World, Writing, after, freshTable, happen, onSide, start}
 
 -- what the nodes still need is at most one for each record and node
@@ -72,11 +71,12 @@ module _ (ways : Ways) (law : Lawful ways) (is : List ℕ) where
     told : List NodeDigest
     was : Table
     ours : Table
-    ties : List ℕ
+    excluded : List ℕ
+    order : Order
     mtu : ℕ
-    sent-is : w .exchange ≡ DeltaSent (deltaBytes (deltaFor [] ties mtu told ours))
-    wide : leastWidth ≤ mtu
-    fits : mtu ≤ maxDelta
+    sent-is : w .exchange ≡ DeltaSent (deltaBytes (opsBy excluded order mtu told ours))
+    wide : wideEnough excluded order mtu ≡ true
+    made : Made excluded order mtu told ours
     nodes : numbersOf ours ≡ is
     ours-ok : OkTable ours
     beaten : AllBeaten ours (w .publisher)
@@ -122,11 +122,12 @@ module _ (ways : Ways) (law : Lawful ways) (is : List ℕ) where
         told = a .told;
         was = a .was;
         ours = a .ours;
-        ties = a .ties;
+        excluded = a .excluded;
+        order = a .order;
         mtu = a .mtu;
         sent-is = e ∙ a .sent-is;
         wide = a .wide;
-        fits = a .fits;
+        made = a .made;
         nodes = a .nodes;
         ours-ok = a .ours-ok;
         beaten = beaten-on (a .ours) (w .publisher) (x .publisher) (a .beaten) (c .publisher-beaten);
@@ -154,26 +155,27 @@ module _ (ways : Ways) (law : Lawful ways) (is : List ℕ) where
           bytes = digestBytes edition (digestOf [] (w .follower));
           told = digestOf [] (w .follower);
           was = w .follower;
-          sent-is = asked ways w edition place l g .1;
-          read-is = read-written edition (asked ways w edition place l g .0) [] (w .follower) (facts-table (w .follower) (ok .follower-ok));
+          sent-is = asked ways is w edition place l g .1;
+          read-is = read-written edition (asked ways is w edition place l g .0) [] (w .follower) (facts-table (w .follower) (ok .follower-ok));
           tells = λ i f e. (ap (λ (d : NodeDigest). d .last-gc) (told-held i (w .follower) f e), ap (λ (d : NodeDigest). d .max) (told-held i (w .follower) f e));
           was-nodes = ok .follower-nodes;
           since = λ i. onward-same (nodeAt i (w .publisher)) (nodeAt i (w .follower));
         }
 
-    at-answered : (edition : ℕ) (ties : List ℕ) (mtu place : ℕ) (l : List ℕ) → leastWidth ≤ mtu → granted ways (Computing edition [] ties mtu place l) w ≡ true → (e : ℕ) → e ≡ edition → AskedIn e w → AnsweredIn (happen ways (Computing edition [] ties mtu place l) w)
+    at-answered : (edition : ℕ) (excluded : List ℕ) (order : Order) (mtu place : ℕ) (l : List ℕ) → wideEnough excluded order mtu ≡ true → granted ways (Computing edition excluded order mtu place l) w ≡ true → (e : ℕ) → e ≡ edition → AskedIn e w → AnsweredIn (happen ways (Computing edition excluded order mtu place l) w)
     unfolding happen
-    at-answered edition ties mtu place l wide g e one a =
-        let c = answered ways w edition ties mtu place l (a .bytes) (a .told) (a .sent-is) (ap (λ (k : ℕ). readDigest k (a .bytes)) (sym one) ∙ a .read-is) g in
+    at-answered edition excluded order mtu place l wide g e one a =
+        let c = answered ways is w ok edition excluded order mtu place l (a .bytes) (a .told) (a .sent-is) (ap (λ (k : ℕ). readDigest k (a .bytes)) (sym one) ∙ a .read-is) g in
         record {
           told = a .told;
           was = a .was;
           ours = w .publisher;
-          ties = ties;
+          excluded = excluded;
+          order = order;
           mtu = mtu;
           sent-is = c .0;
           wide = wide;
-          fits = c .1;
+          made = c .1;
           nodes = ok .publisher-nodes;
           ours-ok = ok .publisher-ok;
           beaten = λ i. unbeaten i (w .publisher);
@@ -187,17 +189,23 @@ module _ (ways : Ways) (law : Lawful ways) (is : List ℕ) where
     unfolding happen at-asked
     as-asked edition place l g = refl
 
-    as-answered : (edition : ℕ) (ties : List ℕ) (mtu place : ℕ) (l : List ℕ) (wide : leastWidth ≤ mtu) (g : granted ways (Computing edition [] ties mtu place l) w ≡ true) (e : ℕ) (one : e ≡ edition) (a : AskedIn e w) → lackingIn Answered (happen ways (Computing edition [] ties mtu place l) w) (at-answered edition ties mtu place l wide g e one a) ≡ lackingIn (Asked e) w a
+    as-answered : (edition : ℕ) (excluded : List ℕ) (order : Order) (mtu place : ℕ) (l : List ℕ) (wide : wideEnough excluded order mtu ≡ true) (g : granted ways (Computing edition excluded order mtu place l) w ≡ true) (e : ℕ) (one : e ≡ edition) (a : AskedIn e w) → lackingIn Answered (happen ways (Computing edition excluded order mtu place l) w) (at-answered edition excluded order mtu place l wide g e one a) ≡ lackingIn (Asked e) w a
     unfolding happen at-answered
-    as-answered edition ties mtu place l wide g e one a = refl
+    as-answered edition excluded order mtu place l wide g e one a = refl
 
     -- the last of them: some node needs less, if any needed something when the digest was written
     module _ (now : ℕ) (l : List ℕ) (a : AnsweredIn w) (g : granted ways (Applying now l) w ≡ true) where
+      abbrev ops : List Op
+      ops = opsBy (a .excluded) (a .order) (a .mtu) (a .told) (a .ours)
+
       abbrev made : Stream
-      made = stream ways law (a .ties) (a .mtu) (a .told) (a .ours) (facts-table (a .ours) (a .ours-ok)) now l w
+      made = stream ways law ops (a .made .sendable .read) now l w
 
       came-to : (happen ways (Applying now l) w ≡ onSide Followers (λ t. made .table) w) × (node.Room ∈ made .answers → ⊥)
-      came-to = taken ways law (a .ties) (a .mtu) (a .told) (a .ours) (facts-table (a .ours) (a .ours-ok)) now l w (a .fits) (a .sent-is) g
+      came-to = taken ways law ops (a .made .sendable .read) now l w (a .sent-is) g
+
+      once : repeated (partsOf ops) ≡ false
+      once = read-once ops nothingRead (a .made .sendable .chain)
 
       -- No fence stands against it: a node's last_gc is not above its own max and the publisher's last_gc.
       way : (e : Entry) → e ∈ a .ours → Way (ways .fence) (a .was) (w .follower) (e .number) (e .node)
@@ -231,35 +239,28 @@ module _ (ways : Ways) (law : Lawful ways) (is : List ℕ) where
           came-is : (nodeAt (e .number) (w .follower) .last-gc ≡ x .0 .last-gc) × (nodeAt (e .number) (w .follower) .max ≡ x .0 .max)
           came-is = (ap (λ (o : Option Node). orFresh o .last-gc) (x .1), ap (λ (o : Option Node). orFresh o .max) (x .1))
 
-      small : Small (a .ours)
-      unfolding Small
-      small e n r k =
-          let o = a .ours-ok .each e n .node-ok .each r k in
-          let x = o .key-fits in
-          let y = o .value-fits in
-          omega arith
-
       -- no node answers Room
-      took : (i : ℕ) (d : NodeDelta) (f : Node)
-          → partAt i (emit (a .mtu) (ordered (staleNodes [] (a .told) (a .ties) (a .ours)))) ≡ some d
-          → nodeOf i (w .follower) ≡ some f
-          → applyNode ways now d f .node ≡ outcome (deltaStatus (ways .fence) f d) now d f
+      took : (i : ℕ) (d : NodeDelta) (f : Node) → partAt i (partsOf ops) ≡ some d → nodeOf i (w .follower) ≡ some f → applyNode ways now d f .node ≡ outcome (deltaStatus (ways .fence) f d) now d f
       took i d f p h =
           taken-node ways now d f
           (λ e. came-to .1 (subst (λ (x : NodeAnswer). x ∈ made .answers) e (answer-each (applyNode ways now) i _ (w .follower) d f p h)))
 
       falls-one : (i : ℕ) → i ∈ is → 0 < lack (w .publisher) (a .was) i → (j : ℕ) × (j ∈ is) × (lacks (happen ways (Applying now l) w) j < lack (w .publisher) (a .was) j)
-      unfolding sent queued next
+      unfolding next
       falls-one i n z =
-          let x =
-          lack-falls (ways .fence) now (a .mtu) (a .ties) (a .told) (a .ours) (a .was) (w .follower) (a .ours-ok .ascending) way (a .tells) (applyNode ways now) took (a .wide) small i
+          let y =
+          lack-behind (ways .fence) now (a .told) (a .ours) (a .was) (w .follower) (a .ours-ok .ascending) way (a .tells) i
           (subst (λ (k : List ℕ). i ∈ k) (sym (a .nodes)) n) (let e = lack-ours (a .ours) (w .publisher) (a .was) (a .beaten) i in omega arith) in
-          let j = x .0 in
-          let k : lack (a .ours) (made .table) j < lack (a .ours) (a .was) j = x .2 in
+          let s = a .made .stirs (a .wide) (y .0) (y .1) (y .2) in
+          let j = s .0 in
+          let x =
+          stirred (ways .fence) now (a .told) (a .ours) (a .was) (w .follower) (a .ours-ok .ascending) way (a .tells) ops once (applyNode ways now) took (a .excluded) j (s .1) (s .2)
+          (a .made .each j (s .1) (s .2)) (s .3) in
+          let k : lack (a .ours) (made .table) j < lack (a .ours) (a .was) j = x .1 in
           let c : lacks (happen ways (Applying now l) w) j ≡ lack (w .publisher) (made .table) j = ap (λ (y : World). lacks y j) (came-to .0) in
           let d = lack-ours (a .ours) (w .publisher) (made .table) (a .beaten) j in
           let e = lack-ours (a .ours) (w .publisher) (a .was) (a .beaten) j in
-          (j, subst (λ (q : List ℕ). j ∈ q) (a .nodes) (x .1), omega arith)
+          (j, subst (λ (q : List ℕ). j ∈ q) (a .nodes) (x .0), omega arith)
 
       falls : (k : ℕ) → lackingIn Answered w a ≤ suc k → lacking (happen ways (Applying now l) w) ≤ k
       falls k h = go (leb 1 (sum then is)) refl
@@ -314,29 +315,25 @@ module _ (ways : Ways) (law : Lawful ways) (is : List ℕ) where
 
     goes-on : (e : Event) (st : Stage) → quiet e ≡ true → (a : At st w) → unlimited e ≡ true → granted ways e w ≡ true → Brings e st a
     goes-on (Writing i k c) st q a u g = absurd (false≢true q)
-    goes-on (Removing s now grace) st q a u g = absurd (false≢true q)
+    goes-on (Removing s removal) st q a u g = absurd (false≢true q)
     goes-on (Beating s i) st q a u g = leaves-it (Beating s i) refl (way-beating ways w s i) st a
     goes-on (Offering s i h) st q a u g = leaves-it (Offering s i h) refl (way-offering ways w s i h) st a
     goes-on (Digesting edition [] place l) st q a u g = (at-asked edition place l g, λ k h. let y = since-then st a in let z = as-asked edition place l g in omega arith)
     goes-on (Digesting edition (i ∷ is) place l) st q a u g = absurd (false≢true u)
-    goes-on (Computing edition [] ties mtu place l) NotBegun q a u g = (tt, ends-it (Computing edition [] ties mtu place l) refl NotBegun a)
-    goes-on (Computing edition [] ties mtu place l) (Asked e) q a u g = same (eqb e edition) refl
+    goes-on (Computing edition excluded order mtu place l) NotBegun q a u g = (tt, ends-it (Computing edition excluded order mtu place l) refl NotBegun a)
+    goes-on (Computing edition excluded order mtu place l) (Asked e) q a u g = same (eqb e edition) refl
       where
-        wide : leastWidth ≤ mtu
-        wide = leb-true leastWidth mtu u
-
         -- the digest is read in the edition that it was written in, or the exchange is not counted
-        same : (b : Bool) → eqb e edition ≡ b → BringsTo (pick b Answered NotBegun) (Computing edition [] ties mtu place l) (Asked e) a
+        same : (b : Bool) → eqb e edition ≡ b → BringsTo (pick b Answered NotBegun) (Computing edition excluded order mtu place l) (Asked e) a
         same true p =
             let one = eqb-true e edition p in
-            (at-answered edition ties mtu place l wide g e one a, λ k h. let z = as-answered edition ties mtu place l wide g e one a in omega arith)
-        same false p = (tt, ends-it (Computing edition [] ties mtu place l) refl (Asked e) a)
-    goes-on (Computing edition [] ties mtu place l) Answered q a u g = (tt, ends-it (Computing edition [] ties mtu place l) refl Answered a)
-    goes-on (Computing edition (i ∷ is) ties mtu place l) st q a u g = absurd (false≢true u)
+            (at-answered edition excluded order mtu place l u g e one a, λ k h. let z = as-answered edition excluded order mtu place l u g e one a in omega arith)
+        same false p = (tt, ends-it (Computing edition excluded order mtu place l) refl (Asked e) a)
+    goes-on (Computing edition excluded order mtu place l) Answered q a u g = (tt, ends-it (Computing edition excluded order mtu place l) refl Answered a)
     goes-on (Applying now l) NotBegun q a u g = (tt, ends-it (Applying now l) refl NotBegun a)
     goes-on (Applying now l) (Asked edition) q a u g = (tt, ends-it (Applying now l) refl (Asked edition) a)
     goes-on (Applying now l) Answered q a u g = (tt, λ k h. falls now l a g k (omega arith))
-    goes-on (Sending edition digest excluded ties mtu place l) st q a u g = leaves-it (Sending edition digest excluded ties mtu place l) refl (way-sending ways w edition digest excluded ties mtu place l) st a
+    goes-on (Sending edition digest excluded order mtu place l) st q a u g = leaves-it (Sending edition digest excluded order mtu place l) refl (way-sending ways w edition digest excluded order mtu place l) st a
     goes-on (Arriving k now l) st q a u g = leaves-it (Arriving k now l) refl (way-arriving ways w k now l) st a
 
   -- ---- all of them

@@ -10,6 +10,7 @@ use Rattle.rules.specs.Node.{KeyValue, Rec, Node, Setting, Deleting, beats}
 use Rattle.rules.specs.Table.{Table, nodeOf}
 use Rattle.rules.specs.Apply.{Ways, fencedWays, plainWays}
 use Rattle.rules.specs.declared.Status.the-variants.{Set}
+use Rattle.demand3.specs.Forms.{ByClock, InLine}
 use Rattle.demand3.specs.World.{World, Publishers, Followers, Event, Writing, Beating, Offering, Removing, Digesting, Computing, Applying, Arriving, onExchange, start, after}
 
 -- one node, number 7, and its pair (last_gc, max)
@@ -47,7 +48,7 @@ one = 49 ∷ []
 
 -- a delta on its way, and applied
 abbrev delta : ℕ → List Event
-delta mtu = Digesting 0 [] 0 (replicate 34 0) ∷ Computing 0 [] (0 ∷ []) mtu 0 (replicate 300 0) ∷ []
+delta mtu = Digesting 0 [] 0 (replicate 34 0) ∷ Computing 0 [] (InLine (0 ∷ [])) mtu 0 (replicate 300 0) ∷ []
 
 abbrev exchange : ℕ → List Event
 exchange mtu = delta mtu ++ (Applying 50 (0 ∷ []) ∷ [])
@@ -56,7 +57,7 @@ exchange mtu = delta mtu ++ (Applying 50 (0 ∷ []) ∷ [])
 
 -- b is set at 1, a at 2; a is deleted at 3 and the tombstone removed: the publisher is at (3,3) with one record
 abbrev pub oneRecord : World
-oneRecord = after plainWays (Writing 7 b (Setting one) ∷ Writing 7 a (Setting one) ∷ Writing 7 a (Deleting 0) ∷ Removing Publishers 9 5 ∷ []) (start seven)
+oneRecord = after plainWays (Writing 7 b (Setting one) ∷ Writing 7 a (Setting one) ∷ Writing 7 a (Deleting 0) ∷ Removing Publishers (ByClock 9 5) ∷ []) (start seven)
 
 -- a whole exchange
 abbrev pub whole : List Event
@@ -68,7 +69,7 @@ lively =
     Beating Publishers 7
     ∷ Digesting 0 [] 0 (replicate 34 0)
     ∷ Beating Followers 7
-    ∷ Computing 0 [] (0 ∷ []) 135 0 (replicate 135 0)
+    ∷ Computing 0 [] (InLine (0 ∷ [])) 135 0 (replicate 135 0)
     ∷ Offering Followers 7 (beats 9)
     ∷ Applying 50 (0 ∷ [])
     ∷ Beating Publishers 7
@@ -93,7 +94,7 @@ keys t = keysIn (nodeOf 7 t)
 abbrev pub removedThere : World
 removedThere =
     after plainWays
-    ((Writing 7 k (Setting one) ∷ []) ++ (exchange 300 ++ (Writing 7 b (Setting one) ∷ Writing 7 k (Deleting 0) ∷ Removing Publishers 9 5 ∷ [])))
+    ((Writing 7 k (Setting one) ∷ []) ++ (exchange 300 ++ (Writing 7 b (Setting one) ∷ Writing 7 k (Deleting 0) ∷ Removing Publishers (ByClock 9 5) ∷ [])))
     (start seven)
 
 abbrev pub forgotten : World
@@ -108,7 +109,7 @@ bothNodes =
     ∷ Writing 9 b (Setting one)
     ∷ Writing 9 b (Setting [])
     ∷ Digesting 1 [] 0 (replicate 64 0)
-    ∷ Computing 1 [] (0 ∷ 0 ∷ []) 300 0 (replicate 300 0)
+    ∷ Computing 1 [] (InLine (0 ∷ 0 ∷ [])) 300 0 (replicate 300 0)
     ∷ Applying 50 (0 ∷ 0 ∷ [])
     ∷ [])
     (start (7 ∷ 9 ∷ []))
@@ -127,7 +128,7 @@ onItsWay ways =
 abbrev pub wasReset : Ways → World
 wasReset ways =
     after ways
-    ((Writing 7 m (Setting one) ∷ Writing 7 n (Setting one) ∷ Writing 7 k (Deleting 0) ∷ Writing 7 m (Deleting 0) ∷ Writing 7 n (Deleting 0) ∷ Removing Publishers 9 5 ∷ [])
+    ((Writing 7 m (Setting one) ∷ Writing 7 n (Setting one) ∷ Writing 7 k (Deleting 0) ∷ Writing 7 m (Deleting 0) ∷ Writing 7 n (Deleting 0) ∷ Removing Publishers (ByClock 9 5) ∷ [])
     ++ exchange 100)
     (onItsWay ways)
 
@@ -155,7 +156,7 @@ abbrev pub amid : List Event
 amid =
     arriving
     ++ ((Digesting 0 [] 0 (replicate 34 0) ∷ [])
-    ++ (arriving ++ ((Computing 0 [] (0 ∷ []) 300 0 (replicate 300 0) ∷ Arriving 2 50 (0 ∷ []) ∷ Applying 50 (0 ∷ []) ∷ []) ++ exchange 300)))
+    ++ (arriving ++ ((Computing 0 [] (InLine (0 ∷ [])) 300 0 (replicate 300 0) ∷ Arriving 2 50 (0 ∷ []) ∷ Applying 50 (0 ∷ []) ∷ []) ++ exchange 300)))
 
 abbrev pub fencedUp : World
 fencedUp = after fencedWays amid heldOff

@@ -130,7 +130,7 @@ module _ (h : List KeyValue) (n : Node) (ok : HonestNode h n) where
 
     -- last_gc rises to versions that are held, and no higher
     pub gc-within : (b : ℕ) → n .last-gc ≤ b → n .max ≤ b → gc ≤ b
-    gc-within b g m = gc-below due (n .last-gc) b (n .recs) g (λ r i. let a = hon .within (r .kv) (r, i, refl) in omega arith)
+    gc-within b g m = gc-below due (n .last-gc) b (n .recs) g (λ r i q. let a = hon .within (r .kv) (r, i, refl) in omega arith)
 
     pub node-remove : HonestNode h (remove due n)
     unfolding remove

@@ -8,8 +8,9 @@ pub mod Computing
 pub mod Needed
 pub mod OneNode
 pub mod EachNode
-pub mod Nearer
 pub mod OnTheWay
+pub mod Nearer
+pub mod Forms
 pub mod Moments
 pub mod Quiet
 pub mod Whole

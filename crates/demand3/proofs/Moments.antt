@@ -1,6 +1,6 @@
 -- Every moment of a run: both tables hold their nodes and obey the rules, every delta that was ever computed is one that reading accepts, and each
 -- node's facts hold. Each event keeps this, and is a step of every node.
-use Prim.Native.Nat.{_<_, _≤_, suc, zero, ℕ}
+use Prim.Native.Nat.{_<_, suc, zero, ℕ}
 use mathlib.Core.Bool.{Bool, false, true, true≢false}
 use mathlib.Core.List.{List, [], _∷_}
 use mathlib.Core.Logic.{_⊎_, inl, inr}
@@ -20,21 +20,20 @@ use Rattle.rules.proofs.Sending.{MadeOf}
 use Rattle.rules.proofs.Tables.{applied-table, numbers-each, numbers-remove, part-in, partAt, present, repeated}
 use Rattle.rules.specs.Apply.{Lawful, Ways, apply, applyNode}
 use Rattle.rules.specs.Delta.{Good, KeyValueOp, NodeDelta, NodeOp, Op, Ops, Part, Reading, SetMaxVersionOp, deltaBytes, nothingRead, partsOf, readDelta}
-use Rattle.rules.specs.Compute.{deltaFor}
-use Rattle.rules.specs.Digest.{NodeDigest, writeDigest}
-use Rattle.rules.specs.Local.{gc}
-use Rattle.rules.specs.Node.{Call, Deleting, DeletingAfterTtl, KeyValue, Setting, SettingTtl, due, fresh, Rec}
-use Rattle.rules.specs.Sizes.{maxDelta, numbers}
+use Rattle.rules.specs.Digest.{writeDigest}
+use Rattle.rules.specs.Node.{Call, Deleting, DeletingAfterTtl, KeyValue, Rec, Setting, SettingTtl, fresh}
+use Rattle.rules.specs.Sizes.{numbers}
 use Rattle.rules.specs.Table.{Table, among, nodeOf, numbersOf, obeys, removeAll}
 use Rattle.rules.specs.declared.Computed.{Computed}
 use Rattle.rules.specs.declared.Written.{Written}
 use Rattle.rules.specs.declared.Written.the-variants as written
-use Rattle.rules.proofs.Accepted.{Comes, comes, delta-bytes, refuses, writes}
 use Rattle.demand3.proofs.EachNode.{Seen, at, nodeAt, orFresh, partsIn, seen-applying, seen-arriving, seen-beating, seen-computed, seen-digesting, seen-facts, seen-offering, seen-removing, seen-rises, seen-sent, seen-writing, sentOf}
-use Rattle.demand3.proofs.OnTheWay.{Sendable, computed-sendable}
+use Rattle.demand3.proofs.Forms.{Comes, comes, refuses, removal-is, writes}
+use Rattle.demand3.proofs.OnTheWay.{Sendable}
 use Rattle.demand3.proofs.OneNode.{Facts, facts-fresh, rises-same, rises-trans, stays}
 use Rattle.demand3.proofs.Publisher.{claims-of}
 use Rattle.demand3.specs.Demand3.{Claims, Rises}
+use Rattle.demand3.specs.Forms.{Order, Removal, computeBy, removedBy}
 use Rattle.demand3.specs.World.{Applying, Arriving, Beating, Computing, DeltaSent, DigestSent, Digesting, Event, Exchange, Followers, Idle, Offering, Publishers, Removing, Sending, Side, World, Writing, after, afterDelta, afterDigest, appliedTo, calls, computedFor, freshTable, happen, nthSent, onExchange, onSent, onSide, possible, sentAfter, sentOn, start, timeOf}
 
 -- bytes that are read as operations that may follow each other and have their sizes
@@ -175,20 +174,20 @@ module _ (ways : Ways) (law : Lawful ways) (is : List ℕ) (w : World) (ok : InO
     pub next-sending : Next ways is w (onExchange (DeltaSent bytes) (onSent (bytes ∷ w .sent) w))
     next-sending = record { seen = λ i. seen-sent ways i w bytes (made-of i); order = sent-out _ _ reads-well one-more }
 
-  -- a delta that is computed for any bytes as a digest
-  module _ (edition : ℕ) (excluded ties : List ℕ) (mtu place : ℕ) (l d : List ℕ) where
-    may-be-sent : (ds : List NodeDigest) → mtu ≤ maxDelta → Sendable (w .publisher) (deltaFor excluded ties mtu ds (w .publisher))
-    may-be-sent ds h = computed-sendable excluded ties mtu ds (w .publisher) (facts-table (w .publisher) (ok .publisher-ok)) h
-
-    next-computing : w .exchange ≡ DigestSent d → (o : Given Computed (List ℕ)) → Comes edition excluded ties mtu place d (w .publisher) l o → Next ways is w (onExchange (afterDelta place (o .lent) (o .answer) (DigestSent d)) (onSent (sentAfter place (o .lent) (o .answer) (w .sent)) w))
+  -- a delta that is computed for any bytes as a digest, in any order
+  module _ (edition : ℕ) (excluded : List ℕ) (order : Order) (mtu place : ℕ) (l d : List ℕ) where
+    next-computing : w .exchange ≡ DigestSent d → (o : Given Computed (List ℕ)) → Comes edition excluded order mtu place d (w .publisher) l o → Next ways is w (onExchange (afterDelta place (o .lent) (o .answer) (DigestSent d)) (onSent (sentAfter place (o .lent) (o .answer) (w .sent)) w))
     next-computing x o (refuses r) = subst (λ (y : Exchange). Next ways is w (onExchange y w)) x stays-so
-    next-computing x o (writes ds rest e h g) =
-        subst (λ (b : List ℕ). Next ways is w (onExchange (DeltaSent b) (onSent (b ∷ w .sent) w))) (sym (delta-bytes edition excluded ties mtu place d (w .publisher) l ds g)) (next-sending _ (may-be-sent ds h))
+    next-computing x o (writes ds rest e made there) =
+        subst (λ (b : List ℕ). Next ways is w (onExchange (DeltaSent b) (onSent (b ∷ w .sent) w))) (sym there) (next-sending _ (made .sendable))
 
-    next-keeping : (o : Given Computed (List ℕ)) → Comes edition excluded ties mtu place d (w .publisher) l o → Next ways is w (onSent (sentAfter place (o .lent) (o .answer) (w .sent)) w)
+    next-keeping : (o : Given Computed (List ℕ)) → Comes edition excluded order mtu place d (w .publisher) l o → Next ways is w (onSent (sentAfter place (o .lent) (o .answer) (w .sent)) w)
     next-keeping o (refuses r) = stays-so
-    next-keeping o (writes ds rest e h g) =
-        subst (λ (b : List ℕ). Next ways is w (onSent (b ∷ w .sent) w)) (sym (delta-bytes edition excluded ties mtu place d (w .publisher) l ds g)) (next-kept _ (may-be-sent ds h))
+    next-keeping o (writes ds rest e made there) =
+        subst (λ (b : List ℕ). Next ways is w (onSent (b ∷ w .sent) w)) (sym there) (next-kept _ (made .sendable))
+
+    come-to : Comes edition excluded order mtu place d (w .publisher) l (computeBy edition excluded order mtu place d (w .publisher) l)
+    come-to = comes edition excluded order mtu place d (w .publisher) l (facts-table (w .publisher) (ok .publisher-ok))
 
   -- any such bytes are taken
   pub taken-order : (now : ℕ) (l b : List ℕ) → now < numbers → ReadsWell b → InOrder is (onSide Followers (λ t. apply ways b now t l .table) w)
@@ -219,8 +218,16 @@ module _ (ways : Ways) (law : Lawful ways) (is : List ℕ) (w : World) (ok : InO
   next-removing Followers due =
       record { seen = λ i. seen-removing ways i w Followers due; order = theirs _ (numbers-remove due (w .follower)) (ok-remove-all due (w .follower) (ok .follower-ok)) }
 
+  -- a removal of whatever kind
+  next-removed : (s : Side) (removal : Removal) → Next ways is w (onSide s (removedBy removal) w)
+  next-removed Publishers removal =
+      let x = removal-is removal (w .publisher) in
+      subst (λ (t : Table). Next ways is w (onSide Publishers (λ u. t) w)) (sym (x .1)) (next-removing Publishers (x .0))
+  next-removed Followers removal =
+      let x = removal-is removal (w .follower) in
+      subst (λ (t : Table). Next ways is w (onSide Followers (λ u. t) w)) (sym (x .1)) (next-removing Followers (x .0))
+
   next-calls : (e : Event) → possible ways e ≡ true → Next ways is w (calls ways e w)
-  unfolding gc
   next-calls (Writing i k c) p =
       record {
         seen = λ j. seen-writing ways j w i k c;
@@ -240,17 +247,17 @@ module _ (ways : Ways) (law : Lawful ways) (is : List ℕ) (w : World) (ok : InO
         seen = λ j. seen-offering ways j w Followers i h;
         order = theirs _ (numbers-offer i h (w .follower)) (kept (w .follower) _ (offer-keeps i h (w .follower) (ltb-true _ _ p)) (ok .follower-ok));
       }
-  next-calls (Removing s now grace) p = next-removing s (λ i. due now grace)
+  next-calls (Removing s removal) p = next-removed s removal
   next-calls (Digesting edition excluded place l) p = record { seen = λ j. seen-digesting ways j w edition excluded place l; order = sent-out _ (w .sent) (go (writeDigest edition excluded place (w .follower) l .answer)) (ok .all-read) }
     where
       go : (a : Written) → Readable (afterDigest place (writeDigest edition excluded place (w .follower) l .lent) a (w .exchange))
       go (written.Bytes n) = tt
       go (written.Refused r) = ok .readable
-  next-calls (Computing edition excluded ties mtu place l) p = go (w .exchange) refl
+  next-calls (Computing edition excluded order mtu place l) p = go (w .exchange) refl
     where
-      go : (x : Exchange) → w .exchange ≡ x → Next ways is w (onExchange (computedFor edition excluded ties mtu place l (w .publisher) x) (onSent (sentOn edition excluded ties mtu place l (w .publisher) x (w .sent)) w))
+      go : (x : Exchange) → w .exchange ≡ x → Next ways is w (onExchange (computedFor edition excluded order mtu place l (w .publisher) x) (onSent (sentOn edition excluded order mtu place l (w .publisher) x (w .sent)) w))
       go Idle q = subst (λ (y : Exchange). Next ways is w (onExchange y w)) q stays-so
-      go (DigestSent d) q = next-computing edition excluded ties mtu place l d q _ (comes edition excluded ties mtu place d (w .publisher) l)
+      go (DigestSent d) q = next-computing edition excluded order mtu place l d q _ (come-to edition excluded order mtu place l d)
       go (DeltaSent b) q = subst (λ (y : Exchange). Next ways is w (onExchange y w)) q stays-so
   next-calls (Applying now l) p = go (w .exchange) refl (ok .readable)
     where
@@ -258,7 +265,7 @@ module _ (ways : Ways) (law : Lawful ways) (is : List ℕ) (w : World) (ok : InO
       go Idle q r = stays-so
       go (DigestSent d) q r = stays-so
       go (DeltaSent b) q r = next-applying now l b (ltb-true _ _ p) q r
-  next-calls (Sending edition digest excluded ties mtu place l) p = next-keeping edition excluded ties mtu place l digest _ (comes edition excluded ties mtu place digest (w .publisher) l)
+  next-calls (Sending edition digest excluded order mtu place l) p = next-keeping edition excluded order mtu place l digest _ (come-to edition excluded order mtu place l digest)
   next-calls (Arriving k now l) p =
       nth-sent (λ x. Next ways is w (onSide Followers (appliedTo ways now l x) w)) stays-so k (w .sent)
       (λ b m. next-arriving (and-left (ways .late) _ p) now l b (ltb-true _ _ (and-right (ways .late) _ p)) m)

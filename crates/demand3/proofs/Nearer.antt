@@ -1,9 +1,9 @@
--- A delta that is computed in full and taken without Room: a node that is behind comes nearer, while there is one.
+-- A delta that is computed for a digest and taken without Room: a node whose part moves it comes nearer, and in document 01's order there is one, while any is behind.
 use Prim.Native.Nat.{_+_, _-_, _<_, _≤_, ℕ}
 use mathlib.Core.Bool.{Bool, false, true}
 use mathlib.Core.List.{List, [], _∷_}
 use mathlib.Core.Option.{Option, some}
-use mathlib.Core.Path.{_∙_, _≡_, ap, refl, subst, sym}
+use mathlib.Core.Path.{_∙_, _≡_, ap, refl, subst, subst₂, sym}
 use native.Mathlib.Omega.{arith}
 use lib.Dec.{eqb, leb, ltb}
 use lib.ListN.{length}
@@ -11,18 +11,20 @@ use borrow.Author.Tests.{eq-eqb, eqb-true, le-leb, leb-false, leb-true, lt-ltb}
 use Rattle.fields.proofs.Choice.{in-none}
 use Rattle.fields.specs.Choice.{_∈_, here, later, pick}
 use Rattle.rules.proofs.Calls.{node-in}
-use Rattle.rules.proofs.Obeys.{Ascending, number-in}
-use Rattle.rules.proofs.Sending.{emit, fitting, nodeDelta, partOf, recordSize}
+use Rattle.rules.proofs.Accepted.{ok-stale}
+use Rattle.rules.proofs.Obeys.{Ascending, number-in, table-facts}
+use Rattle.rules.proofs.Sending.{emit, fitting, nodeDelta, partOf, recordSize, sends}
 use Rattle.rules.proofs.Stale.{stale-from}
-use Rattle.rules.proofs.Tables.{Behind, behind-from, computed-once, mapped, node-each, node-entry, node-there, ordered-from, partAt, repeated, taking}
+use Rattle.rules.proofs.Tables.{Behind, behind-from, mapped, node-each, node-entry, node-there, ordered-from, partAt, repeated, taking}
 use Rattle.rules.specs.Apply.{Fence, Taking, applyEach, deltaStatus, outcome}
-use Rattle.rules.specs.Compute.{StaleNode, firstTie, fromFor, fromOf, ordered, otherTies, queue, sooner, stale, staleNode, staleNodes, staleOf, toldOf}
-use Rattle.rules.specs.Delta.{NodeDelta, Part, maxOpWidth, nodeOpWidth}
+use Rattle.rules.specs.Compute.{StaleNode, allOps, cut, deltaFor, firstTie, fromFor, fromOf, ordered, otherTies, queue, sooner, staleNode, staleNodes, staleOf, toldOf}
+use Rattle.rules.specs.Delta.{NodeDelta, Op, maxOpWidth, nodeOpWidth, partsOf}
 use Rattle.rules.specs.Digest.{NodeDigest, digestOf, digestOfNode}
-use Rattle.rules.specs.Node.{KeyValue, Node, Rec}
-use Rattle.rules.specs.Table.{Entry, Table, among, nodeOf, numbersOf}
+use Rattle.rules.specs.Node.{KeyValue, Node}
+use Rattle.rules.specs.Table.{Entry, Table, among, nodeOf, numbersOf, obeys}
 use Rattle.demand3.proofs.EachNode.{nodeAt, orFresh}
-use Rattle.demand3.proofs.Needed.{Onward, delta-falls, needed, needed-some}
+use Rattle.demand3.proofs.Needed.{Moves, Onward, delta-moves, needed, needed-falls, needed-some}
+use Rattle.demand3.proofs.OnTheWay.{PartFor}
 use Rattle.demand3.specs.Demand3.{leastWidth}
 
 -- ---- sums over the nodes
@@ -105,10 +107,6 @@ unfolding ordered
 ordered-some [] m = absurd (in-none m)
 ordered-some (a ∷ l) m = queue-some a (ordered l)
 
--- records within document 01's sizes
-unfoldable pub Small : Table → Type 0
-Small t = (e : Entry) → e ∈ t → (r : Rec) → r ∈ e .node .recs → recordSize (r .kv) ≤ 110
-
 -- what a node still needs, given the publisher's table and the follower's
 abbrev pub lack : Table → Table → ℕ → ℕ
 lack ours theirs i = needed (nodeAt i ours) (nodeAt i theirs)
@@ -121,6 +119,52 @@ first-fits room (s ∷ ss) h z = rw (le-leb (recordSize s) room (h s (here refl)
 part-first : (mtu : ℕ) (x : StaleNode) (r : List StaleNode) → nodeOpWidth ≤ mtu → partAt (x .number) (emit mtu (x ∷ r)) ≡ some (partOf mtu x .delta)
 unfolding partAt emit
 part-first mtu x r h = rw (le-leb nodeOpWidth mtu h, eq-eqb (x .number) (x .number) refl)
+
+-- ---- a part that moves
+
+-- the delta has a part that moves its node
+abbrev pub Stirs : Table → List Op → Type 0
+Stirs t ops = (i : ℕ) × (d : NodeDelta) × (partAt i (partsOf ops) ≡ some d) × Moves (nodeAt i t) d
+
+-- In document 01's order it is that of the first in the queue, if the MTU is wide enough and no node is excluded.
+module _ (mtu : ℕ) (ties : List ℕ) (told : List NodeDigest) (t : Table) (obeyed : obeys t ≡ true) (wide : leastWidth ≤ mtu) where
+  first-stirs : (x : StaleNode) (r : List StaleNode) → ordered (staleNodes [] told ties t) ≡ x ∷ r → Stirs t (deltaFor [] ties mtu told t)
+  unfolding deltaFor
+  first-stirs x r q = (x .number, partOf mtu x .delta, part-is, subst₂ Moves node-is (sym delta-is) (delta-moves (x .node) (x .told-gc) (x .told-max) count (o .behind) (first-fits (mtu - nodeOpWidth) (staleOf x) sizes)))
+    where
+      xin : x ∈ ordered (staleNodes [] told ties t)
+      xin = subst (λ (l : List StaleNode). x ∈ l) (sym q) (here refl)
+
+      o : Behind told t x
+      o = behind-from [] told ties t (ordered-from _ xin)
+
+      count : ℕ
+      count = fitting (mtu - nodeOpWidth) (staleOf x)
+
+      sizes : (s : KeyValue) → s ∈ staleOf x → recordSize s ≤ mtu - nodeOpWidth
+      sizes s n =
+          let z = stale-from (fromFor x) (x .node .recs) n in
+          let k = ok-stale (table-facts t obeyed) o .node-ok .each (z .0) (z .1) in
+          let a = k .key-fits in
+          let b = k .value-fits in
+          let c : recordSize (z .0 .kv) ≡ recordSize s = ap recordSize (z .2) in
+          omega arith
+
+      delta-is : partOf mtu x .delta ≡ nodeDelta (x .node) (x .told-gc) (x .told-max) count true
+      delta-is = ap (nodeDelta (x .node) (x .told-gc) (x .told-max) count) (le-leb maxOpWidth (mtu - nodeOpWidth) (omega arith))
+
+      part-is : partAt (x .number) (partsOf (cut mtu (allOps (ordered (staleNodes [] told ties t))))) ≡ some (partOf mtu x .delta)
+      part-is =
+          ap (partAt (x .number)) (sends mtu (ordered (staleNodes [] told ties t)))
+          ∙ ap (λ (l : List StaleNode). partAt (x .number) (emit mtu l)) q
+          ∙ part-first mtu x r (omega arith)
+
+      node-is : x .node ≡ nodeAt (x .number) t
+      node-is = o .node-is ∙ sym (ap orFresh (node-entry (o .entry) (table-facts t obeyed .ascending) (o .held))) ∙ ap (λ (j : ℕ). nodeAt j t) (sym (o .number-is))
+
+  -- while the digest is behind of any node
+  pub line-stirs : (e : Entry) → e ∈ t → toldOf (e .number) told .max < e .node .max → Stirs t (deltaFor [] ties mtu told t)
+  line-stirs e m says = let order = ordered-some _ (stale-in-table told ties m says .1) in first-stirs (order .0) (order .1) (order .2)
 
 -- ---- the exchange
 
@@ -138,144 +182,86 @@ pub record Way (fence : Fence) (theirs met : Table) (i : ℕ) (p : Node) : Type 
   pub onward : Onward p was came
   pub lets : (m : ℕ) → fence (came .last-gc) (came .max) (p .last-gc) m ≡ false
 
-module _ (fence : Fence) (now mtu : ℕ) (ties : List ℕ) (told : List NodeDigest) (ours theirs met : Table) (asc : Ascending (numbersOf ours)) (way : (e : Entry) → e ∈ ours → Way fence theirs met (e .number) (e .node)) (tells : Tells told theirs) where
-  unfoldable pub queued : List StaleNode
-  queued = ordered (staleNodes [] told ties ours)
-
-  unfoldable pub sent : List Part
-  sent = emit mtu queued
-
-  record Matched (x : StaleNode) (e : Entry) (f : Node) : Type 0 where
-    node-is : x .node ≡ e .node
-    gc-is : x .told-gc ≡ f .last-gc
-    max-is : x .told-max ≡ f .max
-    behind : f .max < e .node .max
-
-  matched : (x : StaleNode) (o : Behind told ours x) (f : Node) → nodeOf (o .entry .number) theirs ≡ some f → Matched x (o .entry) f
-  matched x o f h =
-      record { node-is = o .node-is; gc-is = o .gc-is ∙ tells _ f h .0; max-is = max-is; behind = let b = o .behind in let c = max-is in let d = ap (λ (n : Node). n .max) (o .node-is) in omega arith }
+module _ (fence : Fence) (now : ℕ) (told : List NodeDigest) (ours theirs met : Table) (asc : Ascending (numbersOf ours)) (way : (e : Entry) → e ∈ ours → Way fence theirs met (e .number) (e .node)) (tells : Tells told theirs) where
+  -- a node that needs something is one that the digest is behind of
+  pub lack-behind : (i : ℕ) → i ∈ numbersOf ours → 0 < lack ours theirs i → (e : Entry) × (e ∈ ours) × (toldOf (e .number) told .max < e .node .max)
+  lack-behind i n z = (e, x .1, let a = tells (e .number) f h .1 in let b = behind in omega arith)
     where
-      max-is : x .told-max ≡ f .max
-      max-is = o .max-is ∙ tells _ f h .1
+      p : (x : Node) × (nodeOf i ours ≡ some x)
+      p = node-there i ours n
 
-  behind-of : {x : StaleNode} → x ∈ queued → Behind told ours x
-  unfolding queued
-  behind-of m = behind-from [] told ties ours (ordered-from _ m)
+      x : (e : Entry) × (e ∈ ours) × (e .node ≡ p .0) × (i ≡ e .number)
+      x = node-in i ours (p .1)
 
-  once : repeated sent ≡ false
-  unfolding sent queued
-  once = computed-once [] ties mtu told ours asc
+      e : Entry
+      e = x .0
 
-  -- where every node that has a part takes it, whatever else its ways may be: none answers Room
-  module _ (take : Taking) (took : (i : ℕ) (d : NodeDelta) (x : Node) → partAt i sent ≡ some d → nodeOf i met ≡ some x → take d x .node ≡ outcome (deltaStatus fence x d) now d x) where
+      f : Node
+      f = way e (x .1) .was
+
+      h : nodeOf (e .number) theirs ≡ some f
+      h = way e (x .1) .was-is
+
+      same : lack ours theirs i ≡ needed (e .node) f
+      same = λ k. needed ((ap orFresh (p .1) ∙ sym (x .2)) k) ((ap (λ (j : ℕ). nodeAt j theirs) (x .3) ∙ ap orFresh h) k)
+
+      behind : f .max < e .node .max
+      behind = needed-some (e .node) f (subst (λ (k : ℕ). 0 < k) same z)
+
+  -- Any delta that names no node twice; every node that has a part takes it, whatever else its ways may be: none answers Room.
+  module _ (ops : List Op) (once : repeated (partsOf ops) ≡ false) (take : Taking) (took : (i : ℕ) (d : NodeDelta) (x : Node) → partAt i (partsOf ops) ≡ some d → nodeOf i met ≡ some x → take d x .node ≡ outcome (deltaStatus fence x d) now d x) where
     unfoldable pub next : Table
-    next = applyEach take sent met .table
+    next = applyEach take (partsOf ops) met .table
 
     -- the node after the exchange
-    takes-it : (i : ℕ) (d : NodeDelta) (x : Node) → partAt i sent ≡ some d → nodeOf i met ≡ some x → nodeAt i next ≡ outcome (deltaStatus fence x d) now d x
+    takes-it : (i : ℕ) (d : NodeDelta) (x : Node) → partAt i (partsOf ops) ≡ some d → nodeOf i met ≡ some x → nodeAt i next ≡ outcome (deltaStatus fence x d) now d x
     unfolding next
     takes-it i d x p h =
-        ap orFresh (node-each take i sent met once)
-        ∙ ap (λ (o : Option Node). orFresh (mapped (taking take (partAt i sent)) o)) h
+        ap orFresh (node-each take i (partsOf ops) met once)
+        ∙ ap (λ (o : Option Node). orFresh (mapped (taking take (partAt i (partsOf ops))) o)) h
         ∙ ap (λ (o : Option NodeDelta). taking take o x) p
         ∙ took i d x p h
 
-    delta-of : (x : StaleNode) (e : Entry) (f : Node) (count : ℕ) (fits : Bool) → Matched x e f → nodeDelta (x .node) (x .told-gc) (x .told-max) count fits ≡ nodeDelta (e .node) (f .last-gc) (f .max) count fits
-    delta-of x e f count fits m = λ z. nodeDelta (m .node-is z) (m .gc-is z) (m .max-is z) count fits
+    -- A node whose part was made for the digest, and moves it, needs less.
+    pub stirred : (excluded : List ℕ) (i : ℕ) (d : NodeDelta) → partAt i (partsOf ops) ≡ some d → PartFor excluded told ours i d → Moves (nodeAt i ours) d → (i ∈ numbersOf ours) × (lack ours next i < lack ours theirs i)
+    unfolding nodeDelta
+    stirred excluded i d q x moves = (subst (λ (j : ℕ). j ∈ numbersOf ours) (sym (x .held .2)) (number-in (x .held .1)), fall)
+      where
+        e : Entry
+        e = x .held .0
 
-    -- the first in the queue comes nearer
-    module _ (wide : leastWidth ≤ mtu) (small : Small ours) where
-      falls-first : (x : StaleNode) (r : List StaleNode) → queued ≡ x ∷ r → (i : ℕ) × (i ∈ numbersOf ours) × (lack ours next i < lack ours theirs i)
-      unfolding sent Small
-      falls-first x r q = (e .number, number-in m, fall)
-        where
-          xin : x ∈ queued
-          xin = subst (λ (l : List StaleNode). x ∈ l) (sym q) (here refl)
+        v : Way fence theirs met (e .number) (e .node)
+        v = way e (x .held .1)
 
-          o : Behind told ours x
-          o = behind-of xin
+        f : Node
+        f = v .was
 
-          e : Entry
-          e = o .entry
+        y : Node
+        y = v .came
 
-          m : e ∈ ours
-          m = o .held
+        was-is : nodeOf i theirs ≡ some f
+        was-is = ap (λ (j : ℕ). nodeOf j theirs) (x .held .2) ∙ v .was-is
 
-          v : Way fence theirs met (e .number) (e .node)
-          v = way e m
+        came-is : nodeOf i met ≡ some y
+        came-is = ap (λ (j : ℕ). nodeOf j met) (x .held .2) ∙ v .came-is
 
-          f : Node
-          f = v .was
+        p-is : nodeAt i ours ≡ e .node
+        p-is = ap (λ (j : ℕ). nodeAt j ours) (x .held .2) ∙ ap orFresh (node-entry e asc (x .held .1))
 
-          y : Node
-          y = v .came
+        gc-is : d .last-gc ≡ e .node .last-gc
+        gc-is = ap (λ (k : NodeDelta). k .last-gc) (x .delta-is) ∙ ap (λ (n : Node). n .last-gc) p-is
 
-          mm : Matched x e f
-          mm = matched x o f (v .was-is)
+        from-is : d .from ≡ fromOf (e .node .last-gc) (f .last-gc) (f .max)
+        from-is = ap (λ (k : NodeDelta). k .from) (x .delta-is) ∙ (λ z. fromOf (p-is z .last-gc) (tells i f was-is .0 z) (tells i f was-is .1 z))
 
-          d : NodeDelta
-          d = partOf mtu x .delta
+        behind : f .max < e .node .max
+        behind = let a = x .behind in let b = tells i f was-is .1 in let c = ap (λ (n : Node). n .max) p-is in omega arith
 
-          is : partAt (e .number) sent ≡ some d
-          is =
-              ap (λ (l : List StaleNode). partAt (e .number) (emit mtu l)) q
-              ∙ ap (λ (i : ℕ). partAt i (emit mtu (x ∷ r))) (sym (o .number-is))
-              ∙ part-first mtu x r (omega arith)
-
-          count : ℕ
-          count = fitting (mtu - nodeOpWidth) (staleOf x)
-
-          stale-is : staleOf x ≡ stale (fromOf (e .node .last-gc) (f .last-gc) (f .max)) (e .node .recs)
-          stale-is = λ z. stale (fromOf (mm .node-is z .last-gc) (mm .gc-is z) (mm .max-is z)) (mm .node-is z .recs)
-
-          sizes : (s : KeyValue) → s ∈ staleOf x → recordSize s ≤ mtu - nodeOpWidth
-          sizes s n =
-              let z = stale-from (fromFor x) (x .node .recs) n in
-              let a = small e m (z .0) (subst (λ (k : Node). z .0 ∈ k .recs) (mm .node-is) (z .1)) in
-              let b : recordSize s ≤ 110 = subst (λ (k : KeyValue). recordSize k ≤ 110) (z .2) a in
-              omega arith
-
-          delta-is : d ≡ nodeDelta (e .node) (f .last-gc) (f .max) count true
-          delta-is = ap (nodeDelta (x .node) (x .told-gc) (x .told-max) count) (le-leb maxOpWidth (mtu - nodeOpWidth) (omega arith)) ∙ delta-of x e f count true mm
-
-          fall : lack ours next (e .number) < lack ours theirs (e .number)
-          fall =
-              let k =
-              delta-falls fence now (e .node) f y count (mm .behind) (λ z. first-fits (mtu - nodeOpWidth) (staleOf x) sizes (subst (λ (l : List KeyValue). 0 < length l) (sym stale-is) z)) d delta-is
-              (v .onward) (v .lets) in
-              let p : nodeAt (e .number) ours ≡ e .node = ap orFresh (node-entry e asc m) in
-              let a : lack ours next (e .number) ≡ needed (e .node) (outcome (deltaStatus fence y d) now d y) = λ z. needed (p z) (takes-it (e .number) d y is (v .came-is) z) in
-              let b : lack ours theirs (e .number) ≡ needed (e .node) f = λ z. needed (p z) (orFresh (v .was-is z)) in
-              omega arith
-
-      -- one node needs less, while any needs something
-      pub lack-falls : (i : ℕ) → i ∈ numbersOf ours → 0 < lack ours theirs i → (j : ℕ) × (j ∈ numbersOf ours) × (lack ours next j < lack ours theirs j)
-      unfolding queued
-      lack-falls i n z = falls-first (order .0) (order .1) (order .2)
-        where
-          p : (x : Node) × (nodeOf i ours ≡ some x)
-          p = node-there i ours n
-
-          x : (e : Entry) × (e ∈ ours) × (e .node ≡ p .0) × (i ≡ e .number)
-          x = node-in i ours (p .1)
-
-          e : Entry
-          e = x .0
-
-          f : Node
-          f = way e (x .1) .was
-
-          h : nodeOf (e .number) theirs ≡ some f
-          h = way e (x .1) .was-is
-
-          same : lack ours theirs i ≡ needed (e .node) f
-          same = λ k. needed ((ap orFresh (p .1) ∙ sym (x .2)) k) ((ap (λ (j : ℕ). nodeAt j theirs) (x .3) ∙ ap orFresh h) k)
-
-          behind : f .max < e .node .max
-          behind = needed-some (e .node) f (subst (λ (k : ℕ). 0 < k) same z)
-
-          says : toldOf (e .number) told .max < e .node .max
-          says = let a = tells (e .number) f h .1 in let b = behind in omega arith
-
-          order : (y : StaleNode) × (r : List StaleNode) × (queued ≡ y ∷ r)
-          order = ordered-some _ (stale-in-table told ties (x .1) says .1)
+        fall : lack ours next i < lack ours theirs i
+        fall =
+            let k =
+            needed-falls fence now (e .node) f y d behind gc-is from-is (v .onward)
+            (subst (λ (g : ℕ). fence (y .last-gc) (y .max) g (d .max) ≡ false) (sym gc-is) (v .lets (d .max))) (subst (λ (n : Node). Moves n d) p-is moves) in
+            let a : lack ours next i ≡ needed (e .node) (outcome (deltaStatus fence y d) now d y) = λ z. needed (p-is z) (takes-it i d y q came-is z) in
+            let b : lack ours theirs i ≡ needed (e .node) f = λ z. needed (p-is z) (orFresh (was-is z)) in
+            omega arith

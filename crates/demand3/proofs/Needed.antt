@@ -195,13 +195,3 @@ delta-moves p g m count h c = at (delta-moves-or p g m count true)
     at : (nodeDelta p g m count true .max ≡ 0) ⊎ Moves p (nodeDelta p g m count true) → Moves p (nodeDelta p g m count true)
     at (inl z) = let t = some-top p (fromOf (p .last-gc) g m) count (stale (fromOf (p .last-gc) g m) (p .recs)) refl c (omega arith) in absurd (omega arith)
     at (inr x) = x
-
--- for a computed delta that meets neither a fence nor Room
-pub delta-falls : (fence : Fence) (now : ℕ) (p f x : Node) (count : ℕ) → f .max < p .max → (0 < length (stale (fromOf (p .last-gc) (f .last-gc) (f .max)) (p .recs)) → 0 < count) → (d : NodeDelta) → d ≡ nodeDelta p (f .last-gc) (f .max) count true → Onward p f x → ((m : ℕ) → fence (x .last-gc) (x .max) (p .last-gc) m ≡ false) → needed p (outcome (deltaStatus fence x d) now d x) < needed p f
-unfolding nodeDelta
-delta-falls fence now p f x count b c d e on lets =
-    needed-falls fence now p f x d b gc-is (ap (λ (y : NodeDelta). y .from) e) on (subst (λ (g : ℕ). fence (x .last-gc) (x .max) g (d .max) ≡ false) (sym gc-is) (lets (d .max)))
-    (subst (Moves p) (sym e) (delta-moves p (f .last-gc) (f .max) count b c))
-  where
-    gc-is : d .last-gc ≡ p .last-gc
-    gc-is = ap (λ (y : NodeDelta). y .last-gc) e

@@ -1,20 +1,22 @@
 -- What digest writing and computing leave on the way: the bytes of the digest, and those of the delta that the digest asks for. And what demand 3 asks of a
--- delta that is sent (`Sendable`), which is met by computing for any digest.
-use Prim.Native.Nat.{_-_, _≤_, ℕ}
-use mathlib.Core.Bool.{Bool, _&&_, false, false≢true, true}
-use mathlib.Core.List.{List}
+-- delta that is sent (`Sendable`), which is met by computing for any digest, node by node (`PartFor`).
+use Prim.Native.Nat.{_-_, _<_, _≤_, ℕ}
+use mathlib.Core.Bool.{Bool, _&&_, false, false≢true, not, true}
+use mathlib.Core.List.{List, [], _∷_}
+use mathlib.Core.Logic.{_⊎_, inl, inr}
 use mathlib.Core.Option.{some}
 use mathlib.Core.Path.{_∙_, _≡_, ap, refl, sym}
 use native.Mathlib.Omega.{arith}
-use lib.Dec.{leb}
+use lib.Dec.{leb, ltb}
 use lib.ListN.{length}
 use borrow.Author.Tests.{leb-true}
+use Rattle.fields.proofs.Choice.{in-cons, in-none}
 use Rattle.fields.proofs.Parts.{part-put}
-use Rattle.fields.specs.Choice.{pick}
+use Rattle.fields.specs.Choice.{_∈_, pick}
 use Rattle.fields.specs.Parts.{put}
 use Rattle.rules.specs.Given.{Given, given}
 use Rattle.rules.proofs.Accepted.{computed-chain, computed-small, read-computed}
-use Rattle.rules.specs.Compute.{deltaFor, ordered, staleNodes, StaleNode}
+use Rattle.rules.specs.Compute.{StaleNode, deltaFor, firstTie, ordered, otherTies, staleNode, staleNodes, toldOf}
 use Rattle.rules.specs.Delta.{deltaBytes, Good, NodeDelta, Op, nothingRead, partsOf, readDelta}
 use Rattle.rules.proofs.Deltas.{AllSmall, Chain}
 use Rattle.rules.proofs.Obeys.{table-facts}
@@ -23,7 +25,7 @@ use Rattle.rules.proofs.Tables.{Behind, SentPart, behind-from, node-entry, orde
 use Rattle.rules.specs.Digest.{NodeDigest, digestBytes, digestOf, isEdition, writeBytes, writeDigest}
 use Rattle.rules.specs.Node.{Node}
 use Rattle.rules.specs.Sizes.{maxDelta}
-use Rattle.rules.specs.Table.{Table, obeys}
+use Rattle.rules.specs.Table.{Entry, Table, among, obeys}
 use Rattle.rules.specs.declared.Refusal.the-variants.{BadEdition, NoPlace}
 use Rattle.rules.specs.declared.Written.{Written}
 use Rattle.rules.specs.declared.Written.the-variants as written-as
@@ -67,30 +69,88 @@ pub record Sendable (t : Table) (ops : List Op) : Type 0 where
   pub small : AllSmall ops
   pub made : (i : ℕ) (d : NodeDelta) → partAt i (partsOf ops) ≡ some d → MadeOf (nodeAt i t) d
 
-pub computed-sendable : (excluded ties : List ℕ) (mtu : ℕ) (ds : List NodeDigest) (t : Table) → obeys t ≡ true → mtu ≤ maxDelta → Sendable t (deltaFor excluded ties mtu ds t)
-unfolding deltaFor
-computed-sendable excluded ties mtu ds t ok h =
+-- ---- what computing sends
+
+-- The part of node i in a delta that was computed for a digest: what computing makes of the node for the pair that the digest tells, cut somewhere. The
+-- node is held, not excluded, and the digest is behind of it.
+pub record PartFor (excluded : List ℕ) (ds : List NodeDigest) (t : Table) (i : ℕ) (d : NodeDelta) : Type 0 where
+  pub held : (e : Entry) × (e ∈ t) × (i ≡ e .number)
+  pub free : among i excluded ≡ false
+  pub behind : toldOf i ds .max < nodeAt i t .max
+  pub count : ℕ
+  pub fits : Bool
+  pub delta-is : d ≡ nodeDelta (nodeAt i t) (toldOf i ds .last-gc) (toldOf i ds .max) count fits
+
+-- a stale node is not excluded
+stale-free : (excluded : List ℕ) (l : List NodeDigest) (ties : List ℕ) (t : Table) (o : StaleNode) → o ∈ staleNodes excluded l ties t → among (o .number) excluded ≡ false
+unfolding staleNodes
+stale-free excluded l ties [] o m = absurd (in-none m)
+stale-free excluded l ties (e ∷ t) o m = go (among (e .number) excluded) refl (ltb (toldOf (e .number) l .max) (e .node .max)) m (stale-free excluded l (otherTies ties) t o)
+  where
+    rest : List StaleNode
+    rest = staleNodes excluded l (otherTies ties) t
+
+    go : (a : Bool) → among (e .number) excluded ≡ a → (b : Bool) → o ∈ pick (not a && b) (staleNode (firstTie ties) (toldOf (e .number) l) e ∷ rest) rest → (o ∈ rest → among (o .number) excluded ≡ false) → among (o .number) excluded ≡ false
+    go true q b m ih = ih m
+    go false q false m ih = ih m
+    go false q true m ih = at (in-cons m)
+      where
+        at : (o ≡ staleNode (firstTie ties) (toldOf (e .number) l) e) ⊎ (o ∈ rest) → among (o .number) excluded ≡ false
+        at (inl p) = ap (λ (s : StaleNode). among (s .number) excluded) p ∙ q
+        at (inr n) = ih n
+
+-- what is made of a stale node is such a part
+pub part-for : (excluded : List ℕ) (ds : List NodeDigest) (ties : List ℕ) (t : Table) → obeys t ≡ true
+    → (o : StaleNode) → o ∈ staleNodes excluded ds ties t
+    → (i : ℕ) → i ≡ o .number
+    → (d : NodeDelta) (count : ℕ) (fits : Bool) → d ≡ nodeDelta (o .node) (o .told-gc) (o .told-max) count fits
+    → PartFor excluded ds t i d
+part-for excluded ds ties t ok o m i same d count fits is =
     record {
-      read = read-computed excluded ties ds t ok mtu h;
-      chain = computed-chain excluded ties ds t ok mtu;
-      small = computed-small excluded ties ds t ok mtu;
-      made = λ i d e. made i d (part-sent i mtu queued (sym (ap (partAt i) (sends mtu queued)) ∙ e));
+      held = (x .entry, x .held, number-is);
+      free = ap (λ (j : ℕ). among j excluded) same ∙ stale-free excluded ds ties t o m;
+      behind = let a = x .behind in let b = max-is in let c = ap (λ (n : Node). n .max) node-is in omega arith;
+      count = count;
+      fits = fits;
+      delta-is = is ∙ (λ z. nodeDelta (node-is z) (gc-is z) (max-is z) count fits);
     }
   where
-    queued : List StaleNode
-    queued = ordered (staleNodes excluded ds ties t)
+    x : Behind ds t o
+    x = behind-from excluded ds ties t m
 
-    made : (i : ℕ) (d : NodeDelta) → SentPart queued i d → MadeOf (nodeAt i t) d
-    made i d x =
-        let o : Behind ds t (x .of) = behind-from excluded ds ties t (ordered-from _ (x .queued)) in
-        let node-is : x .of .node ≡ nodeAt i t =
-        o .node-is
-        ∙ sym (ap orFresh (node-entry (o .entry) (table-facts t ok .ascending) (o .held)))
-        ∙ ap (λ (j : ℕ). nodeAt j t) (sym (x .number-is ∙ o .number-is)) in
-        record {
-          told-gc = x .of .told-gc;
-          told-max = x .of .told-max;
-          count = x .count;
-          fits = x .fits;
-          delta-is = x .delta-is ∙ ap (λ (n : Node). nodeDelta n (x .of .told-gc) (x .of .told-max) (x .count) (x .fits)) node-is;
-        }
+    number-is : i ≡ x .entry .number
+    number-is = same ∙ x .number-is
+
+    node-is : o .node ≡ nodeAt i t
+    node-is = x .node-is ∙ sym (ap orFresh (node-entry (x .entry) (table-facts t ok .ascending) (x .held))) ∙ ap (λ (j : ℕ). nodeAt j t) (sym number-is)
+
+    gc-is : o .told-gc ≡ toldOf i ds .last-gc
+    gc-is = x .gc-is ∙ ap (λ (j : ℕ). toldOf j ds .last-gc) (sym number-is)
+
+    max-is : o .told-max ≡ toldOf i ds .max
+    max-is = x .max-is ∙ ap (λ (j : ℕ). toldOf j ds .max) (sym number-is)
+
+pub made-of : {excluded : List ℕ} {ds : List NodeDigest} {t : Table} {i : ℕ} {d : NodeDelta} → PartFor excluded ds t i d → MadeOf (nodeAt i t) d
+made-of {ds = ds} {i = i} x = record { told-gc = toldOf i ds .last-gc; told-max = toldOf i ds .max; count = x .count; fits = x .fits; delta-is = x .delta-is }
+
+-- ---- in document 01's order
+
+module _ (excluded ties : List ℕ) (mtu : ℕ) (ds : List NodeDigest) (t : Table) (ok : obeys t ≡ true) where
+  pub computed-part : (i : ℕ) (d : NodeDelta) → partAt i (partsOf (deltaFor excluded ties mtu ds t)) ≡ some d → PartFor excluded ds t i d
+  unfolding deltaFor
+  computed-part i d e = at (part-sent i mtu queued (sym (ap (partAt i) (sends mtu queued)) ∙ e))
+    where
+      queued : List StaleNode
+      queued = ordered (staleNodes excluded ds ties t)
+
+      at : SentPart queued i d → PartFor excluded ds t i d
+      at x = part-for excluded ds ties t ok (x .of) (ordered-from _ (x .queued)) i (x .number-is) d (x .count) (x .fits) (x .delta-is)
+
+  pub computed-sendable : mtu ≤ maxDelta → Sendable t (deltaFor excluded ties mtu ds t)
+  computed-sendable h =
+      record {
+        read = read-computed excluded ties ds t ok mtu h;
+        chain = computed-chain excluded ties ds t ok mtu;
+        small = computed-small excluded ties ds t ok mtu;
+        made = λ i d e. made-of (computed-part i d e);
+      }

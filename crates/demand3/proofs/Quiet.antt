@@ -21,6 +21,7 @@ use Rattle.demand3.proofs.Nearer.{lack}
 use Rattle.demand3.proofs.Needed.{Onward, needed, onward-came, onward-needed, onward-same}
 use Rattle.demand3.proofs.OneNode.{Flies}
 use Rattle.demand3.specs.Demand3.{quiet}
+use Rattle.demand3.specs.Forms.{Order}
 use Rattle.demand3.specs.World.{Applying, Arriving, Beating, Computing, DeltaSent, DigestSent, Digesting, Event, Exchange, Followers, Idle, Offering, Publishers, Removing, Sending, Side, World, Writing, appliedTo, calls, happen, onSide, possible}
 
 -- ---- heartbeats alone
@@ -91,13 +92,13 @@ module _ (ways : Ways) (law : Lawful ways) (is : List ℕ) (w : World) (m : Mome
 
   calm-calls : (e : Event) → quiet e ≡ true → Calm w (calls ways e w)
   calm-calls (Writing j k c) q = absurd (false≢true q)
-  calm-calls (Removing s now grace) q = absurd (false≢true q)
+  calm-calls (Removing s removal) q = absurd (false≢true q)
   calm-calls (Beating s j) q = calm-beats w s (λ t. localBeat j t .table) (λ t i. beaten-local i t j)
   calm-calls (Offering s j h) q = calm-beats w s (λ t. offer j h t .table) (λ t i. beaten-offer i t j h)
   calm-calls (Digesting edition excluded place l) q = record { publisher-beaten = calm-same w .publisher-beaten; onward = calm-same w .onward }
-  calm-calls (Computing edition excluded ties mtu place l) q = record { publisher-beaten = calm-same w .publisher-beaten; onward = calm-same w .onward }
+  calm-calls (Computing edition excluded order mtu place l) q = record { publisher-beaten = calm-same w .publisher-beaten; onward = calm-same w .onward }
   calm-calls (Applying now l) q = calm-theirs w _ (applied-onward now l (w .exchange) (m .order .readable) (λ i. m .facts i .flies))
-  calm-calls (Sending edition digest excluded ties mtu place l) q = record { publisher-beaten = calm-same w .publisher-beaten; onward = calm-same w .onward }
+  calm-calls (Sending edition digest excluded order mtu place l) q = record { publisher-beaten = calm-same w .publisher-beaten; onward = calm-same w .onward }
   calm-calls (Arriving k now l) q =
       calm-theirs w _
       (nth-sent (λ x. (i : ℕ) → Onward (p i) (f i) (nodeAt i (appliedTo ways now l x (w .follower)))) (λ i. onward-same (p i) (f i)) k (w .sent)
@@ -153,8 +154,8 @@ module _ (ways : Ways) (w : World) where
   pub way-offering : (s : Side) (j : ℕ) (h : Heartbeat) → SameWay (Offering s j h)
   way-offering s j h = maybe (Offering s j h) (same-side s (λ t. offer j h t .table))
 
-  pub way-sending : (edition : ℕ) (digest excluded ties : List ℕ) (mtu place : ℕ) (l : List ℕ) → SameWay (Sending edition digest excluded ties mtu place l)
-  way-sending edition digest excluded ties mtu place l = maybe (Sending edition digest excluded ties mtu place l) refl
+  pub way-sending : (edition : ℕ) (digest excluded : List ℕ) (order : Order) (mtu place : ℕ) (l : List ℕ) → SameWay (Sending edition digest excluded order mtu place l)
+  way-sending edition digest excluded order mtu place l = maybe (Sending edition digest excluded order mtu place l) refl
 
   pub way-arriving : (k now : ℕ) (l : List ℕ) → SameWay (Arriving k now l)
   way-arriving k now l = maybe (Arriving k now l) refl

@@ -14,7 +14,6 @@ use Rattle.rules.specs.Answers.{codeOf}
 use Rattle.rules.specs.Node.{KeyValue, Rec, Node}
 use Rattle.rules.specs.Table.{Table, nodeOf, numbersOf, among, obeys}
 use Rattle.rules.specs.Digest.{writeDigest}
-use Rattle.rules.specs.Compute.{compute}
 use Rattle.rules.specs.Apply.{Ways, apply}
 use Rattle.rules.specs.declared.Status.the-variants.{Set}
 use Rattle.rules.specs.declared.NodeAnswer.the-variants as node
@@ -24,6 +23,7 @@ use Rattle.rules.specs.declared.Computed.{Computed}
 use Rattle.rules.specs.declared.Computed.the-variants as computed
 use Rattle.rules.specs.declared.Applied.{Applied}
 use Rattle.rules.specs.declared.Applied.the-variants as applied
+use Rattle.demand3.specs.Forms.{Order, InLine, computeBy}
 use Rattle.demand3.specs.World.{World, Exchange, Idle, DigestSent, DeltaSent, Event, Writing, Beating, Offering, Removing, Digesting, Computing, Applying, Sending, Arriving, possible, happen, after, start}
 
 -- ---- the claims at a moment
@@ -73,11 +73,11 @@ abbrev pub quiet : (event : Event) → Bool
 quiet (Writing i k c) = false
 quiet (Beating s i) = true
 quiet (Offering s i h) = true
-quiet (Removing s now grace) = false
+quiet (Removing s removal) = false
 quiet (Digesting edition excluded place l) = true
-quiet (Computing edition excluded ties mtu place l) = true
+quiet (Computing edition excluded order mtu place l) = true
 quiet (Applying now l) = true
-quiet (Sending edition digest excluded ties mtu place l) = true
+quiet (Sending edition digest excluded order mtu place l) = true
 quiet (Arriving k now l) = true
 
 unfoldable pub allQuiet : (events : List Event) → Bool
@@ -92,16 +92,20 @@ abbrev pub isNone : (excluded : List ℕ) → Bool
 isNone [] = true
 isNone (i ∷ is) = false
 
--- no node is excluded, and the MTU is wide enough
+-- a computing whose exchange counts: in document 01's order no node is excluded, and the MTU is wide enough
+abbrev pub wideEnough : (excluded : List ℕ) (order : Order) (mtu : ℕ) → Bool
+wideEnough excluded (InLine ties) mtu = isNone excluded && leb leastWidth mtu
+
+-- no node is excluded from the digest, and the computing counts
 abbrev pub unlimited : (event : Event) → Bool
 unlimited (Writing i k c) = true
 unlimited (Beating s i) = true
 unlimited (Offering s i h) = true
-unlimited (Removing s now grace) = true
+unlimited (Removing s removal) = true
 unlimited (Digesting edition excluded place l) = isNone excluded
-unlimited (Computing edition excluded ties mtu place l) = isNone excluded && leb leastWidth mtu
+unlimited (Computing edition excluded order mtu place l) = wideEnough excluded order mtu
 unlimited (Applying now l) = true
-unlimited (Sending edition digest excluded ties mtu place l) = true
+unlimited (Sending edition digest excluded order mtu place l) = true
 unlimited (Arriving k now l) = true
 
 -- Nothing refused, read off the answers: the three calls of an exchange give no number, and no node answers Room. A Reject is no refusal.
@@ -118,10 +122,10 @@ abbrev pub noRoom : (answer : Applied) (list : Bytes) → Bool
 noRoom (applied.Nodes n) l = not (among (codeOf node.Room) (take n l))
 noRoom (applied.Refused r at) l = false
 
-abbrev pub isComputed : (edition : ℕ) (excluded ties : List ℕ) (mtu place : ℕ) (datagram : Bytes) (table : Table) (way : Exchange) → Bool
-isComputed edition excluded ties mtu place l t Idle = false
-isComputed edition excluded ties mtu place l t (DigestSent d) = wroteDelta (compute edition excluded ties mtu place d t l .answer)
-isComputed edition excluded ties mtu place l t (DeltaSent b) = false
+abbrev pub isComputed : (edition : ℕ) (excluded : List ℕ) (order : Order) (mtu place : ℕ) (datagram : Bytes) (table : Table) (way : Exchange) → Bool
+isComputed edition excluded order mtu place l t Idle = false
+isComputed edition excluded order mtu place l t (DigestSent d) = wroteDelta (computeBy edition excluded order mtu place d t l .answer)
+isComputed edition excluded order mtu place l t (DeltaSent b) = false
 
 abbrev pub isApplied : (ways : Ways) (now : ℕ) (answers : Bytes) (table : Table) (way : Exchange) → Bool
 isApplied ways now l t Idle = false
@@ -133,11 +137,11 @@ abbrev pub granted : (ways : Ways) (event : Event) (world : World) → Bool
 granted ways (Writing i k c) w = true
 granted ways (Beating s i) w = true
 granted ways (Offering s i h) w = true
-granted ways (Removing s now grace) w = true
+granted ways (Removing s removal) w = true
 granted ways (Digesting edition excluded place l) w = wroteDigest (writeDigest edition excluded place (w .follower) l .answer)
-granted ways (Computing edition excluded ties mtu place l) w = isComputed edition excluded ties mtu place l (w .publisher) (w .exchange)
+granted ways (Computing edition excluded order mtu place l) w = isComputed edition excluded order mtu place l (w .publisher) (w .exchange)
 granted ways (Applying now l) w = possible ways (Applying now l) && isApplied ways now l (w .follower) (w .exchange)
-granted ways (Sending edition digest excluded ties mtu place l) w = true
+granted ways (Sending edition digest excluded order mtu place l) w = true
 granted ways (Arriving k now l) w = true
 
 -- A whole exchange is a digest, a delta and its applying, in this order, with no node excluded, an MTU of 135 or more, nothing lost and nothing
@@ -153,13 +157,13 @@ abbrev pub onward : (event : Event) (stage : Stage) → Stage
 onward (Writing i k c) st = st
 onward (Beating s i) st = st
 onward (Offering s i h) st = st
-onward (Removing s now grace) st = st
+onward (Removing s removal) st = st
 onward (Digesting edition excluded place l) st = Asked edition
-onward (Computing edition excluded ties mtu place l) NotBegun = NotBegun
-onward (Computing edition excluded ties mtu place l) (Asked e) = pick (eqb e edition) Answered NotBegun
-onward (Computing edition excluded ties mtu place l) Answered = NotBegun
+onward (Computing edition excluded order mtu place l) NotBegun = NotBegun
+onward (Computing edition excluded order mtu place l) (Asked e) = pick (eqb e edition) Answered NotBegun
+onward (Computing edition excluded order mtu place l) Answered = NotBegun
 onward (Applying now l) st = NotBegun
-onward (Sending edition digest excluded ties mtu place l) st = st
+onward (Sending edition digest excluded order mtu place l) st = st
 onward (Arriving k now l) st = st
 
 -- the applying is its end; the same delta, applied again, counts no more
@@ -167,13 +171,13 @@ abbrev pub ending : (event : Event) (stage : Stage) → ℕ
 ending (Writing i k c) st = 0
 ending (Beating s i) st = 0
 ending (Offering s i h) st = 0
-ending (Removing s now grace) st = 0
+ending (Removing s removal) st = 0
 ending (Digesting edition excluded place l) st = 0
-ending (Computing edition excluded ties mtu place l) st = 0
+ending (Computing edition excluded order mtu place l) st = 0
 ending (Applying now l) NotBegun = 0
 ending (Applying now l) (Asked edition) = 0
 ending (Applying now l) Answered = 1
-ending (Sending edition digest excluded ties mtu place l) st = 0
+ending (Sending edition digest excluded order mtu place l) st = 0
 ending (Arriving k now l) st = 0
 
 -- the whole exchanges of a run; a step that is limited or refused ends its exchange uncounted

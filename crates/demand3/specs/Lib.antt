@@ -1,2 +1,3 @@
+pub mod Forms
 pub mod World
 pub mod Demand3

@@ -13,15 +13,15 @@ use Rattle.fields.specs.Parts.{part}
 use Rattle.rules.specs.Sizes.{numbers}
 use Rattle.rules.specs.Node.{KeyValue, Node, fresh, Change, Call, Setting, SettingTtl, Deleting, DeletingAfterTtl, Decision, Refuse, Leave, Give, decide}
 use Rattle.rules.specs.Table.{Table, nodeOf}
-use Rattle.rules.specs.Local.{call, gc, offer, localBeat}
+use Rattle.rules.specs.Local.{call, offer, localBeat}
 use Rattle.rules.specs.Digest.{writeDigest}
-use Rattle.rules.specs.Compute.{compute}
 use Rattle.rules.specs.Apply.{Ways, apply}
 use Rattle.rules.specs.declared.Heartbeat.{Heartbeat}
 use Rattle.rules.specs.declared.Written.{Written}
 use Rattle.rules.specs.declared.Written.the-variants as written
 use Rattle.rules.specs.declared.Computed.{Computed}
 use Rattle.rules.specs.declared.Computed.the-variants as computed
+use Rattle.demand3.specs.Forms.{Order, Removal, computeBy, removedBy}
 
 -- ---- the world
 
@@ -61,19 +61,19 @@ pub data Event : Type 0 where
   -- a local beat, a heartbeat offer: node, and the heartbeat offered
   Beating : Side → ℕ → Event
   Offering : Side → ℕ → Heartbeat → Event
-  -- removal over all nodes: now, grace
-  Removing : Side → ℕ → ℕ → Event
+  -- removal over all nodes, of whatever kind
+  Removing : Side → Removal → Event
   -- The follower writes a digest: edition, excluded nodes, place in the datagram, datagram. Once written it replaces what was on its way; refused, it ends
   -- nothing.
   Digesting : ℕ → List ℕ → ℕ → List ℕ → Event
-  -- the publisher computes a delta for the digest on its way, which it reads in any edition: the edition, excluded nodes, ties, MTU, the place in the
+  -- the publisher computes a delta for the digest on its way, which it reads in any edition: the edition, excluded nodes, the order, MTU, the place in the
   -- datagram, the datagram
-  Computing : ℕ → List ℕ → List ℕ → ℕ → ℕ → List ℕ → Event
+  Computing : ℕ → List ℕ → Order → ℕ → ℕ → List ℕ → Event
   -- the follower applies the delta on its way, and may apply it again: now, the lent list of answers
   Applying : ℕ → List ℕ → Event
   -- the publisher computes a delta for any bytes as a digest, late or forged ones too, beside the exchange: the edition, those bytes, excluded nodes,
-  -- ties, MTU, the place in the datagram, the datagram
-  Sending : ℕ → List ℕ → List ℕ → List ℕ → ℕ → ℕ → List ℕ → Event
+  -- the order, MTU, the place in the datagram, the datagram
+  Sending : ℕ → List ℕ → List ℕ → Order → ℕ → ℕ → List ℕ → Event
   -- a delta that was ever computed arrives at the follower, late or again: which of them, now, the lent list of answers
   Arriving : ℕ → ℕ → List ℕ → Event
 
@@ -89,11 +89,11 @@ abbrev pub possible : (ways : Ways) (event : Event) → Bool
 possible ways (Writing i k c) = ltb (timeOf c) numbers
 possible ways (Beating s i) = true
 possible ways (Offering s i h) = ltb (h .0) numbers
-possible ways (Removing s now grace) = true
+possible ways (Removing s removal) = true
 possible ways (Digesting edition excluded place l) = true
-possible ways (Computing edition excluded ties mtu place l) = true
+possible ways (Computing edition excluded order mtu place l) = true
 possible ways (Applying now l) = ltb now numbers
-possible ways (Sending edition digest excluded ties mtu place l) = true
+possible ways (Sending edition digest excluded order mtu place l) = true
 possible ways (Arriving k now l) = ways .late && ltb now numbers
 
 -- ---- what a call gives to its key
@@ -127,26 +127,26 @@ abbrev pub digested : (edition : ℕ) (excluded : List ℕ) (place : ℕ) (datag
 digested edition excluded place l t x = afterDigest place (writeDigest edition excluded place t l .lent) (writeDigest edition excluded place t l .answer) x
 
 -- only for a digest that is on its way
-abbrev pub computedFor : (edition : ℕ) (excluded ties : List ℕ) (mtu place : ℕ) (datagram : Bytes) (table : Table) (way : Exchange) → Exchange
-computedFor edition excluded ties mtu place l t Idle = Idle
-computedFor edition excluded ties mtu place l t (DigestSent d) =
-    afterDelta place (compute edition excluded ties mtu place d t l .lent) (compute edition excluded ties mtu place d t l .answer) (DigestSent d)
-computedFor edition excluded ties mtu place l t (DeltaSent b) = DeltaSent b
+abbrev pub computedFor : (edition : ℕ) (excluded : List ℕ) (order : Order) (mtu place : ℕ) (datagram : Bytes) (table : Table) (way : Exchange) → Exchange
+computedFor edition excluded order mtu place l t Idle = Idle
+computedFor edition excluded order mtu place l t (DigestSent d) =
+    afterDelta place (computeBy edition excluded order mtu place d t l .lent) (computeBy edition excluded order mtu place d t l .answer) (DigestSent d)
+computedFor edition excluded order mtu place l t (DeltaSent b) = DeltaSent b
 
 -- what was ever computed, when a call has computed one more
 abbrev pub sentAfter : (place : ℕ) (datagram : Bytes) (answer : Computed) (sent : List Bytes) → List Bytes
 sentAfter place l (computed.Delta ops bytes) ss = part place bytes l ∷ ss
 sentAfter place l (computed.Refused r) ss = ss
 
-abbrev pub sentFor : (edition : ℕ) (digest : Bytes) (excluded ties : List ℕ) (mtu place : ℕ) (datagram : Bytes) (table : Table) (sent : List Bytes) → List Bytes
-sentFor edition digest excluded ties mtu place l t ss =
-    sentAfter place (compute edition excluded ties mtu place digest t l .lent) (compute edition excluded ties mtu place digest t l .answer) ss
+abbrev pub sentFor : (edition : ℕ) (digest : Bytes) (excluded : List ℕ) (order : Order) (mtu place : ℕ) (datagram : Bytes) (table : Table) (sent : List Bytes) → List Bytes
+sentFor edition digest excluded order mtu place l t ss =
+    sentAfter place (computeBy edition excluded order mtu place digest t l .lent) (computeBy edition excluded order mtu place digest t l .answer) ss
 
 -- for a digest that is on its way
-abbrev pub sentOn : (edition : ℕ) (excluded ties : List ℕ) (mtu place : ℕ) (datagram : Bytes) (table : Table) (way : Exchange) (sent : List Bytes) → List Bytes
-sentOn edition excluded ties mtu place l t Idle ss = ss
-sentOn edition excluded ties mtu place l t (DigestSent d) ss = sentFor edition d excluded ties mtu place l t ss
-sentOn edition excluded ties mtu place l t (DeltaSent b) ss = ss
+abbrev pub sentOn : (edition : ℕ) (excluded : List ℕ) (order : Order) (mtu place : ℕ) (datagram : Bytes) (table : Table) (way : Exchange) (sent : List Bytes) → List Bytes
+sentOn edition excluded order mtu place l t Idle ss = ss
+sentOn edition excluded order mtu place l t (DigestSent d) ss = sentFor edition d excluded order mtu place l t ss
+sentOn edition excluded order mtu place l t (DeltaSent b) ss = ss
 
 -- the delta of this place among all of them, as if it were on its way
 unfoldable pub nthSent : (place : ℕ) (sent : List Bytes) → Exchange
@@ -184,12 +184,12 @@ calls ways (Writing i k c) w =
     }
 calls ways (Beating s i) w = onSide s (λ t. localBeat i t .table) w
 calls ways (Offering s i h) w = onSide s (λ t. offer i h t .table) w
-calls ways (Removing s now grace) w = onSide s (λ t. gc now grace t .table) w
+calls ways (Removing s removal) w = onSide s (removedBy removal) w
 calls ways (Digesting edition excluded place l) w = onExchange (digested edition excluded place l (w .follower) (w .exchange)) w
-calls ways (Computing edition excluded ties mtu place l) w =
-    onExchange (computedFor edition excluded ties mtu place l (w .publisher) (w .exchange)) (onSent (sentOn edition excluded ties mtu place l (w .publisher) (w .exchange) (w .sent)) w)
+calls ways (Computing edition excluded order mtu place l) w =
+    onExchange (computedFor edition excluded order mtu place l (w .publisher) (w .exchange)) (onSent (sentOn edition excluded order mtu place l (w .publisher) (w .exchange) (w .sent)) w)
 calls ways (Applying now l) w = onSide Followers (appliedTo ways now l (w .exchange)) w
-calls ways (Sending edition digest excluded ties mtu place l) w = onSent (sentFor edition digest excluded ties mtu place l (w .publisher) (w .sent)) w
+calls ways (Sending edition digest excluded order mtu place l) w = onSent (sentFor edition digest excluded order mtu place l (w .publisher) (w .sent)) w
 calls ways (Arriving k now l) w = onSide Followers (appliedTo ways now l (nthSent k (w .sent))) w
 
 -- the world after an event; one that is not possible changes nothing

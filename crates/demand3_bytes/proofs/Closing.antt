@@ -17,6 +17,7 @@ use Rattle.rules.specs.Given.{Given}
 use Rattle.rules.specs.declared.Heartbeat.{Heartbeat}
 use Rattle.rules.specs.declared.Mode.{Mode}
 use Rattle.rules.specs.declared.Status.the-variants.{Set}
+use Rattle.demand3.specs.Forms.{InLine}
 use Rattle.demand3.specs.World.{Applying, Beating, Computing, Digesting, Event, Followers, Offering, Publishers, Side, freshTable}
 use Rattle.demand3.specs.Demand3.{Answered, Asked, Holds, NotBegun, SameMax, Stage, allQuiet, ending, holdings, isNone, leastWidth, onward, quiet, unlimited}
 use Rattle.exchange.specs.declared.Exchanged.{Exchanged}
@@ -61,7 +62,7 @@ module _ (g : Lending) (fs : List Event) (n : ℕ) (st : Stage) (w : LentWorld) 
   asking = Digesting (g .edition) (g .unasked) 0 (g .digest)
 
   abbrev answering : Event
-  answering = Computing (g .edition) (g .unsent) (g .ties) (g .mtu) 0 (g .delta)
+  answering = Computing (g .edition) (g .unsent) (InLine (g .ties)) (g .mtu) 0 (g .delta)
 
   abbrev taking-in : Event
   taking-in = Applying (g .clock) (g .answers)

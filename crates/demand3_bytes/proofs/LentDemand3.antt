@@ -13,13 +13,11 @@ use Rattle.rules.specs.Given.{Given, given}
 use Rattle.rules.specs.Node.{KeyValue, Node}
 use Rattle.rules.specs.Table.{Table, nodeOf, numbersOf, obeys}
 use Rattle.rules.specs.Digest.{writeDigest}
-use Rattle.rules.specs.Compute.{compute}
 use Rattle.rules.specs.Apply.{Lawful, Ways}
 use Rattle.rules.specs.Whole.{Whole}
 use Rattle.rules.specs.Lent.{TableAndList}
 use Rattle.rules.specs.declared.Status.the-variants.{Set}
 use Rattle.rules.specs.declared.Computed.{Computed}
-use Rattle.rules.specs.declared.Computed.the-variants as computed
 use Rattle.rules.specs.declared.Written.{Written}
 use Rattle.rules.specs.declared.Written.the-variants as written
 use Rattle.rules.specs.declared.Applied.{Applied}
@@ -35,7 +33,7 @@ use Rattle.demand3.proofs.Moments.{InOrder, moment, moments, next-event}
 use Rattle.table.proofs.Wholes.{decode-encode-whole, valid-encode-whole, without-memory}
 use Rattle.demand3_bytes.specs.LentWorld.{LentWorld, inMode, lentAfter, lentHappen, lentStart, tableIn}
 use Rattle.demand3_bytes.specs.LentDemand3.{LentDemand3, LentSound, lentGranted, lentIsApplied, lentIsComputed, lentWholes}
-use Rattle.demand3_bytes.proofs.LentWorld.{after-lent, apply-encoded, from-encoded, happen-lent, lent, lent-run, ways}
+use Rattle.demand3_bytes.proofs.LentWorld.{after-lent, apply-encoded, computed-lent, from-encoded, happen-lent, lent, lent-run, ways}
 
 -- ---- the answers are the same
 
@@ -44,17 +42,17 @@ module _ (pm fm : Mode) (w : World) (p : obeys (w .publisher) ≡ true) (f : obe
   granted-lent (Writing i k c) = refl
   granted-lent (Beating s i) = refl
   granted-lent (Offering s i h) = refl
-  granted-lent (Removing s now grace) = refl
+  granted-lent (Removing s removal) = refl
   granted-lent (Digesting edition excluded place d) =
       ap (λ (o : Given Written (List ℕ)). wroteDigest (o .answer))
       (from-encoded fm (w .follower) f (given (written.Refused BadTable) d) (λ t. writeDigest edition excluded place t d))
-  granted-lent (Computing edition excluded ties mtu place d) = go (w .exchange)
+  granted-lent (Computing edition excluded order mtu place d) = go (w .exchange)
     where
-      go : (x : Exchange) → lentIsComputed edition excluded ties mtu place d (inMode pm (w .publisher)) x ≡ isComputed edition excluded ties mtu place d (w .publisher) x
+      go : (x : Exchange) → lentIsComputed edition excluded order mtu place d (inMode pm (w .publisher)) x ≡ isComputed edition excluded order mtu place d (w .publisher) x
       go Idle = refl
       go (DigestSent b) =
           ap (λ (o : Given Computed (List ℕ)). wroteDelta (o .answer))
-          (from-encoded pm (w .publisher) p (given (computed.Refused BadTable) d) (λ t. compute edition excluded ties mtu place b t d))
+          (computed-lent pm fm w p f edition b excluded order mtu place d)
       go (DeltaSent b) = refl
   granted-lent (Applying now answers) = ap (λ (b : Bool). ltb now numbers && b) (go (w .exchange))
     where
@@ -62,7 +60,7 @@ module _ (pm fm : Mode) (w : World) (p : obeys (w .publisher) ≡ true) (f : obe
       go Idle = refl
       go (DigestSent b) = refl
       go (DeltaSent b) = ap (λ (o : Given Applied TableAndList). noRoom (o .answer) (o .lent .list)) (apply-encoded fm (w .follower) f b now answers)
-  granted-lent (Sending edition digest excluded ties mtu place d) = refl
+  granted-lent (Sending edition digest excluded order mtu place d) = refl
   granted-lent (Arriving k now answers) = refl
 
 -- and so is the count

@@ -8,12 +8,11 @@ use lib.Dec.{eqb}
 use Rattle.fields.specs.Choice.{pick}
 use Rattle.rules.specs.Given.{Given, given}
 use Rattle.rules.specs.Table.{Table, nodeOf, obeys}
-use Rattle.rules.specs.Local.{Outcome, call, gc, localBeat, offer}
+use Rattle.rules.specs.Local.{Outcome, call, gives, localBeat, offer}
 use Rattle.rules.specs.Digest.{writeDigest}
-use Rattle.rules.specs.Compute.{compute}
 use Rattle.rules.specs.Apply.{Ways, apply, waysOf}
 use Rattle.rules.specs.Whole.{Whole, encodeWhole, obeysWhole}
-use Rattle.rules.specs.Lent.{TableAndList, fromTable, lentApply, lentCompute, onTable, onWhole, storedApply, storedIn}
+use Rattle.rules.specs.Lent.{TableAndList, fromTable, lentApply, onTable, onWhole, storedApply, storedIn}
 use Rattle.rules.specs.declared.Answer.{Answer}
 use Rattle.rules.specs.declared.Answer.the-variants as plain
 use Rattle.rules.specs.declared.Offered.the-variants as offered
@@ -26,7 +25,9 @@ use Rattle.rules.specs.declared.Mode.{Mode}
 use Rattle.rules.specs.declared.Refusal.the-variants.{BadTable}
 use Rattle.rules.proofs.Keeps.{mode-lawful}
 use Rattle.rules.proofs.Obeys.{facts-table}
+use Rattle.demand3.specs.Forms.{Order, Removal, computeBy, lentComputeBy, lentRemovedBy, removedBy}
 use Rattle.demand3.specs.World.{Applying, Arriving, Beating, Computing, DeltaSent, DigestSent, Digesting, Event, Exchange, Followers, Idle, Offering, Publishers, Removing, Sending, Side, World, Writing, after, afterDelta, afterDigest, calls, computedFor, appliedTo, freshTable, givenIn, happen, nthSent, onExchange, onSent, onSide, possible, sentAfter, sentOn, start}
+use Rattle.demand3.proofs.Forms.{lent-computing, lent-removal}
 use Rattle.demand3.proofs.Moments.{InOrder, moment-start, next-event}
 use Rattle.table.proofs.Encoded.{apply-whole, from-whole, on-whole, whole-whole}
 use Rattle.table.proofs.Wholes.{decode-encode-whole, without-memory}
@@ -68,8 +69,18 @@ module _ (pm fm : Mode) where
     on-side {A} Publishers bad rule = ap (λ (o : Given A (List ℕ)). onLent Publishers (λ l. o .lent) (lent w)) (on-encoded pm (w .publisher) p bad rule)
     on-side {A} Followers bad rule = ap (λ (o : Given A (List ℕ)). onLent Followers (λ l. o .lent) (lent w)) (on-encoded fm (w .follower) f bad rule)
 
-    computed-lent : (edition : ℕ) (digest : List ℕ) (excluded ties : List ℕ) (mtu place : ℕ) (d : List ℕ) → lentCompute edition excluded ties mtu place digest d (inMode pm (w .publisher)) ≡ compute edition excluded ties mtu place digest (w .publisher) d
-    computed-lent edition digest excluded ties mtu place d = from-encoded pm (w .publisher) p (given (computed.Refused BadTable) d) (λ t. compute edition excluded ties mtu place digest t d)
+    pub computed-lent : (edition : ℕ) (digest excluded : List ℕ) (order : Order) (mtu place : ℕ) (d : List ℕ) → lentComputeBy edition excluded order mtu place digest d (inMode pm (w .publisher)) ≡ computeBy edition excluded order mtu place digest (w .publisher) d
+    computed-lent edition digest excluded order mtu place d =
+        lent-computing edition excluded order mtu place digest d (inMode pm (w .publisher))
+        ∙ from-encoded pm (w .publisher) p (given (computed.Refused BadTable) d) (λ t. computeBy edition excluded order mtu place digest t d)
+
+    removed-lent : (s : Side) (removal : Removal) → onLent s (lentRemovedBy removal) (lent w) ≡ lent (onSide s (removedBy removal) w)
+    removed-lent Publishers removal =
+        ap (λ (l : List ℕ). onLent Publishers (λ m. l) (lent w)) (lent-removal removal (inMode pm (w .publisher)))
+        ∙ on-side Publishers (plain.Refused BadTable) (λ t. gives plain.Done (removedBy removal t))
+    removed-lent Followers removal =
+        ap (λ (l : List ℕ). onLent Followers (λ m. l) (lent w)) (lent-removal removal (inMode fm (w .follower)))
+        ∙ on-side Followers (plain.Refused BadTable) (λ t. gives plain.Done (removedBy removal t))
 
     applied-lent : (now : ℕ) (answers : List ℕ) (x : Exchange) → lentApplied now answers x (inMode fm (w .follower)) ≡ inMode fm (appliedTo ways now answers x (w .follower))
     applied-lent now answers Idle = refl
@@ -89,21 +100,21 @@ module _ (pm fm : Mode) where
         }
     calls-lent (Beating s i) = on-side s (plain.Refused BadTable) (localBeat i)
     calls-lent (Offering s i h) = on-side s (offered.Refused BadTable) (offer i h)
-    calls-lent (Removing s now grace) = on-side s (plain.Refused BadTable) (gc now grace)
+    calls-lent (Removing s removal) = removed-lent s removal
     calls-lent (Digesting edition excluded place d) =
         ap (λ (o : Given Written (List ℕ)). onWay (afterDigest place (o .lent) (o .answer) (w .exchange)) (w .sent) (lent w))
         (from-encoded fm (w .follower) f (given (written.Refused BadTable) d) (λ t. writeDigest edition excluded place t d))
-    calls-lent (Computing edition excluded ties mtu place d) = go (w .exchange)
+    calls-lent (Computing edition excluded order mtu place d) = go (w .exchange)
       where
-        go : (x : Exchange) → onWay (lentComputed edition excluded ties mtu place d (inMode pm (w .publisher)) x) (lentSentOn edition excluded ties mtu place d (inMode pm (w .publisher)) x (w .sent)) (lent w) ≡ lent (onExchange (computedFor edition excluded ties mtu place d (w .publisher) x) (onSent (sentOn edition excluded ties mtu place d (w .publisher) x (w .sent)) w))
+        go : (x : Exchange) → onWay (lentComputed edition excluded order mtu place d (inMode pm (w .publisher)) x) (lentSentOn edition excluded order mtu place d (inMode pm (w .publisher)) x (w .sent)) (lent w) ≡ lent (onExchange (computedFor edition excluded order mtu place d (w .publisher) x) (onSent (sentOn edition excluded order mtu place d (w .publisher) x (w .sent)) w))
         go Idle = refl
         go (DigestSent b) =
             ap (λ (o : Given Computed (List ℕ)). onWay (afterDelta place (o .lent) (o .answer) (DigestSent b)) (sentAfter place (o .lent) (o .answer) (w .sent)) (lent w))
-            (computed-lent edition b excluded ties mtu place d)
+            (computed-lent edition b excluded order mtu place d)
         go (DeltaSent b) = refl
     calls-lent (Applying now answers) = ap (λ (l : List ℕ). onLent Followers (λ m. l) (lent w)) (applied-lent now answers (w .exchange))
-    calls-lent (Sending edition digest excluded ties mtu place d) =
-        ap (λ (o : Given Computed (List ℕ)). onWay (w .exchange) (sentAfter place (o .lent) (o .answer) (w .sent)) (lent w)) (computed-lent edition digest excluded ties mtu place d)
+    calls-lent (Sending edition digest excluded order mtu place d) =
+        ap (λ (o : Given Computed (List ℕ)). onWay (w .exchange) (sentAfter place (o .lent) (o .answer) (w .sent)) (lent w)) (computed-lent edition digest excluded order mtu place d)
     calls-lent (Arriving k now answers) = ap (λ (l : List ℕ). onLent Followers (λ m. l) (lent w)) (applied-lent now answers (nthSent k (w .sent)))
 
     -- the follower's ways are those of its mode

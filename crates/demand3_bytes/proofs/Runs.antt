@@ -16,6 +16,7 @@ use Rattle.rules.specs.declared.Computed.{Computed}
 use Rattle.rules.specs.declared.Computed.the-variants as computed
 use Rattle.rules.specs.declared.Applied.{Applied}
 use Rattle.rules.specs.declared.Applied.the-variants as applied
+use Rattle.demand3.specs.Forms.{InLine}
 use Rattle.demand3.specs.World.{Applying, Computing, DeltaSent, DigestSent, Digesting, Event, Exchange, afterDelta, afterDigest, sentAfter}
 use Rattle.demand3.specs.Demand3.{noRoom, wroteDelta, wroteDigest}
 use Rattle.exchange.specs.Exchanging.{ExchangeLent, Lending, afterAsking, afterComputing, afterDigesting, exchangedAs, lentAnswer, lentExchange, roomsOf, threeCalls, withDigest}
@@ -48,7 +49,7 @@ module _ (g : Lending) (w : LentWorld) (clock : g .clock < numbers) where
   asking = Digesting (g .edition) (g .unasked) 0 (g .digest)
 
   abbrev answering : Event
-  answering = Computing (g .edition) (g .unsent) (g .ties) (g .mtu) 0 (g .delta)
+  answering = Computing (g .edition) (g .unsent) (InLine (g .ties)) (g .mtu) 0 (g .delta)
 
   abbrev taking-in : Event
   taking-in = Applying (g .clock) (g .answers)

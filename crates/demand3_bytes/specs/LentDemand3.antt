@@ -11,8 +11,9 @@ use Rattle.fields.specs.Choice.{pick}
 use Rattle.rules.specs.Node.{Node}
 use Rattle.rules.specs.Table.{nodeOf, numbersOf}
 use Rattle.rules.specs.Whole.{validWhole}
-use Rattle.rules.specs.Lent.{lentDigest, lentCompute, lentApply}
+use Rattle.rules.specs.Lent.{lentDigest, lentApply}
 use Rattle.rules.specs.declared.Mode.{Mode}
+use Rattle.demand3.specs.Forms.{Order, lentComputeBy}
 use Rattle.demand3.specs.World.{Exchange, Idle, DigestSent, DeltaSent, Event, Writing, Beating, Offering, Removing, Digesting, Computing, Applying, Sending, Arriving, possible}
 use Rattle.demand3.specs.Demand3.{Claims, AllRise, Stage, NotBegun, allQuiet, unlimited, onward, ending, wroteDigest, wroteDelta, noRoom, holdings, SameMax}
 use Rattle.demand3_bytes.specs.LentWorld.{LentWorld, tableIn, waysIn, lentStart, lentHappen, lentAfter}
@@ -29,10 +30,10 @@ pub record LentSound (is : List ℕ) (w : LentWorld) : Type 0 where
 
 -- ---- nothing refused, read off the answers of the calls on lent bytes
 
-abbrev pub lentIsComputed : (edition : ℕ) (excluded ties : List ℕ) (mtu place : ℕ) (datagram table : Bytes) (way : Exchange) → Bool
-lentIsComputed edition excluded ties mtu place d l Idle = false
-lentIsComputed edition excluded ties mtu place d l (DigestSent b) = wroteDelta (lentCompute edition excluded ties mtu place b d l .answer)
-lentIsComputed edition excluded ties mtu place d l (DeltaSent b) = false
+abbrev pub lentIsComputed : (edition : ℕ) (excluded : List ℕ) (order : Order) (mtu place : ℕ) (datagram table : Bytes) (way : Exchange) → Bool
+lentIsComputed edition excluded order mtu place d l Idle = false
+lentIsComputed edition excluded order mtu place d l (DigestSent b) = wroteDelta (lentComputeBy edition excluded order mtu place b d l .answer)
+lentIsComputed edition excluded order mtu place d l (DeltaSent b) = false
 
 abbrev pub lentIsApplied : (now : ℕ) (answers table : Bytes) (way : Exchange) → Bool
 lentIsApplied now answers l Idle = false
@@ -44,11 +45,11 @@ abbrev pub lentGranted : (event : Event) (world : LentWorld) → Bool
 lentGranted (Writing i k c) w = true
 lentGranted (Beating s i) w = true
 lentGranted (Offering s i h) w = true
-lentGranted (Removing s now grace) w = true
+lentGranted (Removing s removal) w = true
 lentGranted (Digesting edition excluded place d) w = wroteDigest (lentDigest edition excluded place d (w .follower) .answer)
-lentGranted (Computing edition excluded ties mtu place d) w = lentIsComputed edition excluded ties mtu place d (w .publisher) (w .exchange)
+lentGranted (Computing edition excluded order mtu place d) w = lentIsComputed edition excluded order mtu place d (w .publisher) (w .exchange)
 lentGranted (Applying now answers) w = possible (waysIn (w .follower)) (Applying now answers) && lentIsApplied now answers (w .follower) (w .exchange)
-lentGranted (Sending edition digest excluded ties mtu place d) w = true
+lentGranted (Sending edition digest excluded order mtu place d) w = true
 lentGranted (Arriving k now answers) w = true
 
 -- the whole exchanges of a run (Demand3 of `demand3`), by the answers of these calls

@@ -11,8 +11,9 @@ use Rattle.rules.specs.Node.{KeyValue}
 use Rattle.rules.specs.Table.{Table, nodeOf}
 use Rattle.rules.specs.Apply.{Ways, waysOf}
 use Rattle.rules.specs.Whole.{encodeWhole, decodeWhole}
-use Rattle.rules.specs.Lent.{lentAdd, lentCall, lentGc, lentOffer, lentBeat, lentDigest, lentCompute, lentApply}
+use Rattle.rules.specs.Lent.{lentAdd, lentCall, lentOffer, lentBeat, lentDigest, lentApply}
 use Rattle.rules.specs.declared.Mode.{Mode}
+use Rattle.demand3.specs.Forms.{Order, lentComputeBy, lentRemovedBy}
 use Rattle.demand3.specs.World.{Exchange, Idle, DigestSent, DeltaSent, Side, Publishers, Followers, Event, Writing, Beating, Offering, Removing, Digesting, Computing, Applying, Sending, Arriving, possible, givenIn, afterDigest, afterDelta, sentAfter, nthSent, freshTable}
 
 -- ---- the world
@@ -52,22 +53,22 @@ abbrev pub lentDigested : (edition : ℕ) (excluded : List ℕ) (place : ℕ) (d
 lentDigested edition excluded place d l x = afterDigest place (lentDigest edition excluded place d l .lent) (lentDigest edition excluded place d l .answer) x
 
 -- only for a digest that is on its way
-abbrev pub lentComputed : (edition : ℕ) (excluded ties : List ℕ) (mtu place : ℕ) (datagram table : Bytes) (way : Exchange) → Exchange
-lentComputed edition excluded ties mtu place d l Idle = Idle
-lentComputed edition excluded ties mtu place d l (DigestSent b) =
-    afterDelta place (lentCompute edition excluded ties mtu place b d l .lent) (lentCompute edition excluded ties mtu place b d l .answer) (DigestSent b)
-lentComputed edition excluded ties mtu place d l (DeltaSent b) = DeltaSent b
+abbrev pub lentComputed : (edition : ℕ) (excluded : List ℕ) (order : Order) (mtu place : ℕ) (datagram table : Bytes) (way : Exchange) → Exchange
+lentComputed edition excluded order mtu place d l Idle = Idle
+lentComputed edition excluded order mtu place d l (DigestSent b) =
+    afterDelta place (lentComputeBy edition excluded order mtu place b d l .lent) (lentComputeBy edition excluded order mtu place b d l .answer) (DigestSent b)
+lentComputed edition excluded order mtu place d l (DeltaSent b) = DeltaSent b
 
 -- what was ever computed, for any bytes as a digest
-abbrev pub lentSentFor : (edition : ℕ) (digest : Bytes) (excluded ties : List ℕ) (mtu place : ℕ) (datagram table : Bytes) (sent : List Bytes) → List Bytes
-lentSentFor edition digest excluded ties mtu place d l ss =
-    sentAfter place (lentCompute edition excluded ties mtu place digest d l .lent) (lentCompute edition excluded ties mtu place digest d l .answer) ss
+abbrev pub lentSentFor : (edition : ℕ) (digest : Bytes) (excluded : List ℕ) (order : Order) (mtu place : ℕ) (datagram table : Bytes) (sent : List Bytes) → List Bytes
+lentSentFor edition digest excluded order mtu place d l ss =
+    sentAfter place (lentComputeBy edition excluded order mtu place digest d l .lent) (lentComputeBy edition excluded order mtu place digest d l .answer) ss
 
 -- for a digest that is on its way
-abbrev pub lentSentOn : (edition : ℕ) (excluded ties : List ℕ) (mtu place : ℕ) (datagram table : Bytes) (way : Exchange) (sent : List Bytes) → List Bytes
-lentSentOn edition excluded ties mtu place d l Idle ss = ss
-lentSentOn edition excluded ties mtu place d l (DigestSent b) ss = lentSentFor edition b excluded ties mtu place d l ss
-lentSentOn edition excluded ties mtu place d l (DeltaSent b) ss = ss
+abbrev pub lentSentOn : (edition : ℕ) (excluded : List ℕ) (order : Order) (mtu place : ℕ) (datagram table : Bytes) (way : Exchange) (sent : List Bytes) → List Bytes
+lentSentOn edition excluded order mtu place d l Idle ss = ss
+lentSentOn edition excluded order mtu place d l (DigestSent b) ss = lentSentFor edition b excluded order mtu place d l ss
+lentSentOn edition excluded order mtu place d l (DeltaSent b) ss = ss
 
 -- only a delta that is on its way
 abbrev pub lentApplied : (now : ℕ) (answers : Bytes) (way : Exchange) (table : Bytes) → Bytes
@@ -97,12 +98,12 @@ lentCalls (Writing i k c) w =
     }
 lentCalls (Beating s i) w = onLent s (λ l. lentBeat i l .lent) w
 lentCalls (Offering s i h) w = onLent s (λ l. lentOffer i h l .lent) w
-lentCalls (Removing s now grace) w = onLent s (λ l. lentGc now grace l .lent) w
+lentCalls (Removing s removal) w = onLent s (lentRemovedBy removal) w
 lentCalls (Digesting edition excluded place d) w = onWay (lentDigested edition excluded place d (w .follower) (w .exchange)) (w .sent) w
-lentCalls (Computing edition excluded ties mtu place d) w =
-    onWay (lentComputed edition excluded ties mtu place d (w .publisher) (w .exchange)) (lentSentOn edition excluded ties mtu place d (w .publisher) (w .exchange) (w .sent)) w
+lentCalls (Computing edition excluded order mtu place d) w =
+    onWay (lentComputed edition excluded order mtu place d (w .publisher) (w .exchange)) (lentSentOn edition excluded order mtu place d (w .publisher) (w .exchange) (w .sent)) w
 lentCalls (Applying now answers) w = onLent Followers (lentApplied now answers (w .exchange)) w
-lentCalls (Sending edition digest excluded ties mtu place d) w = onWay (w .exchange) (lentSentFor edition digest excluded ties mtu place d (w .publisher) (w .sent)) w
+lentCalls (Sending edition digest excluded order mtu place d) w = onWay (w .exchange) (lentSentFor edition digest excluded order mtu place d (w .publisher) (w .sent)) w
 lentCalls (Arriving k now answers) w = onLent Followers (lentApplied now answers (nthSent k (w .sent))) w
 
 -- the world after an event; one that is not possible changes nothing

@@ -12,6 +12,7 @@ use Rattle.rules.specs.Given.{Given}
 use Rattle.rules.specs.Lent.{lentBeat, lentOffer}
 use Rattle.rules.specs.declared.Applied.the-variants as applied
 use Rattle.rules.specs.declared.Heartbeat.{Heartbeat}
+use Rattle.demand3.specs.Forms.{InLine}
 use Rattle.demand3.specs.World.{Exchange, Event, Digesting, Computing, Applying, Side, Publishers, Followers}
 use Rattle.demand3.specs.Demand3.{noRoom, leastWidth, isNone}
 use Rattle.exchange.specs.declared.Exchanged.{Exchanged}
@@ -25,7 +26,7 @@ use Rattle.demand3_bytes.specs.LentWorld.{LentWorld, lentAfter}
 abbrev pub eventsOf : (lending : Lending) → List Event
 eventsOf g =
     Digesting (g .edition) (g .unasked) 0 (g .digest)
-    ∷ Computing (g .edition) (g .unsent) (g .ties) (g .mtu) 0 (g .delta)
+    ∷ Computing (g .edition) (g .unsent) (InLine (g .ties)) (g .mtu) 0 (g .delta)
     ∷ Applying (g .clock) (g .answers)
     ∷ []
 

@@ -15,10 +15,12 @@ use Rattle.rules.specs.Apply.{Lawful, Taken, Ways, apply, applyEach, applyNode}
 use Rattle.rules.specs.Delta.{Good, NodeDelta, Op, nothingRead, partsOf}
 use Rattle.rules.specs.Local.{add, call, callOn, localBeat, offer, removeNode}
 use Rattle.rules.specs.Node.{Call, Decision, KeyValue, Node, Rec, act, decide, fresh, remove, withHeartbeat}
-use Rattle.rules.specs.Table.{Table, nodeOf, numbersOf, removeAll, setNode}
+use Rattle.rules.specs.Table.{Table, nodeOf, numbersOf, setNode}
 use Rattle.rules.specs.declared.Heartbeat.{Heartbeat}
-use Rattle.demand3.proofs.EachNode.{Beaten, beaten-local, beaten-offer, node-taken, nodeAt, orFresh, removed}
+use Rattle.demand3.proofs.EachNode.{Beaten, beaten-local, beaten-offer, node-taken, nodeAt, orFresh}
+use Rattle.demand3.proofs.Forms.{removed-node}
 use Rattle.demand3.proofs.Moments.{read-once}
+use Rattle.demand3.specs.Forms.{Removal, removedBy}
 use Rattle.net.proofs.Coming.{node-added, node-dropped}
 use Rattle.net.proofs.Moments.{Carries}
 use Rattle.net.specs.Net.{Net}
@@ -62,8 +64,8 @@ module _ (w : Net) (R : ℕ → ℕ → Node → Node → Type 0) (same : (x i :
   pub each-offer : (x j : ℕ) (h : Heartbeat) → ((i : ℕ) (n : Node) (b : Heartbeat) → R x i n (withHeartbeat b n)) → Each x (offer j h (w .hubs x) .table)
   each-offer x j h f = each-beaten x (offer j h (w .hubs x) .table) f (λ i. beaten-offer i (w .hubs x) j h)
 
-  pub each-remove : (x : ℕ) (due : ℕ → Rec → Bool) → ((i : ℕ) → R x i (nodeAt i (w .hubs x)) (remove (due i) (nodeAt i (w .hubs x)))) → Each x (removeAll due (w .hubs x))
-  each-remove x due f i = subst (R x i (nodeAt i (w .hubs x))) (sym (removed i (w .hubs x) due)) (f i)
+  pub each-remove : (x : ℕ) (removal : Removal) → ((i : ℕ) (due : Rec → Bool) → R x i (nodeAt i (w .hubs x)) (remove due (nodeAt i (w .hubs x)))) → Each x (removedBy removal (w .hubs x))
+  each-remove x removal f i = let r = removed-node removal (w .hubs x) i in subst (R x i (nodeAt i (w .hubs x))) (sym (r .1)) (f i (r .0))
 
   pub each-add : (x j : ℕ) → Each x (add j (w .hubs x) .table)
   each-add x j i = subst (R x i (nodeAt i (w .hubs x))) (sym (node-added i j (w .hubs x))) (same x i (nodeAt i (w .hubs x)))

@@ -14,13 +14,12 @@ use Rattle.rules.proofs.Keeps.{mode-lawful}
 use Rattle.rules.proofs.Memories.{add-keeps-whole, remove-keeps-whole, same-nodes}
 use Rattle.rules.proofs.Obeys.{OkTable, facts-table}
 use Rattle.rules.proofs.Refusing.{whole-bytes}
-use Rattle.rules.proofs.Tables.{numbers-apply, numbers-remove}
+use Rattle.rules.proofs.Tables.{numbers-apply}
 use Rattle.rules.specs.Apply.{apply, waysOf}
-use Rattle.rules.specs.Compute.{compute}
 use Rattle.rules.specs.Given.{Given, given}
 use Rattle.rules.specs.Lent.{addWhole, fromTable, lentApply, lentNew, onTable, onWhole, removeWhole}
-use Rattle.rules.specs.Local.{Outcome, call, gc, localBeat, offer}
-use Rattle.rules.specs.Node.{KeyValue, due}
+use Rattle.rules.specs.Local.{Outcome, call, gives, localBeat, offer}
+use Rattle.rules.specs.Node.{KeyValue}
 use Rattle.rules.specs.Table.{Table, numbersOf, obeys}
 use Rattle.rules.specs.Whole.{Whole, decodeWhole, encodeWhole, obeysWhole, validWhole, withTable}
 use Rattle.rules.specs.declared.Answer.the-variants as plain
@@ -30,6 +29,8 @@ use Rattle.rules.specs.declared.Mode.{Mode}
 use Rattle.rules.specs.declared.Offered.the-variants as offered
 use Rattle.rules.specs.declared.Refusal.the-variants.{BadTable}
 use Rattle.demand3.specs.Demand3.{AllRise}
+use Rattle.demand3.proofs.Forms.{lent-computing, lent-removal, removed-numbers}
+use Rattle.demand3.specs.Forms.{Order, computeBy, lentComputeBy, removedBy}
 use Rattle.demand3.specs.World.{DeltaSent, DigestSent, Exchange, Idle, appliedTo, nthSent, sentAfter}
 use Rattle.table.proofs.Encoded.{apply-whole, from-whole, on-whole, whole-whole}
 use Rattle.table.proofs.Wholes.{decode-encode-whole, valid-encode-whole, whole-obeys, without-memory}
@@ -88,8 +89,13 @@ module _ (m : Mode) (b : List ℕ) (i : In m b) where
   on-the-whole : {A : Type 0} (bad : A) (rule : Whole → Given A Whole) → obeysWhole (rule w .lent) ≡ true → rule w .lent .mode ≡ w .mode → Holds m (rule w .lent .table) (onWhole bad rule b .lent)
   on-the-whole bad rule o e = these (onWhole bad rule) _ (λ g. Holds m (rule w .lent .table) (g .lent)) (whole-whole w ok bad rule) (leaves (rule w .lent) o e)
 
-  pub from-table : {A : Type 0} (bad : A) (rule : Table → A) → fromTable bad rule b ≡ rule t
+  from-table : {A : Type 0} (bad : A) (rule : Table → A) → fromTable bad rule b ≡ rule t
   from-table bad rule = these (fromTable bad rule) _ (λ a. a ≡ rule t) (from-whole w ok bad rule) refl
+
+  -- computing in any order
+  pub computed-lent : (edition : ℕ) (digest excluded : List ℕ) (order : Order) (mtu place : ℕ) (d : List ℕ) → lentComputeBy edition excluded order mtu place digest d b ≡ computeBy edition excluded order mtu place digest t d
+  computed-lent edition digest excluded order mtu place d =
+      lent-computing edition excluded order mtu place digest d b ∙ from-table (given (computed.Refused BadTable) d) (λ u. computeBy edition excluded order mtu place digest u d)
 
   on-apply : (delta : List ℕ) (now : ℕ) (answers : List ℕ) → obeys (apply (waysOf m) delta now t answers .table) ≡ true → Holds m (apply (waysOf m) delta now t answers .table) (lentApply delta now answers b .lent .table)
   on-apply delta now answers o =
@@ -148,17 +154,20 @@ module _ (owner : ℕ → ℕ) (modes : ℕ → Mode) where
         in-mode y false q = g .hubs y
 
     calls-lent : (e : Event) → possible owner e net ≡ true → Moment owner (calls plan e net) → Same (calls plan e net) (lentCalls e l)
-    unfolding addWhole removeWhole gc tablesOf
+    unfolding addWhole removeWhole tablesOf
     calls-lent (Writing x i k c) p m = on-hub _ x _ _ (on-table (modes x) (l .hubs x) (g .hubs x) (plain.Refused BadTable) (call c i k) (obeyed x _ _ m) (numbers-call c i k _))
     calls-lent (Beating x i) p m = on-hub _ x _ _ (on-table (modes x) (l .hubs x) (g .hubs x) (plain.Refused BadTable) (localBeat i) (obeyed x _ _ m) (numbers-beat i _))
     calls-lent (Offering x i h) p m = on-hub _ x _ _ (on-table (modes x) (l .hubs x) (g .hubs x) (offered.Refused BadTable) (offer i h) (obeyed x _ _ m) (numbers-offer i h _))
-    calls-lent (Removing x now grace) p m = on-hub _ x _ _ (on-table (modes x) (l .hubs x) (g .hubs x) (plain.Refused BadTable) (gc now grace) (obeyed x _ _ m) (numbers-remove (λ i. due now grace) _))
+    calls-lent (Removing x removal) p m =
+        on-hub _ x _ _
+        (subst (Holds (modes x) _) (sym (lent-removal removal (l .hubs x)))
+        (on-table (modes x) (l .hubs x) (g .hubs x) (plain.Refused BadTable) (λ t. gives plain.Done (removedBy removal t)) (obeyed x _ _ m) (removed-numbers removal _)))
     calls-lent (Adding x i) p m = on-hub _ x _ _ (on-the-whole (modes x) (l .hubs x) (g .hubs x) (plain.Refused BadTable) (addWhole i) (add-keeps-whole _ (ok (modes x) (l .hubs x) (g .hubs x)) i (ltb-true _ _ p)) refl)
     calls-lent (Dropping x i) p m = on-hub _ x _ _ (on-the-whole (modes x) (l .hubs x) (g .hubs x) (plain.Refused BadTable) (removeWhole i) (remove-keeps-whole _ (ok (modes x) (l .hubs x) (g .hubs x)) i) refl)
-    calls-lent (Computing x edition digest excluded ties mtu place d) p m = (
+    calls-lent (Computing x edition digest excluded order mtu place d) p m = (
       record { hubs = g .hubs; saved = g .saved },
       ap (λ (o : Given Computed (List ℕ)). record { hubs = net .hubs; given = l .given; sent = sentAfter place (o .lent) (o .answer) (l .sent); saved = net .saved })
-          (from-table (modes x) (l .hubs x) (g .hubs x) (given (computed.Refused BadTable) d) (λ t. compute edition excluded ties mtu place digest t d)),
+          (computed-lent (modes x) (l .hubs x) (g .hubs x) edition digest excluded order mtu place d),
     )
     calls-lent (Arriving x k now answers) p m = on-hub _ x _ _ (taken (modes x) (l .hubs x) (g .hubs x) now answers (nthSent k (l .sent)) (obeyed x _ _ m))
     calls-lent (Saving x) p m =

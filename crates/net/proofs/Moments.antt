@@ -20,20 +20,21 @@ use Rattle.rules.proofs.Taking.{Applies}
 use Rattle.rules.specs.Apply.{Lawful, Taken, Ways, apply, applyEach, applyNode}
 use Rattle.rules.specs.Delta.{Good, NodeDelta, Op, deltaBytes, nothingRead, partsOf}
 use Rattle.rules.specs.Given.{Given}
-use Rattle.rules.specs.Local.{add, call, callOn, gc, removeNode}
+use Rattle.rules.specs.Local.{add, call, callOn, removeNode}
 use Rattle.rules.specs.Node.{Call, Decision, Give, KeyValue, Leave, Node, Rec, Refuse, act, decide, due, fresh}
 use Rattle.rules.specs.Sizes.{numbers}
 use Rattle.rules.specs.Table.{Entry, Table, nodeOf, removeAll, setNode}
 use Rattle.rules.specs.declared.Computed.{Computed}
-use Rattle.rules.proofs.Accepted.{Comes, comes, delta-bytes, refuses, writes}
 use Rattle.demand3.proofs.Computing.{computed-honest}
 use Rattle.demand3.proofs.EachNode.{Beaten, beaten-local, beaten-offer, node-taken, nodeAt, orFresh, removed}
 use Rattle.demand3.proofs.History.{Numbered}
 use Rattle.demand3.proofs.Honest.{HonestDelta, HonestNode, delta-grows, fresh-honest, node-beat, node-grows, node-remove}
 use Rattle.demand3.proofs.Moments.{ReadsWell, clock-fits, kept, nth-sent, read-once}
-use Rattle.demand3.proofs.OnTheWay.{Sendable, computed-sendable}
+use Rattle.demand3.proofs.Forms.{Comes, comes, refuses, removal-is, writes}
+use Rattle.demand3.proofs.OnTheWay.{Sendable}
 use Rattle.demand3.proofs.Publisher.{Publisher, next-version, publisher-beat, publisher-fresh, publisher-remove, publisher-write}
 use Rattle.demand3.proofs.Step.{node-apply}
+use Rattle.demand3.specs.Forms.{Order}
 use Rattle.demand3.specs.World.{appliedTo, givenAfter, givenBy, givenIn, nthSent, sentAfter, timeOf}
 use Rattle.net.proofs.Coming.{node-added, node-dropped}
 use Rattle.net.proofs.Owners.{owner-again, owner-stays}
@@ -284,12 +285,10 @@ module _ (owner : ℕ → ℕ) (w : Net) (ok : Moment owner w) where
         saved = ok .saved;
       }
 
-  module _ (x edition : ℕ) (digest excluded ties : List ℕ) (mtu place : ℕ) (l : List ℕ) where
-    moment-computing : (o : Given Computed (List ℕ)) → Comes edition excluded ties mtu place digest (w .hubs x) l o → Moment owner (withSent (sentAfter place (o .lent) (o .answer) (w .sent)))
+  module _ (x edition : ℕ) (digest excluded : List ℕ) (order : Order) (mtu place : ℕ) (l : List ℕ) where
+    moment-computing : (o : Given Computed (List ℕ)) → Comes edition excluded order mtu place digest (w .hubs x) l o → Moment owner (withSent (sentAfter place (o .lent) (o .answer) (w .sent)))
     moment-computing o (refuses r) = ok
-    moment-computing o (writes ds rest e m g) =
-        subst (λ (b : List ℕ). Moment owner (withSent (b ∷ w .sent))) (sym (delta-bytes edition excluded ties mtu place digest (w .hubs x) l ds g))
-        (moment-sending x _ (computed-sendable excluded ties mtu ds (w .hubs x) (facts-table (w .hubs x) (ok .tables x .obeyed)) m))
+    moment-computing o (writes ds rest e made there) = subst (λ (b : List ℕ). Moment owner (withSent (b ∷ w .sent))) (sym there) (moment-sending x _ (made .sendable))
 
   -- ---- a delta arrives
 
@@ -394,10 +393,10 @@ abbrev pub MayCome : Plan → Event → Type 0
 MayCome plan (Writing x i k c) = Unit {0}
 MayCome plan (Beating x i) = Unit {0}
 MayCome plan (Offering x i h) = Unit {0}
-MayCome plan (Removing x now grace) = Unit {0}
+MayCome plan (Removing x removal) = Unit {0}
 MayCome plan (Adding x i) = Unit {0}
 MayCome plan (Dropping x i) = Unit {0}
-MayCome plan (Computing x edition digest excluded ties mtu place l) = Unit {0}
+MayCome plan (Computing x edition digest excluded order mtu place l) = Unit {0}
 MayCome plan (Arriving x k now l) = Lawful (plan .ways x) × (plan .ways x .late ≡ true)
 MayCome plan (Saving x) = Unit {0}
 MayCome plan (Restoring x k) = Unit {0}
@@ -406,28 +405,29 @@ ready-for : (plan : Plan) → Ready plan → (e : Event) → MayCome plan e
 ready-for plan ready (Writing x i k c) = tt
 ready-for plan ready (Beating x i) = tt
 ready-for plan ready (Offering x i h) = tt
-ready-for plan ready (Removing x now grace) = tt
+ready-for plan ready (Removing x removal) = tt
 ready-for plan ready (Adding x i) = tt
 ready-for plan ready (Dropping x i) = tt
-ready-for plan ready (Computing x edition digest excluded ties mtu place l) = tt
+ready-for plan ready (Computing x edition digest excluded order mtu place l) = tt
 ready-for plan ready (Arriving x k now l) = (ready .lawful x, ready .late x)
 ready-for plan ready (Saving x) = tt
 ready-for plan ready (Restoring x k) = tt
 
 module _ (plan : Plan) (w : Net) (ok : Moment (plan .owner) w) where
   pub moment-calls : (e : Event) → MayCome plan e → possible (plan .owner) e w ≡ true → Moment (plan .owner) (calls plan e w)
-  unfolding gc
   moment-calls (Writing x i k c) law p = moment-writing (plan .owner) w ok x i k (eqb-true _ _ (and-left _ _ p)) c (ltb-true _ _ (and-right (eqb (plan .owner i) x) _ p))
   moment-calls (Beating x j) law p =
       changed (plan .owner) w ok x _ (kept (w .hubs x) _ (beat-keeps j (w .hubs x)) (ok .tables x .obeyed)) (fits-beaten (plan .owner) w ok x _ (λ i. beaten-local i (w .hubs x) j))
   moment-calls (Offering x j b) law p =
       changed (plan .owner) w ok x _ (kept (w .hubs x) _ (offer-keeps j b (w .hubs x) (ltb-true _ _ p)) (ok .tables x .obeyed))
       (fits-beaten (plan .owner) w ok x _ (λ i. beaten-offer i (w .hubs x) j b))
-  moment-calls (Removing x now grace) law p = moment-removing (plan .owner) w ok x (λ i. due now grace)
+  moment-calls (Removing x removal) law p =
+      let r = removal-is removal (w .hubs x) in
+      subst (λ (t : Table). Moment (plan .owner) (withTable x t w)) (sym (r .1)) (moment-removing (plan .owner) w ok x (r .0))
   moment-calls (Adding x j) law p = moment-adding (plan .owner) w ok x j (ltb-true _ _ p)
   moment-calls (Dropping x j) law p = moment-dropping (plan .owner) w ok x j (λ e. true≢false (sym p ∙ ap not (eq-eqb _ _ e)))
-  moment-calls (Computing x edition digest excluded ties mtu place l) law p =
-      moment-computing (plan .owner) w ok x edition digest excluded ties mtu place l _ (comes edition excluded ties mtu place digest (w .hubs x) l)
+  moment-calls (Computing x edition digest excluded order mtu place l) law p =
+      moment-computing (plan .owner) w ok x edition digest excluded order mtu place l _ (comes edition excluded order mtu place digest (w .hubs x) l (facts-table (w .hubs x) (ok .tables x .obeyed)))
   moment-calls (Arriving x k now l) law p = moment-arriving (plan .owner) w ok (plan .ways x) (law .0) x now l (ltb-true _ _ p) (law .1) k
   moment-calls (Saving x) law p = moment-saving (plan .owner) w ok x
   moment-calls (Restoring x k) law p = moment-restoring (plan .owner) w ok x k p

@@ -13,10 +13,11 @@ use Rattle.fields.specs.Choice.{pick}
 use Rattle.rules.proofs.Tables.{applied-table, node-set-other, node-set-same}
 use Rattle.rules.specs.Apply.{Ways, applyEach, applyNode, onNode}
 use Rattle.rules.specs.Delta.{Part, partsOf}
-use Rattle.rules.specs.Local.{call, callOn, gc}
-use Rattle.rules.specs.Node.{Call, Decision, Give, Leave, Node, Refuse, act, decide, due, write}
+use Rattle.rules.specs.Local.{call, callOn}
+use Rattle.rules.specs.Node.{Call, Decision, Give, Leave, Node, Refuse, act, decide, write}
 use Rattle.rules.specs.Table.{Table, nodeOf, setNode}
-use Rattle.demand3.proofs.EachNode.{Beaten, beaten-local, beaten-offer, nodeAt, orFresh, removed}
+use Rattle.demand3.proofs.EachNode.{Beaten, beaten-local, beaten-offer, nodeAt, orFresh}
+use Rattle.demand3.proofs.Forms.{removed-node}
 use Rattle.demand3.proofs.Moments.{nth-sent}
 use Rattle.demand3.proofs.OneNode.{rises-apply, rises-remove, rises-same, rises-trans}
 use Rattle.demand3.specs.Demand3.{AllRise, Rises}
@@ -81,15 +82,14 @@ module _ (plan : Plan) (w : Net) where
       go false q = same (w .hubs y)
 
   calls-up : (e : Event) → goesOn e ≡ true → (y : ℕ) → Up (w .hubs y) (calls plan e w .hubs y)
-  unfolding gc
   calls-up (Writing x i k c) g = there x _ (call-up c i k (w .hubs x))
   calls-up (Beating x j) g = there x _ (beaten-up (w .hubs x) _ (λ i. beaten-local i (w .hubs x) j))
   calls-up (Offering x j b) g = there x _ (beaten-up (w .hubs x) _ (λ i. beaten-offer i (w .hubs x) j b))
-  calls-up (Removing x now grace) g =
-      there x _ (λ i. subst (Rises (nodeAt i (w .hubs x))) (sym (removed i (w .hubs x) (λ j. due now grace))) (rises-remove (due now grace) (nodeAt i (w .hubs x))))
+  calls-up (Removing x removal) g =
+      there x _ (λ i. let r = removed-node removal (w .hubs x) i in subst (Rises (nodeAt i (w .hubs x))) (sym (r .1)) (rises-remove (r .0) (nodeAt i (w .hubs x))))
   calls-up (Adding x j) g = there x _ (λ i. subst (Rises (nodeAt i (w .hubs x))) (sym (node-added i j (w .hubs x))) (rises-same (nodeAt i (w .hubs x))))
   calls-up (Dropping x j) g = absurd (false≢true g)
-  calls-up (Computing x edition digest excluded ties mtu place l) g = λ y. same (w .hubs y)
+  calls-up (Computing x edition digest excluded order mtu place l) g = λ y. same (w .hubs y)
   calls-up (Arriving x k now l) g =
       there x _
       (nth-sent (λ d. Up (w .hubs x) (appliedTo (plan .ways x) now l d (w .hubs x))) (same (w .hubs x)) k (w .sent)

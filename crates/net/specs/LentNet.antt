@@ -13,8 +13,9 @@ use Rattle.rules.specs.Node.{KeyValue}
 use Rattle.rules.specs.Table.{Table, nodeOf}
 use Rattle.rules.specs.Apply.{waysOf}
 use Rattle.rules.specs.Whole.{decodeWhole, validWhole}
-use Rattle.rules.specs.Lent.{lentAdd, lentRemoveNode, lentCall, lentGc, lentOffer, lentBeat, lentCompute, lentApply, lentNew}
+use Rattle.rules.specs.Lent.{lentAdd, lentRemoveNode, lentCall, lentOffer, lentBeat, lentApply, lentNew}
 use Rattle.rules.specs.declared.Mode.{Mode}
+use Rattle.demand3.specs.Forms.{lentComputeBy, lentRemovedBy}
 use Rattle.demand3.specs.World.{Exchange, Idle, DigestSent, DeltaSent, givenIn, sentAfter, nthSent}
 use Rattle.demand3.specs.Demand3.{AllRise}
 use Rattle.net.specs.Net.{Plan, Net, NetSound, Event, Writing, Beating, Offering, Removing, Adding, Dropping, Computing, Arriving, Saving, Restoring, placed, possible, allGoOn}
@@ -67,14 +68,14 @@ lentCalls (Writing x i k c) w =
     }
 lentCalls (Beating x i) w = withBytes x (lentBeat i (w .hubs x) .lent) w
 lentCalls (Offering x i h) w = withBytes x (lentOffer i h (w .hubs x) .lent) w
-lentCalls (Removing x now grace) w = withBytes x (lentGc now grace (w .hubs x) .lent) w
+lentCalls (Removing x removal) w = withBytes x (lentRemovedBy removal (w .hubs x)) w
 lentCalls (Adding x i) w = withBytes x (lentAdd i (w .hubs x) .lent) w
 lentCalls (Dropping x i) w = withBytes x (lentRemoveNode i (w .hubs x) .lent) w
-lentCalls (Computing x edition digest excluded ties mtu place d) w =
+lentCalls (Computing x edition digest excluded order mtu place d) w =
     record {
       hubs = w .hubs;
       given = w .given;
-      sent = sentAfter place (lentCompute edition excluded ties mtu place digest d (w .hubs x) .lent) (lentCompute edition excluded ties mtu place digest d (w .hubs x) .answer) (w .sent);
+      sent = sentAfter place (lentComputeBy edition excluded order mtu place digest d (w .hubs x) .lent) (lentComputeBy edition excluded order mtu place digest d (w .hubs x) .answer) (w .sent);
       saved = w .saved;
     }
 lentCalls (Arriving x k now answers) w = withBytes x (lentTaken now answers (nthSent k (w .sent)) (w .hubs x)) w

@@ -13,11 +13,12 @@ use Rattle.fields.specs.Choice.{_∈_, pick, all}
 use Rattle.rules.specs.Sizes.{numbers}
 use Rattle.rules.specs.Node.{KeyValue, Node, Call}
 use Rattle.rules.specs.Table.{Entry, Table, nodeOf, obeys}
-use Rattle.rules.specs.Local.{call, add, removeNode, offer, localBeat, gc}
+use Rattle.rules.specs.Local.{call, add, removeNode, offer, localBeat}
 use Rattle.rules.specs.Delta.{Op, Good, Part, partsOf, readDelta}
 use Rattle.rules.specs.Apply.{Ways, Lawful, takenAs, applyNode}
 use Rattle.rules.specs.declared.Heartbeat.{Heartbeat}
 use Rattle.rules.specs.declared.NodeAnswer.the-variants as node
+use Rattle.demand3.specs.Forms.{Order, Removal, removedBy}
 use Rattle.demand3.specs.World.{timeOf, givenIn, sentFor, nthSent, appliedTo}
 use Rattle.demand3.specs.Demand3.{Claims, AllRise}
 
@@ -54,14 +55,14 @@ pub data Event : Type 0 where
   -- a local beat, a heartbeat offer: node, and the heartbeat offered
   Beating : ℕ → ℕ → Event
   Offering : ℕ → ℕ → Heartbeat → Event
-  -- removal over all nodes: now, grace
-  Removing : ℕ → ℕ → ℕ → Event
+  -- removal over all nodes, of whatever kind
+  Removing : ℕ → Removal → Event
   -- a node is added; a node that the hub does not own is removed, with all its records
   Adding : ℕ → ℕ → Event
   Dropping : ℕ → ℕ → Event
-  -- a delta is computed for any bytes as a digest, read in any edition: the edition, those bytes, excluded nodes, ties, MTU, the place in the datagram, the
-  -- datagram
-  Computing : ℕ → ℕ → List ℕ → List ℕ → List ℕ → ℕ → ℕ → List ℕ → Event
+  -- a delta is computed for any bytes as a digest, read in any edition: the edition, those bytes, excluded nodes, the order, MTU, the place in the datagram,
+  -- the datagram
+  Computing : ℕ → ℕ → List ℕ → List ℕ → Order → ℕ → ℕ → List ℕ → Event
   -- a delta that any hub ever computed arrives, late or again: which of them, now, the lent list of answers
   Arriving : ℕ → ℕ → ℕ → List ℕ → Event
   -- the hub saves its table; it is restored from one that it saved, if no write of its own nodes is lost: which of them
@@ -88,10 +89,10 @@ abbrev pub possible : (owner : ℕ → ℕ) (event : Event) (net : Net) → Bool
 possible owner (Writing x i k c) w = eqb (owner i) x && ltb (timeOf c) numbers
 possible owner (Beating x i) w = true
 possible owner (Offering x i h) w = ltb (h .0) numbers
-possible owner (Removing x now grace) w = true
+possible owner (Removing x removal) w = true
 possible owner (Adding x i) w = ltb i numbers
 possible owner (Dropping x i) w = not (eqb (owner i) x)
-possible owner (Computing x edition digest excluded ties mtu place l) w = true
+possible owner (Computing x edition digest excluded order mtu place l) w = true
 possible owner (Arriving x k now l) w = ltb now numbers
 possible owner (Saving x) w = true
 possible owner (Restoring x k) w = nothingLost owner x (w .hubs x) (placed k (w .saved x))
@@ -116,11 +117,11 @@ calls plan (Writing x i k c) w =
     }
 calls plan (Beating x i) w = withTable x (localBeat i (w .hubs x) .table) w
 calls plan (Offering x i h) w = withTable x (offer i h (w .hubs x) .table) w
-calls plan (Removing x now grace) w = withTable x (gc now grace (w .hubs x) .table) w
+calls plan (Removing x removal) w = withTable x (removedBy removal (w .hubs x)) w
 calls plan (Adding x i) w = withTable x (add i (w .hubs x) .table) w
 calls plan (Dropping x i) w = withTable x (removeNode i (w .hubs x) .table) w
-calls plan (Computing x edition digest excluded ties mtu place l) w =
-    record { hubs = w .hubs; given = w .given; sent = sentFor edition digest excluded ties mtu place l (w .hubs x) (w .sent); saved = w .saved }
+calls plan (Computing x edition digest excluded order mtu place l) w =
+    record { hubs = w .hubs; given = w .given; sent = sentFor edition digest excluded order mtu place l (w .hubs x) (w .sent); saved = w .saved }
 calls plan (Arriving x k now l) w = withTable x (appliedTo (plan .ways x) now l (nthSent k (w .sent)) (w .hubs x)) w
 calls plan (Saving x) w = record { hubs = w .hubs; given = w .given; sent = w .sent; saved = λ y. pick (eqb y x) (w .hubs x ∷ w .saved x) (w .saved y) }
 calls plan (Restoring x k) w = withTable x (restored (placed k (w .saved x)) (w .hubs x)) w
@@ -152,10 +153,10 @@ abbrev pub goesOn : (event : Event) → Bool
 goesOn (Writing x i k c) = true
 goesOn (Beating x i) = true
 goesOn (Offering x i h) = true
-goesOn (Removing x now grace) = true
+goesOn (Removing x removal) = true
 goesOn (Adding x i) = true
 goesOn (Dropping x i) = false
-goesOn (Computing x edition digest excluded ties mtu place l) = true
+goesOn (Computing x edition digest excluded order mtu place l) = true
 goesOn (Arriving x k now l) = true
 goesOn (Saving x) = true
 goesOn (Restoring x k) = false

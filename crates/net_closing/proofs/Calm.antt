@@ -14,7 +14,6 @@ use Rattle.rules.proofs.Records.{gc-rises}
 use Rattle.rules.proofs.Taking.{Came, came, left, reset, took}
 use Rattle.rules.specs.Apply.{Lawful, Taken, Ways, applyNode, outcome}
 use Rattle.rules.specs.Delta.{NodeDelta}
-use Rattle.rules.specs.Local.{gc}
 use Rattle.rules.specs.Node.{KeyValue, Node, Rec, due, remove, withHeartbeat}
 use Rattle.rules.specs.Table.{nodeOf}
 use Rattle.rules.specs.declared.Heartbeat.{Heartbeat}
@@ -76,14 +75,13 @@ module _ (plan : Plan) (ready : Ready plan) (i : ℕ) where
     other j q e = false≢true (sym (ap not (eq-eqb i j (sym e))) ∙ q)
 
     calls-onward : (e : Event) → calm i e ≡ true → (y : ℕ) → Each w On on-same y (calls plan e w .hubs y)
-    unfolding gc
     calls-onward (Writing x j k c) q = each-hub w On on-same x _ (each-call w On on-same c x j k (λ n z e. absurd (other j q e)))
     calls-onward (Beating x j) q = each-hub w On on-same x _ (each-beat w On on-same x j (on-beat x))
     calls-onward (Offering x j h) q = each-hub w On on-same x _ (each-offer w On on-same x j h (on-beat x))
-    calls-onward (Removing x now grace) q = each-hub w On on-same x _ (each-remove w On on-same x (λ j. due now grace) (λ j e. removes (due now grace)))
+    calls-onward (Removing x removal) q = each-hub w On on-same x _ (each-remove w On on-same x removal (λ j due e. removes due))
     calls-onward (Adding x j) q = each-hub w On on-same x _ (each-add w On on-same x j)
     calls-onward (Dropping x j) q = each-hub w On on-same x _ (each-drop w On on-same x j (ok .tables x .obeyed .ascending) (λ e. absurd (other j q e)))
-    calls-onward (Computing x edition digest excluded ties mtu place l) q = each-same w On on-same
+    calls-onward (Computing x edition digest excluded order mtu place l) q = each-same w On on-same
     calls-onward (Arriving x k now l) q =
         each-hub w On on-same x _
         (nth-sent (λ d. Each w On on-same x (appliedTo (plan .ways x) now l d (w .hubs x))) (each-same w On on-same x) k (w .sent)
@@ -109,10 +107,10 @@ module _ (plan : Plan) (ready : Ready plan) (i : ℕ) where
         at false p = refl
     calls-given (Beating x j) q = refl
     calls-given (Offering x j h) q = refl
-    calls-given (Removing x now grace) q = refl
+    calls-given (Removing x removal) q = refl
     calls-given (Adding x j) q = refl
     calls-given (Dropping x j) q = refl
-    calls-given (Computing x edition digest excluded ties mtu place l) q = refl
+    calls-given (Computing x edition digest excluded order mtu place l) q = refl
     calls-given (Arriving x k now l) q = refl
     calls-given (Saving x) q = refl
     calls-given (Restoring x k) q = refl

@@ -18,20 +18,20 @@ use Rattle.rules.proofs.Sending.{nodeDelta}
 use Rattle.rules.proofs.Tables.{partAt}
 use Rattle.rules.proofs.Taking.{Came, came, left, reset, taken-node, took}
 use Rattle.rules.specs.Apply.{Taken, applyNode, deltaStatus, outcome}
-use Rattle.rules.specs.Compute.{deltaFor, fromOf, stale}
+use Rattle.rules.specs.Compute.{fromOf, stale}
 use Rattle.rules.specs.Delta.{NodeDelta, Ops, deltaBytes, partsOf, readDelta}
 use Rattle.rules.specs.Given.{Given}
-use Rattle.rules.specs.Local.{gc}
 use Rattle.rules.specs.Node.{Decision, Give, Leave, Node, Refuse, act, due, remove, withHeartbeat, write}
 use Rattle.rules.specs.Table.{Table, nodeOf}
 use Rattle.rules.specs.declared.Computed.{Computed}
 use Rattle.rules.specs.declared.Heartbeat.{Heartbeat}
 use Rattle.rules.specs.declared.NodeAnswer.the-variants as node
-use Rattle.rules.proofs.Accepted.{Comes, comes, delta-bytes, refuses, writes}
+use Rattle.demand3.proofs.Forms.{Comes, comes, refuses, writes}
+use Rattle.demand3.specs.Forms.{Order, opsBy}
 use Rattle.demand3.proofs.EachNode.{nodeAt, orFresh, partsIn}
 use Rattle.demand3.proofs.Moments.{nth-sent}
 use Rattle.demand3.proofs.Needed.{Moves, Onward, delta-moves-or, needed, needed-falls, needed-most, needed-none, needed-some, onward-came, onward-needed, onward-same}
-use Rattle.demand3.proofs.OnTheWay.{Sendable, computed-sendable}
+use Rattle.demand3.proofs.OnTheWay.{Sendable}
 use Rattle.demand3.proofs.OneNode.{rises-apply, rises-remove}
 use Rattle.demand3.proofs.Publisher.{Publisher}
 use Rattle.demand3.specs.Demand3.{Rises}
@@ -99,20 +99,20 @@ module _ (plan : Plan) (ready : Ready plan) (i : ℕ) where
     its-part b m j d p e = low .sent b m d (ap (λ (k : Ops). partAt i (partsIn k)) (ok .sent b m .reads .1) ∙ subst (λ (k : ℕ). partAt k (partsOf (ok .sent b m .reads .0)) ≡ some d) e p)
 
     calls-on : (e : Event) → ownerRemoves plan i e ≡ true → possible (plan .owner) e w ≡ true → (y : ℕ) → Each w On on-same y (calls plan e w .hubs y)
-    unfolding gc remove
+    unfolding remove
     calls-on (Writing x j k c) q p = each-hub w On on-same x _ (each-call w On on-same c x j k (on-act x j k))
     calls-on (Beating x j) q p = each-hub w On on-same x _ (each-beat w On on-same x j (on-beat x))
     calls-on (Offering x j h) q p = each-hub w On on-same x _ (each-offer w On on-same x j h (on-beat x))
-    calls-on (Removing x now grace) q p =
+    calls-on (Removing x removal) q p =
         each-hub w On on-same x _
-        (each-remove w On on-same x (λ j. due now grace)
-        (λ j e. (λ o. gc-up (nodeAt j (w .hubs x)) (remove (due now grace) (nodeAt j (w .hubs x))) (rises-remove (due now grace) (nodeAt j (w .hubs x))), λ o. absurd (o (eqb-true _ _ q)))))
+        (each-remove w On on-same x removal
+        (λ j due e. (λ o. gc-up (nodeAt j (w .hubs x)) (remove due (nodeAt j (w .hubs x))) (rises-remove due (nodeAt j (w .hubs x))), λ o. absurd (o (eqb-true _ _ q)))))
     calls-on (Adding x j) q p = each-hub w On on-same x _ (each-add w On on-same x j)
     calls-on (Dropping x j) q p =
         each-hub w On on-same x _
         (each-drop w On on-same x j (ok .tables x .obeyed .ascending)
         (λ e. (λ o. absurd (false≢true (sym (ap not (eq-eqb (plan .owner j) x (ap (plan .owner) e ∙ sym o))) ∙ p)), λ o. omega arith)))
-    calls-on (Computing x edition digest excluded ties mtu place l) q p = each-same w On on-same
+    calls-on (Computing x edition digest excluded order mtu place l) q p = each-same w On on-same
     calls-on (Arriving x k now l) q p =
         each-hub w On on-same x _
         (nth-sent (λ d. Each w On on-same x (appliedTo (plan .ways x) now l d (w .hubs x))) (each-same w On on-same x) k (w .sent)
@@ -135,24 +135,24 @@ module _ (plan : Plan) (ready : Ready plan) (i : ℕ) where
     unfolding Rest
     as-before = (λ b m. inl m, λ x t m. inl m)
 
-    computed-low : (x edition : ℕ) (digest excluded ties : List ℕ) (mtu place : ℕ) (l : List ℕ) (o : Given Computed (List ℕ)) → Comes edition excluded ties mtu place digest (w .hubs x) l o → (b : List ℕ) → b ∈ sentAfter place (o .lent) (o .answer) (w .sent) → (b ∈ w .sent) ⊎ ((d : NodeDelta) → Part b d → d .last-gc ≤ gcAt w own)
+    computed-low : (x edition : ℕ) (digest excluded : List ℕ) (order : Order) (mtu place : ℕ) (l : List ℕ) (o : Given Computed (List ℕ)) → Comes edition excluded order mtu place digest (w .hubs x) l o → (b : List ℕ) → b ∈ sentAfter place (o .lent) (o .answer) (w .sent) → (b ∈ w .sent) ⊎ ((d : NodeDelta) → Part b d → d .last-gc ≤ gcAt w own)
     unfolding nodeDelta
-    computed-low x edition digest excluded ties mtu place l o (refuses r) b m = inl m
-    computed-low x edition digest excluded ties mtu place l o (writes ds rest e h g) b m = at (in-cons m)
+    computed-low x edition digest excluded order mtu place l o (refuses r) b m = inl m
+    computed-low x edition digest excluded order mtu place l o (writes ds rest e made there) b m = at (in-cons m)
       where
-        may : Sendable (w .hubs x) (deltaFor excluded ties mtu ds (w .hubs x))
-        may = computed-sendable excluded ties mtu ds (w .hubs x) (facts-table (w .hubs x) (ok .tables x .obeyed)) h
+        may : Sendable (w .hubs x) (opsBy excluded order mtu ds (w .hubs x))
+        may = made .sendable
 
-        mine : (d : NodeDelta) → Part (deltaBytes (deltaFor excluded ties mtu ds (w .hubs x))) d → d .last-gc ≤ gcAt w own
+        mine : (d : NodeDelta) → Part (deltaBytes (opsBy excluded order mtu ds (w .hubs x))) d → d .last-gc ≤ gcAt w own
         mine d q =
             let y = may .made i d (sym (ap (λ (k : Ops). partAt i (partsIn k)) (may .read)) ∙ q) in
             let a : d .last-gc ≡ gcAt w x = ap (λ (k : NodeDelta). k .last-gc) (y .delta-is) in
             let b = low .hubs x in
             omega arith
 
-        at : (b ≡ part place (length (deltaBytes (deltaFor excluded ties mtu ds (w .hubs x)))) (put place (deltaBytes (deltaFor excluded ties mtu ds (w .hubs x))) l)) ⊎ (b ∈ w .sent) → (b ∈ w .sent) ⊎ ((d : NodeDelta) → Part b d → d .last-gc ≤ gcAt w own)
+        at : (b ≡ part place (length (deltaBytes (opsBy excluded order mtu ds (w .hubs x)))) (put place (deltaBytes (opsBy excluded order mtu ds (w .hubs x))) l)) ⊎ (b ∈ w .sent) → (b ∈ w .sent) ⊎ ((d : NodeDelta) → Part b d → d .last-gc ≤ gcAt w own)
         at (inl q) =
-            let is : b ≡ deltaBytes (deltaFor excluded ties mtu ds (w .hubs x)) = q ∙ delta-bytes edition excluded ties mtu place digest (w .hubs x) l ds g in
+            let is : b ≡ deltaBytes (opsBy excluded order mtu ds (w .hubs x)) = q ∙ there in
             inr (λ d r. mine d (subst (λ (k : List ℕ). Part k d) is r))
         at (inr n) = inl n
 
@@ -161,10 +161,10 @@ module _ (plan : Plan) (ready : Ready plan) (i : ℕ) where
     calls-rest (Writing x j k c) = as-before
     calls-rest (Beating x j) = as-before
     calls-rest (Offering x j h) = as-before
-    calls-rest (Removing x now grace) = as-before
+    calls-rest (Removing x removal) = as-before
     calls-rest (Adding x j) = as-before
     calls-rest (Dropping x j) = as-before
-    calls-rest (Computing x edition digest excluded ties mtu place l) = (computed-low x edition digest excluded ties mtu place l _ (comes edition excluded ties mtu place digest (w .hubs x) l), λ y t m. inl m)
+    calls-rest (Computing x edition digest excluded order mtu place l) = (computed-low x edition digest excluded order mtu place l _ (comes edition excluded order mtu place digest (w .hubs x) l (facts-table (w .hubs x) (ok .tables x .obeyed))), λ y t m. inl m)
     calls-rest (Arriving x k now l) = as-before
     calls-rest (Saving x) = (λ b m. inl m, λ y t m. at y t (eqb y x) refl m)
       where
@@ -265,10 +265,10 @@ module _ (plan : Plan) (ready : Ready plan) (i : ℕ) where
       calls-goes (Writing x j k c) q = each-hub w Goes goes-same x _ (each-call w Goes goes-same c x j k (λ n z e. absurd (other j q e)))
       calls-goes (Beating x j) q = each-hub w Goes goes-same x _ (each-beat w Goes goes-same x j (goes-beat x))
       calls-goes (Offering x j h) q = each-hub w Goes goes-same x _ (each-offer w Goes goes-same x j h (goes-beat x))
-      calls-goes (Removing x now grace) q = absurd (false≢true q)
+      calls-goes (Removing x removal) q = absurd (false≢true q)
       calls-goes (Adding x j) q = each-hub w Goes goes-same x _ (each-add w Goes goes-same x j)
       calls-goes (Dropping x j) q = each-hub w Goes goes-same x _ (each-drop w Goes goes-same x j (ok .moment .tables x .obeyed .ascending) (λ e. absurd (other j q e)))
-      calls-goes (Computing x edition digest excluded ties mtu place l) q = each-same w Goes goes-same
+      calls-goes (Computing x edition digest excluded order mtu place l) q = each-same w Goes goes-same
       calls-goes (Arriving x k now l) q =
           each-hub w Goes goes-same x _
           (nth-sent (λ d. Each w Goes goes-same x (appliedTo (plan .ways x) now l d (w .hubs x))) (each-same w Goes goes-same x) k (w .sent)
@@ -289,10 +289,10 @@ module _ (plan : Plan) (ready : Ready plan) (i : ℕ) where
       also (Writing x j k c) q = refl
       also (Beating x j) q = refl
       also (Offering x j h) q = refl
-      also (Removing x now grace) q = absurd (false≢true q)
+      also (Removing x removal) q = absurd (false≢true q)
       also (Adding x j) q = refl
       also (Dropping x j) q = refl
-      also (Computing x edition digest excluded ties mtu place l) q = refl
+      also (Computing x edition digest excluded order mtu place l) q = refl
       also (Arriving x k now l) q = refl
       also (Saving x) q = refl
       also (Restoring x k) q = absurd (false≢true q)

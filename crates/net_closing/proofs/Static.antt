@@ -18,17 +18,16 @@ use Rattle.rules.proofs.Sending.{nodeDelta}
 use Rattle.rules.proofs.Tables.{partAt}
 use Rattle.rules.proofs.Taking.{Came, came, left, reset, took}
 use Rattle.rules.specs.Apply.{applyNode, outcome}
-use Rattle.rules.specs.Compute.{deltaFor}
 use Rattle.rules.specs.Delta.{NodeDelta, Ops, deltaBytes, partsOf, readDelta}
 use Rattle.rules.specs.Given.{Given}
-use Rattle.rules.specs.Local.{gc}
 use Rattle.rules.specs.Node.{Decision, Give, Leave, Node, Rec, Refuse, act, due, lastGc, remove, withHeartbeat, write}
 use Rattle.rules.specs.Table.{Table, nodeOf}
 use Rattle.rules.specs.declared.Computed.{Computed}
 use Rattle.rules.specs.declared.Heartbeat.{Heartbeat}
-use Rattle.rules.proofs.Accepted.{Comes, comes, delta-bytes, refuses, writes}
+use Rattle.demand3.proofs.Forms.{Comes, comes, refuses, writes}
+use Rattle.demand3.specs.Forms.{Order, opsBy}
 use Rattle.demand3.proofs.EachNode.{nodeAt, partsIn}
-use Rattle.demand3.proofs.OnTheWay.{Sendable, computed-sendable}
+use Rattle.demand3.proofs.OnTheWay.{Sendable}
 use Rattle.demand3.specs.Demand3.{wroteDelta}
 use Rattle.demand3.specs.World.{DeltaSent, Exchange, Idle, appliedTo, nthSent, sentAfter}
 use Rattle.net.proofs.Each.{Each, each-add, each-beat, each-call, each-drop, each-offer, each-remove, each-same, each-taken}
@@ -99,7 +98,7 @@ module _ (plan : Plan) (ready : Ready plan) (i : ℕ) (hears : (x y : ℕ) → T
         low : g ≤ max (a .last-gc) (a .max)
         low =
             gc-below due (a .last-gc) (max (a .last-gc) (a .max)) (a .recs) (omega arith)
-            (λ r m. let b = ok .tables x .honest j .honest .within (r .kv) (r, m, refl) in omega arith)
+            (λ r m q. let b = ok .tables x .honest j .honest .within (r .kv) (r, m, refl) in omega arith)
 
         go : (b : Bool) → ltb (a .last-gc) g ≡ b → Turns hears (nodes (w .hubs)) x a (remove due a)
         go true p = let c = ltb-true (a .last-gc) g p in let d = low in settles (omega arith) (omega arith)
@@ -148,18 +147,18 @@ module _ (plan : Plan) (ready : Ready plan) (i : ℕ) (hears : (x y : ℕ) → T
         sender b (some y) f = λ d p. let a = f d p in let c = rises y in omega arith
 
     -- a delta is computed, or refused
-    computes : (x edition : ℕ) (digest excluded ties : List ℕ) (mtu place : ℕ) (l : List ℕ) (o : Given Computed (List ℕ)) → Comes edition excluded ties mtu place digest (w .hubs x) l o → Static (w .hubs) (sentAfter place (o .lent) (o .answer) (w .sent)) (pick (wroteDelta (o .answer)) (x ∷ s) s)
+    computes : (x edition : ℕ) (digest excluded : List ℕ) (order : Order) (mtu place : ℕ) (l : List ℕ) (o : Given Computed (List ℕ)) → Comes edition excluded order mtu place digest (w .hubs x) l o → Static (w .hubs) (sentAfter place (o .lent) (o .answer) (w .sent)) (pick (wroteDelta (o .answer)) (x ∷ s) s)
     unfolding nodeDelta placed
-    computes x edition digest excluded ties mtu place l o (refuses r) = st
-    computes x edition digest excluded ties mtu place l o (writes ds rest e h g) = record { chains = st .chains; from = at }
+    computes x edition digest excluded order mtu place l o (refuses r) = st
+    computes x edition digest excluded order mtu place l o (writes ds rest e made there) = record { chains = st .chains; from = at }
       where
         b₀ : List ℕ
-        b₀ = part place (length (deltaBytes (deltaFor excluded ties mtu ds (w .hubs x)))) (put place (deltaBytes (deltaFor excluded ties mtu ds (w .hubs x))) l)
+        b₀ = part place (length (deltaBytes (opsBy excluded order mtu ds (w .hubs x)))) (put place (deltaBytes (opsBy excluded order mtu ds (w .hubs x))) l)
 
-        may : Sendable (w .hubs x) (deltaFor excluded ties mtu ds (w .hubs x))
-        may = computed-sendable excluded ties mtu ds (w .hubs x) (facts-table (w .hubs x) (ok .tables x .obeyed)) h
+        may : Sendable (w .hubs x) (opsBy excluded order mtu ds (w .hubs x))
+        may = made .sendable
 
-        mine : (d : NodeDelta) → Part (deltaBytes (deltaFor excluded ties mtu ds (w .hubs x))) d → d .last-gc ≤ nodes (w .hubs) x .last-gc
+        mine : (d : NodeDelta) → Part (deltaBytes (opsBy excluded order mtu ds (w .hubs x))) d → d .last-gc ≤ nodes (w .hubs) x .last-gc
         mine d q =
             let y = may .made i d (sym (ap (λ (k : Ops). partAt i (partsIn k)) (may .read)) ∙ q) in
             let a : d .last-gc ≡ nodes (w .hubs) x .last-gc = ap (λ (k : NodeDelta). k .last-gc) (y .delta-is) in
@@ -168,18 +167,17 @@ module _ (plan : Plan) (ready : Ready plan) (i : ℕ) (hears : (x y : ℕ) → T
         at : (k : ℕ) (b : List ℕ) → placed k (b₀ ∷ w .sent) ≡ some b → From (w .hubs) b (placed k (x ∷ s))
         at zero b q =
             let is : b ≡ b₀ = cc in
-            λ d r. mine d (subst (λ (k : List ℕ). Part k d) (is ∙ delta-bytes edition excluded ties mtu place digest (w .hubs x) l ds g) r)
+            λ d r. mine d (subst (λ (k : List ℕ). Part k d) (is ∙ there) r)
         at (suc k) b q = st .from k b q
 
     static-calls : (e : Event) → LocalAt hears i e s → StaticIn (calls plan e w) (sendersAfter e w s)
-    unfolding gc
     static-calls (Writing x j k c) q = on-hub x _ (each-call w On on-same c x j k (on-act x j k))
     static-calls (Beating x j) q = on-hub x _ (each-beat w On on-same x j (on-beat x))
     static-calls (Offering x j h) q = on-hub x _ (each-offer w On on-same x j h (on-beat x))
-    static-calls (Removing x now grace) q = on-hub x _ (each-remove w On on-same x (λ j. due now grace) (on-remove x (due now grace)))
+    static-calls (Removing x removal) q = on-hub x _ (each-remove w On on-same x removal (λ j due. on-remove x due j))
     static-calls (Adding x j) q = on-hub x _ (each-add w On on-same x j)
     static-calls (Dropping x j) q = on-hub x _ (each-drop w On on-same x j (ok .tables x .obeyed .ascending) (λ e. absurd (q e)))
-    static-calls (Computing x edition digest excluded ties mtu place l) q = computes x edition digest excluded ties mtu place l _ (comes edition excluded ties mtu place digest (w .hubs x) l)
+    static-calls (Computing x edition digest excluded order mtu place l) q = computes x edition digest excluded order mtu place l _ (comes edition excluded order mtu place digest (w .hubs x) l (facts-table (w .hubs x) (ok .tables x .obeyed)))
     static-calls (Arriving x k now l) q =
         on-hub x _
         (nth-placed (λ d. Each w On on-same x (appliedTo (plan .ways x) now l d (w .hubs x))) (each-same w On on-same x) k (w .sent)
@@ -196,10 +194,10 @@ module _ (plan : Plan) (ready : Ready plan) (i : ℕ) (hears : (x y : ℕ) → T
     static-stays (Writing x j k c) q = st
     static-stays (Beating x j) q = st
     static-stays (Offering x j h) q = st
-    static-stays (Removing x now grace) q = st
+    static-stays (Removing x removal) q = st
     static-stays (Adding x j) q = st
     static-stays (Dropping x j) q = st
-    static-stays (Computing x edition digest excluded ties mtu place l) q = absurd (true≢false q)
+    static-stays (Computing x edition digest excluded order mtu place l) q = absurd (true≢false q)
     static-stays (Arriving x k now l) q = st
     static-stays (Saving x) q = st
     static-stays (Restoring x k) q = st

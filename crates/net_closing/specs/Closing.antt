@@ -15,8 +15,9 @@ use Rattle.rules.specs.Node.{Node, Rec}
 use Rattle.rules.specs.Table.{Table, nodeOf}
 use Rattle.rules.specs.Digest.{digestOf, digestBytes}
 use Rattle.rules.specs.Delta.{Op, NodeDelta, besideTexts, deltaBytes, partsOf}
-use Rattle.rules.specs.Compute.{stale, compute, deltaFor}
+use Rattle.rules.specs.Compute.{stale}
 use Rattle.rules.specs.Apply.{Ways, apply}
+use Rattle.demand3.specs.Forms.{Order, computeBy, opsBy}
 use Rattle.demand3.specs.Demand3.{Claims, wroteDelta, noRoom}
 use Rattle.net.specs.Net.{Plan, Net, Event, Writing, Beating, Offering, Removing, Adding, Dropping, Computing, Arriving, Saving, Restoring, placed, happen, after}
 use Rattle.net.specs.LentNet.{LentNet, lentAfter}
@@ -26,7 +27,7 @@ use Rattle.net.specs.LentNet.{LentNet, lentAfter}
 -- what the two calls are given: the edition of the digest, one for both ends; nothing is excluded
 pub record Asked : Type 0 where
   pub edition : ℕ
-  pub ties : List ℕ
+  pub order : Order
   pub mtu : ℕ
   pub place : ℕ
   pub datagram : Bytes
@@ -34,11 +35,11 @@ pub record Asked : Type 0 where
   pub answers : Bytes
 
 abbrev pub exchangeIn : (asked : Asked) (x y : ℕ) (net : Net) → List Event
-exchangeIn q x y w = Computing y (q .edition) (digestBytes (q .edition) (digestOf [] (w .hubs x))) [] (q .ties) (q .mtu) (q .place) (q .datagram) ∷ Arriving x 0 (q .now) (q .answers) ∷ []
+exchangeIn q x y w = Computing y (q .edition) (digestBytes (q .edition) (digestOf [] (w .hubs x))) [] (q .order) (q .mtu) (q .place) (q .datagram) ∷ Arriving x 0 (q .now) (q .answers) ∷ []
 
 -- the operations that y sends
 abbrev pub opsIn : (asked : Asked) (x y : ℕ) (net : Net) → List Op
-opsIn q x y w = deltaFor [] (q .ties) (q .mtu) (digestOf [] (w .hubs x)) (w .hubs y)
+opsIn q x y w = opsBy [] (q .order) (q .mtu) (digestOf [] (w .hubs x)) (w .hubs y)
 
 -- d is their part for node i
 abbrev pub PartIn : (ops : List Op) (node : ℕ) (d : NodeDelta) → Type 0
@@ -48,7 +49,7 @@ PartIn ops i d = record { number = i; delta = d } ∈ partsOf ops
 pub record Heard (plan : Plan) (i x y : ℕ) (w : Net) (q : Asked) : Type 0 where
   pub node : Node
   pub has : nodeOf i (w .hubs x) ≡ some node
-  pub wrote : wroteDelta (compute (q .edition) [] (q .ties) (q .mtu) (q .place) (digestBytes (q .edition) (digestOf [] (w .hubs x))) (w .hubs y) (q .datagram) .answer) ≡ true
+  pub wrote : wroteDelta (computeBy (q .edition) [] (q .order) (q .mtu) (q .place) (digestBytes (q .edition) (digestOf [] (w .hubs x))) (w .hubs y) (q .datagram) .answer) ≡ true
   pub clock : ltb (q .now) numbers ≡ true
   pub roomy : noRoom (apply (plan .ways x) (deltaBytes (opsIn q x y w)) (q .now) (w .hubs x) (q .answers) .answer)
       (apply (plan .ways x) (deltaBytes (opsIn q x y w)) (q .now) (w .hubs x) (q .answers) .list) ≡ true
@@ -66,10 +67,10 @@ abbrev pub calm : (node : ℕ) (event : Event) → Bool
 calm i (Writing x j k c) = not (eqb i j)
 calm i (Beating x j) = true
 calm i (Offering x j h) = true
-calm i (Removing x now grace) = true
+calm i (Removing x removal) = true
 calm i (Adding x j) = true
 calm i (Dropping x j) = not (eqb i j)
-calm i (Computing x edition digest excluded ties mtu place l) = true
+calm i (Computing x edition digest excluded order mtu place l) = true
 calm i (Arriving x k now l) = true
 calm i (Saving x) = true
 calm i (Restoring x k) = false
@@ -79,10 +80,10 @@ abbrev pub settled : (node : ℕ) (event : Event) → Bool
 settled i (Writing x j k c) = not (eqb i j)
 settled i (Beating x j) = true
 settled i (Offering x j h) = true
-settled i (Removing x now grace) = false
+settled i (Removing x removal) = false
 settled i (Adding x j) = true
 settled i (Dropping x j) = not (eqb i j)
-settled i (Computing x edition digest excluded ties mtu place l) = true
+settled i (Computing x edition digest excluded order mtu place l) = true
 settled i (Arriving x k now l) = true
 settled i (Saving x) = true
 settled i (Restoring x k) = false
@@ -135,10 +136,10 @@ abbrev pub ownerRemoves : (plan : Plan) (node : ℕ) (event : Event) → Bool
 ownerRemoves plan i (Writing x j k c) = true
 ownerRemoves plan i (Beating x j) = true
 ownerRemoves plan i (Offering x j h) = true
-ownerRemoves plan i (Removing x now grace) = eqb x (plan .owner i)
+ownerRemoves plan i (Removing x removal) = eqb x (plan .owner i)
 ownerRemoves plan i (Adding x j) = true
 ownerRemoves plan i (Dropping x j) = true
-ownerRemoves plan i (Computing x edition digest excluded ties mtu place l) = true
+ownerRemoves plan i (Computing x edition digest excluded order mtu place l) = true
 ownerRemoves plan i (Arriving x k now l) = true
 ownerRemoves plan i (Saving x) = true
 ownerRemoves plan i (Restoring x k) = not (eqb x (plan .owner i))
@@ -150,10 +151,10 @@ abbrev pub sendersAfter : (event : Event) (net : Net) (senders : List ℕ) → L
 sendersAfter (Writing x i k c) w s = s
 sendersAfter (Beating x i) w s = s
 sendersAfter (Offering x i h) w s = s
-sendersAfter (Removing x now grace) w s = s
+sendersAfter (Removing x removal) w s = s
 sendersAfter (Adding x i) w s = s
 sendersAfter (Dropping x i) w s = s
-sendersAfter (Computing x edition digest excluded ties mtu place l) w s = pick (wroteDelta (compute edition excluded ties mtu place digest (w .hubs x) l .answer)) (x ∷ s) s
+sendersAfter (Computing x edition digest excluded order mtu place l) w s = pick (wroteDelta (computeBy edition excluded order mtu place digest (w .hubs x) l .answer)) (x ∷ s) s
 sendersAfter (Arriving x k now l) w s = s
 sendersAfter (Saving x) w s = s
 sendersAfter (Restoring x k) w s = s
@@ -167,10 +168,10 @@ abbrev pub LocalAt : (hears : (x y : ℕ) → Type 0) (node : ℕ) (event : Even
 LocalAt hears i (Writing x j k c) s = Unit {0}
 LocalAt hears i (Beating x j) s = Unit {0}
 LocalAt hears i (Offering x j h) s = Unit {0}
-LocalAt hears i (Removing x now grace) s = Unit {0}
+LocalAt hears i (Removing x removal) s = Unit {0}
 LocalAt hears i (Adding x j) s = Unit {0}
 LocalAt hears i (Dropping x j) s = j ≡ i → ⊥
-LocalAt hears i (Computing x edition digest excluded ties mtu place l) s = Unit {0}
+LocalAt hears i (Computing x edition digest excluded order mtu place l) s = Unit {0}
 LocalAt hears i (Arriving x k now l) s = Neighbour hears x (placed k s)
 LocalAt hears i (Saving x) s = Unit {0}
 LocalAt hears i (Restoring x k) s = ⊥

@@ -5,16 +5,13 @@ use mathlib.Core.List.{List, [], _∷_}
 use mathlib.Core.Path.{_∙_, _≡_, ap, refl, subst, sym}
 use lib.Dec.{eqb, ltb}
 use Rattle.fields.specs.Choice.{pick}
-use Rattle.rules.specs.Compute.{compute}
-use Rattle.rules.specs.Given.{Given, given}
-use Rattle.rules.specs.Lent.{lentCompute}
+use Rattle.rules.specs.Given.{Given}
 use Rattle.rules.specs.Sizes.{numbers}
 use Rattle.rules.specs.declared.Computed.{Computed}
-use Rattle.rules.specs.declared.Computed.the-variants as computed
 use Rattle.rules.specs.declared.Mode.{Mode}
-use Rattle.rules.specs.declared.Refusal.the-variants.{BadTable}
+use Rattle.demand3.specs.Forms.{computeBy, lentComputeBy}
 use Rattle.demand3.specs.World.{Exchange, afterDelta, appliedTo, sentAfter}
-use Rattle.net.proofs.LentNet.{Good, begin-lent, from-table, happen-lent, obeyed, on-hub, taken}
+use Rattle.net.proofs.LentNet.{Good, begin-lent, computed-lent, happen-lent, obeyed, on-hub, taken}
 use Rattle.net.specs.LentNet.{LentNet, LentSound, lentCalls, lentHappen, lentTaken, planIn, tablesIn, withBytes}
 use Rattle.net.specs.Net.{Computing, Net, NetSound, Plan, happen, withTable}
 use Rattle.net_mixed.proofs.Mixed.{Fine, fine-doing, fine-start, mixed-sound}
@@ -42,7 +39,7 @@ module _ (owner : ℕ → ℕ) (modes : ℕ → Mode) (source : (hub node : ℕ)
       go : (b : Bool) → Fine c (pick b (record { net = happen plan e (tablesIn (w .net)); flights = flightsAfter e (w .flights) }) (mixedIn w)) → Same (pick b (record { net = happen plan e (tablesIn (w .net)); flights = flightsAfter e (w .flights) }) (mixedIn w)) (pick b (record { net = lentHappen owner e (w .net); flights = flightsAfter e (w .flights) }) w)
       go true fine = with-flights (flightsAfter e (w .flights)) (lentHappen owner e (w .net)) _ (happen-lent owner modes (w .net) g e (fine .moment))
       go false fine = (g, refl)
-  doing-lent (Asking x y edition digest excluded ties mtu place l) w g ok = go (mayAsk c x y excluded (tablesIn (w .net) .hubs y))
+  doing-lent (Asking x y edition digest excluded order mtu place l) w g ok = go (mayAsk c x y excluded (tablesIn (w .net) .hubs y))
     where
       net : Net
       net = tablesIn (w .net)
@@ -54,21 +51,21 @@ module _ (owner : ℕ → ℕ) (modes : ℕ → Mode) (source : (hub node : ℕ)
             flights = λ z. pick (eqb z x) (afterDelta place (o .lent) (o .answer) (w .flights x)) (w .flights z);
           }
 
-      made : lentCompute edition excluded ties mtu place digest l (w .net .hubs y) ≡ compute edition excluded ties mtu place digest (tablesIn (w .net) .hubs y) l
-      made = from-table (modes y) (w .net .hubs y) (g .hubs y) (given (computed.Refused BadTable) l) (λ t. compute edition excluded ties mtu place digest t l)
+      made : lentComputeBy edition excluded order mtu place digest l (w .net .hubs y) ≡ computeBy edition excluded order mtu place digest (tablesIn (w .net) .hubs y) l
+      made = computed-lent (modes y) (w .net .hubs y) (g .hubs y) edition digest excluded order mtu place l
 
       lentNext : LentMixed
       lentNext =
           record {
-            net = lentCalls (Computing y edition digest excluded ties mtu place l) (w .net);
+            net = lentCalls (Computing y edition digest excluded order mtu place l) (w .net);
             flights =
                 λ z.
                 pick (eqb z x)
-                (afterDelta place (lentCompute edition excluded ties mtu place digest l (w .net .hubs y) .lent) (lentCompute edition excluded ties mtu place digest l (w .net .hubs y) .answer) (w .flights x))
+                (afterDelta place (lentComputeBy edition excluded order mtu place digest l (w .net .hubs y) .lent) (lentComputeBy edition excluded order mtu place digest l (w .net .hubs y) .answer) (w .flights x))
                 (w .flights z);
           }
 
-      go : (b : Bool) → Same (pick b (next (compute edition excluded ties mtu place digest (tablesIn (w .net) .hubs y) l)) (mixedIn w)) (pick b lentNext w)
+      go : (b : Bool) → Same (pick b (next (computeBy edition excluded order mtu place digest (tablesIn (w .net) .hubs y) l)) (mixedIn w)) (pick b lentNext w)
       go true = (record { hubs = g .hubs; saved = g .saved }, ap next made)
       go false = (g, refl)
   doing-lent (Hearing x now l) w g ok = go (not (plan .ways x .late) && ltb now numbers) ok

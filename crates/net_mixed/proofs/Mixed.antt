@@ -15,69 +15,35 @@ use Rattle.fields.specs.Choice.{_∈_, here, later, pick}
 use Rattle.fields.specs.Parts.{part, put}
 use Rattle.rules.proofs.Calls.{node-in}
 use Rattle.rules.proofs.Obeys.{facts-table}
-use Rattle.rules.proofs.Sending.{nodeDelta, sends}
-use Rattle.rules.proofs.Tables.{SentPart, ordered-from, part-sent, partAt}
+use Rattle.rules.proofs.Sending.{nodeDelta}
+use Rattle.rules.proofs.Tables.{partAt}
 use Rattle.rules.proofs.Taking.{Applies}
 use Rattle.rules.specs.Apply.{Ways, apply, applyNode}
-use Rattle.rules.specs.Compute.{StaleNode, compute, deltaFor, firstTie, ordered, otherTies, staleNode, staleNodes, toldOf, written}
+use Rattle.rules.specs.Compute.{written}
 use Rattle.rules.specs.Delta.{NodeDelta, Op, Ops, deltaBytes, partsOf, readDelta}
 use Rattle.rules.specs.Digest.{NodeDigest}
 use Rattle.rules.specs.Given.{Given}
-use Rattle.rules.specs.Local.{gc}
 use Rattle.rules.specs.Node.{Decision, Give, Leave, Node, Rec, Refuse, act, due, remove, withHeartbeat, write}
 use Rattle.rules.specs.Sizes.{numbers}
 use Rattle.rules.specs.Table.{Entry, Table, among, nodeOf}
 use Rattle.rules.specs.declared.Computed.{Computed}
 use Rattle.rules.specs.declared.Computed.the-variants as computed
 use Rattle.rules.specs.declared.Heartbeat.{Heartbeat}
-use Rattle.rules.proofs.Accepted.{Comes, comes, delta-bytes, refuses, writes}
 use Rattle.demand3.proofs.EachNode.{nodeAt, orFresh, partsIn}
 use Rattle.demand3.proofs.Honest.{gc-within}
 use Rattle.demand3.proofs.Moments.{nth-sent}
-use Rattle.demand3.proofs.OnTheWay.{Sendable, computed-sendable}
+use Rattle.demand3.proofs.Forms.{Comes, comes, refuses, writes}
+use Rattle.demand3.proofs.OnTheWay.{PartFor, Sendable}
 use Rattle.demand3.proofs.OneNode.{bounded-apply, rises-apply, rises-remove}
 use Rattle.demand3.proofs.Publisher.{Publisher}
 use Rattle.demand3.specs.Demand3.{Rises}
+use Rattle.demand3.specs.Forms.{Order, computeBy, opsBy}
 use Rattle.demand3.specs.World.{DeltaSent, DigestSent, Exchange, Idle, afterDelta, appliedTo, sentAfter}
 use Rattle.net.proofs.Each.{Each, each-add, each-beat, each-call, each-drop, each-hub, each-offer, each-remove, each-same, each-taken}
 use Rattle.net.proofs.Moments.{Carries, MayCome, Moment, arrived, moment-begin, moment-calls, placed-in, same-table}
 use Rattle.net.proofs.Safe.{sound}
 use Rattle.net.specs.Net.{Adding, Arriving, Beating, Computing, Dropping, Event, Net, NetSound, Offering, Removing, Restoring, Saving, Writing, calls, happen, placed, possible, restored, withTable}
 use Rattle.net_mixed.specs.Mixed.{Asking, Cast, Doing, Hearing, Mixed, Ordinary, Right, allowed, doing, flightsAfter, mayAsk, run, start}
-
--- ---- which nodes a delta has
-
--- none that is excluded, or not of the table
-stale-of : (excluded : List ℕ) (l : List NodeDigest) (ties : List ℕ) (t : Table) (o : StaleNode) → o ∈ staleNodes excluded l ties t → (e : Entry) × (e ∈ t) × (o .number ≡ e .number) × (among (e .number) excluded ≡ false)
-unfolding staleNodes
-stale-of excluded l ties [] o m = absurd (in-none m)
-stale-of excluded l ties (e ∷ t) o m = go (among (e .number) excluded) refl (ltb (toldOf (e .number) l .max) (e .node .max)) m (stale-of excluded l (otherTies ties) t o)
-  where
-    Out : Table → Type 0
-    Out u = (f : Entry) × (f ∈ u) × (o .number ≡ f .number) × (among (f .number) excluded ≡ false)
-
-    rest : List StaleNode
-    rest = staleNodes excluded l (otherTies ties) t
-
-    up : Out t → Out (e ∷ t)
-    up x = (x .0, later (x .1), x .2, x .3)
-
-    go : (a : Bool) → among (e .number) excluded ≡ a → (b : Bool) → o ∈ pick (not a && b) (staleNode (firstTie ties) (toldOf (e .number) l) e ∷ rest) rest → (o ∈ rest → Out t) → Out (e ∷ t)
-    go true q b m ih = up (ih m)
-    go false q false m ih = up (ih m)
-    go false q true m ih = at (in-cons m)
-      where
-        at : (o ≡ staleNode (firstTie ties) (toldOf (e .number) l) e) ⊎ (o ∈ rest) → Out (e ∷ t)
-        at (inl p) = (e, here refl, ap (λ (s : StaleNode). s .number) p, q)
-        at (inr n) = up (ih n)
-
-part-of : (excluded ties : List ℕ) (mtu : ℕ) (ds : List NodeDigest) (t : Table) (i : ℕ) (d : NodeDelta) → partAt i (partsOf (deltaFor excluded ties mtu ds t)) ≡ some d → (e : Entry) × (e ∈ t) × (i ≡ e .number) × (among (e .number) excluded ≡ false)
-unfolding deltaFor
-part-of excluded ties mtu ds t i d q =
-    let line : List StaleNode = ordered (staleNodes excluded ds ties t) in
-    let s : SentPart line i d = part-sent i mtu line (sym (ap (partAt i) (sends mtu line)) ∙ q) in
-    let x = stale-of excluded ds ties t (s .of) (ordered-from _ (s .queued)) in
-    (x .0, x .1, s .number-is ∙ x .2, x .3)
 
 -- ---- the invariant
 
@@ -311,18 +277,17 @@ module _ (c : Cast) where
       fine-not = fine-restoring v (λ y q. refl) (λ i p. ok .leaf x i p) refl refl (ok .moment)
 
     fine-calls : (e : Event) → allowed c e v ≡ true → Moment owner (calls (c .plan) e v) → Fine (record { net = calls (c .plan) e v; flights = flightsAfter e (w .flights) })
-    unfolding gc
     fine-calls (Writing x j k a) q moment = fine-moved (calls (c .plan) (Writing x j k a) v) moment (λ y. each-hub v Moved moved-same x _ (each-call v Moved moved-same a x j k (acts x j k)) y) (λ b m. m) (λ y t m. inl m)
     fine-calls (Beating x j) q moment = on-hub x _ (each-beat v Moved moved-same x j (beaten x)) moment
     fine-calls (Offering x j h) q moment = on-hub x _ (each-offer v Moved moved-same x j h (beaten x)) moment
-    fine-calls (Removing x now grace) q moment = on-hub x _ (each-remove v Moved moved-same x (λ i. due now grace) (λ i. removes x i (due now grace))) moment
+    fine-calls (Removing x removal) q moment = on-hub x _ (each-remove v Moved moved-same x removal (λ i due. removes x i due)) moment
     fine-calls (Adding x j) q moment = on-hub x _ (each-add v Moved moved-same x j) moment
     fine-calls (Dropping x j) q moment =
         on-hub x _ (each-drop v Moved moved-same x j (ok .moment .tables x .obeyed .ascending) (λ s. absurd (false≢true (sym (ap not s) ∙ q)), λ p b u. omega arith)) moment
-    fine-calls (Computing x edition digest excluded ties mtu place l) q moment =
-        fine-moved (calls (c .plan) (Computing x edition digest excluded ties mtu place l) v) moment (λ y i. moved-same y i (nodeAt i (v .hubs y))) (λ b m. grows (compute edition excluded ties mtu place digest (v .hubs x) l .answer) b m) (λ y t m. inl m)
+    fine-calls (Computing x edition digest excluded order mtu place l) q moment =
+        fine-moved (calls (c .plan) (Computing x edition digest excluded order mtu place l) v) moment (λ y i. moved-same y i (nodeAt i (v .hubs y))) (λ b m. grows (computeBy edition excluded order mtu place digest (v .hubs x) l .answer) b m) (λ y t m. inl m)
       where
-        grows : (a : Computed) (b : List ℕ) → b ∈ v .sent → b ∈ sentAfter place (compute edition excluded ties mtu place digest (v .hubs x) l .lent) a (v .sent)
+        grows : (a : Computed) (b : List ℕ) → b ∈ v .sent → b ∈ sentAfter place (computeBy edition excluded order mtu place digest (v .hubs x) l .lent) a (v .sent)
         grows (computed.Delta ops bytes) b m = later m
         grows (computed.Refused r) b m = m
     fine-calls (Arriving x k now l) q moment = fine-arriving x k now l q moment
@@ -333,10 +298,10 @@ module _ (c : Cast) where
     may-come (Writing x i k a) q = tt
     may-come (Beating x i) q = tt
     may-come (Offering x i h) q = tt
-    may-come (Removing x now grace) q = tt
+    may-come (Removing x removal) q = tt
     may-come (Adding x i) q = tt
     may-come (Dropping x i) q = tt
-    may-come (Computing x edition digest excluded ties mtu place l) q = tt
+    may-come (Computing x edition digest excluded order mtu place l) q = tt
     may-come (Arriving x k now l) q = (right .lawful x, q)
     may-come (Saving x) q = tt
     may-come (Restoring x k) q = tt
@@ -346,10 +311,10 @@ module _ (c : Cast) where
     fine-stays (Writing x i k a) q = ok
     fine-stays (Beating x i) q = ok
     fine-stays (Offering x i h) q = ok
-    fine-stays (Removing x now grace) q = ok
+    fine-stays (Removing x removal) q = ok
     fine-stays (Adding x i) q = ok
     fine-stays (Dropping x i) q = ok
-    fine-stays (Computing x edition digest excluded ties mtu place l) q = ok
+    fine-stays (Computing x edition digest excluded order mtu place l) q = ok
     fine-stays (Arriving x k now l) q = ok
     fine-stays (Saving x) q = ok
     fine-stays (Restoring x k) q = fine-not x k q
@@ -364,25 +329,24 @@ module _ (c : Cast) where
 
     -- ---- a plain hub asks
 
-    module _ (x y edition : ℕ) (excluded ties : List ℕ) (mtu place : ℕ) (digest l : List ℕ) (free : mayAsk c x y excluded (v .hubs y) ≡ true) where
+    module _ (x y edition : ℕ) (excluded : List ℕ) (order : Order) (mtu place : ℕ) (digest l : List ℕ) (free : mayAsk c x y excluded (v .hubs y) ≡ true) where
       abbrev Next : Given Computed (List ℕ) → Net
       Next o = record { hubs = v .hubs; given = v .given; sent = sentAfter place (o .lent) (o .answer) (v .sent); saved = v .saved }
 
       -- of a node that x neither owns nor hears from y, nothing is computed
-      from-source : (ds : List NodeDigest) (i : ℕ) (d : NodeDelta) → partAt i (partsOf (deltaFor excluded ties mtu ds (v .hubs y))) ≡ some d → (owner i ≡ x) ⊎ (c .source x i ≡ y)
-      from-source ds i d q =
-          let e = part-of excluded ties mtu ds (v .hubs y) i d q in
-          let f : pick (among (e .0 .number) excluded) true (pick (eqb (owner (e .0 .number)) x) true (eqb (c .source x (e .0 .number)) y)) ≡ true =
-          all-from (λ (a : Entry). pick (among (a .number) excluded) true (pick (eqb (owner (a .number)) x) true (eqb (c .source x (a .number)) y))) (v .hubs y) free (e .0) (e .1) in
-          subst (λ (j : ℕ). (owner j ≡ x) ⊎ (c .source x j ≡ y)) (sym (e .2))
-          (go (eqb (owner (e .0 .number)) x) refl
-          (subst (λ (b : Bool). pick b true (pick (eqb (owner (e .0 .number)) x) true (eqb (c .source x (e .0 .number)) y)) ≡ true) (e .3) f))
+      from-source : (ds : List NodeDigest) (i : ℕ) (d : NodeDelta) → PartFor excluded ds (v .hubs y) i d → (owner i ≡ x) ⊎ (c .source x i ≡ y)
+      from-source ds i d e =
+          let f : pick (among (e .held .0 .number) excluded) true (pick (eqb (owner (e .held .0 .number)) x) true (eqb (c .source x (e .held .0 .number)) y)) ≡ true =
+          all-from (λ (a : Entry). pick (among (a .number) excluded) true (pick (eqb (owner (a .number)) x) true (eqb (c .source x (a .number)) y))) (v .hubs y) free (e .held .0) (e .held .1) in
+          let g : pick (among i excluded) true (pick (eqb (owner i) x) true (eqb (c .source x i) y)) ≡ true =
+          subst (λ (j : ℕ). pick (among j excluded) true (pick (eqb (owner j) x) true (eqb (c .source x j) y)) ≡ true) (sym (e .held .2)) f in
+          go (eqb (owner i) x) refl (subst (λ (b : Bool). pick b true (pick (eqb (owner i) x) true (eqb (c .source x i) y)) ≡ true) (e .free) g)
         where
-          go : {j : ℕ} (b : Bool) → eqb (owner j) x ≡ b → pick b true (eqb (c .source x j) y) ≡ true → (owner j ≡ x) ⊎ (c .source x j ≡ y)
+          go : (b : Bool) → eqb (owner i) x ≡ b → pick b true (eqb (c .source x i) y) ≡ true → (owner i ≡ x) ⊎ (c .source x i ≡ y)
           go true q f = inl (eqb-true _ _ q)
           go false q f = inr (eqb-true _ _ f)
 
-      asked : (o : Given Computed (List ℕ)) → Comes edition excluded ties mtu place digest (v .hubs y) l o → Moment owner (Next o) → Fine (record { net = Next o; flights = λ z. pick (eqb z x) (afterDelta place (o .lent) (o .answer) (w .flights x)) (w .flights z) })
+      asked : (o : Given Computed (List ℕ)) → Comes edition excluded order mtu place digest (v .hubs y) l o → Moment owner (Next o) → Fine (record { net = Next o; flights = λ z. pick (eqb z x) (afterDelta place (o .lent) (o .answer) (w .flights x)) (w .flights z) })
       unfolding nodeDelta
       asked o (refuses r) moment =
           fine-next v (λ z. pick (eqb z x) (w .flights x) (w .flights z)) (ok .moment) (λ y i s. omega arith) (ok .leaf) (λ z t m. inl m) (λ z p. fly z p (eqb z x) refl)
@@ -390,23 +354,23 @@ module _ (c : Cast) where
           fly : (z : ℕ) → Plain z → (b : Bool) → eqb z x ≡ b → Fly v z (pick b (w .flights x) (w .flights z))
           fly z p true q = subst (λ (k : ℕ). Fly v z (w .flights k)) (eqb-true z x q) (ok .flies z p)
           fly z p false q = ok .flies z p
-      asked o (writes ds rest e h g) moment =
+      asked o (writes ds rest e made there) moment =
           fine-next (Next o) (λ z. pick (eqb z x) (DeltaSent b) (w .flights z)) moment (λ y i s. omega arith) (ok .leaf) (λ z t m. inl m) (λ z p. fly z p (eqb z x) refl)
         where
           ops : List Op
-          ops = deltaFor excluded ties mtu ds (v .hubs y)
+          ops = opsBy excluded order mtu ds (v .hubs y)
 
           b : List ℕ
-          b = part place (length (deltaBytes (deltaFor excluded ties mtu ds (v .hubs y)))) (put place (deltaBytes (deltaFor excluded ties mtu ds (v .hubs y))) l)
+          b = part place (length (deltaBytes (opsBy excluded order mtu ds (v .hubs y)))) (put place (deltaBytes (opsBy excluded order mtu ds (v .hubs y))) l)
 
           is : b ≡ deltaBytes ops
-          is = delta-bytes edition excluded ties mtu place digest (v .hubs y) l ds g
+          is = there
 
           may : Sendable (v .hubs y) ops
-          may = computed-sendable excluded ties mtu ds (v .hubs y) (facts-table (v .hubs y) (ok .moment .tables y .obeyed)) h
+          may = made .sendable
 
           new : Plain x → (i : ℕ) (d : NodeDelta) → Part b i d → (owner i ≡ x) ⊎ (Bound (d .last-gc) (nodeAt i (v .hubs x)) × (d .last-gc ≤ gcAt v (c .source x i) i))
-          new p i d q = at (from-source ds i d part-is) (ok .leaf x i p)
+          new p i d q = at (from-source ds i d (made .each i d part-is)) (ok .leaf x i p)
             where
               part-is : partAt i (partsOf ops) ≡ some d
               part-is = sym (ap (λ (k : List ℕ). partAt i (partsIn (readDelta k))) is ∙ ap (λ (k : Ops). partAt i (partsIn k)) (may .read)) ∙ q
@@ -423,8 +387,8 @@ module _ (c : Cast) where
           fly z p true q = let k = eqb-true z x q in subst (λ (j : ℕ). Fly (Next (written ops place l)) j (DeltaSent b)) (sym k) (here refl, new (subst Plain k p))
           fly z p false q = fly-up (Next (written ops place l)) (λ y i s. omega arith) z p (λ a m. later m) (w .flights z) (λ a e i d r u. u) (ok .flies z p)
 
-      fine-asking : Fine (record { net = calls (c .plan) (Computing y edition digest excluded ties mtu place l) v; flights = λ z. pick (eqb z x) (afterDelta place (compute edition excluded ties mtu place digest (v .hubs y) l .lent) (compute edition excluded ties mtu place digest (v .hubs y) l .answer) (w .flights x)) (w .flights z) })
-      fine-asking = asked _ (comes edition excluded ties mtu place digest (v .hubs y) l) (moment-calls (c .plan) v (ok .moment) (Computing y edition digest excluded ties mtu place l) tt refl)
+      fine-asking : Fine (record { net = calls (c .plan) (Computing y edition digest excluded order mtu place l) v; flights = λ z. pick (eqb z x) (afterDelta place (computeBy edition excluded order mtu place digest (v .hubs y) l .lent) (computeBy edition excluded order mtu place digest (v .hubs y) l .answer) (w .flights x)) (w .flights z) })
+      fine-asking = asked _ (comes edition excluded order mtu place digest (v .hubs y) l (facts-table (v .hubs y) (ok .moment .tables y .obeyed))) (moment-calls (c .plan) v (ok .moment) (Computing y edition digest excluded order mtu place l) tt refl)
 
     -- ---- and applies what it asked for
 
@@ -542,10 +506,10 @@ module _ (c : Cast) where
       go : (b : Bool) → allowed c e (w .net) ≡ b → Fine (pick b (record { net = happen (c .plan) e (w .net); flights = flightsAfter e (w .flights) }) w)
       go true q = fine-ordinary right w ok e q
       go false q = ok
-  fine-doing right (Asking x y edition digest excluded ties mtu place l) w ok = go (mayAsk c x y excluded (w .net .hubs y)) refl
+  fine-doing right (Asking x y edition digest excluded order mtu place l) w ok = go (mayAsk c x y excluded (w .net .hubs y)) refl
     where
-      go : (b : Bool) → mayAsk c x y excluded (w .net .hubs y) ≡ b → Fine (pick b (record { net = calls (c .plan) (Computing y edition digest excluded ties mtu place l) (w .net); flights = λ z. pick (eqb z x) (afterDelta place (compute edition excluded ties mtu place digest (w .net .hubs y) l .lent) (compute edition excluded ties mtu place digest (w .net .hubs y) l .answer) (w .flights x)) (w .flights z) }) w)
-      go true q = fine-asking right w ok x y edition excluded ties mtu place digest l q
+      go : (b : Bool) → mayAsk c x y excluded (w .net .hubs y) ≡ b → Fine (pick b (record { net = calls (c .plan) (Computing y edition digest excluded order mtu place l) (w .net); flights = λ z. pick (eqb z x) (afterDelta place (computeBy edition excluded order mtu place digest (w .net .hubs y) l .lent) (computeBy edition excluded order mtu place digest (w .net .hubs y) l .answer) (w .flights x)) (w .flights z) }) w)
+      go true q = fine-asking right w ok x y edition excluded order mtu place digest l q
       go false q = ok
   fine-doing right (Hearing x now l) w ok = go (c .plan .ways x .late) refl (ltb now numbers) refl
     where

@@ -6,8 +6,8 @@ use mathlib.Core.List.{List, [], _∷_}
 use lib.Dec.{ltb, eqb}
 use Rattle.fields.specs.Choice.{pick}
 use Rattle.rules.specs.Sizes.{numbers}
-use Rattle.rules.specs.Lent.{lentCompute}
 use Rattle.rules.specs.declared.Mode.{Mode}
+use Rattle.demand3.specs.Forms.{lentComputeBy}
 use Rattle.demand3.specs.World.{Exchange, Idle, afterDelta}
 use Rattle.net.specs.Net.{Computing}
 use Rattle.net.specs.LentNet.{LentNet, lentBegin, lentCalls, lentHappen, lentTaken, planIn, tablesIn, withBytes}
@@ -32,14 +32,14 @@ castIn owner modes source steady = record { plan = planIn owner modes; source = 
 unfoldable pub lentDoing : (cast : Cast) (doing : Doing) (mixed : LentMixed) → LentMixed
 lentDoing c (Ordinary e) w =
     pick (allowed c e (tablesIn (w .net))) (record { net = lentHappen (c .plan .owner) e (w .net); flights = flightsAfter e (w .flights) }) w
-lentDoing c (Asking x y edition digest excluded ties mtu place l) w =
+lentDoing c (Asking x y edition digest excluded order mtu place l) w =
     pick (mayAsk c x y excluded (tablesIn (w .net) .hubs y))
     (record {
-      net = lentCalls (Computing y edition digest excluded ties mtu place l) (w .net);
+      net = lentCalls (Computing y edition digest excluded order mtu place l) (w .net);
       flights =
           λ z.
           pick (eqb z x)
-          (afterDelta place (lentCompute edition excluded ties mtu place digest l (w .net .hubs y) .lent) (lentCompute edition excluded ties mtu place digest l (w .net .hubs y) .answer) (w .flights x))
+          (afterDelta place (lentComputeBy edition excluded order mtu place digest l (w .net .hubs y) .lent) (lentComputeBy edition excluded order mtu place digest l (w .net .hubs y) .answer) (w .flights x))
           (w .flights z);
     })
     w

@@ -12,7 +12,7 @@ use Rattle.fields.specs.Choice.{pick, all}
 use Rattle.rules.specs.Sizes.{numbers}
 use Rattle.rules.specs.Table.{Entry, Table, among}
 use Rattle.rules.specs.Apply.{Lawful}
-use Rattle.rules.specs.Compute.{compute}
+use Rattle.demand3.specs.Forms.{Order, computeBy}
 use Rattle.demand3.specs.World.{Exchange, Idle, afterDelta, appliedTo}
 use Rattle.net.specs.Net.{Plan, Net, Event, Writing, Beating, Offering, Removing, Adding, Dropping, Computing, Arriving, Saving, Restoring, begin, calls, happen, withTable}
 
@@ -42,9 +42,9 @@ start = record { net = begin; flights = λ x. Idle }
 pub data Doing : Type 0 where
   -- what happens in a net
   Ordinary : Event → Doing
-  -- hub x asks hub y, which computes a delta for any bytes as a digest, read in any edition: x, y, the edition, those bytes, excluded nodes, ties, MTU, the
-  -- place in the datagram, the datagram
-  Asking : ℕ → ℕ → ℕ → List ℕ → List ℕ → List ℕ → ℕ → ℕ → List ℕ → Doing
+  -- hub x asks hub y, which computes a delta for any bytes as a digest, read in any edition: x, y, the edition, those bytes, excluded nodes, the order, MTU,
+  -- the place in the datagram, the datagram
+  Asking : ℕ → ℕ → ℕ → List ℕ → List ℕ → Order → ℕ → ℕ → List ℕ → Doing
   -- and applies the delta on its way, if it is plain, once more too: now, the lent list of answers
   Hearing : ℕ → ℕ → List ℕ → Doing
 
@@ -53,10 +53,10 @@ abbrev pub allowed : (cast : Cast) (event : Event) (net : Net) → Bool
 allowed c (Writing x i k call) w = true
 allowed c (Beating x i) w = true
 allowed c (Offering x i h) w = true
-allowed c (Removing x now grace) w = true
+allowed c (Removing x removal) w = true
 allowed c (Adding x i) w = true
 allowed c (Dropping x i) w = not (c .steady x i)
-allowed c (Computing x edition digest excluded ties mtu place l) w = true
+allowed c (Computing x edition digest excluded order mtu place l) w = true
 allowed c (Arriving x k now l) w = c .plan .ways x .late
 allowed c (Saving x) w = true
 allowed c (Restoring x k) w = all (λ (e : Entry). not (c .steady x (e .number))) (w .hubs x)
@@ -66,10 +66,10 @@ abbrev pub flightsAfter : (event : Event) (flights : ℕ → Exchange) → ℕ �
 flightsAfter (Writing x i k c) f y = f y
 flightsAfter (Beating x i) f y = f y
 flightsAfter (Offering x i h) f y = f y
-flightsAfter (Removing x now grace) f y = f y
+flightsAfter (Removing x removal) f y = f y
 flightsAfter (Adding x i) f y = f y
 flightsAfter (Dropping x i) f y = f y
-flightsAfter (Computing x edition digest excluded ties mtu place l) f y = f y
+flightsAfter (Computing x edition digest excluded order mtu place l) f y = f y
 flightsAfter (Arriving x k now l) f y = f y
 flightsAfter (Saving x) f y = f y
 flightsAfter (Restoring x k) f y = pick (eqb y x) Idle (f y)
@@ -80,14 +80,14 @@ mayAsk c x y excluded t = all (λ (e : Entry). pick (among (e .number) excluded)
 
 unfoldable pub doing : (cast : Cast) (doing : Doing) (mixed : Mixed) → Mixed
 doing c (Ordinary e) w = pick (allowed c e (w .net)) (record { net = happen (c .plan) e (w .net); flights = flightsAfter e (w .flights) }) w
-doing c (Asking x y edition digest excluded ties mtu place l) w =
+doing c (Asking x y edition digest excluded order mtu place l) w =
     pick (mayAsk c x y excluded (w .net .hubs y))
     (record {
-      net = calls (c .plan) (Computing y edition digest excluded ties mtu place l) (w .net);
+      net = calls (c .plan) (Computing y edition digest excluded order mtu place l) (w .net);
       flights =
           λ z.
           pick (eqb z x)
-          (afterDelta place (compute edition excluded ties mtu place digest (w .net .hubs y) l .lent) (compute edition excluded ties mtu place digest (w .net .hubs y) l .answer) (w .flights x))
+          (afterDelta place (computeBy edition excluded order mtu place digest (w .net .hubs y) l .lent) (computeBy edition excluded order mtu place digest (w .net .hubs y) l .answer) (w .flights x))
           (w .flights z);
     })
     w

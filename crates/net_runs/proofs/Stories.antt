@@ -9,6 +9,7 @@ use Rattle.rules.specs.Node.{Deleting, KeyValue, Setting, SettingTtl, beats}
 use Rattle.rules.specs.Table.{versions}
 use Rattle.rules.specs.declared.Status.the-variants.{Set}
 use Rattle.demand3.proofs.EachNode.{nodeAt}
+use Rattle.demand3.specs.Forms.{ByClock, InLine}
 use Rattle.net.specs.Net.{Adding, Arriving, Computing, Event, Net, Plan, Removing, Writing, after, begin, withTable}
 
 -- hub 0 owns every node, and all hubs apply in the same ways
@@ -40,7 +41,7 @@ abbrev told : ℕ → ℕ → List NodeDigest
 told g m = record { number = 7; heartbeat = beats 0; last-gc = g; max = m } ∷ []
 
 abbrev pub hears : ℕ → ℕ → ℕ → ℕ → List Event
-hears x y g m = Computing y 0 (digestBytes 0 (told g m)) [] (0 ∷ []) 300 0 (replicate 300 0) ∷ Arriving x 0 50 (0 ∷ []) ∷ []
+hears x y g m = Computing y 0 (digestBytes 0 (told g m)) [] (InLine (0 ∷ [])) 300 0 (replicate 300 0) ∷ Arriving x 0 50 (0 ∷ []) ∷ []
 
 -- four hubs have node 7, and its owner sets a and b
 abbrev began : List Event
@@ -48,7 +49,7 @@ began = Adding 0 7 ∷ Adding 1 7 ∷ Adding 2 7 ∷ Adding 3 7 ∷ set a ∷ se
 
 -- b is deleted, and its tombstone removed
 abbrev removes : List Event
-removes = Writing 0 7 b (Deleting 0) ∷ Removing 0 9 5 ∷ []
+removes = Writing 0 7 b (Deleting 0) ∷ Removing 0 (ByClock 9 5) ∷ []
 
 -- the pair of node 7 and the versions that stand in it
 abbrev pub pairAt : ℕ → Net → List ℕ
@@ -106,7 +107,7 @@ lost ways = after (alike ways) (set c ∷ []) (withTable 0 (after (alike ways) (
 
 -- The owner sets a, and b with a TTL; hub 1 hears it and is at (0,2). The owner removes b; hub 2 hears it and is at (2,1).
 abbrev pub inReset : List Event
-inReset = Adding 0 7 ∷ Adding 1 7 ∷ Adding 2 7 ∷ set a ∷ Writing 0 7 b (SettingTtl one 0) ∷ (hears 1 0 0 0 ++ ((Removing 0 9 5 ∷ []) ++ hears 2 0 0 0))
+inReset = Adding 0 7 ∷ Adding 1 7 ∷ Adding 2 7 ∷ set a ∷ Writing 0 7 b (SettingTtl one 0) ∷ (hears 1 0 0 0 ++ ((Removing 0 (ByClock 9 5) ∷ []) ++ hears 2 0 0 0))
 
 -- From then on hub 2 hears only hub 1, and hub 1 hears hub 0, which has nothing for it.
 abbrev pub roundOf : List Event

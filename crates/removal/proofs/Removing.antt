@@ -201,7 +201,7 @@ fits-removed due e o =
     let p : Rec → Bool = λ r. not (goes due r) in
     let a : e .node .last-gc < numbers = o .gc-high in
     let below : lastGc due (e .node .last-gc) l ≤ top =
-    gc-below due (e .node .last-gc) top l (omega arith) (λ x m. let b : x .kv .version < numbers = o .each x m .version-high in omega arith) in
+    gc-below due (e .node .last-gc) top l (omega arith) (λ x m q. let b : x .kv .version < numbers = o .each x m .version-high in omega arith) in
     record {
       number-high = o .number-high;
       beat-high = o .beat-high;

@@ -107,13 +107,13 @@ cut-bytes left (o ∷ ops) = go (leb (sizeOf o) left) refl o (cut-bytes (left - 
 
 -- ---- the uncut delta is a chain
 
-records-chain : (n : ℕ) (ns : List ℕ) (m : ℕ) (rs : List KeyValue) (rest : List Op) → Strict m rs → ((k : ℕ) → Chain (reading (n ∷ ns) k) rest) → Chain (reading (n ∷ ns) m) (keyValueOps rs ++ rest)
+pub records-chain : (n : ℕ) (ns : List ℕ) (m : ℕ) (rs : List KeyValue) (rest : List Op) → Strict m rs → ((k : ℕ) → Chain (reading (n ∷ ns) k) rest) → Chain (reading (n ∷ ns) m) (keyValueOps rs ++ rest)
 unfolding Chain Strict keyValueOps follow
 records-chain n ns m [] rest s f = f m
 records-chain n ns m (r ∷ rs) rest s f =
     (reading (n ∷ ns) (r .version), rw (lt-ltb m (r .version) (s .0)), records-chain n ns (r .version) rs rest (s .1) f)
 
-body-chain : (n : ℕ) (ns : List ℕ) (max : ℕ) (rs : List KeyValue) (rest : List Op) → Strict 0 rs → ((k : ℕ) → Chain (reading (n ∷ ns) k) rest) → Chain (reading (n ∷ ns) 0) (bodyOps max rs ++ rest)
+pub body-chain : (n : ℕ) (ns : List ℕ) (max : ℕ) (rs : List KeyValue) (rest : List Op) → Strict 0 rs → ((k : ℕ) → Chain (reading (n ∷ ns) k) rest) → Chain (reading (n ∷ ns) 0) (bodyOps max rs ++ rest)
 unfolding Chain follow
 body-chain n ns max [] rest s f = (reading (n ∷ ns) max, rw (le-leb 0 max (omega arith)), f max)
 body-chain n ns max (r ∷ rs) rest s f = records-chain n ns 0 (r ∷ rs) rest s f
@@ -131,17 +131,17 @@ all-chain (o ∷ os) ns m two new few d = (
 
 -- ---- and all its operations have their sizes
 
-append-small : (xs ys : List Op) → AllSmall xs → AllSmall ys → AllSmall (xs ++ ys)
+pub append-small : (xs ys : List Op) → AllSmall xs → AllSmall ys → AllSmall (xs ++ ys)
 unfolding AllSmall
 append-small [] ys a b = b
 append-small (x ∷ xs) ys a b = (a .0, append-small xs ys (a .1) b)
 
-records-small : (rs : List KeyValue) → ((r : KeyValue) → r ∈ rs → SmallKeyValue r) → AllSmall (keyValueOps rs)
+pub records-small : (rs : List KeyValue) → ((r : KeyValue) → r ∈ rs → SmallKeyValue r) → AllSmall (keyValueOps rs)
 unfolding AllSmall keyValueOps
 records-small [] f = tt
 records-small (r ∷ rs) f = (f r (here refl), records-small rs (λ x i. f x (later i)))
 
-body-small : (max : ℕ) (rs : List KeyValue) → Number max → ((r : KeyValue) → r ∈ rs → SmallKeyValue r) → AllSmall (bodyOps max rs)
+pub body-small : (max : ℕ) (rs : List KeyValue) → Number max → ((r : KeyValue) → r ∈ rs → SmallKeyValue r) → AllSmall (bodyOps max rs)
 unfolding AllSmall
 body-small max [] h f = (h, tt)
 body-small max (r ∷ rs) h f = records-small (r ∷ rs) f
@@ -152,7 +152,17 @@ pub record OkStale (o : StaleNode) : Type 0 where
   pub node-ok : OkNode (o .node)
   pub behind : o .told-max < o .node .max
 
-from-small : (o : StaleNode) → OkStale o → Number (fromFor o)
+-- each is, that a digest is behind of
+pub ok-stale : {ds : List NodeDigest} {t : Table} {o : StaleNode} → OkTable t → Behind ds t o → OkStale o
+ok-stale ok x =
+    let e = ok .each (x .entry) (x .held) in
+    record {
+      number-fits = subst Number (sym (x .number-is)) (e .number-fits);
+      node-ok = subst OkNode (sym (x .node-is)) (e .node-ok);
+      behind = x .behind;
+    }
+
+pub from-small : (o : StaleNode) → OkStale o → Number (fromFor o)
 from-small o k = go (fromOf (o .node .last-gc) (o .told-gc) (o .told-max)) (from-of (o .node) (o .told-gc) (o .told-max))
   where
     go : (n : ℕ) → FromOf (o .node) (o .told-gc) (o .told-max) n → Number n
@@ -209,25 +219,16 @@ module _ (excluded ties : List ℕ) (ds : List NodeDigest) (t : Table) (obeyed :
   line : List StaleNode
   line = ordered (staleNodes excluded ds ties t)
 
-  ok-stale : (o : StaleNode) → o ∈ line → OkStale o
+  line-ok : (o : StaleNode) → o ∈ line → OkStale o
   unfolding line
-  ok-stale o i = of (behind-from excluded ds ties t (ordered-from (staleNodes excluded ds ties t) i))
-    where
-      of : Behind ds t o → OkStale o
-      of x =
-          let e = ok .each (x .entry) (x .held) in
-          record {
-            number-fits = subst Number (sym (x .number-is)) (e .number-fits);
-            node-ok = subst OkNode (sym (x .node-is)) (e .node-ok);
-            behind = x .behind;
-          }
+  line-ok o i = ok-stale ok (behind-from excluded ds ties t (ordered-from (staleNodes excluded ds ties t) i))
 
   line-chain : Chain nothingRead (allOps line)
   unfolding line among
   line-chain =
       all-chain line [] 0 (ordered-no-two _ (stale-no-two excluded ds ties t (ok .ascending))) (λ o i. refl)
       (let a = stale-few excluded ds ties t in let b = ok .few in let c = ordered-length (staleNodes excluded ds ties t) in omega arith)
-      (λ o i. ok-stale o i .node-ok .differs)
+      (λ o i. line-ok o i .node-ok .differs)
 
   -- the operations of the delta that computing makes may follow each other, and have their sizes
   pub computed-chain : (mtu : ℕ) → Chain nothingRead (deltaFor excluded ties mtu ds t)
@@ -236,13 +237,13 @@ module _ (excluded ties : List ℕ) (ds : List NodeDigest) (t : Table) (obeyed :
 
   pub computed-small : (mtu : ℕ) → AllSmall (deltaFor excluded ties mtu ds t)
   unfolding deltaFor line
-  computed-small mtu = cut-small mtu (allOps line) (all-small-ops line ok-stale)
+  computed-small mtu = cut-small mtu (allOps line) (all-small-ops line line-ok)
 
   -- it is read back as its operations
   pub read-computed : (mtu : ℕ) → mtu ≤ maxDelta → readDelta (deltaBytes (deltaFor excluded ties mtu ds t)) ≡ Good (deltaFor excluded ties mtu ds t)
   unfolding deltaFor line
   read-computed mtu h =
-      read-delta (cut mtu (allOps line)) (cut-chain mtu [] 0 (allOps line) line-chain) (cut-small mtu (allOps line) (all-small-ops line ok-stale))
+      read-delta (cut mtu (allOps line)) (cut-chain mtu [] 0 (allOps line) line-chain) (cut-small mtu (allOps line) (all-small-ops line line-ok))
       (let a = cut-bytes mtu (allOps line) in omega arith)
 
   -- and fits the MTU

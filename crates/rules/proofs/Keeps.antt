@@ -256,7 +256,7 @@ ok-remove due n ok =
       differs = differ-keep _ _ (ok .differs);
       max-fits = ok .max-fits;
       gc-fits =
-          let b : lastGc due (n .last-gc) (n .recs) ≤ max (n .last-gc) (n .max) = gc-below due (n .last-gc) (max (n .last-gc) (n .max)) (n .recs) (omega arith) (λ x m. let h = ok .each x m .version-high in omega arith) in
+          let b : lastGc due (n .last-gc) (n .recs) ≤ max (n .last-gc) (n .max) = gc-below due (n .last-gc) (max (n .last-gc) (n .max)) (n .recs) (omega arith) (λ x m q. let h = ok .each x m .version-high in omega arith) in
           let g = ok .gc-fits in
           let h = ok .max-fits in
           omega arith;

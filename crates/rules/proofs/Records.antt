@@ -142,14 +142,14 @@ gc-rises due g (a ∷ l) = go (goes due a) (gc-rises due (pick (goes due a) (max
     go true h = omega arith
     go false h = h
 
--- last_gc is within any bound of its own and of the records' versions
-pub gc-below : (due : Rec → Bool) (g b : ℕ) (l : List Rec) → g ≤ b → ((x : Rec) → x ∈ l → x .kv .version ≤ b) → lastGc due g l ≤ b
+-- last_gc is within any bound of its own and of the versions of the records that go
+pub gc-below : (due : Rec → Bool) (g b : ℕ) (l : List Rec) → g ≤ b → ((x : Rec) → x ∈ l → goes due x ≡ true → x .kv .version ≤ b) → lastGc due g l ≤ b
 unfolding lastGc
 gc-below due g b [] h f = h
-gc-below due g b (a ∷ l) h f = gc-below due (pick (goes due a) (max g (a .kv .version)) g) b l (go (goes due a) (f a (here refl))) (λ x m. f x (later m))
+gc-below due g b (a ∷ l) h f = gc-below due (pick (goes due a) (max g (a .kv .version)) g) b l (go (goes due a) refl) (λ x m. f x (later m))
   where
-    go : (t : Bool) → a .kv .version ≤ b → pick t (max g (a .kv .version)) g ≤ b
-    go true q = omega arith
+    go : (t : Bool) → goes due a ≡ t → pick t (max g (a .kv .version)) g ≤ b
+    go true q = let v = f a (here refl) q in omega arith
     go false q = h
 
 -- what goes has a version up to last_gc

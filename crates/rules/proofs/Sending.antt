@@ -95,17 +95,17 @@ cut-records room (s ∷ ss) rest = rw (size-record s) (go (leb (recordSize s) ro
     go true ih = rw eqb·suc-suc (ap (λ (l : List Op). KeyValueOp s ∷ l) ih)
     go false ih = rw eqb·zero-suc
 
-recs-records : (ss : List KeyValue) (ops : List Op) → recsOf (keyValueOps ss ++ ops) ≡ ss ++ recsOf ops
+pub recs-records : (ss : List KeyValue) (ops : List Op) → recsOf (keyValueOps ss ++ ops) ≡ ss ++ recsOf ops
 unfolding recsOf keyValueOps
 recs-records [] ops = refl
 recs-records (s ∷ ss) ops = ap (λ (l : List KeyValue). s ∷ l) (recs-records ss ops)
 
-max-records : (m : ℕ) (ss : List KeyValue) (ops : List Op) → maxOf m (keyValueOps ss ++ ops) ≡ maxOf (topOf m ss) ops
+pub max-records : (m : ℕ) (ss : List KeyValue) (ops : List Op) → maxOf m (keyValueOps ss ++ ops) ≡ maxOf (topOf m ss) ops
 unfolding maxOf topOf keyValueOps
 max-records m [] ops = refl
 max-records m (s ∷ ss) ops = max-records (s .version) ss ops
 
-parts-records : (ss : List KeyValue) (ops : List Op) → partsOf (keyValueOps ss ++ ops) ≡ partsOf ops
+pub parts-records : (ss : List KeyValue) (ops : List Op) → partsOf (keyValueOps ss ++ ops) ≡ partsOf ops
 unfolding partsOf keyValueOps
 parts-records [] ops = refl
 parts-records (s ∷ ss) ops = parts-records ss ops

@@ -9,7 +9,7 @@ use Rattle.fields.specs.Choice.{pick}
 use Rattle.rules.specs.Node.{beats}
 use Rattle.rules.specs.Answers.{Told, numberOf, needOf, codeOf, answerTold, offeredTold, rememberedTold, listedTold, writtenTold, computedTold, readTold, appliedTold}
 use Rattle.rules.specs.declared.Refusal.{Refusal}
-use Rattle.rules.specs.declared.Refusal.the-variants.{TooLong, NoNode, NoKey, NinthNode, NodeFull, Exhausted, BadMtu, NoPlace, Cut, BadTag, OutOfOrder, NodeTwice, TooMany, BadTable, BadTies, BadEdition}
+use Rattle.rules.specs.declared.Refusal.the-variants.{TooLong, NoNode, NoKey, NinthNode, NodeFull, Exhausted, BadMtu, NoPlace, Cut, BadTag, OutOfOrder, NodeTwice, TooMany, BadTable, BadTies, BadForm, SmallerTotal, OtherParty, BadEdition, BadPeer, NobodyPresent, BadPlan}
 use Rattle.rules.specs.declared.NodeAnswer.{NodeAnswer}
 use Rattle.rules.specs.declared.NodeAnswer.the-variants as node
 use Rattle.rules.specs.declared.Answer.{Answer}
@@ -49,7 +49,13 @@ refusalOf n k =
     (pick (eqb n 12) NodeTwice
     (pick (eqb n 13) TooMany
     (pick (eqb n 14) BadTable
-    (pick (eqb n 15) BadTies BadEdition))))))))))))))
+    (pick (eqb n 15) BadTies
+    (pick (eqb n 17) BadForm
+    (pick (eqb n 18) SmallerTotal
+    (pick (eqb n 19) OtherParty
+    (pick (eqb n 20) BadEdition
+    (pick (eqb n 21) BadPeer
+    (pick (eqb n 22) NobodyPresent BadPlan))))))))))))))))))))
 
 numbered : (r : Refusal) → refusalOf (numberOf r) (needOf r) ≡ r
 numbered TooLong = refl
@@ -67,7 +73,13 @@ numbered NodeTwice = refl
 numbered TooMany = refl
 numbered BadTable = refl
 numbered BadTies = refl
+numbered BadForm = refl
+numbered SmallerTotal = refl
+numbered OtherParty = refl
 numbered BadEdition = refl
+numbered BadPeer = refl
+numbered NobodyPresent = refl
+numbered BadPlan = refl
 
 -- 0 is no refusal's: it stands for an accepted call
 positive : (r : Refusal) → 0 < numberOf r
@@ -86,7 +98,13 @@ positive NodeTwice = omega arith
 positive TooMany = omega arith
 positive BadTable = omega arith
 positive BadTies = omega arith
+positive BadForm = omega arith
+positive SmallerTotal = omega arith
+positive OtherParty = omega arith
 positive BadEdition = omega arith
+positive BadPeer = omega arith
+positive NobodyPresent = omega arith
+positive BadPlan = omega arith
 
 pub same-refusal : (a b : Refusal) → numberOf a ≡ numberOf b → needOf a ≡ needOf b → a ≡ b
 same-refusal a b e n = sym (numbered a) ∙ ap₂ refusalOf e n ∙ numbered b

@@ -3,7 +3,7 @@
 use Prim.Native.Nat.{ℕ}
 use mathlib.Core.List.{List, [], _∷_}
 use Rattle.rules.specs.declared.Refusal.{Refusal}
-use Rattle.rules.specs.declared.Refusal.the-variants.{TooLong, NoNode, NoKey, NinthNode, NodeFull, Exhausted, BadMtu, NoPlace, Cut, BadTag, OutOfOrder, NodeTwice, TooMany, BadTable, BadTies, BadEdition}
+use Rattle.rules.specs.declared.Refusal.the-variants.{TooLong, NoNode, NoKey, NinthNode, NodeFull, Exhausted, BadMtu, NoPlace, Cut, BadTag, OutOfOrder, NodeTwice, TooMany, BadTable, BadTies, BadForm, SmallerTotal, OtherParty, BadEdition, BadPeer, NobodyPresent, BadPlan}
 use Rattle.rules.specs.declared.NodeAnswer.{NodeAnswer}
 use Rattle.rules.specs.declared.NodeAnswer.the-variants as node
 use Rattle.rules.specs.declared.Mode.{Mode}
@@ -42,7 +42,13 @@ numberOf NodeTwice = 12
 numberOf TooMany = 13
 numberOf BadTable = 14
 numberOf BadTies = 15
+numberOf BadForm = 17
+numberOf SmallerTotal = 18
+numberOf OtherParty = 19
 numberOf BadEdition = 20
+numberOf BadPeer = 21
+numberOf NobodyPresent = 22
+numberOf BadPlan = 23
 
 -- how many bytes the field lacks in which the bytes end; 0 for every number but 9
 abbrev pub needOf : Refusal → ℕ
@@ -61,7 +67,13 @@ needOf NodeTwice = 0
 needOf TooMany = 0
 needOf BadTable = 0
 needOf BadTies = 0
+needOf BadForm = 0
+needOf SmallerTotal = 0
+needOf OtherParty = 0
 needOf BadEdition = 0
+needOf BadPeer = 0
+needOf NobodyPresent = 0
+needOf BadPlan = 0
 
 -- a node's answer in a lent list
 abbrev pub codeOf : NodeAnswer → ℕ

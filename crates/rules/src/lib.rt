@@ -193,7 +193,8 @@ impl NodeAnswer {
     }
 }
 
-// Why a call was refused. Document 01 numbers them from 1 to 15 in this order; those behind have the numbers of document 02.
+// Why a call was refused. Document 01 numbers them from 1 to 15 in this order; those behind have the numbers of document 02. No call gives one of these
+// until its request lands: which call gives which numbers stands in `demand1: Calls.refusals`, and that it gives no other is proved there.
 pub enum Refusal {
     // Key over 32 or value over 64.
     TooLong,
@@ -225,8 +226,20 @@ pub enum Refusal {
     BadTable,
     // The tie list has not one number a node.
     BadTies,
+    // A record that is not in the form of the meter profile.
+    BadForm,
+    // A total that states a smaller number than the one there.
+    SmallerTotal,
+    // A key of neither party, or of the other one.
+    OtherParty,
     // The number of a digest's edition is neither 0 nor 1.
     BadEdition,
+    // The number of a peer is above 7.
+    BadPeer,
+    // No peer is present.
+    NobodyPresent,
+    // The plan is not one that can be sent.
+    BadPlan,
 }
 
 impl Refusal {
@@ -250,7 +263,13 @@ impl Refusal {
             Refusal::TooMany => 13,
             Refusal::BadTable => 14,
             Refusal::BadTies => 15,
+            Refusal::BadForm => 17,
+            Refusal::SmallerTotal => 18,
+            Refusal::OtherParty => 19,
             Refusal::BadEdition => 20,
+            Refusal::BadPeer => 21,
+            Refusal::NobodyPresent => 22,
+            Refusal::BadPlan => 23,
         }
     }
 
@@ -274,7 +293,13 @@ impl Refusal {
             Refusal::TooMany => 0,
             Refusal::BadTable => 0,
             Refusal::BadTies => 0,
+            Refusal::BadForm => 0,
+            Refusal::SmallerTotal => 0,
+            Refusal::OtherParty => 0,
             Refusal::BadEdition => 0,
+            Refusal::BadPeer => 0,
+            Refusal::NobodyPresent => 0,
+            Refusal::BadPlan => 0,
         }
     }
 }

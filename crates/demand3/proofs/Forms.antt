@@ -1,0 +1,88 @@
+-- The laws of the calls that come in more than one form (specs/Forms), each with a case for each form. What the worlds and nets do with a removal or a
+-- computing rests on these and on nothing else. Assumes nothing.
+use Prim.Native.Nat.{_<_, ℕ}
+use mathlib.Core.Bool.{Bool, false≢true, true}
+use mathlib.Core.List.{List, [], _∷_}
+use mathlib.Core.Option.{some}
+use mathlib.Core.Path.{_∙_, _≡_, ap, refl}
+use lib.ListN.{length}
+use borrow.Author.Tests.{leb-true}
+use Rattle.fields.specs.Choice.{_∈_}
+use Rattle.fields.specs.Numbers.{Bytes}
+use Rattle.fields.specs.Parts.{part, put}
+use Rattle.rules.proofs.Accepted.{delta-bytes}
+use Rattle.rules.proofs.Accepted as line
+use Rattle.rules.proofs.Tables.{numbers-remove, partAt}
+use Rattle.rules.specs.Compute.{toldOf, written}
+use Rattle.rules.specs.Delta.{NodeDelta, deltaBytes, partsOf}
+use Rattle.rules.specs.Digest.{Entries, NodeDigest, readDigest}
+use Rattle.rules.specs.Given.{Given, given}
+use Rattle.rules.specs.Lent.{fromTable, onTable}
+use Rattle.rules.specs.Local.{gc, gives}
+use Rattle.rules.specs.Node.{Rec, due, remove}
+use Rattle.rules.specs.Table.{Entry, Table, numbersOf, obeys, removeAll}
+use Rattle.rules.specs.declared.Answer.the-variants as plain
+use Rattle.rules.specs.declared.Computed.{Computed}
+use Rattle.rules.specs.declared.Computed.the-variants as computed
+use Rattle.rules.specs.declared.Refusal.{Refusal}
+use Rattle.rules.specs.declared.Refusal.the-variants.{BadTable}
+use Rattle.demand3.proofs.EachNode.{nodeAt, removed}
+use Rattle.demand3.proofs.Nearer.{Stirs, line-stirs}
+use Rattle.demand3.proofs.OnTheWay.{PartFor, Sendable, computed-part, computed-sendable}
+use Rattle.demand3.specs.Demand3.{leastWidth, wideEnough}
+use Rattle.demand3.specs.Forms.{ByClock, InLine, Order, Removal, computeBy, lentComputeBy, lentRemovedBy, opsBy, removedBy}
+
+-- ---- removals
+
+-- whatever it goes by, it takes scheduled records by some test
+pub removal-is : (removal : Removal) (t : Table) → (due : ℕ → Rec → Bool) × (removedBy removal t ≡ removeAll due t)
+unfolding gc
+removal-is (ByClock now grace) t = (λ i. due now grace, refl)
+
+pub removed-numbers : (removal : Removal) (t : Table) → numbersOf (removedBy removal t) ≡ numbersOf t
+removed-numbers removal t = let x = removal-is removal t in ap numbersOf (x .1) ∙ numbers-remove (x .0) t
+
+-- seen from a node
+pub removed-node : (removal : Removal) (t : Table) (i : ℕ) → (due : Rec → Bool) × (nodeAt i (removedBy removal t) ≡ remove due (nodeAt i t))
+removed-node removal t i = let x = removal-is removal t in (x .0 i, ap (nodeAt i) (x .1) ∙ removed i t (x .0))
+
+-- of lent bytes it is 14, or leaves the bytes of what it leaves of the table
+pub lent-removal : (removal : Removal) (l : Bytes) → lentRemovedBy removal l ≡ onTable (plain.Refused BadTable) (λ t. gives plain.Done (removedBy removal t)) l .lent
+unfolding gc
+lent-removal (ByClock now grace) l = refl
+
+-- ---- computing
+
+-- A delta that was computed for a digest: it may be sent, each node's part was made for the digest, and if its exchange counts, a part moves its node while
+-- the digest is behind of any.
+pub record Made (excluded : List ℕ) (order : Order) (mtu : ℕ) (ds : List NodeDigest) (t : Table) : Type 0 where
+  pub sendable : Sendable t (opsBy excluded order mtu ds t)
+  pub each : (i : ℕ) (d : NodeDelta) → partAt i (partsOf (opsBy excluded order mtu ds t)) ≡ some d → PartFor excluded ds t i d
+  pub stirs : wideEnough excluded order mtu ≡ true → (e : Entry) → e ∈ t → toldOf (e .number) ds .max < e .node .max → Stirs t (opsBy excluded order mtu ds t)
+
+-- what computing comes to: a refusal, or such a delta for what the digest's bytes tell, whose bytes then stand at its place
+pub data Comes (edition : ℕ) (excluded : List ℕ) (order : Order) (mtu place : ℕ) (d : List ℕ) (t : Table) (l : List ℕ) : Given Computed (List ℕ) → Type 0 where
+  refuses : (r : Refusal) → Comes edition excluded order mtu place d t l (given (computed.Refused r) l)
+  writes : (ds : List NodeDigest) (rest : List ℕ) → readDigest edition d ≡ Entries ds rest → Made excluded order mtu ds t
+      → part place (length (deltaBytes (opsBy excluded order mtu ds t))) (put place (deltaBytes (opsBy excluded order mtu ds t)) l) ≡ deltaBytes (opsBy excluded order mtu ds t)
+      → Comes edition excluded order mtu place d t l (written (opsBy excluded order mtu ds t) place l)
+
+pub comes : (edition : ℕ) (excluded : List ℕ) (order : Order) (mtu place : ℕ) (d : List ℕ) (t : Table) (l : List ℕ) → obeys t ≡ true → Comes edition excluded order mtu place d t l (computeBy edition excluded order mtu place d t l)
+comes edition excluded (InLine ties) mtu place d t l ok = go _ (line.comes edition excluded ties mtu place d t l)
+  where
+    stirs : (excluded : List ℕ) (ds : List NodeDigest) → wideEnough excluded (InLine ties) mtu ≡ true → (e : Entry) → e ∈ t → toldOf (e .number) ds .max < e .node .max → Stirs t (opsBy excluded (InLine ties) mtu ds t)
+    stirs [] ds wide = line-stirs mtu ties ds t ok (leb-true leastWidth mtu wide)
+    stirs (i ∷ is) ds wide = absurd (false≢true wide)
+
+    go : (o : Given Computed (List ℕ)) → line.Comes edition excluded ties mtu place d t l o → Comes edition excluded (InLine ties) mtu place d t l o
+    go o (line.refuses r) = refuses r
+    go o (line.writes ds rest e h g) =
+        writes ds rest e
+        (record { sendable = computed-sendable excluded ties mtu ds t ok h; each = computed-part excluded ties mtu ds t ok; stirs = stirs excluded ds })
+        (delta-bytes edition excluded ties mtu place d t l ds g)
+
+-- of lent bytes it is 14, or what it is of the table
+pub lent-computing : (edition : ℕ) (excluded : List ℕ) (order : Order) (mtu place : ℕ) (digest d l : Bytes)
+    → lentComputeBy edition excluded order mtu place digest d l
+    ≡ fromTable (given (computed.Refused BadTable) d) (λ t. computeBy edition excluded order mtu place digest t d) l
+lent-computing edition excluded (InLine ties) mtu place digest d l = refl

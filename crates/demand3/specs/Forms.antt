@@ -1,0 +1,46 @@
+-- Calls that come in more than one form. A removal and a computing are events of the worlds and nets; what a removal asks beside the status of a record, and in which
+-- order a computing takes the nodes, is told by an argument. A request that brings another form adds a constructor and a clause to the definitions here, and a
+-- case to the laws about them (proofs/Forms). No definition of a world or net and no other proof looks into it.
+use Prim.Native.Nat.{ℕ}
+use mathlib.Core.List.{List}
+use Rattle.fields.specs.Numbers.{Bytes}
+use Rattle.rules.specs.Given.{Given}
+use Rattle.rules.specs.Table.{Table}
+use Rattle.rules.specs.Local.{gc}
+use Rattle.rules.specs.Digest.{NodeDigest}
+use Rattle.rules.specs.Delta.{Op}
+use Rattle.rules.specs.Compute.{compute, deltaFor}
+use Rattle.rules.specs.Lent.{lentGc, lentCompute}
+use Rattle.rules.specs.declared.Computed.{Computed}
+
+-- ---- removals
+
+pub data Removal : Type 0 where
+  -- document 01's, by the clock: now, grace
+  ByClock : ℕ → ℕ → Removal
+
+-- what it leaves of a table
+abbrev pub removedBy : (removal : Removal) (table : Table) → Table
+removedBy (ByClock now grace) t = gc now grace t .table
+
+-- and of a table's bytes
+abbrev pub lentRemovedBy : (removal : Removal) (table : Bytes) → Bytes
+lentRemovedBy (ByClock now grace) l = lentGc now grace l .lent
+
+-- ---- computing
+
+pub data Order : Type 0 where
+  -- document 01's: nodes stand in line by their staleness, and the tie list decides between equals
+  InLine : List ℕ → Order
+
+-- the call
+abbrev pub computeBy : (edition : ℕ) (excluded : List ℕ) (order : Order) (mtu place : ℕ) (digest : Bytes) (table : Table) (datagram : Bytes) → Given Computed Bytes
+computeBy edition excluded (InLine ties) mtu place d t l = compute edition excluded ties mtu place d t l
+
+-- the operations that it writes, where it is not refused
+abbrev pub opsBy : (excluded : List ℕ) (order : Order) (mtu : ℕ) (ds : List NodeDigest) (table : Table) → List Op
+opsBy excluded (InLine ties) mtu ds t = deltaFor excluded ties mtu ds t
+
+-- the call on lent bytes
+abbrev pub lentComputeBy : (edition : ℕ) (excluded : List ℕ) (order : Order) (mtu place : ℕ) (digest datagram table : Bytes) → Given Computed Bytes
+lentComputeBy edition excluded (InLine ties) mtu place digest d l = lentCompute edition excluded ties mtu place digest d l
