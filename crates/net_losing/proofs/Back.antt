@@ -13,8 +13,7 @@ use Rattle.rules.proofs.Records.{gc-rises}
 use Rattle.rules.proofs.Taking.{Came, came, left, reset, took}
 use Rattle.rules.specs.Apply.{outcome, waysOf}
 use Rattle.rules.specs.Delta.{NodeDelta}
-use Rattle.rules.specs.Local.{gc}
-use Rattle.rules.specs.Node.{Decision, Give, KeyValue, Leave, Node, Refuse, act, due, remove, write}
+use Rattle.rules.specs.Node.{Decision, Give, KeyValue, Leave, Node, Refuse, act, remove, write}
 use Rattle.rules.specs.Whole.{decodeWhole}
 use Rattle.rules.specs.declared.Mode.{Mode}
 use Rattle.demand3.proofs.EachNode.{nodeAt, orFresh}
@@ -59,16 +58,16 @@ acts x i k n (Give c) = omega arith
 
 module _ (plan : Plan) (ready : Ready plan) (w : Net) (ok : Moment (plan .owner) w) where
   farther-calls : (e : Event) → goesOn e ≡ true → (y i : ℕ) → Farther y i (nodeAt i (w .hubs y)) (nodeAt i (calls plan e w .hubs y))
-  unfolding gc remove outcome
+  unfolding remove outcome
   farther-calls (Writing x j k c) g = each-hub w Farther no-farther x _ (each-call w Farther no-farther c x j k (acts x j k))
   farther-calls (Beating x j) g = each-hub w Farther no-farther x _ (each-beat w Farther no-farther x j (λ i n b. omega arith))
   farther-calls (Offering x j b) g = each-hub w Farther no-farther x _ (each-offer w Farther no-farther x j b (λ i n c. omega arith))
-  farther-calls (Removing x now grace) g =
+  farther-calls (Removing x removal) g =
       each-hub w Farther no-farther x _
-      (each-remove w Farther no-farther x (λ i. due now grace) (λ i. let a = gc-rises (due now grace) (nodeAt i (w .hubs x) .last-gc) (nodeAt i (w .hubs x) .recs) in omega arith))
+      (each-remove w Farther no-farther x removal (λ i due. let a = gc-rises due (nodeAt i (w .hubs x) .last-gc) (nodeAt i (w .hubs x) .recs) in omega arith))
   farther-calls (Adding x j) g = each-hub w Farther no-farther x _ (each-add w Farther no-farther x j)
   farther-calls (Dropping x j) g = absurd (false≢true g)
-  farther-calls (Computing x edition digest excluded ties mtu place l) g = λ y i. omega arith
+  farther-calls (Computing x edition digest excluded order mtu place l) g = λ y i. omega arith
   farther-calls (Arriving x k now l) g =
       each-hub w Farther no-farther x _
       (nth-sent (λ d. Each w Farther no-farther x (appliedTo (plan .ways x) now l d (w .hubs x))) (each-same w Farther no-farther x) k (w .sent)

@@ -13,7 +13,6 @@ use lib.ListN.{length}
 use borrow.Author.Tests.{eq-eqb, eqb-false, eqb-true, leb-true, ltb-true}
 use Rattle.fields.proofs.Choice.{all-from, and-left, and-right, in-none}
 use Rattle.fields.specs.Choice.{_∈_, pick}
-use Rattle.rules.proofs.Accepted.{Comes, comes, delta-bytes, refuses, writes}
 use Rattle.rules.proofs.Calls.{add-keeps, beat-keeps, call-keeps, node-in, node-ok-in, none-obeys, offer-keeps, ok-each, ok-remove-all, ok-set, remove-node-keeps}
 use Rattle.rules.proofs.Obeys.{OkNode, OkTable, facts-table, table-facts}
 use Rattle.rules.proofs.Received.{parts-ok}
@@ -28,10 +27,12 @@ use Rattle.rules.specs.Table.{Entry, Table, nodeOf, setNode}
 use Rattle.rules.specs.declared.Computed.{Computed}
 use Rattle.demand3.proofs.Computing.{computed-honest}
 use Rattle.demand3.proofs.EachNode.{nodeAt, orFresh}
+use Rattle.demand3.proofs.Forms.{Comes, refuses, writes}
 use Rattle.demand3.proofs.Honest.{HonestDelta, HonestNode}
 use Rattle.demand3.proofs.Moments.{clock-fits, kept, nth-sent, read-once}
-use Rattle.demand3.proofs.OnTheWay.{Sendable, computed-sendable}
+use Rattle.demand3.proofs.OnTheWay.{Sendable}
 use Rattle.demand3.proofs.Publisher.{Publisher, next-version, publisher-fresh, publisher-write}
+use Rattle.demand3.specs.Forms.{Order}
 use Rattle.demand3.specs.World.{appliedTo, givenAfter, givenBy, givenIn, nthSent, sentAfter, timeOf}
 use Rattle.net.proofs.Each.{Each, each-add, each-beat, each-drop, each-hub, each-offer, each-remove, each-same, each-set, each-taken}
 use Rattle.net.proofs.Moments.{Carries, Longer, as-long, longer, one-more, placed-in}
@@ -433,11 +434,10 @@ module _ (owner : ℕ → ℕ) (w : Losing) (ok : Firm owner w) where
           saved = λ y t m. let s = ok .saved y t m in (s .0, λ i q. grown-node (o i) (out i) (lets i) (nodeAt i t) (s .1 i q));
         }
 
-    pub firm-computing : (edition : ℕ) (digest excluded ties : List ℕ) (mtu place : ℕ) (l : List ℕ) (a : Given Computed (List ℕ)) → Comes edition excluded ties mtu place digest (v .hubs x) l a → Sends (sentAfter place (a .lent) (a .answer) (v .sent))
-    firm-computing edition digest excluded ties mtu place l a (refuses r) = sends (v .sent) sent-so-far
-    firm-computing edition digest excluded ties mtu place l a (writes ds rest e m g) =
-        subst (λ (b : List ℕ). Sends (b ∷ v .sent)) (sym (delta-bytes edition excluded ties mtu place digest (v .hubs x) l ds g))
-        (sends _ (one-more (Carries out) _ (v .sent) (carried _ (computed-sendable excluded ties mtu ds (v .hubs x) (facts-table (v .hubs x) (ok .obeyed x)) m)) sent-so-far))
+    pub firm-computing : (edition : ℕ) (digest excluded : List ℕ) (order : Order) (mtu place : ℕ) (l : List ℕ) (a : Given Computed (List ℕ)) → Comes edition excluded order mtu place digest (v .hubs x) l a → Sends (sentAfter place (a .lent) (a .answer) (v .sent))
+    firm-computing edition digest excluded order mtu place l a (refuses r) = sends (v .sent) sent-so-far
+    firm-computing edition digest excluded order mtu place l a (writes ds rest e made at-place) =
+        subst (λ (b : List ℕ). Sends (b ∷ v .sent)) (sym at-place) (sends _ (one-more (Carries out) _ (v .sent) (carried _ (made .sendable)) sent-so-far))
 
   -- ---- the disk
 

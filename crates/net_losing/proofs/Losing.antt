@@ -10,15 +10,14 @@ use lib.ListN.{length}
 use borrow.Author.Tests.{eq-eqb, eqb-true, ltb-true}
 use Rattle.fields.proofs.Choice.{and-left, and-right}
 use Rattle.fields.specs.Choice.{_∈_, pick}
-use Rattle.rules.proofs.Accepted.{comes}
 use Rattle.rules.proofs.Calls.{add-keeps, beat-keeps, offer-keeps, ok-remove-all, remove-node-keeps}
-use Rattle.rules.proofs.Obeys.{facts-table}
+use Rattle.rules.proofs.Obeys.{OkTable, facts-table}
 use Rattle.rules.specs.Delta.{Good, Op, nothingRead, partsOf}
-use Rattle.rules.specs.Local.{gc}
-use Rattle.rules.specs.Node.{Node, due, withHeartbeat}
+use Rattle.rules.specs.Node.{Node, withHeartbeat}
 use Rattle.rules.specs.Table.{nodeOf}
 use Rattle.rules.specs.declared.Heartbeat.{Heartbeat}
 use Rattle.demand3.proofs.EachNode.{nodeAt, orFresh}
+use Rattle.demand3.proofs.Forms.{comes, removal-is}
 use Rattle.demand3.proofs.Honest.{HonestNode}
 use Rattle.demand3.proofs.Moments.{kept, read-once}
 use Rattle.demand3.proofs.Publisher.{Publisher, claims-of}
@@ -50,13 +49,12 @@ module _ (plan : Plan) (ready : Ready plan) (w : Losing) (ok : Firm (plan .owner
   beats x i m b y = fit-beat (eqb (own i) x) (w .forgot x) (w .out i) (n .given i) m y b
 
   firm-calls : (e : Event) → allowed own e w ≡ true → possible own e n ≡ true → Firm own (withNet (calls plan e n) (outAfter own e w) w)
-  unfolding gc
   firm-calls (Writing x i k c) a p = firm-writing own w ok x i k (eqb-true _ _ (and-left _ _ p)) c (ltb-true _ _ (and-right (eqb (own i) x) _ p)) a
   firm-calls (Beating x j) a p = on-hub own w ok x _ (kept (n .hubs x) _ (beat-keeps j (n .hubs x)) (ok .obeyed x)) (each-beat n R same x j (beats x))
   firm-calls (Offering x j b) a p = on-hub own w ok x _ (kept (n .hubs x) _ (offer-keeps j b (n .hubs x) (ltb-true _ _ p)) (ok .obeyed x)) (each-offer n R same x j b (beats x))
-  firm-calls (Removing x now grace) a p =
-      on-hub own w ok x _ (ok-remove-all (λ i. due now grace) (n .hubs x) (ok .obeyed x))
-      (each-remove n R same x (λ i. due now grace) (λ i y. fit-remove (eqb (own i) x) (w .forgot x) (w .out i) (n .given i) (nodeAt i (n .hubs x)) y (due now grace)))
+  firm-calls (Removing x removal) a p =
+      on-hub own w ok x _ (let r = removal-is removal (n .hubs x) in subst OkTable (sym (r .1)) (ok-remove-all (r .0) (n .hubs x) (ok .obeyed x)))
+      (each-remove n R same x removal (λ i due y. fit-remove (eqb (own i) x) (w .forgot x) (w .out i) (n .given i) (nodeAt i (n .hubs x)) y due))
   firm-calls (Adding x j) a p = on-hub own w ok x _ (kept (n .hubs x) _ (add-keeps j (n .hubs x) (ltb-true _ _ p)) (ok .obeyed x)) (each-add n R same x j)
   firm-calls (Dropping x j) a p =
       on-hub own w ok x _ (kept (n .hubs x) _ (remove-node-keeps j (n .hubs x)) (ok .obeyed x))
@@ -65,7 +63,8 @@ module _ (plan : Plan) (ready : Ready plan) (w : Losing) (ok : Firm (plan .owner
       turned : (b : Bool) → not b ≡ true → b ≡ false
       turned true q = absurd (false≢true q)
       turned false q = refl
-  firm-calls (Computing x edition digest excluded ties mtu place l) a p = firm-computing own w ok x a edition digest excluded ties mtu place l _ (comes edition excluded ties mtu place digest (n .hubs x) l)
+  firm-calls (Computing x edition digest excluded order mtu place l) a p = 
+      firm-computing own w ok x a edition digest excluded order mtu place l _ (comes edition excluded order mtu place digest (n .hubs x) l (facts-table (n .hubs x) (ok .obeyed x)))
   firm-calls (Arriving x k now l) a p = firm-arriving own w ok (plan .ways x) (ready .lawful x) (ready .late x) x now l (ltb-true _ _ p) k
   firm-calls (Saving x) a p = firm-saving own w ok x
   firm-calls (Restoring x k) a p = absurd (false≢true a)
@@ -75,10 +74,10 @@ module _ (plan : Plan) (ready : Ready plan) (w : Losing) (ok : Firm (plan .owner
   unchanged (Writing x i k c) p = ok
   unchanged (Beating x i) p = ok
   unchanged (Offering x i b) p = ok
-  unchanged (Removing x now grace) p = ok
+  unchanged (Removing x removal) p = ok
   unchanged (Adding x i) p = ok
   unchanged (Dropping x i) p = ok
-  unchanged (Computing x edition digest excluded ties mtu place l) p = absurd (true≢false p)
+  unchanged (Computing x edition digest excluded order mtu place l) p = absurd (true≢false p)
   unchanged (Arriving x k now l) p = ok
   unchanged (Saving x) p = ok
   unchanged (Restoring x k) p = ok

@@ -57,10 +57,10 @@ abbrev pub allowed : (owner : ℕ → ℕ) (event : Event) (w : Losing) → Bool
 allowed owner (Writing x i k c) w = caughtUp (w .out i) (nodeOf i (w .net .hubs x))
 allowed owner (Beating x i) w = true
 allowed owner (Offering x i h) w = true
-allowed owner (Removing x now grace) w = true
+allowed owner (Removing x removal) w = true
 allowed owner (Adding x i) w = true
 allowed owner (Dropping x i) w = true
-allowed owner (Computing x edition digest excluded ties mtu place l) w = nothingLost owner x (w .net .hubs x) (some (w .disk x))
+allowed owner (Computing x edition digest excluded order mtu place l) w = nothingLost owner x (w .net .hubs x) (some (w .disk x))
 allowed owner (Arriving x k now l) w = true
 allowed owner (Saving x) w = true
 allowed owner (Restoring x k) w = false
@@ -79,10 +79,10 @@ abbrev pub outAfter : (owner : ℕ → ℕ) (event : Event) (w : Losing) → ℕ
 outAfter owner (Writing x i k c) w = w .out
 outAfter owner (Beating x i) w = w .out
 outAfter owner (Offering x i h) w = w .out
-outAfter owner (Removing x now grace) w = w .out
+outAfter owner (Removing x removal) w = w .out
 outAfter owner (Adding x i) w = w .out
 outAfter owner (Dropping x i) w = w .out
-outAfter owner (Computing x edition digest excluded ties mtu place l) w = ofOwner owner x (w .net .given) (w .out)
+outAfter owner (Computing x edition digest excluded order mtu place l) w = ofOwner owner x (w .net .given) (w .out)
 outAfter owner (Arriving x k now l) w = w .out
 outAfter owner (Saving x) w = w .out
 outAfter owner (Restoring x k) w = w .out
