@@ -4,3 +4,4 @@ pub mod Firm
 pub mod Losing
 pub mod Back
 pub mod Sharp
+pub mod TwoHubs

@@ -8,8 +8,9 @@ use mathlib.Core.Path.{_∙_, _≡_, ap, refl, subst, sym}
 use native.Mathlib.Omega.{arith}
 use lib.ListN.{length}
 use Rattle.fields.proofs.Choice.{in-cons, in-none, keep-from}
-use Rattle.fields.specs.Choice.{_∈_, later}
-use Rattle.rules.proofs.Records.{Sorted, gc-rises}
+use Rattle.fields.proofs.Ordered.{less-other}
+use Rattle.fields.specs.Choice.{_∈_}
+use Rattle.rules.proofs.Records.{Above, Sorted, gc-rises, keyOf}
 use Rattle.rules.proofs.Taking.{Applies, Came, From, came, left, reset, take-from, took}
 use Rattle.rules.specs.Apply.{Ways, applyNode, outcome, takeAll}
 use Rattle.rules.specs.Delta.{NodeDelta}
@@ -35,25 +36,44 @@ sharp-grows h w next d x y t m s n k b = at (in-cons n)
     at (inr o) = y t m s o k b
 
 -- the node has reached s, and holds nothing older of its key
-pub record Above (s : KeyValue) (n : Node) : Type 0 where
+pub record Past (s : KeyValue) (n : Node) : Type 0 where
   pub far : s .version ≤ reached n
   pub none-older : (t : KeyValue) → Holds n t → t .key ≡ s .key → s .version ≤ t .version
 
+-- one record a key
+sorted-one : (l : List Rec) → Sorted l → (a b : Rec) → a ∈ l → b ∈ l → keyOf a ≡ keyOf b → a ≡ b
+unfolding Sorted Above
+sorted-one [] y a b m n k = absurd (in-none m)
+sorted-one (c ∷ l) y a b m n k = at (in-cons m) (in-cons n) (λ i j. sorted-one l (y .1) a b i j k)
+  where
+    not-before : (d : Rec) → d ∈ l → keyOf c ≡ keyOf d → ⊥
+    not-before d i e = less-other _ _ (y .0 d i) e
+
+    at : (a ≡ c) ⊎ (a ∈ l) → (b ≡ c) ⊎ (b ∈ l) → (a ∈ l → b ∈ l → a ≡ b) → a ≡ b
+    at (inl e) (inl f) ih = e ∙ sym f
+    at (inl e) (inr j) ih = absurd (not-before b j (sym (ap keyOf e) ∙ k))
+    at (inr i) (inl f) ih = absurd (not-before a i (sym (k ∙ ap keyOf f)))
+    at (inr i) (inr j) ih = ih i j
+
 -- of what it holds
-pub above-held : (h : List KeyValue) (n : Node) → HonestNode h n → (s : KeyValue) → Holds n s → ((t : KeyValue) → Holds n t → t .key ≡ s .key → t ≡ s) → Above s n
-above-held h n ok s y one =
+pub past-held : (h : List KeyValue) (n : Node) → HonestNode h n → (s : KeyValue) → Holds n s → Past s n
+past-held h n ok s y =
     record {
       far = let a = ok .honest .within s y in omega arith;
-      none-older = λ t z k. let e : t .version ≡ s .version = ap (λ (u : KeyValue). u .version) (one t z k) in omega arith;
+      none-older =
+          λ t z k.
+          let e = sorted-one (n .recs) (ok .sorted) (z .0) (y .0) (z .1) (y .1) (ap (λ (u : KeyValue). u .key) (z .2) ∙ k ∙ sym (ap (λ (u : KeyValue). u .key) (y .2))) in
+          let f : t .version ≡ s .version = sym (ap (λ (u : KeyValue). u .version) (z .2)) ∙ ap (λ (r : Rec). r .kv .version) e ∙ ap (λ (u : KeyValue). u .version) (y .2) in
+          omega arith;
     }
 
-module _ (s : KeyValue) (n : Node) (ok : Above s n) where
-  pub above-beat : (b : Heartbeat) → Above s (withHeartbeat b n)
-  above-beat b = record { far = ok .far; none-older = ok .none-older }
+module _ (s : KeyValue) (n : Node) (ok : Past s n) where
+  pub past-beat : (b : Heartbeat) → Past s (withHeartbeat b n)
+  past-beat b = record { far = ok .far; none-older = ok .none-older }
 
-  pub above-remove : (due : Rec → Bool) → Above s (remove due n)
+  pub past-remove : (due : Rec → Bool) → Past s (remove due n)
   unfolding remove
-  above-remove due =
+  past-remove due =
       record {
         far = let a = gc-rises due (n .last-gc) (n .recs) in let b = ok .far in omega arith;
         none-older = λ t y k. ok .none-older t (y .0, keep-from _ _ (y .1) .0, y .2) k;
@@ -70,14 +90,14 @@ module _ (s : KeyValue) (n : Node) (ok : Above s n) where
         omega arith
     taken held gc l b f r (inr m) k = f r (m .0) k
 
-    pub above-apply : (ways : Ways) → (Applies ways now d n → n .last-gc ≤ max (n .max) (max (d .last-gc) (d .max))) → Above s (applyNode ways now d n .node)
+    pub past-apply : (ways : Ways) → (Applies ways now d n → n .last-gc ≤ max (n .max) (max (d .last-gc) (d .max))) → Past s (applyNode ways now d n .node)
     unfolding outcome Sorted
-    above-apply ways u = go _ (came ways now d n)
+    past-apply ways u = go _ (came ways now d n)
       where
         older : (t : KeyValue) (r : Rec) → r .kv ≡ t → (r .kv .key ≡ s .key → s .version ≤ r .kv .version) → t .key ≡ s .key → s .version ≤ t .version
         older t r e f k = subst (λ (y : KeyValue). y .key ≡ s .key → s .version ≤ y .version) e f k
 
-        go : (m : Node) → Came ways now d n m → Above s m
+        go : (m : Node) → Came ways now d n m → Past s m
         go m left = ok
         go m (reset r) =
             record {
