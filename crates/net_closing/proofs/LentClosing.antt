@@ -12,8 +12,9 @@ use Rattle.net.specs.LentNet.{LentNet, lentAfter, lentBegin, planIn, tablesIn}
 use Rattle.net.specs.Net.{Event, Net, Plan, after, begin}
 use Rattle.net_closing.proofs.Ends.{static-closes}
 use Rattle.net_closing.proofs.Owner.{owner-closes}
+use Rattle.net_closing.proofs.Paths.{fed-closes}
 use Rattle.net_closing.proofs.Rounds.{tables-close}
-use Rattle.net_closing.specs.Closing.{Closed, Heard, HeardWhole, Least, Local, LocalAll, Rounds, Steps, afterAll, calm, every, lentAfterAll, ownerRemoves, sendersIn, settled}
+use Rattle.net_closing.specs.Closing.{Closed, Fed, Heard, HeardWhole, Least, Local, LocalAll, Piece, Pieces, Rounds, Steps, afterAll, calm, every, lentAfterAll, ownerRemoves, runsOf, sendersIn, settled}
 use Rattle.rules.proofs.Keeps.{guarded-least}
 use Rattle.rules.specs.Apply.{waysOf}
 use Rattle.rules.specs.Node.{Node}
@@ -58,6 +59,16 @@ module _ (owner : ℕ → ℕ) (modes : ℕ → Mode) (late : (x : ℕ) → ways
   lent-tables-close least es i hears ess rs k l x t =
       subst (Closed plan i x) (sym (rounds-are es ess))
       (tables-close plan (ready owner modes late) least es i hears ess (subst (Rounds plan (calm i) (HeardWhole plan i) hears ess) (run-is es) rs) k l x t)
+
+  -- twice, at any two moments, from a hub that was fed before, where every hub is guarded and the graph changes
+  pub lent-fed-closes : ((x : ℕ) → Least (waysOf (modes x))) → (es : List Event) (i : ℕ) (ps : List Piece)
+      → Pieces plan i ps (tablesIn (lentAfter owner es (lentBegin modes)))
+      → (x : ℕ)
+      → Fed (owner i) x ps
+      → Closed plan i x (tablesIn (lentAfterAll owner (runsOf ps) (lentAfter owner es (lentBegin modes))))
+  lent-fed-closes least es i ps a x f =
+      subst (Closed plan i x) (sym (rounds-are es (runsOf ps)))
+      (fed-closes plan (ready owner modes late) least es i ps (subst (Pieces plan i ps) (run-is es) a) x f)
 
   -- as many rounds as the owner holds records and one, where only owners removed
   pub lent-owner-closes : (es : List Event) (i : ℕ)

@@ -189,6 +189,32 @@ unfoldable pub LocalAll : (plan : Plan) (hears : (x y : ℕ) → Type 0) (node :
 LocalAll plan hears i [] w s = Unit {0}
 LocalAll plan hears i (es ∷ ess) w s = Local plan hears i es w s × LocalAll plan hears i ess (after plan es w) (sendersIn plan es w s)
 
+-- ---- graphs that change
+
+-- a piece of a run, in which one hub hears another: who hears, who is heard, what happens
+pub record Piece : Type 0 where
+  pub hub : ℕ
+  pub told : ℕ
+  pub events : List Event
+
+unfoldable pub runsOf : (pieces : List Piece) → List (List Event)
+runsOf [] = []
+runsOf (p ∷ ps) = p .events ∷ runsOf ps
+
+-- in each piece its hub hears whom it names, uncut, at some moment, and of all else only what is calm happens
+pub record Heeds (plan : Plan) (i : ℕ) (p : Piece) (w : Net) : Type 0 where
+  pub only : every (calm i) (p .events) ≡ true
+  pub hears : HearsIn plan (HeardWhole plan i (p .hub) (p .told)) (p .hub) (p .told) (p .events) w
+
+unfoldable pub Pieces : (plan : Plan) (node : ℕ) (pieces : List Piece) (net : Net) → Type 0
+Pieces plan i [] w = Unit {0}
+Pieces plan i (p ∷ ps) w = Heeds plan i p w × Pieces plan i ps (after plan (p .events) w)
+
+-- who is fed from this hub on: itself, and whoever hears twice, in any two pieces, a hub that was fed before
+pub data Fed (from : ℕ) : (hub : ℕ) (pieces : List Piece) → Type 0 where
+  itself : (ps : List Piece) → Fed from from ps
+  by-two : (p q : Piece) (ps qs rs : List Piece) → Fed from (p .told) ps → q .hub ≡ p .hub → q .told ≡ p .told → Fed from (p .hub) (ps ++ (p ∷ qs ++ (q ∷ rs)))
+
 -- ---- the MTU from which nothing is cut
 
 -- what these records take in a delta: each 14 bytes beside its key and value

@@ -113,8 +113,8 @@ never-back plan ready es fs g i x m n p q t told last far s y k =
 -- of lent bytes
 pub lent-never-back : (owner : ℕ → ℕ) (modes : ℕ → Mode) → ((x : ℕ) → waysOf (modes x) .late ≡ true) → (es fs : List Event) → allGoOn fs ≡ true → (i x : ℕ)
     → NeverBack i (lentAfter owner fs (lentAfter owner es (lentBegin modes)) .given i)
-      (decodeWhole (lentAfter owner es (lentBegin modes) .hubs x) .table)
-      (decodeWhole (lentAfter owner fs (lentAfter owner es (lentBegin modes)) .hubs x) .table)
+    (decodeWhole (lentAfter owner es (lentBegin modes) .hubs x) .table)
+    (decodeWhole (lentAfter owner fs (lentAfter owner es (lentBegin modes)) .hubs x) .table)
 lent-never-back owner modes late es fs g i x =
     let plan : Plan = planIn owner modes in
     let l : LentNet = lentAfter owner es (lentBegin modes) in

@@ -1,7 +1,7 @@
 -- Nets whose hubs lose their memory stay sound: every event and every loss keeps what holds at a moment (Firm), and that gives the claims. Assumes nothing but that no hub is
 -- plain.
 use Prim.Native.Nat.{_≤_, ℕ}
-use mathlib.Core.Bool.{Bool, _&&_, false, false≢true, not, true, true≢false}
+use mathlib.Core.Bool.{Bool, false, false≢true, not, true, true≢false}
 use mathlib.Core.List.{List, [], _∷_}
 use mathlib.Core.Option.{some}
 use mathlib.Core.Path.{_∙_, _≡_, ap, refl, subst, sym}
@@ -32,6 +32,10 @@ use Rattle.net_losing.specs.Losing.{Crashing, Doing, Forgetting, Losing,
 
 -- ---- whatever happens
 
+turned : (b : Bool) → not b ≡ true → b ≡ false
+turned true q = absurd (false≢true q)
+turned false q = refl
+
 module _ (plan : Plan) (ready : Ready plan) (w : Losing) (ok : Firm (plan .owner) w) where
   abbrev own : ℕ → ℕ
   own = plan .owner
@@ -59,11 +63,7 @@ module _ (plan : Plan) (ready : Ready plan) (w : Losing) (ok : Firm (plan .owner
   firm-calls (Dropping x j) a p =
       on-hub own w ok x _ (kept (n .hubs x) _ (remove-node-keeps j (n .hubs x)) (ok .obeyed x))
       (each-drop n R same x j (ok .obeyed x .ascending) (λ y. fit-fresh (eqb (own j) x) (w .forgot x) (w .out j) (n .given j) (turned (eqb (own j) x) p)))
-    where
-      turned : (b : Bool) → not b ≡ true → b ≡ false
-      turned true q = absurd (false≢true q)
-      turned false q = refl
-  firm-calls (Computing x edition digest excluded order mtu place l) a p = 
+  firm-calls (Computing x edition digest excluded order mtu place l) a p =
       firm-computing own w ok x a edition digest excluded order mtu place l _ (comes edition excluded order mtu place digest (n .hubs x) l (facts-table (n .hubs x) (ok .obeyed x)))
   firm-calls (Arriving x k now l) a p = firm-arriving own w ok (plan .ways x) (ready .lawful x) (ready .late x) x now l (ltb-true _ _ p) k
   firm-calls (Saving x) a p = firm-saving own w ok x
@@ -100,12 +100,11 @@ module _ (plan : Plan) (ready : Ready plan) (w : Losing) (ok : Firm (plan .owner
   firm-doing (Storing x) = firm-storing own w ok x
   firm-doing (Crashing x) = firm-crashing own w ok x
   firm-doing (Forgetting x) = firm-forgetting own w ok x
-  firm-doing (Recalling x i y k) = go (eqb (own i) x) refl (eqb (own i) y) refl
+  firm-doing (Recalling x i y k) = go (followedBy (own i) x y) refl
     where
-      go : (b : Bool) → eqb (own i) x ≡ b → (c : Bool) → eqb (own i) y ≡ c → Firm own (pick (not b && not c) (withNet (withTable x (recalled i (placed k (n .saved y)) (n .hubs x)) n) (w .out) w) w)
-      go true p c q = ok
-      go false p true q = ok
-      go false p false q = firm-recalling own w ok x i y k p q
+      go : (b : Bool) → followedBy (own i) x y ≡ b → Firm own (pick b (withNet (withTable x (recalled i (placed k (n .saved y)) (n .hubs x)) n) (w .out) w) w)
+      go true q = firm-recalling own w ok x i y k (turned _ (and-left (not (eqb (own i) x)) _ q)) (turned _ (and-right (not (eqb (own i) x)) (not (eqb (own i) y)) q))
+      go false q = ok
 
   -- ---- what is claimed
 
