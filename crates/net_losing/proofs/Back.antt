@@ -5,7 +5,7 @@ use Prim.Native.Nat.{_≤_, ℕ}
 use mathlib.Core.Bool.{Bool, false, false≢true, true}
 use mathlib.Core.List.{List, [], _∷_}
 use mathlib.Core.Logic.{inl, inr}
-use mathlib.Core.Path.{_∙_, _≡_, ap, refl, subst, sym}
+use mathlib.Core.Path.{_∙_, _≡_, ap, subst, sym}
 use native.Mathlib.Omega.{arith}
 use Rattle.fields.proofs.Choice.{and-left, and-right}
 use Rattle.fields.specs.Choice.{_∈_, pick}

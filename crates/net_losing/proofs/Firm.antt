@@ -2,7 +2,7 @@
 -- owner let out; the owner's node by what it gave, its disk by what it kept, and both only add to what it let out. So what is lost nobody has heard of. Assumes
 -- nothing but that no hub is plain.
 use Prim.Native.Nat.{_<_, _≤_, ℕ}
-use mathlib.Core.Bool.{Bool, _&&_, false, false≢true, not, true, true≢false}
+use mathlib.Core.Bool.{Bool, false, false≢true, true}
 use mathlib.Core.List.{List, [], _∷_}
 use mathlib.Core.Logic.{_⊎_, inl, inr}
 use mathlib.Core.Option.{Option, none, some}
@@ -10,18 +10,18 @@ use mathlib.Core.Path.{_∙_, _≡_, ap, refl, subst, sym}
 use native.Mathlib.Omega.{arith}
 use lib.Dec.{eqb}
 use lib.ListN.{length}
-use borrow.Author.Tests.{eq-eqb, eqb-false, eqb-true, leb-true, ltb-true}
-use Rattle.fields.proofs.Choice.{all-from, and-left, and-right, in-none}
+use borrow.Author.Tests.{eq-eqb, eqb-false, eqb-true, leb-true}
+use Rattle.fields.proofs.Choice.{all-from, in-none}
 use Rattle.fields.specs.Choice.{_∈_, pick}
-use Rattle.rules.proofs.Calls.{add-keeps, beat-keeps, call-keeps, node-in, node-ok-in, none-obeys, offer-keeps, ok-each, ok-remove-all, ok-set, remove-node-keeps}
-use Rattle.rules.proofs.Obeys.{OkNode, OkTable, facts-table, table-facts}
+use Rattle.rules.proofs.Calls.{call-keeps, node-in, node-ok-in, none-obeys, ok-each, ok-set}
+use Rattle.rules.proofs.Obeys.{OkNode, OkTable, table-facts}
 use Rattle.rules.proofs.Received.{parts-ok}
 use Rattle.rules.proofs.Tables.{applied-table, node-set-other, node-set-same}
 use Rattle.rules.specs.Apply.{Lawful, Ways, apply, applyEach, applyNode}
-use Rattle.rules.specs.Delta.{Good, NodeDelta, Op, deltaBytes, nothingRead, partsOf}
+use Rattle.rules.specs.Delta.{Good, Op, deltaBytes, nothingRead, partsOf}
 use Rattle.rules.specs.Given.{Given}
-use Rattle.rules.specs.Local.{call, callOn, gc}
-use Rattle.rules.specs.Node.{Call, Decision, Give, KeyValue, Leave, Node, Refuse, act, decide, due, fresh}
+use Rattle.rules.specs.Local.{call, callOn}
+use Rattle.rules.specs.Node.{Call, Decision, Give, KeyValue, Leave, Node, Refuse, act, decide, fresh}
 use Rattle.rules.specs.Sizes.{numbers}
 use Rattle.rules.specs.Table.{Entry, Table, nodeOf, setNode}
 use Rattle.rules.specs.declared.Computed.{Computed}
@@ -29,17 +29,17 @@ use Rattle.demand3.proofs.Computing.{computed-honest}
 use Rattle.demand3.proofs.EachNode.{nodeAt, orFresh}
 use Rattle.demand3.proofs.Forms.{Comes, refuses, writes}
 use Rattle.demand3.proofs.Honest.{HonestDelta, HonestNode}
-use Rattle.demand3.proofs.Moments.{clock-fits, kept, nth-sent, read-once}
+use Rattle.demand3.proofs.Moments.{clock-fits, kept, nth-sent}
 use Rattle.demand3.proofs.OnTheWay.{Sendable}
 use Rattle.demand3.proofs.Publisher.{Publisher, next-version, publisher-fresh, publisher-write}
 use Rattle.demand3.specs.Forms.{Order}
 use Rattle.demand3.specs.World.{appliedTo, givenAfter, givenBy, givenIn, nthSent, sentAfter, timeOf}
-use Rattle.net.proofs.Each.{Each, each-add, each-beat, each-drop, each-hub, each-offer, each-remove, each-same, each-set, each-taken}
+use Rattle.net.proofs.Each.{Each, each-hub, each-same, each-set, each-taken}
 use Rattle.net.proofs.Moments.{Carries, Longer, as-long, longer, one-more, placed-in}
-use Rattle.net.specs.Net.{Adding, Arriving, Beating, Computing, Dropping, Event, Net, Offering, Plan, Ready, Removing, Restoring, Saving, Writing, calls, happen, hasMax, nothingLost, placed, possible, withTable}
-use Rattle.net_losing.proofs.Fit.{Fit, caught-up, fit-apply, fit-beat, fit-forgot, fit-fresh, fit-honest, fit-other, fit-out, fit-remove, fit-top}
+use Rattle.net.specs.Net.{Net, hasMax, nothingLost, placed, withTable}
+use Rattle.net_losing.proofs.Fit.{Fit, caught-up, fit-apply, fit-forgot, fit-fresh, fit-honest, fit-other, fit-out, fit-top}
 use Rattle.net_losing.proofs.Grown.{Grown, as-is, grown-all, grown-carries, grown-long, grown-longer, grown-node, grown-numbered, grown-same}
-use Rattle.net_losing.specs.Losing.{Crashing, Doing, Forgetting, Losing, Ordinary, Recalling, Storing, allowed, caughtUp, crashed, doing, followedBy, forgotten, ofHub, ofOwner, outAfter, recalled, recalledAs, run, start, stored, withNet}
+use Rattle.net_losing.specs.Losing.{Losing, caughtUp, crashed, forgotten, ofHub, ofOwner, recalled, recalledAs, start, stored, withNet}
 
 -- ---- what a moment is
 

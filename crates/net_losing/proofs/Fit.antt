@@ -1,14 +1,14 @@
 -- One node of one hub, where hubs lose their memory: what its owner let out is o, what it gave and did not lose h. A hub that does not own the node is honest by o. The owner
 -- is honest by h and at its last version; or it forgot, nothing was given since but what was let out, and it may be behind. Assumes nothing.
-use Prim.Native.Nat.{_<_, _≤_, max, ℕ}
+use Prim.Native.Nat.{_≤_, ℕ}
 use mathlib.Core.Bool.{Bool, false, false≢true, true}
-use mathlib.Core.List.{List, [], _∷_}
+use mathlib.Core.List.{List, []}
 use mathlib.Core.Logic.{_⊎_, inl, inr}
 use mathlib.Core.Path.{_∙_, _≡_, refl, subst, sym}
 use native.Mathlib.Omega.{arith}
 use lib.ListN.{length}
 use Rattle.fields.specs.Choice.{pick}
-use Rattle.rules.proofs.Taking.{Applies, Came, came, left, reset, took}
+use Rattle.rules.proofs.Taking.{Came, came, left, reset, took}
 use Rattle.rules.specs.Apply.{Lawful, Ways, applyNode, outcome}
 use Rattle.rules.specs.Delta.{NodeDelta}
 use Rattle.rules.specs.Node.{KeyValue, Node, Rec, fresh, remove, withHeartbeat}

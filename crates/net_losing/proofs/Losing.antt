@@ -1,6 +1,6 @@
 -- Nets whose hubs lose their memory stay sound: every event and every loss keeps what holds at a moment (Firm), and that gives the claims. Assumes nothing but that no hub is
 -- plain.
-use Prim.Native.Nat.{_≤_, ℕ}
+use Prim.Native.Nat.{ℕ}
 use mathlib.Core.Bool.{Bool, false, false≢true, not, true, true≢false}
 use mathlib.Core.List.{List, [], _∷_}
 use mathlib.Core.Option.{some}

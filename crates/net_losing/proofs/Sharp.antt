@@ -1,6 +1,6 @@
 -- Deltas that are sharp: a record of theirs is the last that its key was given up to what the delta reaches. A node that takes only such deltas never goes back behind a
 -- version of a key that it has reached. Assumes nothing.
-use Prim.Native.Nat.{_<_, _≤_, max, suc, ℕ}
+use Prim.Native.Nat.{_≤_, max, suc, ℕ}
 use mathlib.Core.Bool.{Bool}
 use mathlib.Core.List.{List, [], _∷_}
 use mathlib.Core.Logic.{_⊎_, inl, inr}
@@ -12,7 +12,7 @@ use Rattle.fields.proofs.Ordered.{less-other}
 use Rattle.fields.specs.Choice.{_∈_}
 use Rattle.rules.proofs.Records.{Above, Sorted, gc-rises, keyOf}
 use Rattle.rules.proofs.Taking.{Applies, Came, From, came, left, reset, take-from, took}
-use Rattle.rules.specs.Apply.{Ways, applyNode, outcome, takeAll}
+use Rattle.rules.specs.Apply.{Ways, applyNode, outcome}
 use Rattle.rules.specs.Delta.{NodeDelta}
 use Rattle.rules.specs.Node.{KeyValue, Node, Rec, remove, withHeartbeat}
 use Rattle.rules.specs.declared.Heartbeat.{Heartbeat}

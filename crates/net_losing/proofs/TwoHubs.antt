@@ -5,25 +5,25 @@ use mathlib.Core.Bool.{Bool, false, true}
 use mathlib.Core.List.{List, [], _∷_}
 use mathlib.Core.Logic.{_⊎_, inl, inr}
 use mathlib.Core.Option.{Option, none, some}
-use mathlib.Core.Path.{_∙_, _≡_, ap, refl, subst, sym}
+use mathlib.Core.Path.{_≡_, ap, refl, subst, sym}
 use native.Mathlib.Omega.{arith}
 use lib.ListN.{length}
 use Rattle.fields.proofs.Choice.{in-cons, in-none}
 use Rattle.fields.specs.Choice.{_∈_, later}
-use Rattle.rules.proofs.Sending.{MadeOf, nodeDelta}
+use Rattle.rules.proofs.Sending.{nodeDelta}
 use Rattle.rules.proofs.Stale.{stale-from, take-in}
 use Rattle.rules.proofs.Tables.{taking}
 use Rattle.rules.proofs.Taking.{Applies}
 use Rattle.rules.specs.Apply.{Lawful, Ways, applyNode}
 use Rattle.rules.specs.Delta.{NodeDelta}
-use Rattle.rules.specs.Node.{Decision, Give, KeyValue, Leave, Node, Refuse, act}
+use Rattle.rules.specs.Node.{Give, KeyValue, Leave, Node, Refuse, act}
 use Rattle.rules.specs.Table.{obeys}
 use Rattle.demand3.proofs.EachNode.{at, orFresh, seen-facts, sentOf}
 use Rattle.demand3.proofs.Moments.{Moment, moment, moment-start, next-event}
-use Rattle.demand3.proofs.OneNode.{Facts, Flies, Makes, One, Step, comes-late, lost, stays, step-keeps, they-beat, they-remove, they-take, we-beat, we-compute, we-remove, we-send, we-write}
+use Rattle.demand3.proofs.OneNode.{Facts, Flies, Makes, One, Step, comes-late, lost, stays, they-beat, they-remove, they-take, we-beat, we-compute, we-remove, we-send, we-write}
 use Rattle.demand3.proofs.Publisher.{Publisher, all-current, next-version}
 use Rattle.demand3.specs.Demand3.{Holds}
-use Rattle.demand3.specs.World.{Event, World, after, freshTable, givenAfter, givenBy, happen, start}
+use Rattle.demand3.specs.World.{Event, World, after, freshTable, givenBy, happen, start}
 use Rattle.net_losing.proofs.Sharp.{Past, SharpDelta, past-apply, past-beat, past-held, past-remove, sharp-grows}
 use Rattle.net_losing.specs.Back.{NoKeyFalls}
 

@@ -1,5 +1,5 @@
 -- More runs of Stories, computed as those of Runs: what comes back for a while though no hub is plain, and what a plain leaf takes from a neighbour that is not steady. Assumes nothing.
-use mathlib.Core.List.{[], _++_, _∷_}
+use mathlib.Core.List.{[], _∷_}
 use mathlib.Core.Path.{_≡_, refl}
 use Rattle.fields.specs.Blocks.{flat, unblock}
 use Rattle.fields.specs.Choice.{all, keep}

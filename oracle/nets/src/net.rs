@@ -32,7 +32,7 @@ pub enum Kind {
     Unstored,
     /// As Losing, but an owner that forgot writes at once.
     Hasty,
-    /// Guarded, with values of 64 bytes; nobody is restored or wiped. At the end all hear each other under an MTU of 135.
+    /// Guarded, two nodes, values of 64 bytes; a node is often left out; nobody is restored or wiped. At the end all hear each other under an MTU of 135.
     Narrow,
 }
 
@@ -121,7 +121,7 @@ fn ensure(holds: bool, claim: impl Fn() -> String) -> Claim {
 impl<'a> Net<'a> {
     pub fn new(kind: Kind, look: Look, mut random: Random, counts: &'a mut Counts) -> Net<'a> {
         let hubs = 3 + random.below(3);
-        let nodes = 1 + random.below(2);
+        let nodes = if kind == Kind::Narrow { 2 } else { 1 + random.below(2) };
         let keys = 2 + random.below(KEYS.len() - 1);
         let owners = (0..nodes).map(|_| random.below(hubs)).collect();
         let mut modes: Vec<u8> = (0..hubs)
@@ -286,12 +286,17 @@ impl<'a> Net<'a> {
     }
 
     fn mtu(&mut self) -> usize {
-        if self.random.once_in(2) { WHOLE } else { 100 + self.random.below(80) }
+        match self.kind {
+            Kind::Narrow if self.random.once_in(2) => NARROW,
+            _ if self.random.once_in(2) => WHOLE,
+            _ => 100 + self.random.below(80),
+        }
     }
 
     /// Seldom a node is left out.
     fn excluded(&mut self) -> Vec<u64> {
-        if self.random.once_in(12) { vec![1 + self.random.below(self.owners.len()) as u64] } else { vec![] }
+        let seldom = if self.kind == Kind::Narrow { 2 } else { 12 };
+        if self.random.once_in(seldom) { vec![1 + self.random.below(self.owners.len()) as u64] } else { vec![] }
     }
 
     /// A delta of one hub for a digest. It is kept. What the hub gave is stored first, and let out by it.
