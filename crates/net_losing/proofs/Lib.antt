@@ -6,3 +6,4 @@ pub mod LentLosing
 pub mod Back
 pub mod Sharp
 pub mod TwoHubs
+pub mod Exact

@@ -26,7 +26,7 @@ pub enum Kind {
     /// Fenced and guarded hubs, each with one disk. They crash, and lose the disk too; a delta leaves only when all that its hub gave is on its disk, and an owner
     /// that forgot writes only when it has caught up with what it let out.
     Losing,
-    /// Guarded; an exchange's digest, delta and applying are steps of their own, and cross those of others.
+    /// Guarded; an exchange's digest, delta and applying are steps of their own, and cross those of others; of two hubs one exchange each way at a time.
     Overlapping,
     /// As Losing, but deltas leave at once.
     Unstored,
@@ -543,7 +543,11 @@ impl<'a> Net<'a> {
         self.go_on(at, mtu, &excluded).map(|_| ())
     }
 
+    /// A digest is written, unless an exchange with that hub is under way.
     fn ask(&mut self, hub: usize, other: usize, from_fed: Vec<bool>) {
+        if self.open.iter().any(|exchange| (exchange.hub, exchange.other) == (hub, other)) {
+            return;
+        }
         let digest = port::digest(&self.tables[hub], &[]);
         self.digests.push(digest.clone());
         self.open.push(Open { hub, other, digest, delta: None, from_fed, reset: vec![false; self.owners.len()] });
