@@ -73,21 +73,21 @@ in-past g h (more t l z q) s m b = at (in-cons m) (λ n. in-past g l z s n b)
 
 -- ---- exact nodes and deltas
 
-abbrev Top : Node → Type 0
-Top n = (n .max ≤ n .last-gc) ⊎ ((r : Rec) × (r ∈ n .recs) × (r .kv .version ≡ n .max))
+abbrev pub Newest : Node → Type 0
+Newest n = (n .max ≤ n .last-gc) ⊎ ((r : Rec) × (r ∈ n .recs) × (r .kv .version ≡ n .max))
 
-abbrev TopDelta : NodeDelta → Type 0
-TopDelta d = (d .max ≤ d .last-gc) ⊎ ((s : KeyValue) × (s ∈ d .recs) × (s .version ≡ d .max))
+abbrev NewestDelta : NodeDelta → Type 0
+NewestDelta d = (d .max ≤ d .last-gc) ⊎ ((s : KeyValue) × (s ∈ d .recs) × (s .version ≡ d .max))
 
 pub record Exact (h : List KeyValue) (n : Node) : Type 0 where
   pub low : reached n ≤ length h
   pub by-then : (g : List KeyValue) → Grown g h → reached n ≤ length g → HonestNode g n
-  pub top : Top n
+  pub top : Newest n
 
 pub record ExactDelta (h : List KeyValue) (d : NodeDelta) : Type 0 where
   pub low : reach (d .last-gc) (d .max) ≤ length h
   pub by-then : (g : List KeyValue) → Grown g h → reach (d .last-gc) (d .max) ≤ length g → HonestDelta g d
-  pub top : TopDelta d
+  pub top : NewestDelta d
 
 -- by all that was given
 pub exact-honest : (h : List KeyValue) (n : Node) → Exact h n → HonestNode h n
@@ -125,7 +125,7 @@ pub exact-fresh : (h : List KeyValue) → Exact h fresh
 exact-fresh h = record { low = omega arith; by-then = λ g z b. fresh-honest g; top = inl (omega arith) }
 
 -- the owner's, if its newest record stands or was removed
-pub exact-owner : (h : List KeyValue) (p : Node) → Publisher h p → Top p → Exact h p
+pub exact-owner : (h : List KeyValue) (p : Node) → Publisher h p → Newest p → Exact h p
 exact-owner h p own t =
     record {
       low = let a = own .top in let b = own .node .honest .gc-low in omega arith;
@@ -133,7 +133,7 @@ exact-owner h p own t =
       top = t;
     }
 
-pub top-write : (k : List ℕ) (c : Change) (n : Node) → Top (write k c n)
+pub top-write : (k : List ℕ) (c : Change) (n : Node) → Newest (write k c n)
 unfolding write
 top-write k c n = inr (_, store-new _ _, refl)
 
@@ -150,11 +150,11 @@ module _ (h : List KeyValue) (n : Node) (x : Exact h n) where
         top = at (x .top);
       }
     where
-      at : Top n → Top (remove due n)
+      at : Newest n → Newest (remove due n)
       at (inl a) = inl (let b = gc-rises due (n .last-gc) (n .recs) in omega arith)
       at (inr r) = go (goes due (r .0)) refl
         where
-          go : (b : Bool) → goes due (r .0) ≡ b → Top (remove due n)
+          go : (b : Bool) → goes due (r .0) ≡ b → Newest (remove due n)
           go true q = inl (let a = gc-covers due (n .last-gc) (r .1) q in let b = r .2 in omega arith)
           go false q = inr (r .0, keep-in (λ s. not (goes due s)) (r .1) (ap not q), r .2)
 
@@ -212,25 +212,25 @@ module _ (h : List KeyValue) (base : Grown [] h) (now : ℕ) (d : NodeDelta) (y 
       let c = sharp t j s (hon .told s i) (sym k) (let b = hon .within s i in omega arith) in
       grown-numbered h base .one t s (hon .told t j) (hon .told s i) (omega arith)
 
-  top-then : (k : Node) → Came ways now d n k → Top k
+  top-then : (k : Node) → Came ways now d n k → Newest k
   unfolding outcome
   top-then k left = x .top
   top-then k (reset r) = at (y .top)
     where
-      at : TopDelta d → Top k
+      at : NewestDelta d → Newest k
       at (inl a) = inl a
       at (inr s) = by (takes-or-not 0 (d .last-gc) (s .0) (grown-numbered h base .low (s .0) (exact-delta-honest h d y .told (s .0) (s .1))))
         where
-          by : (takes 0 (d .last-gc) (s .0) ≡ true) ⊎ Removed (d .last-gc) (s .0) → Top k
+          by : (takes 0 (d .last-gc) (s .0) ≡ true) ⊎ Removed (d .last-gc) (s .0) → Newest k
           by (inl q) = inr (stamp now (s .0), take-new 0 (d .last-gc) now [] (s .1) q (alone (s .0) (s .1)), s .2)
           by (inr q) = inl (let a = q .1 in let b = s .2 in omega arith)
   top-then k (took r) = at (y .top)
     where
-      at : TopDelta d → Top k
+      at : NewestDelta d → Newest k
       at (inl a) = inl (let b = r .newer in let c = r .gc-held in omega arith)
       at (inr s) = by (takes-or-not (n .max) (n .last-gc) (s .0) (let a = r .newer in let b = s .2 in omega arith))
         where
-          by : (takes (n .max) (n .last-gc) (s .0) ≡ true) ⊎ Removed (n .last-gc) (s .0) → Top k
+          by : (takes (n .max) (n .last-gc) (s .0) ≡ true) ⊎ Removed (n .last-gc) (s .0) → Newest k
           by (inl q) = inr (stamp now (s .0), take-new (n .max) (n .last-gc) now (n .recs) (s .1) q (alone (s .0) (s .1)), s .2)
           by (inr q) = inl (let a = q .1 in let b = s .2 in omega arith)
 
@@ -271,7 +271,7 @@ module _ (h : List KeyValue) (base : Grown [] h) (n : Node) (x : Exact h n) (g m
   made-top : (all : List KeyValue) → stale from (n .recs) ≡ all → (carried fits (n .max) all (take count all) ≤ n .last-gc) ⊎ ((s : KeyValue) × (s ∈ take count all) × (s .version ≡ carried fits (n .max) all (take count all)))
   made-top [] e = inl (low fits (x .top))
     where
-      low : (b : Bool) → Top n → pick b (n .max) 0 ≤ n .last-gc
+      low : (b : Bool) → Newest n → pick b (n .max) 0 ≤ n .last-gc
       low true (inl a) = a
       low true (inr r) = absurd (in-none (subst (λ (l : List KeyValue). r .0 .kv ∈ l) e (newest (r .0) (r .1) (r .2))))
       low false t = omega arith
@@ -288,7 +288,7 @@ module _ (h : List KeyValue) (base : Grown [] h) (n : Node) (x : Exact h n) (g m
   unfolding nodeDelta
   reaches whole = at (x .top)
     where
-      at : Top n → reached n ≤ reach (d .last-gc) (d .max)
+      at : Newest n → reached n ≤ reach (d .last-gc) (d .max)
       at (inl a) = omega arith
       at (inr r) =
           let i = subst (λ (l : List KeyValue). r .0 .kv ∈ l) (sym (take-whole count (stale from (n .recs)) whole)) (newest (r .0) (r .1) (r .2)) in

@@ -7,3 +7,4 @@ pub mod Back
 pub mod Sharp
 pub mod TwoHubs
 pub mod Exact
+pub mod Uncut
