@@ -4,24 +4,23 @@ use Prim.Native.Nat.{_<_, _≤_, max, suc, zero, ℕ}
 use mathlib.Core.Bool.{Bool, false, not, true}
 use mathlib.Core.List.{List, [], _∷_}
 use mathlib.Core.Logic.{_⊎_, inl, inr}
-use mathlib.Core.Path.{_∙_, _≡_, ap, refl, subst, sym}
+use mathlib.Core.Path.{_≡_, ap, refl, subst, sym}
 use native.Mathlib.Omega.{arith}
 use lib.Dec.{leb}
 use lib.ListN.{length, take}
 use borrow.Author.Tests.{leb-false, leb-true}
 use Rattle.fields.proofs.Choice.{in-cons, in-none, keep-in}
 use Rattle.fields.specs.Choice.{_∈_, pick}
-use Rattle.rules.proofs.Records.{Sorted, gc-covers, gc-rises, store-new}
+use Rattle.rules.proofs.Records.{gc-covers, gc-rises, store-new}
 use Rattle.rules.proofs.Sending.{carried, nodeDelta}
 use Rattle.rules.proofs.Stale.{stale-in, top-is, topOf}
 use Rattle.rules.proofs.Taking.{Applies, Came, FromOf, came, from-of, left, no-reset, reset, reset-due, take-new, takes-or-not, took}
-use Rattle.rules.specs.Apply.{Lawful, Ways, applyNode, outcome, stamp, takes}
+use Rattle.rules.specs.Apply.{Ways, applyNode, outcome, stamp, takes}
 use Rattle.rules.specs.Compute.{fromOf, stale}
 use Rattle.rules.specs.Delta.{NodeDelta}
 use Rattle.rules.specs.Node.{Change, KeyValue, Node, Rec, fresh, goes, remove, withHeartbeat, write}
 use Rattle.rules.specs.declared.Heartbeat.{Heartbeat}
 use Rattle.demand3.proofs.Computing.{computed-honest}
-use Rattle.demand3.proofs.History.{Numbered}
 use Rattle.demand3.proofs.Honest.{Current, HonestDelta, HonestNode, Removed, delta-grows, fresh-honest, gc-within, node-beat, node-grows, node-remove}
 use Rattle.demand3.proofs.Publisher.{Publisher}
 use Rattle.demand3.proofs.Step.{node-apply}

@@ -3,7 +3,6 @@
 use Prim.Native.Nat.{_<_, _≤_, max, ℕ}
 use mathlib.Core.Bool.{Bool, false, false≢true, true}
 use mathlib.Core.List.{List, [], _∷_}
-use mathlib.Core.Logic.{_⊎_, inl, inr}
 use mathlib.Core.Option.{Option, none, some}
 use mathlib.Core.Path.{_∙_, _≡_, ap, refl, subst, sym}
 use native.Mathlib.Omega.{arith}
@@ -16,11 +15,14 @@ use Rattle.rules.proofs.Obeys.{facts-table}
 use Rattle.rules.proofs.Tables.{part-in, partAt}
 use Rattle.rules.proofs.Taking.{Applies}
 use Rattle.rules.specs.Compute.{stale}
+use Rattle.rules.specs.Apply.{waysOf}
 use Rattle.rules.specs.Delta.{Good, NodeDelta, Op, Part, deltaBytes, partsOf}
 use Rattle.rules.specs.Given.{Given}
 use Rattle.rules.specs.Node.{Call, Decision, Give, KeyValue, Leave, Node, Refuse, act, decide}
-use Rattle.rules.specs.Table.{Entry, Table, nodeOf}
+use Rattle.rules.specs.Table.{Table, nodeOf}
+use Rattle.rules.specs.Whole.{decodeWhole}
 use Rattle.rules.specs.declared.Computed.{Computed}
+use Rattle.rules.specs.declared.Mode.{Mode}
 use Rattle.demand3.proofs.EachNode.{nodeAt, orFresh}
 use Rattle.demand3.proofs.Forms.{Comes, comes, refuses, writes}
 use Rattle.demand3.proofs.Moments.{ReadsWell, nth-sent}
@@ -30,7 +32,9 @@ use Rattle.demand3.specs.Demand3.{Holds}
 use Rattle.demand3.specs.Forms.{Order, opsBy}
 use Rattle.demand3.specs.World.{appliedTo, givenAfter, givenBy, givenIn, sentAfter}
 use Rattle.net.proofs.Each.{Each, each-add, each-beat, each-call, each-drop, each-hub, each-offer, each-remove, each-same, each-taken}
+use Rattle.net.proofs.LentNet.{after-lent, lent-run, ready}
 use Rattle.net.proofs.Moments.{Longer, Moment, as-long, longer, moment-begin, moment-event, moments, one-more, placed-in}
+use Rattle.net.specs.LentNet.{LentNet, lentAfter, lentBegin, planIn, tablesIn}
 use Rattle.net.specs.Net.{Adding, Arriving, Beating, Computing, Dropping, Event, Net, Offering, Plan, Ready, Removing, Restoring, Saving, Writing, after, allGoOn, begin, calls, goesOn, happen, placed, possible, restored}
 use Rattle.net_losing.proofs.Exact.{Exact, ExactDelta, Newest, exact-apply, exact-beat, exact-computed, exact-delta-longer, exact-fresh, exact-honest, exact-longer, exact-owner, exact-remove, exact-sharp, top-write}
 use Rattle.net_losing.proofs.Grown.{Grown, as-is, grown-longer}
@@ -322,3 +326,19 @@ module _ (plan : Plan) (ready : Ready plan) where
           all-current (after plan fs w .given i) (nodeAt i (after plan fs w .hubs x)) (o .numbered) (o .node) (o .top) t now s (told-run i s fs w ok y v told) (sym k)
       go false e =
           past-run i s fs w ok y v g told x (eqb-false _ _ e) (past-held (w .given i) (nodeAt i (w .hubs x)) (ok .tables x .honest i) s held) .none-older t now k
+
+-- of lent bytes
+pub lent-no-key-falls-uncut : (owner : ℕ → ℕ) (modes : ℕ → Mode) → ((x : ℕ) → waysOf (modes x) .late ≡ true) → (es fs : List Event)
+    → Uncut (planIn owner modes) es begin
+    → Uncut (planIn owner modes) fs (after (planIn owner modes) es begin)
+    → allGoOn fs ≡ true
+    → (x : ℕ)
+    → NoKeyFalls (decodeWhole (lentAfter owner es (lentBegin modes) .hubs x) .table) (decodeWhole (lentAfter owner fs (lentAfter owner es (lentBegin modes)) .hubs x) .table)
+lent-no-key-falls-uncut owner modes late es fs u v g x =
+    let plan : Plan = planIn owner modes in
+    let l : LentNet = lentAfter owner es (lentBegin modes) in
+    let r = lent-run owner modes late es in
+    let s = after-lent owner modes late fs l (r .0) (subst (Moment owner) (sym (r .1)) (moments plan (ready owner modes late) es begin (moment-begin owner))) in
+    let e : tablesIn (lentAfter owner fs l) ≡ after plan fs (after plan es begin) = s .1 ∙ ap (after plan fs) (r .1) in
+    subst (λ (n : Net). NoKeyFalls (tablesIn l .hubs x) (n .hubs x)) (sym e)
+    (subst (λ (n : Net). NoKeyFalls (n .hubs x) (after plan fs (after plan es begin) .hubs x)) (sym (r .1)) (no-key-falls-uncut plan (ready owner modes late) es fs u v g x))

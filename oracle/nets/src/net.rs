@@ -32,7 +32,7 @@ pub enum Kind {
     Unstored,
     /// As Losing, but an owner that forgot writes at once.
     Hasty,
-    /// Guarded, two nodes, values of 64 bytes; a node is often left out; nobody is restored or wiped. At the end all hear each other under an MTU of 135.
+    /// Four guarded hubs and two nodes of hub 0: see `locks`.
     Narrow,
 }
 
@@ -120,10 +120,11 @@ fn ensure(holds: bool, claim: impl Fn() -> String) -> Claim {
 
 impl<'a> Net<'a> {
     pub fn new(kind: Kind, look: Look, mut random: Random, counts: &'a mut Counts) -> Net<'a> {
-        let hubs = 3 + random.below(3);
-        let nodes = if kind == Kind::Narrow { 2 } else { 1 + random.below(2) };
+        let narrow = kind == Kind::Narrow;
+        let hubs = if narrow { 4 } else { 3 + random.below(3) };
+        let nodes = if narrow { 2 } else { 1 + random.below(2) };
         let keys = 2 + random.below(KEYS.len() - 1);
-        let owners = (0..nodes).map(|_| random.below(hubs)).collect();
+        let owners = (0..nodes).map(|_| if narrow { 0 } else { random.below(hubs) }).collect();
         let mut modes: Vec<u8> = (0..hubs)
             .map(|_| match kind {
                 Kind::Plain => PLAIN,
@@ -220,7 +221,6 @@ impl<'a> Net<'a> {
             17..=19 => self.arrive(hub),
             20 => self.save(hub),
             21 if self.loses() => self.lose(hub),
-            21 | 22 if self.kind == Kind::Narrow => self.hear_someone(hub),
             21 => self.restore(hub),
             22 if self.random.once_in(2) => self.wipe(hub),
             _ => self.hear_someone(hub),
@@ -237,12 +237,8 @@ impl<'a> Net<'a> {
         let before = self.pair(hub, place);
         let key = KEYS[self.random.below(self.keys)];
         let long = self.random.once_in(4);
-        let value = [b"12345678"[self.random.below(8)]; 64];
-        let value = match self.kind {
-            Kind::Narrow => &value[..],
-            _ if long => &value[..40],
-            _ => &value[..1],
-        };
+        let value = [b"12345678"[self.random.below(8)]; 40];
+        let value = if long { &value[..] } else { &value[..1] };
         let (number, clock) = (place as u64 + 1, self.clock(hub));
         let table = &mut self.tables[hub];
         match self.random.below(6) {
@@ -286,17 +282,12 @@ impl<'a> Net<'a> {
     }
 
     fn mtu(&mut self) -> usize {
-        match self.kind {
-            Kind::Narrow if self.random.once_in(2) => NARROW,
-            _ if self.random.once_in(2) => WHOLE,
-            _ => 100 + self.random.below(80),
-        }
+        if self.random.once_in(2) { WHOLE } else { 100 + self.random.below(80) }
     }
 
     /// Seldom a node is left out.
     fn excluded(&mut self) -> Vec<u64> {
-        let seldom = if self.kind == Kind::Narrow { 2 } else { 12 };
-        if self.random.once_in(seldom) { vec![1 + self.random.below(self.owners.len()) as u64] } else { vec![] }
+        if self.random.once_in(12) { vec![1 + self.random.below(self.owners.len()) as u64] } else { vec![] }
     }
 
     /// A delta of one hub for a digest. It is kept. What the hub gave is stored first, and let out by it.
@@ -647,10 +638,26 @@ impl<'a> Net<'a> {
         Ok(())
     }
 
-    /// All hear each other under an MTU of 135 until a round changes nothing. None: the net agrees. Else whether it does when each hub tells a neighbour that sent it a node that was
-    /// Fenced, in the next digest and no other, the largest number as that node's max.
+    /// Hub 0 writes both nodes. Hub 1 hears the first, removes what has a TTL, and hears the rest; hub 2 the second. Hub 3 hears the first from hub 1 and the second from hub 2. Then all hear each other
+    /// under an MTU of 135 until a round changes nothing. None: the net agrees. Else whether it does when each hub tells a neighbour that sent it a node that was Fenced, in the next digest and
+    /// no other, the largest number as that node's max.
     pub fn locks(&mut self) -> Result<Option<bool>, String> {
         let hubs = self.tables.len();
+        for place in 0..2 {
+            for _ in 0..2 + self.random.below(4) {
+                let (key, value) = (KEYS[self.random.below(KEYS.len())], [b'1'; 64]);
+                let status = if self.random.once_in(3) { table::TTL } else { table::SET };
+                let length = 30 + self.random.below(35);
+                port::write(&mut self.tables[0], place as u64 + 1, key, &value[..length], status.into(), 10);
+                self.gave(place, key);
+            }
+        }
+        for (hub, other) in [(1, 2), (2, 1)] {
+            self.hear(hub, 0, WHOLE, &[other])?;
+            port::remove(&mut self.tables[hub], 1_000_000, 0);
+            self.hear(hub, 0, WHOLE, &[])?;
+            self.hear(3, hub, NARROW, &[other])?;
+        }
         let pairs: Vec<(usize, usize)> = (0..hubs)
             .flat_map(|hub| (0..hubs).map(move |other| (hub, other)))
             .filter(|(hub, other)| hub != other)
