@@ -5,6 +5,7 @@ pub mod Chains
 pub mod Static
 pub mod Rounds
 pub mod Paths
+pub mod Crossing
 pub mod Wide
 pub mod Ends
 pub mod Owner
