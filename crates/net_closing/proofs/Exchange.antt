@@ -154,9 +154,6 @@ module _ (plan : Plan) (lawful : (x : ℕ) → Lawful (plan .ways x)) (w : Net) 
       (ap (λ (l : List (List ℕ)). appliedTo (plan .ways x) (q .now) (q .answers) (nthSent 0 l) (w .hubs x))
       (sent-is (plan .ways x) (lawful x) (w .hubs x) (w .hubs y) (w .hubs x) (obeyed x) (obeyed y) i q (s .wrote) (w .sent) .0))
 
-  pub its-part : (d : NodeDelta) → PartIn ops i d → partAt i (partsOf ops) ≡ some d
-  its-part d m = part-is (plan .ways x) (lawful x) (w .hubs x) (w .hubs y) (w .hubs x) (obeyed x) (obeyed y) i q (s .wrote) d m
-
   pub heard-node : (d : NodeDelta) → PartIn ops i d → (nodeAt i (after plan (exchangeIn q x y w) w .hubs x) ≡ applyNode (plan .ways x) (q .now) d (s .node) .node) × (applyNode (plan .ways x) (q .now) d (s .node) .answer ≡ node.Room → ⊥)
   heard-node d m =
       let r = taken-part (plan .ways x) (lawful x) (w .hubs x) (w .hubs y) (w .hubs x) (obeyed x) (obeyed y) i q (s .wrote) (s .clock) (s .roomy) (s .node) (s .has) d m in
