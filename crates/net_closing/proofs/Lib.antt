@@ -4,6 +4,8 @@ pub mod Calm
 pub mod Chains
 pub mod Static
 pub mod Rounds
+pub mod Paths
+pub mod Crossing
 pub mod Wide
 pub mod Ends
 pub mod Owner
