@@ -69,7 +69,10 @@ pub fn value(node: usize, key: usize, version: u64) -> Value {
 impl History {
     pub fn new(records: usize) -> History {
         let keys = |node: usize| (0..records).map(|key| format!("meter{node}.reading{key:02}")).collect();
-        History { keys: (0..NODES).map(keys).collect(), given: vec![vec![Given { version: 0, status: 0, value: value(0, 0, 0) }; records]; NODES] }
+        History {
+            keys: (0..NODES).map(keys).collect(),
+            given: vec![vec![Given { version: 0, status: 0, value: value(0, 0, 0) }; records]; NODES],
+        }
     }
 
     /// Which key this is.

@@ -55,7 +55,8 @@ fn faults(reports: &[Report]) -> usize {
         }
     }
     for same in reports.chunks(MODES.len()) {
-        let calm = |report: &Report| format!("{:?}", report.agreed.iter().filter(|part| part.part.calm()).collect::<Vec<_>>());
+        let calm =
+            |report: &Report| format!("{:?}", report.agreed.iter().filter(|part| part.part.calm()).collect::<Vec<_>>());
         if same.iter().any(|report| calm(report) != calm(&same[0])) {
             println!("{:?}: the modes differ where nothing is in a reset", same[0].plan);
             faults += 1;
@@ -74,7 +75,7 @@ fn matrix(plans: Vec<Plan>, jobs: usize, folder: Option<&Path>) -> usize {
     let sum = |count: fn(&Report) -> u64| grouped(reports.iter().map(count).sum());
     let safe: u64 = reports.iter().filter(|report| report.plan.mode != Mode::Plain).map(Report::broken).sum();
     println!(
-        "{} nets, {} ticks, {} datagrams, {} lost, {} doubled, {} late; {} times a hub was switched off; {} nodes looked at; in fenced and guarded nets {} claims broken. {:.0} seconds.",
+        "{} nets, {} ticks, {} datagrams, {} lost, {} doubled, {} late; {} times a hub was switched off; {} nodes looked at; in fenced and guarded nets {} claims broken. A hub's calls took {} ns in a tick. {:.0} seconds.",
         reports.len(),
         sum(|report| report.ticks.len() as u64),
         sum(|report| report.counts.datagrams),
@@ -84,6 +85,10 @@ fn matrix(plans: Vec<Plan>, jobs: usize, folder: Option<&Path>) -> usize {
         sum(|report| report.counts.switched),
         sum(|report| report.counts.looked),
         safe,
+        grouped(
+            reports.iter().map(|report| report.spent.all()).sum::<u64>()
+                / reports.iter().map(|report| (report.ticks.len() * report.plan.hubs) as u64).sum::<u64>()
+        ),
         start.elapsed().as_secs_f64(),
     );
     if let Some(folder) = folder {

@@ -355,10 +355,22 @@ impl<S: Side> Net<S> {
         for again in 0..=u8::from(doubled) {
             let late = chance.thousandth(link.late);
             self.counts.late += u64::from(late);
-            let takes = if late { MOMENTS as usize + chance.below(LATEST - MOMENTS as usize) } else { 1 + chance.below(MOMENTS as usize / 2) };
+            let takes = if late {
+                MOMENTS as usize + chance.below(LATEST - MOMENTS as usize)
+            } else {
+                1 + chance.below(MOMENTS as usize / 2)
+            };
             let way = ((self.moment + takes as u64) % self.ways.len() as u64) as usize;
-            let (kind, bytes) = (if matches!(kind, Kind::Digest) { Kind::Digest } else { Kind::Delta }, sent.bytes.clone());
-            self.ways[way].push(Datagram { from: from as u32, to: to as u32, kind, began, copy: copy * 2 + again, bytes });
+            let (kind, bytes) =
+                (if matches!(kind, Kind::Digest) { Kind::Digest } else { Kind::Delta }, sent.bytes.clone());
+            self.ways[way].push(Datagram {
+                from: from as u32,
+                to: to as u32,
+                kind,
+                began,
+                copy: copy * 2 + again,
+                bytes,
+            });
         }
     }
 
@@ -372,7 +384,8 @@ impl<S: Side> Net<S> {
         match kind {
             Kind::Digest => {
                 self.hubs[hub].offer(&bytes, own);
-                let mut chance = Chance::of(self.plan.seed, For::Ties, (began.0 as usize) << 8 | usize::from(copy), began.1.into());
+                let mut chance =
+                    Chance::of(self.plan.seed, For::Ties, (began.0 as usize) << 8 | usize::from(copy), began.1.into());
                 let ties: [u64; NODES] = std::array::from_fn(|_| chance.below(NODES) as u64);
                 let start = Instant::now();
                 let delta = self.hubs[hub].compute(&bytes, self.plan.mtu, &ties, &mut self.datagram[..]);
@@ -432,7 +445,10 @@ impl<S: Side> Net<S> {
                         *fell += u64::from(version < highest[key]);
                         highest[key] = version;
                     });
-                    assert!(stale || (seen == self.seen[hub][place] && own.pair() == self.pairs[hub][place]), "a node that did not change is another");
+                    assert!(
+                        stale || (seen == self.seen[hub][place] && own.pair() == self.pairs[hub][place]),
+                        "a node that did not change is another"
+                    );
                     broken[FALL] += u64::from(self.pairs[hub][place] > own.pair());
                     self.pairs[hub][place] = own.pair();
                     self.seen[hub][place] = seen;

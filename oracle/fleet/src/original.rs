@@ -109,7 +109,10 @@ pub fn beside(seed: u64, sizes: &[usize]) -> usize {
                 let (port, sums, bytes) = played::<Port>(plan);
                 let (old, old_sums, old_bytes) = played::<Old>(plan);
                 let same = sums.iter().zip(&old_sums).take_while(|(one, other)| one == other).count();
-                let differs = same < sums.len() || sums.len() != old_sums.len() || port.back() != old.back() || old.ticks(Part::Full) != port.ticks(Part::Full);
+                let differs = same < sums.len()
+                    || sums.len() != old_sums.len()
+                    || port.back() != old.back()
+                    || old.ticks(Part::Full) != port.ticks(Part::Full);
                 if differs {
                     println!("{plan:?}: DIFFERENT after {same} ticks");
                     different += 1;

@@ -56,7 +56,8 @@ impl Axis {
     fn marks(&self, values: impl Iterator<Item = f64>) -> (f64, f64, Vec<f64>) {
         let most = values.fold(1.0, f64::max);
         if self.tenfold {
-            let marks: Vec<f64> = (1..).map(|power| 10f64.powi(power)).take_while(|mark| *mark <= most * 1.01).collect();
+            let marks: Vec<f64> =
+                (1..).map(|power| 10f64.powi(power)).take_while(|mark| *mark <= most * 1.01).collect();
             return (marks[0], most, marks);
         }
         let step = step(self.end.unwrap_or(most));
@@ -89,21 +90,48 @@ impl Chart {
         let mut put = |text: std::fmt::Arguments| svg.write_fmt(text).expect("a text grows");
         for mark in across {
             let at = x(mark);
-            put(format_args!("<line x1=\"{at:.1}\" y1=\"{TOP}\" x2=\"{at:.1}\" y2=\"{BOTTOM}\" stroke=\"#e5e7eb\"/>\n"));
-            put(format_args!("<text x=\"{at:.1}\" y=\"{}\" text-anchor=\"middle\">{}{}</text>\n", BOTTOM + 19.0, grouped(mark as u64), self.across.unit));
+            put(format_args!(
+                "<line x1=\"{at:.1}\" y1=\"{TOP}\" x2=\"{at:.1}\" y2=\"{BOTTOM}\" stroke=\"#e5e7eb\"/>\n"
+            ));
+            put(format_args!(
+                "<text x=\"{at:.1}\" y=\"{}\" text-anchor=\"middle\">{}{}</text>\n",
+                BOTTOM + 19.0,
+                grouped(mark as u64),
+                self.across.unit
+            ));
         }
         for mark in up {
             let at = y(mark);
-            put(format_args!("<line x1=\"{LEFT}\" y1=\"{at:.1}\" x2=\"{RIGHT}\" y2=\"{at:.1}\" stroke=\"#e5e7eb\"/>\n"));
-            put(format_args!("<text x=\"{}\" y=\"{:.1}\" text-anchor=\"end\">{}{}</text>\n", LEFT - 8.0, at + 4.5, grouped(mark as u64), self.up.unit));
+            put(format_args!(
+                "<line x1=\"{LEFT}\" y1=\"{at:.1}\" x2=\"{RIGHT}\" y2=\"{at:.1}\" stroke=\"#e5e7eb\"/>\n"
+            ));
+            put(format_args!(
+                "<text x=\"{}\" y=\"{:.1}\" text-anchor=\"end\">{}{}</text>\n",
+                LEFT - 8.0,
+                at + 4.5,
+                grouped(mark as u64),
+                self.up.unit
+            ));
         }
-        put(format_args!("<path d=\"M {LEFT} {TOP} V {BOTTOM} H {RIGHT}\" fill=\"none\" stroke=\"#374151\" stroke-width=\"1.5\"/>\n"));
-        put(format_args!("<text x=\"{}\" y=\"{}\" text-anchor=\"middle\">{}</text>\n", (LEFT + RIGHT) / 2.0, BOTTOM + 44.0, self.across.title));
+        put(format_args!(
+            "<path d=\"M {LEFT} {TOP} V {BOTTOM} H {RIGHT}\" fill=\"none\" stroke=\"#374151\" stroke-width=\"1.5\"/>\n"
+        ));
+        put(format_args!(
+            "<text x=\"{}\" y=\"{}\" text-anchor=\"middle\">{}</text>\n",
+            (LEFT + RIGHT) / 2.0,
+            BOTTOM + 44.0,
+            self.across.title
+        ));
         let middle = (TOP + BOTTOM) / 2.0;
-        put(format_args!("<text x=\"20\" y=\"{middle}\" text-anchor=\"middle\" transform=\"rotate(-90 20 {middle})\">{}</text>\n", self.up.title));
+        put(format_args!(
+            "<text x=\"20\" y=\"{middle}\" text-anchor=\"middle\" transform=\"rotate(-90 20 {middle})\">{}</text>\n",
+            self.up.title
+        ));
         for (place, (line, (colour, strokes))) in self.lines.iter().zip(STROKES).enumerate() {
             let way: Vec<String> = line.points.iter().map(|&(a, b)| format!("{:.1},{:.1}", x(a), y(b))).collect();
-            let look = format!("fill=\"none\" stroke=\"{colour}\" stroke-width=\"2.5\" stroke-dasharray=\"{strokes}\" stroke-linejoin=\"round\"");
+            let look = format!(
+                "fill=\"none\" stroke=\"{colour}\" stroke-width=\"2.5\" stroke-dasharray=\"{strokes}\" stroke-linejoin=\"round\""
+            );
             put(format_args!("<polyline points=\"{}\" {look}/>\n", way.join(" ")));
             let at = TOP + 14.0 + 26.0 * place as f64;
             put(format_args!("<path d=\"M {} {at} H {}\" {look}/>\n", RIGHT + 18.0, RIGHT + 58.0));
@@ -119,7 +147,12 @@ struct Rows(Vec<Vec<String>>);
 impl Rows {
     fn of(file: &Path) -> Rows {
         let text = std::fs::read_to_string(file).unwrap_or_else(|error| panic!("{}: {error}", file.display()));
-        Rows(text.lines().filter(|line| !line.starts_with('#')).map(|line| line.split('\t').map(String::from).collect()).collect())
+        Rows(
+            text.lines()
+                .filter(|line| !line.starts_with('#'))
+                .map(|line| line.split('\t').map(String::from).collect())
+                .collect(),
+        )
     }
 
     /// The numbers from the sixth word on, the turn, of those with this size, MTU, mode and one of these parts; 32 records.

@@ -84,7 +84,10 @@ pub fn living(reports: &[&Report]) -> String {
             0 => format!("{} ticks", grouped(wide.ticks)),
             behind => format!("{} left behind", grouped(behind as u64)),
         });
-        let after = report.of(Part::End).next().map_or(String::new(), |end| if end.behind > 0 { "no".into() } else { format!("{} ticks", end.ticks) });
+        let after = report
+            .of(Part::End)
+            .next()
+            .map_or(String::new(), |end| if end.behind > 0 { "no".into() } else { format!("{} ticks", end.ticks) });
         let _ = writeln!(
             text,
             "| {} | {} | {} | {} | {} | {} | {} | {} | {} | {} | {after} | {} | {wide} |",
@@ -116,7 +119,15 @@ pub fn store(reports: &[&Report], folder: &Path) -> std::io::Result<()> {
             let _ = writeln!(
                 ticks,
                 "{head}\t{:?}\t{}\t{}\t{}\t{}\t{}\t{}\t{}\t{}",
-                tick.part, tick.turn, tick.at, sample.on, sample.agree, sample.late, sample.back, sample.readings, sample.datagrams
+                tick.part,
+                tick.turn,
+                tick.at,
+                sample.on,
+                sample.agree,
+                sample.late,
+                sample.back,
+                sample.readings,
+                sample.datagrams
             );
         }
         for part in &report.agreed {
@@ -128,7 +139,10 @@ pub fn store(reports: &[&Report], folder: &Path) -> std::io::Result<()> {
         }
     }
     let head = "# hubs, records, MTU, mode, part, turn";
-    std::fs::write(folder.join("ticks.tsv"), format!("{head}, tick; hubs on, agree, late, back; readings back, datagrams\n{ticks}"))?;
+    std::fs::write(
+        folder.join("ticks.tsv"),
+        format!("{head}, tick; hubs on, agree, late, back; readings back, datagrams\n{ticks}"),
+    )?;
     std::fs::write(folder.join("parts.tsv"), format!("{head}; ticks, left behind, datagrams, bytes\n{parts}"))
 }
 
@@ -137,6 +151,8 @@ pub fn broken(report: &Report) -> Vec<String> {
     let times = report.breaches.iter().zip(report.first).zip(CLAIMS);
     times
         .filter(|((times, _), _)| **times > 0)
-        .map(|((times, first), claim)| format!("{claim}: {} times, first in tick {}", grouped(*times), first.unwrap_or(0)))
+        .map(|((times, first), claim)| {
+            format!("{claim}: {} times, first in tick {}", grouped(*times), first.unwrap_or(0))
+        })
         .collect()
 }

@@ -133,7 +133,14 @@ impl<S: Side> Story<S> {
             }
         }
         let sent = |count: fn(&Counts) -> u64| count(&self.net.counts) - count(&before);
-        self.agreed.push(Agreed { part, turn, ticks, behind, datagrams: sent(|counts| counts.datagrams), bytes: sent(|counts| counts.bytes) });
+        self.agreed.push(Agreed {
+            part,
+            turn,
+            ticks,
+            behind,
+            datagrams: sent(|counts| counts.datagrams),
+            bytes: sent(|counts| counts.bytes),
+        });
     }
 
     /// The parts before hubs are switched off.

@@ -10,7 +10,7 @@ use crate::{HUBS, work};
 
 const MTU: usize = 1_400;
 const RECORDS: usize = 32;
-const GRACES: [u64; 8] = [2, 5, 10, 15, 20, 25, 30, 40];
+const GRACES: [u64; 6] = [5, 10, 15, 20, 25, 30];
 
 fn plan(hubs: usize, seed: u64) -> Plan {
     Plan::new(hubs, RECORDS, MTU, Mode::Guarded, seed)
@@ -25,12 +25,20 @@ fn ticks(report: &Report, part: Part) -> String {
 }
 
 fn rows(title: &str, first: &str, plans: Vec<(String, Plan)>, jobs: usize) -> usize {
-    println!("{title}\n\n| {first} | full table: ticks | one write: ticks | datagrams a hub in a tick while nothing is new |\n|---|---|---|---|");
+    println!(
+        "{title}\n\n| {first} | full table: ticks | one write: ticks | datagrams a hub in a tick while nothing is new |\n|---|---|---|---|"
+    );
     let mut broken = 0;
     for (name, report) in work::each(plans, jobs, |(name, plan)| (name, story::calm::<Port>(plan))) {
         // The last tick of the last part: everyone agrees, or nobody gets on.
         let quiet = report.ticks.last().map_or(0, |tick| 100 * tick.sample.datagrams / report.plan.hubs as u64);
-        println!("| {name} | {} | {} | {}.{:02} |", ticks(&report, Part::Full), ticks(&report, Part::One), quiet / 100, quiet % 100);
+        println!(
+            "| {name} | {} | {} | {}.{:02} |",
+            ticks(&report, Part::Full),
+            ticks(&report, Part::One),
+            quiet / 100,
+            quiet % 100
+        );
         broken += report.broken() as usize;
     }
     println!();
@@ -41,29 +49,45 @@ fn peers(seed: u64, jobs: usize) -> usize {
     let some = [1, 2, 3, 4, 8].map(|count| (format!("{count} picked by each"), Peers::Some(count)));
     let plans = some.into_iter().chain([("anyone".into(), Peers::Any)]);
     let plans = plans.map(|(name, peers)| (name, Plan { peers, ..plan(1_000, seed) })).collect();
-    let row = [10, 100].map(|hubs| (format!("the two beside it in a row of {hubs}"), Plan { peers: Peers::Row, ..plan(hubs, seed) }));
-    rows("Whom a hub hears: 1,000 hubs, MTU 1,400, 32 records", "peers", plans, jobs) + rows("Hubs in a row", "peers", row.into(), jobs)
+    let row = [10, 100]
+        .map(|hubs| (format!("the two beside it in a row of {hubs}"), Plan { peers: Peers::Row, ..plan(hubs, seed) }));
+    rows("Whom a hub hears: 1,000 hubs, MTU 1,400, 32 records", "peers", plans, jobs)
+        + rows("Hubs in a row", "peers", row.into(), jobs)
 }
 
 fn links(seed: u64, jobs: usize) -> usize {
-    let plans = [0, 100, 250, 500].map(|lost| (format!("{} %", lost / 10), Plan { link: Link { lost, ..LINK }, ..plan(1_000, seed) }));
+    let plans = [0, 100, 250, 500]
+        .map(|lost| (format!("{} %", lost / 10), Plan { link: Link { lost, ..LINK }, ..plan(1_000, seed) }));
     rows("What is lost: 1,000 hubs, MTU 1,400, 32 records", "datagrams lost", plans.into(), jobs)
 }
 
 fn asking(seed: u64, jobs: usize) -> usize {
     let plans = |both: bool| HUBS.map(|hubs| (grouped(hubs as u64), Plan { both, ..plan(hubs, seed) })).into();
-    rows("Who is asked answers", "hubs", plans(false), jobs) + rows("Who is asked answers, and asks back", "hubs", plans(true), jobs)
+    rows("Who is asked answers", "hubs", plans(false), jobs)
+        + rows("Who is asked answers, and asks back", "hubs", plans(true), jobs)
 }
 
 /// Resets of a fleet whose hubs are all on, by the grace.
 fn graces(seed: u64, jobs: usize) -> usize {
-    let nets = HUBS.map(|hubs| plan(hubs, seed)).into_iter().chain([135, 508, 16_384].map(|mtu| Plan { mtu, ..plan(1_000, seed) }));
+    let nets = HUBS
+        .map(|hubs| plan(hubs, seed))
+        .into_iter()
+        .chain([135, 508, 16_384].map(|mtu| Plan { mtu, ..plan(1_000, seed) }));
     let plans = nets.flat_map(|plan| GRACES.map(|grace| Plan { grace, ..plan })).collect();
     let reports = work::each(plans, jobs, story::steady::<Port>);
-    println!("Resets by the grace, in ticks; all hubs are on\n\n| hubs | MTU | {} |\n|---|---|{}", GRACES.map(|grace| grace.to_string()).join(" | "), "---|".repeat(GRACES.len()));
+    println!(
+        "Resets by the grace, in ticks; all hubs are on\n\n| hubs | MTU | {} |\n|---|---|{}",
+        GRACES.map(|grace| grace.to_string()).join(" | "),
+        "---|".repeat(GRACES.len())
+    );
     for net in reports.chunks(GRACES.len()) {
         let resets: Vec<String> = net.iter().map(|report| grouped(report.counts.resets)).collect();
-        println!("| {} | {} | {} |", grouped(net[0].plan.hubs as u64), grouped(net[0].plan.mtu as u64), resets.join(" | "));
+        println!(
+            "| {} | {} | {} |",
+            grouped(net[0].plan.hubs as u64),
+            grouped(net[0].plan.mtu as u64),
+            resets.join(" | ")
+        );
     }
     println!();
     reports.iter().map(|report| report.broken() as usize).sum()

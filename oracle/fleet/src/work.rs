@@ -13,12 +13,19 @@ where
     std::thread::scope(|scope| {
         for _ in 0..jobs.max(1) {
             scope.spawn(|| {
-                while let Ok(before) = left.fetch_update(Ordering::Relaxed, Ordering::Relaxed, |left| left.checked_sub(1)) {
+                while let Ok(before) =
+                    left.fetch_update(Ordering::Relaxed, Ordering::Relaxed, |left| left.checked_sub(1))
+                {
                     let answered = answer(items[before - 1].clone());
                     answers.lock().expect("no answer panics")[before - 1] = Some(answered);
                 }
             });
         }
     });
-    answers.into_inner().expect("no answer panics").into_iter().map(|answer| answer.expect("every item was answered")).collect()
+    answers
+        .into_inner()
+        .expect("no answer panics")
+        .into_iter()
+        .map(|answer| answer.expect("every item was answered"))
+        .collect()
 }

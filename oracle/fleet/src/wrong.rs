@@ -31,7 +31,8 @@ pub fn all(seed: u64) -> usize {
             *sum += times;
         }
         let said = report::broken(&report);
-        let unseen: Vec<&str> = claims.iter().filter(|&&claim| report.breaches[claim] == 0).map(|&claim| CLAIMS[claim]).collect();
+        let unseen: Vec<&str> =
+            claims.iter().filter(|&&claim| report.breaches[claim] == 0).map(|&claim| CLAIMS[claim]).collect();
         println!("{what}: {}", if said.is_empty() { "nothing is found".into() } else { said.join("; ") });
         for claim in unseen {
             println!("{what}: NOT FOUND: {claim}");
