@@ -70,6 +70,7 @@ fn matrix(plans: Vec<Plan>, jobs: usize, folder: Option<&Path>) -> usize {
     let reports = work::each(plans, jobs, story::whole::<port::Port>);
     let guarded: Vec<&Report> = reports.iter().filter(|report| report.plan.mode == Mode::Guarded).collect();
     println!("How soon all agree, and what is sent until then\n\n{}", report::agreeing(&guarded));
+    println!("Hubs that show a deleted reading, after the delete\n\n{}", report::showing(&guarded));
     let all: Vec<&Report> = reports.iter().collect();
     println!("Hubs that are switched off and on\n\n{}", report::living(&all));
     let sum = |count: fn(&Report) -> u64| grouped(reports.iter().map(count).sum());

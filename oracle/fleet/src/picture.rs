@@ -199,7 +199,15 @@ fn sizes(ticks: &Rows, part: &str, count: usize, begin: f64) -> Vec<Line> {
         name: format!("{} hubs", grouped(hubs as u64)),
         points: share(&ticks.of_net(hubs, 1_400, "guarded", &[part]), count, begin),
     };
-    HUBS.map(line).into()
+    // Sizes that were not played have no line. Who agrees stays so.
+    let mut lines: Vec<Line> = HUBS.map(line).into_iter().filter(|line| line.points.len() > 1).collect();
+    let last = |line: &Line| line.points[line.points.len() - 1];
+    let end = lines.iter().map(|line| last(line).0).fold(0.0, f64::max);
+    for line in &mut lines {
+        let (_, share) = last(line);
+        line.points.push((end, share));
+    }
+    lines
 }
 
 /// While hubs are switched off and on, and then until all agree.
@@ -218,9 +226,9 @@ pub fn all(from: &Path, out: &Path) {
     let sent = |mtu: usize| {
         let point = |hubs: usize| {
             let rows = of_parts.of_net(hubs, mtu, "guarded", &["Full"]);
-            (hubs as f64, rows[0][DATAGRAMS] / hubs as f64)
+            rows.first().map(|row| (hubs as f64, row[DATAGRAMS] / hubs as f64))
         };
-        HUBS.map(point).into()
+        HUBS.into_iter().filter_map(point).collect()
     };
     let mut came_back: Vec<Line> = mtus(&|mtu| back(&of_ticks, mtu, "plain"), "plain, ").into();
     let guarded = MTUS.map(|mtu| back(&of_ticks, mtu, "guarded"));
@@ -235,7 +243,7 @@ pub fn all(from: &Path, out: &Path) {
             Chart {
                 title: "Hubs that agree after one write".into(),
                 across: ticks("ticks after the write"),
-                up: percent("of the hubs"),
+                up: percent("share of the hubs"),
                 lines: sizes(&of_ticks, "One", AGREE, 0.0),
             },
         ),
@@ -244,7 +252,7 @@ pub fn all(from: &Path, out: &Path) {
             Chart {
                 title: "Hubs that agree after a full table's writes, MTU 1,400".into(),
                 across: ticks("ticks after the writes"),
-                up: percent("of the hubs"),
+                up: percent("share of the hubs"),
                 lines: sizes(&of_ticks, "Full", AGREE, 0.0),
             },
         ),
@@ -253,7 +261,7 @@ pub fn all(from: &Path, out: &Path) {
             Chart {
                 title: "Hubs that still show a deleted reading".into(),
                 across: ticks("ticks after the delete"),
-                up: percent("of the hubs"),
+                up: percent("share of the hubs"),
                 lines: sizes(&of_ticks, "Delete", LATE, 100.0),
             },
         ),
@@ -262,7 +270,7 @@ pub fn all(from: &Path, out: &Path) {
             Chart {
                 title: "Hubs that show a deleted reading again, 1,000 hubs".into(),
                 across: ticks("ticks; hubs are switched off and on until tick 150"),
-                up: percent("of the hubs that are on"),
+                up: percent("share of the hubs that are on"),
                 lines: came_back,
             },
         ),

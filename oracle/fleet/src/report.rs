@@ -72,10 +72,31 @@ pub fn agreeing(reports: &[&Report]) -> String {
     text
 }
 
+const SHOWN_AT: [u64; 7] = [1, 3, 5, 10, 15, 20, 25];
+
+/// How many hubs still show a deleted reading.
+pub fn showing(reports: &[&Report]) -> String {
+    let head = SHOWN_AT.map(|at| format!("tick {at}")).join(" | ");
+    let mut text =
+        format!("| hubs | records of a node | MTU | {head} |\n|---|---|---|{}\n", "---|".repeat(SHOWN_AT.len()));
+    for report in reports {
+        let plan = report.plan;
+        let shares = SHOWN_AT.map(|at| percent(report.showing(at))).join(" | ");
+        let _ = writeln!(
+            text,
+            "| {} | {} | {} | {shares} |",
+            grouped(plan.hubs as u64),
+            plan.records,
+            grouped(plan.mtu as u64)
+        );
+    }
+    text
+}
+
 /// What became of the fleet while hubs were switched off and on.
 pub fn living(reports: &[&Report]) -> String {
     let mut text = String::from(
-        "| hubs | records of a node | MTU | mode | resets | fenced | hubs that show what is back: most at once | at the end | readings back at the end | fell for a while | agree after | left behind | with an MTU of 16,384 |\n|---|---|---|---|---|---|---|---|---|---|---|---|---|\n",
+        "| hubs | records of a node | MTU | mode | resets | fenced | hubs that show what is back: most at once | at the end | readings back at the end | went back | agree after | left behind | with an MTU of 16,384 |\n|---|---|---|---|---|---|---|---|---|---|---|---|---|\n",
     );
     for report in reports {
         let (plan, (most, end, readings)) = (report.plan, report.back());

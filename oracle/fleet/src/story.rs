@@ -89,6 +89,14 @@ impl Report {
         (ticks().min().unwrap_or(0), ticks().max().unwrap_or(0))
     }
 
+    /// Hubs that show a deleted reading at this tick after the delete, in a thousand; the mean of all deletes.
+    pub fn showing(&self, at: u64) -> u64 {
+        let deletes = self.of(Part::Delete).count().max(1) as u64;
+        let shown = self.ticks.iter().filter(|tick| tick.part == Part::Delete && tick.at == at);
+        let sum: u64 = shown.map(|tick| (1_000 * tick.sample.late as u64).div_ceil(tick.sample.on.max(1) as u64)).sum();
+        sum.div_ceil(deletes)
+    }
+
     /// Hubs that show deleted readings that are back: in a thousand of those that are on, the most at once, and at the end; and those readings at the end.
     pub fn back(&self) -> (u64, u64, u64) {
         let share = |sample: &Sample| (1_000 * sample.back as u64).div_ceil(sample.on.max(1) as u64);
@@ -120,13 +128,14 @@ impl<S: Side> Story<S> {
     /// Until all agree, and at least so many ticks. `after` is called after each tick.
     fn until(&mut self, part: Part, turn: usize, least: u64, most: u64, after: &mut impl FnMut(&Net<S>)) {
         let before = self.net.counts;
-        let (mut ticks, mut behind) = (0, 0);
+        // Who agrees stays so, unless it forgets.
+        let (mut ticks, mut behind) = (1, 0);
         for at in 1..=most {
             let sample = self.step(part, turn, at);
             after(&self.net);
             behind = self.net.plan.hubs - sample.agree;
-            if behind > 0 || ticks == 0 {
-                ticks = at;
+            if behind > 0 {
+                ticks = at + 1;
             }
             if behind == 0 && at >= least {
                 break;
