@@ -2,7 +2,10 @@
  *
  * A table is KEV_TABLE bytes of the caller's; there is no heap, no state and no operating system behind these functions. Every call
  * takes any bytes, ends, and either does what its page says or refuses by a number and changes nothing: docs/RULES.md has the rules,
- * docs/FORMAT.md every byte. Each function is proved to meet a contract that says this.
+ * docs/FORMAT.md every byte.
+ *
+ * What is proved. Every function that is declared here and stands in the archive is proved to meet a contract that says this. The inline
+ * functions, kev_text and kev_row, are C that the hub's compiler takes in, and are tested, not proved.
  *
  * What is answered. The number is 0 where the call was accepted; else it is one of those named at the function, asked in that order.
  * A number is never a count: where a call has more to tell, it returns a struct whose first field is the number. Values come back by
@@ -153,6 +156,7 @@ struct kev_entry {
     uint64_t heartbeat;
     uint64_t last_gc;
     uint64_t max;
+    kev_size need; /* with 9, how many bytes the field lacks in which the bytes end */
 };
 
 struct kev_computed {
@@ -199,10 +203,12 @@ static inline const uint8_t *kev_text(const uint8_t *table, struct kev_found tex
 }
 
 /* Record i of these rows, where i is below their count, as kev_record_at tells it; read in the table, without a call. A row is its
- * key's length, 32 bytes of key, its value's length, 64 bytes of value, version, status, start (docs/FORMAT.md, "A record slot"). */
+ * key's length, 32 bytes of key, its value's length, 64 bytes of value, version, status, start (docs/FORMAT.md, "A record slot").
+ * It is C, and not proved: tests/library/every.c holds it to kev_record_at. */
 static inline struct kev_record kev_row(const uint8_t *table, struct kev_rows rows, kev_size i) {
     struct kev_record record;
-    const kev_size at = rows.at + i * KEV_ROW, version = at + 2 + KEV_KEY + KEV_VALUE;
+    /* a product of small numbers: in 64 bits the smallest processors would want a routine for it */
+    const kev_size at = rows.at + (uint32_t)i * (uint32_t)KEV_ROW, version = at + 2 + KEV_KEY + KEV_VALUE;
     kev_size byte;
     record.number = 0;
     record.found = 1;

@@ -280,6 +280,8 @@ static void peers(void) {
     GIVES(KEV_NO_PLACE, kev_digest_entry(KEV_V0, T(digest), 8).number);
     GIVES(KEV_CUT, kev_read_digest(KEV_V0, digest.at, 1).number);
     GIVES(KEV_CUT, kev_digest_entry(KEV_V0, digest.at, 65, 0).number);
+    CHECK(kev_digest_entry(KEV_V0, digest.at, 65, 0).need == 1 && kev_digest_entry(KEV_V0, digest.at, 0, 0).need == 2 && kev_digest_entry(KEV_V1, digest.at, 33, 1).need == 7);
+    CHECK(entry.need == 0 && kev_digest_entry(KEV_V0, T(digest), 2).need == 0);
     static const uint8_t nine[2] = {9, 0};
     GIVES(KEV_TOO_MANY, kev_read_digest(KEV_V0, nine, 2).number);
     GIVES(KEV_TOO_MANY, kev_digest_entry(KEV_V0, nine, 2, 0).number);

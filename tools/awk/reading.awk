@@ -7,6 +7,7 @@
 #   defined[id], lines_of[id]                     a definition, its lines with the comment above it
 #   cited_words[id], stated_words[id]             the words of its text, the words of its signature
 #   text_at[id]                                   its lines without comments
+#   under[id], binders_of[id]                     the parameters of the modules that it stands in, as ids; the names that such parameters bind
 #   owner[module, name]                           the definition that a module gives a name to; a constructor's is its data type
 #   function_of[n], is_public, has_requires ..    the functions, in order
 
@@ -42,7 +43,7 @@ function citable(word) {
 
 # ---- use lines
 
-# The module that a path of a use line names: of this repository as above, of the kit as `kit path`. A type declared in src/ is `type crate/src:Name`,
+# The module that a path of a use line names: of this repository as above, of the kit as `kit path`. `crates` are those of this repository, where it is known. A type declared in src/ is `type crate/src:Name`,
 # its variants `variants crate/src:Name`.
 function module_of(path,    part, n, i, crate, kind, rest, variants) {
     n = split(path, part, ".")
@@ -50,6 +51,7 @@ function module_of(path,    part, n, i, crate, kind, rest, variants) {
     crate = part[1]
     sub(/^Rattle\302\267/, "", crate)
     sub(/\302\267(specs|proofs)$/, "", crate)
+    if (crates != "" && index(" " crates " ", " " crate " ") == 0) return "kit " path
     kind = part[2]
     if (kind != "specs" && kind != "proofs") return "unread " path
     if (part[3] == "declared") {
@@ -105,7 +107,7 @@ function mixfix(module, name,    part, n, i) {
 
 # One line of an antt file. `module` is its module.
 function read_antt(module, line) {
-    if (module != reading) { reading = module; block = 0; now = ""; pending = 0 }
+    if (module != reading) { reading = module; block = 0; now = ""; pending = 0; opened_in = 0; split("", opened) }
     read_line(module, line)
     if (now != "" && line !~ /^ *(--|$)/ && line !~ /^ *infix[lr]? /) text_at[now] = text_at[now] plain(line) "\n"
 }
@@ -123,7 +125,13 @@ function read_line(module, line,    indent, text, mark, word, n, i, name, head) 
     if (line ~ /^(pub )*mod /) { sub(/^(pub )*mod /, "", line); submodule[module, ++submodules[module]] = line; pending = 0; return }
     if (line ~ /^ *infix[lr]? /) { pending++; return }
     if (indent < block) block = indent
-    if (indent == block && line ~ /^ *module /) { start(module, "(parameters)", "parameters"); add_signature(line); block = indent + 2; return }
+    if (indent == block && line ~ /^ *module /) {
+        start(module, "(parameters-" ++opened_in ")", "parameters")
+        opened[indent] = now
+        add_signature(line)
+        block = indent + 2
+        return
+    }
     if (line ~ /^(unfoldable |abbrev )?mutual/) fails(module ": this reader does not know `mutual`")
     text = plain(line)
     if (indent == block) {
@@ -191,7 +199,7 @@ function read_line(module, line,    indent, text, mark, word, n, i, name, head) 
 }
 
 # A definition begins.
-function start(module, name, kind) {
+function start(module, name, kind,    level) {
     now = module ":" name
     kind_now = kind
     if (!(now in defined)) order[++definitions] = now
@@ -201,6 +209,8 @@ function start(module, name, kind) {
     kind_at[now] = kind
     owner[module, name] = now
     if (name ~ /_/) mixfix(module, name)
+    under[now] = ""
+    for (level = 0; level < block; level += 2) if (level in opened) under[now] = under[now] " " opened[level]
     lines_of[now] += 1 + pending
     if (!(now in line_at)) { line_at[now] = FNR; file_at[now] = FILENAME }
     pending = 0
@@ -214,7 +224,10 @@ function add_signature(text,    rest, binder, word, n, i) {
     while (match(rest, /[({][^(){}:=]* : /)) {
         binder = substr(rest, RSTART + 1, RLENGTH - 4)
         n = words(binder, word)
-        for (i = 1; i <= n; i++) local[word[i]] = 1
+        for (i = 1; i <= n; i++) {
+            local[word[i]] = 1
+            if (kind_now == "parameters") binders_of[now] = binders_of[now] " " word[i]
+        }
         rest = substr(rest, RSTART + RLENGTH - 2)
     }
     add(text)
@@ -245,6 +258,7 @@ function read_rattle(module, line,    crate, file, name, part, n, i, text) {
     if (function_now != "") { read_header(line); return }
     if (type_now != "") {
         lines_of[type_now]++
+        text_at[type_now] = text_at[type_now] line "\n"
         type_text(line)
         if (line ~ /^\}/) type_now = ""
         return
@@ -273,6 +287,7 @@ function read_rattle(module, line,    crate, file, name, part, n, i, text) {
         kind_at[type_now] = "type"
         type_file[type_now] = module
         lines_of[type_now] = 1 + pending
+        text_at[type_now] = line "\n"
         pending = 0
         text = line
         sub(/^(pub )*(enum|struct) [^ (<{]*/, "", text)

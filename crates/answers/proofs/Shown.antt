@@ -9,7 +9,7 @@ use borrow.Author.Tests.{eqb-true, le-leb, lt-leb}
 use Rattle.fields.specs.Choice.{pick}
 use Rattle.fields.proofs.Choice.{pick-true, pick-false}
 use Rattle.rules.specs.Sizes.{maxNodes}
-use Rattle.rules.specs.Answers.{numberOf, needOf, readTold, appliedTold}
+use Rattle.rules.specs.Answers.{numberOf, needOf, readTold, appliedTold, refused}
 use Rattle.rules.specs.declared.Refusal.{Refusal}
 use Rattle.rules.specs.declared.Refusal.the-variants.{NoPlace}
 use Rattle.rules.specs.declared.DeltaRead.the-variants as read
@@ -22,11 +22,14 @@ use Rattle.digest_read.specs.declared.DigestRead.the-variants as digest
 use Rattle.exchange.specs.Exchanging.{stepCode, exchangedTold}
 use Rattle.exchange_ask.specs.declared.Step.{Step}
 use Rattle.exchange.specs.declared.Exchanged.the-variants as exchanged
-use Rattle.answers.specs.Shown.{valueAt, digestShown, entryShown, noEntry, placeShown, deltaShown, appliedShown, exchangedShown}
+use Rattle.delta_make.specs.declared.Made.the-variants as made
+use Rattle.listing_make.specs.Make.{madeTold}
+use Rattle.answers.specs.Shown.{valueAt, digestShown, entryAt, entryShown, placeTold, deltaShown, appliedShown, exchangedShown, madeShown}
 use Rattle.answers.specs.declared.KevDigest.{KevDigest}
 use Rattle.answers.specs.declared.KevDelta.{KevDelta}
 use Rattle.answers.specs.declared.KevApplied.{KevApplied}
 use Rattle.answers.specs.declared.KevExchanged.{KevExchanged}
+use Rattle.answers.specs.declared.KevMade.{KevMade}
 
 refused-not-zero : (r : Refusal) → eqb (numberOf r) 0 ≡ false
 refused-not-zero r = go (eqb (numberOf r) 0) refl
@@ -81,14 +84,25 @@ digest-refused r ps =
 -- ---- an entry of a digest
 
 module _ (i count rest : ℕ) (ps : List Place) where
-  pub past-places : maxNodes ≤ i → noEntry NoPlace ≡ entryShown i (digest.Nodes count rest) ps
-  past-places h = sym (pick-true (leb maxNodes i) (noEntry NoPlace) _ (le-leb maxNodes i h))
+  pub past-places : maxNodes ≤ i → entryShown (refused NoPlace []) ≡ entryShown (entryAt i (digest.Nodes count rest) ps)
+  past-places h = ap entryShown (sym (pick-true (leb maxNodes i) (refused NoPlace []) _ (le-leb maxNodes i h)))
 
-  within : i < maxNodes → pick (leb count i) (noEntry NoPlace) (placeShown (getD ps i unused)) ≡ entryShown i (digest.Nodes count rest) ps
-  within h = sym (pick-false (leb maxNodes i) (noEntry NoPlace) _ (lt-leb maxNodes i h))
+  within : i < maxNodes → pick (leb count i) (refused NoPlace []) (placeTold (getD ps i unused)) ≡ entryAt i (digest.Nodes count rest) ps
+  within h = sym (pick-false (leb maxNodes i) (refused NoPlace []) _ (lt-leb maxNodes i h))
 
-  pub past-entries : i < maxNodes → count ≤ i → noEntry NoPlace ≡ entryShown i (digest.Nodes count rest) ps
-  past-entries h k = sym (pick-true (leb count i) (noEntry NoPlace) _ (le-leb count i k)) ∙ within h
+  pub past-entries : i < maxNodes → count ≤ i → entryShown (refused NoPlace []) ≡ entryShown (entryAt i (digest.Nodes count rest) ps)
+  past-entries h k = ap entryShown (sym (pick-true (leb count i) (refused NoPlace []) _ (le-leb count i k)) ∙ within h)
 
-  pub entry-there : i < maxNodes → i < count → placeShown (getD ps i unused) ≡ entryShown i (digest.Nodes count rest) ps
-  entry-there h k = sym (pick-false (leb count i) (noEntry NoPlace) _ (lt-leb count i k)) ∙ within h
+  pub entry-there : i < maxNodes → i < count → entryShown (placeTold (getD ps i unused)) ≡ entryShown (entryAt i (digest.Nodes count rest) ps)
+  entry-there h k = ap entryShown (sym (pick-false (leb count i) (refused NoPlace []) _ (lt-leb count i k)) ∙ within h)
+
+-- ---- a delta made from its listing
+
+abbrev noneMade : (number at need : ℕ) → KevMade
+noneMade n at need = record { number = n; bytes = 0; line = 0; at = at; need = need }
+
+pub made-refused : (r : Refusal) (at : ℕ) → noneMade (numberOf r) at (needOf r) ≡ madeShown (madeTold (made.Refused r at))
+unfolding madeTold
+made-refused r at =
+    ap₂ (λ (a b : List ℕ). record { number = numberOf r; bytes = valueAt 0 a; line = valueAt 0 b; at = valueAt 1 b; need = needOf r })
+    (sym (none-accepted r (0 ∷ at ∷ []))) (sym (all-refused r (0 ∷ at ∷ [])))

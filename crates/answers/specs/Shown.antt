@@ -5,17 +5,15 @@ use mathlib.Core.List.{List, [], _∷_}
 use lib.Dec.{eqb, leb}
 use lib.ListN.{getD}
 use Rattle.fields.specs.Choice.{pick}
-use Rattle.rules.specs.Answers.{Told, needOf, numberOf}
+use Rattle.rules.specs.Answers.{Told, accepted, refused}
 use Rattle.rules.specs.Given.{Given, given}
 use Rattle.rules.specs.Sizes.{maxNodes}
-use Rattle.rules.specs.declared.Refusal.{Refusal}
 use Rattle.rules.specs.declared.Refusal.the-variants.{NoPlace}
 use Rattle.digest_read.specs.Held.{unused}
 use Rattle.digest_read.specs.declared.NodeDigest.{NodeDigest as Place}
+use Rattle.digest_read.specs.declared.Digest.{Digest}
 use Rattle.digest_read.specs.declared.DigestRead.{DigestRead}
 use Rattle.digest_read.specs.declared.DigestRead.the-variants as digest
-use Rattle.delta_make.specs.declared.Made.{Made}
-use Rattle.delta_make.specs.declared.Made.the-variants as made
 use Rattle.answers.specs.declared.KevCount.{KevCount}
 use Rattle.answers.specs.declared.KevNode.{KevNode}
 use Rattle.answers.specs.declared.KevHeartbeat.{KevHeartbeat}
@@ -99,16 +97,27 @@ rowsShown t = record { number = t .number; at = valueAt 0 (t .values); count = v
 abbrev pub digestShown : (told : Told) → KevDigest
 digestShown t = record { number = t .number; count = valueAt 0 (acceptedValues t); rest = valueAt 1 (acceptedValues t); need = t .need }
 
-abbrev pub noEntry : (why : Refusal) → KevEntry
-noEntry why = record { number = numberOf why; node = 0; heartbeat = 0; «last_gc» = 0; max = 0 }
-
-abbrev pub placeShown : (place : Place) → KevEntry
-placeShown p = record { number = 0; node = p .number; heartbeat = p .heartbeat .0; «last_gc» = p .«last_gc»; max = p .max }
-
 -- the i-th node that a digest tells of: 8 past the last
-abbrev pub entryShown : (i : ℕ) (read : DigestRead) (places : List Place) → KevEntry
-entryShown i (digest.Nodes count rest) ps = pick (leb maxNodes i) (noEntry NoPlace) (pick (leb count i) (noEntry NoPlace) (placeShown (getD ps i unused)))
-entryShown i (digest.Refused why) ps = noEntry why
+abbrev pub placeTold : (place : Place) → Told
+placeTold p = accepted (p .number ∷ p .heartbeat .0 ∷ p .«last_gc» ∷ p .max ∷ [])
+
+abbrev pub entryAt : (i : ℕ) (read : DigestRead) (places : List Place) → Told
+entryAt i (digest.Nodes count rest) ps = pick (leb maxNodes i) (refused NoPlace []) (pick (leb count i) (refused NoPlace []) (placeTold (getD ps i unused)))
+entryAt i (digest.Refused why) ps = refused why []
+
+unfoldable pub entryTold : (i : ℕ) (digest : Digest) → Told
+entryTold i d = entryAt i (d .read) (d .entries)
+
+abbrev pub entryShown : (told : Told) → KevEntry
+entryShown t =
+    record {
+      number = t .number;
+      node = valueAt 0 (t .values);
+      heartbeat = valueAt 1 (t .values);
+      «last_gc» = valueAt 2 (t .values);
+      max = valueAt 3 (t .values);
+      need = t .need;
+    }
 
 -- ---- deltas
 
@@ -124,14 +133,15 @@ appliedShown t =
     record { number = t .number; nodes = valueAt 0 (acceptedValues t); at = valueAt 0 (refusedValues t); need = t .need }
 
 -- a delta made from its listing: 16 has a line, the numbers of a refused delta have a place
-abbrev pub madeShown : (answer : Made) → KevMade
-madeShown (made.Bytes n) = record { number = 0; bytes = n; line = 0; at = 0; need = 0 }
-madeShown (made.BadLine n) = record { number = 16; bytes = 0; line = n; at = 0; need = 0 }
-madeShown (made.Refused why at) = record { number = numberOf why; bytes = 0; line = 0; at = at; need = needOf why }
-
--- what a call gives, its answer shown
-abbrev pub shownBy : {A B M : Type 0} (shown : A → B) (of : Given A M) → Given B M
-shownBy shown o = given (shown (o .answer)) (o .lent)
+abbrev pub madeShown : (told : Told) → KevMade
+madeShown t =
+    record {
+      number = t .number;
+      bytes = valueAt 0 (acceptedValues t);
+      line = valueAt 0 (refusedValues t);
+      at = valueAt 1 (refusedValues t);
+      need = t .need;
+    }
 
 -- ---- an exchange
 

@@ -21,14 +21,16 @@ use rules::Refusal;
 use rules::Remembered;
 use rules::Written;
 use rules::sizes;
+ghost use mathlib.Core.List.{[]};
 ghost use mathlib.Core.Path.{_≡_};
-ghost use Rattle.rules.specs.Answers.{answerTold, offeredTold, rememberedTold, listedTold, writtenTold, computedTold, readTold, appliedTold};
+ghost use Rattle.rules.specs.Answers.{answerTold, offeredTold, rememberedTold, listedTold, writtenTold, computedTold, readTold, appliedTold, refused};
 ghost use Rattle.lookup.specs.Told.{foundTold};
 ghost use Rattle.inspect.specs.Told.{countTold, nodeNumberTold, nodeHeaderTold, recordReadTold, rowsTold};
 ghost use Rattle.digest_read.specs.Told.{digestTold};
 ghost use Rattle.exchange.specs.Exchanging.{exchangedTold, stepCode};
+ghost use Rattle.listing_make.specs.Make.{madeTold};
 ghost use Rattle.answers.specs.Shown.{numberShown, countShown, nodeShown, heartbeatShown, foundShown, headerShown, recordShown, rowsShown, noRecord};
-ghost use Rattle.answers.specs.Shown.{digestShown, entryShown, noEntry, computedShown, deltaShown, appliedShown, exchangedShown, madeShown};
+ghost use Rattle.answers.specs.Shown.{digestShown, entryTold, entryShown, computedShown, deltaShown, appliedShown, exchangedShown, madeShown};
 
 // A count: of nodes, records, hits or bytes; of an offer, 1 where it was news.
 #[repr(C)]
@@ -101,7 +103,7 @@ pub struct KevDigest {
     pub need: usize,
 }
 
-// What a digest tells of a node.
+// What a digest tells of a node; with 9, how many bytes the field lacks in which its bytes end.
 #[repr(C)]
 pub struct KevEntry {
     pub number: u64,
@@ -109,6 +111,7 @@ pub struct KevEntry {
     pub heartbeat: u64,
     pub last_gc: u64,
     pub max: u64,
+    pub need: usize,
 }
 
 // What a computed delta holds; with 9, how many bytes the field of the digest lacks in which its bytes end.
@@ -390,7 +393,7 @@ pub fn digest(read: Digest) -> KevDigest
 }
 
 fn no_entry(why: Refusal) -> KevEntry
-    ensures { λ r. ⌜ r ≡ noEntry why ⌝ }
+    ensures { λ r. ⌜ r ≡ entryShown (refused why []) ⌝ }
 {
     KevEntry {
         number: why.number(),
@@ -398,12 +401,13 @@ fn no_entry(why: Refusal) -> KevEntry
         heartbeat: 0,
         last_gc: 0,
         max: 0,
+        need: why.need(),
     }
 }
 
 // What a digest tells in place `i`: 8 where it tells of no more nodes.
 pub fn entry(read: Digest, i: usize) -> KevEntry
-    ensures { λ r. ⌜ r ≡ entryShown i (read .read) (read .entries) ⌝ }
+    ensures { λ r. ⌜ r ≡ entryShown (entryTold i read) ⌝ }
 {
     let verdict = read.read;
     match verdict {
@@ -424,6 +428,7 @@ pub fn entry(read: Digest, i: usize) -> KevEntry
                 heartbeat: beats.0,
                 last_gc: e.last_gc,
                 max: e.max,
+                need: 0,
             }
         }
     }
@@ -492,7 +497,7 @@ pub fn applied(taken: Applied) -> KevApplied
 
 // The number of a line that is not in its form is 16.
 pub fn made(answer: Made) -> KevMade
-    ensures { λ r. ⌜ r ≡ madeShown answer ⌝ }
+    ensures { λ r. ⌜ r ≡ madeShown (madeTold answer) ⌝ }
 {
     match answer {
         Made::Bytes(bytes) => KevMade {

@@ -56,15 +56,15 @@ pub fn take_all(fd: i32, delta: &mut [u8]) -> Taken {
     let mut piece = [0u8; PIECE];
     let mut making = delta_make::start();
     let mut left: u64 = PIECES;
+    let mut ended = false;
     while 0 < left {
-        let n = io::read_full(fd, &mut piece);
+        let filled = streams::fill(fd, &mut piece);
+        let n = filled.len;
         making = delta_make::take_in(making, front(&piece, n), &mut line, delta);
+        ended = filled.ended;
         left = pieces_left(left, n);
     }
-    Taken {
-        making,
-        ended: streams::ended(fd),
-    }
+    Taken { making, ended }
 }
 
 // The line that says which line is not in its form.

@@ -18,15 +18,15 @@ use Rattle.rules.specs.Sizes.{numbers, top}
 use Rattle.rules.specs.Answers.{Told, answerTold, appliedTold, computedTold, listedTold, offeredTold, readTold, rememberedTold, writtenTold}
 use Rattle.rules.specs.Apply.{apply, plainWays, waysOf}
 use Rattle.rules.specs.Compute as computing
-use Rattle.rules.specs.Delta.{NodeOp, Op, deltaBytes, deltaRead, follow, opBytes, partsOf, readDelta, readKeyValue, readNode, readOp, readOps, readSetMaxVersion}
-use Rattle.rules.specs.Digest.{digestBytes, digestOf, headWidth, readDigest, readEntries, tellAll, writeDigest}
+use Rattle.rules.specs.Delta.{Good, NodeOp, Op, SetMaxVersionOp, deltaBytes, deltaRead, follow, opBytes, partsOf, readDelta, readKeyValue, readNode, readOp, readOps, readSetMaxVersion, sizeOf}
+use Rattle.rules.specs.Digest.{digestBytes, digestOf, headWidth, readDigest, readEntries, tell, tellAll, writeDigest}
 use Rattle.rules.specs.Given.{Given, given}
 use Rattle.rules.specs.Layout.{decode, encode}
 use Rattle.rules.specs.Memory.{apart, heartbeatOf, memoryObeys, removedNumbers}
 use Rattle.rules.specs.Whole.{Whole, decodeMemory, decodeWhole, encodeWhole, obeysWhole, validWhole, wholeWidth}
 use Rattle.rules.specs.declared.Mode.the-variants as mode
 use Rattle.rules.specs.Lent.{TableAndList, addWhole, both, fromTable, lentApply, lentApplyAs, lentNew, lentRemoved, onTable, onWhole, rememberedAs, removeWhole, storedIn, storedApply}
-use Rattle.rules.specs.Listing.{decimal, digits, listing, listingOf}
+use Rattle.rules.specs.Listing.{decimal, digits, listing, listingOf, opLine}
 use Rattle.rules.specs.Local.{Outcome, add, call, gc, localBeat, offer, prefixed, removeNode, write}
 use Rattle.rules.specs.Node.{Deleting, DeletingAfterTtl, Node, Rec, act, beats, decide, find, fresh, hitsFrom, offerOf, wish}
 use Rattle.rules.specs.Table.{Table, among, differ, entryObeys, keysRise, nodeObeys, nodeOf, numbersOf, obeys, recObeys, rising, setNode, versions}
@@ -44,6 +44,7 @@ use Rattle.rules.specs.declared.Status.the-variants as status
 use Rattle.rules.specs.declared.Written.{Written}
 use Rattle.rules.specs.declared.Written.the-variants as written
 use Rattle.rules.proofs.Calls.{none-obeys}
+use Rattle.rules.proofs.Obeys.{among-in}
 use Rattle.table.proofs.Encoded.{apply-whole, from-whole, on-whole, whole-whole}
 use Rattle.table.proofs.Wholes.{decode-encode-whole, length-whole, valid-encode-whole, without-memory}
 use Rattle.nodes.specs.New.{lentMade}
@@ -62,6 +63,9 @@ use Rattle.inspect_text.specs.Texts.{textFound}
 use Rattle.inspect_text.specs.declared.Text.the-variants as text
 use Rattle.digest_read.specs.Held.{digestIn}
 use Rattle.digest_read.specs.Told.{digestTold}
+use Rattle.listing_read.specs.Unlist.{front, readLine, readLines, unlist, valueFrom}
+use Rattle.listing_make.specs.Make.{madeTold, placed}
+use Rattle.answers.specs.Shown.{entryTold}
 use Rattle.compute.specs.Asking.{askedOf}
 use Rattle.exchange.specs.Exchanging.{Lending, afterAsking, exchangedTold, lending, lentExchange, roomsOf}
 use Rattle.exchange_ask.specs.Asking.{readyFor, readyOn, roomsFor}
@@ -81,6 +85,10 @@ infixr 20 _and_
 data AllShown (k : calls.Kind) : List ℕ → Type 0 where
   no-more : AllShown k []
   _and_ : {n : ℕ} {ns : List ℕ} → Shown k n → AllShown k ns → AllShown k (n ∷ ns)
+
+-- calls for some numbers, and every number of the kind is among these
+abbrev Covered : calls.Kind → Type 0
+Covered k = (ns : List ℕ) × AllShown k ns × (all (λ n. among n ns) (calls.possible k) ≡ true)
 
 shown-in : (k : calls.Kind) (ns : List ℕ) → AllShown k ns → (n : ℕ) → among n ns ≡ true → Shown k n
 unfolding among
@@ -212,8 +220,8 @@ from-bad number bad rule n e = ap (λ (b : Bool). number (pick b (rule (decodeWh
 
 -- ---- nodes
 
-new-tables : AllShown calls.NewTable (calls.possible calls.NewTable)
-unfolding calls.leaves calls.refusals lentMade answerTold
+new-tables : AllShown calls.NewTable (0 ∷ 14 ∷ [])
+unfolding calls.leaves lentMade answerTold
 new-tables = (
   calls.new-table (lent []) mode.Plain,
   ap (λ (b : Bool). answerTold (pick b (given plain.Done (lentNew mode.Plain)) (given (plain.Refused BadTable) (lent [])) .answer) .number)
@@ -222,16 +230,16 @@ new-tables = (
     and (calls.new-table [] mode.Plain, refl)
     and no-more
 
-added : AllShown calls.AddNode (calls.possible calls.AddNode)
-unfolding calls.leaves calls.refusals answerTold addWhole add among numbersOf nodes
+added : AllShown calls.AddNode (0 ∷ 14 ∷ 4 ∷ [])
+unfolding calls.leaves answerTold addWhole add among numbersOf nodes
 added =
     (calls.add-node (lent []) seven, whole-good answerTold (plain.Refused BadTable) (addWhole 7) [] none-obeys 0 refl)
     and (calls.add-node [] seven, whole-bad answerTold (plain.Refused BadTable) (addWhole 7) 14 refl)
     and (calls.add-node (lent crowded) nine, whole-good answerTold (plain.Refused BadTable) (addWhole 9) crowded crowded-obeys 4 refl)
     and no-more
 
-removed : AllShown calls.RemoveNode (calls.possible calls.RemoveNode)
-unfolding calls.leaves calls.refusals answerTold removeWhole removeNode among numbersOf
+removed : AllShown calls.RemoveNode (0 ∷ 14 ∷ 2 ∷ [])
+unfolding calls.leaves answerTold removeWhole removeNode among numbersOf
 removed =
     (calls.remove-node (lent newly) seven, whole-good answerTold (plain.Refused BadTable) (removeWhole 7) newly newly-obeys 0 refl)
     and (calls.remove-node [] seven, whole-bad answerTold (plain.Refused BadTable) (removeWhole 7) 14 refl)
@@ -239,8 +247,8 @@ removed =
     and no-more
 
 -- nothing is remembered in a new table
-asked : AllShown calls.LastHeartbeat (calls.possible calls.LastHeartbeat)
-unfolding calls.leaves calls.refusals rememberedTold lentRemoved heartbeatOf
+asked : AllShown calls.LastHeartbeat (0 ∷ 14 ∷ [])
+unfolding calls.leaves rememberedTold lentRemoved heartbeatOf
 asked = (
   calls.last-heartbeat (lent []) seven,
   let w : Whole = record { mode = mode.Plain; memory = []; table = [] } in
@@ -256,8 +264,8 @@ asked = (
 
 -- ---- records
 
-writes : AllShown calls.Write (calls.possible calls.Write)
-unfolding calls.leaves calls.refusals answerTold write call nodeOf setNode decide wish act find sameBytes zeros records
+writes : AllShown calls.Write (0 ∷ 14 ∷ 10 ∷ 2 ∷ 1 ∷ 5 ∷ 6 ∷ [])
+unfolding calls.leaves answerTold write call nodeOf setNode decide wish act find sameBytes zeros records
 writes =
     (calls.write (lent newly) [] [] seven under-set seven, on-good answerTold (plain.Refused BadTable) (write 0 [] 7 7 []) newly newly-obeys 0 refl)
     and (calls.write [] [] [] seven under-set seven, on-bad answerTold (plain.Refused BadTable) (write 0 [] 7 7 []) 14 refl)
@@ -268,8 +276,8 @@ writes =
     and (calls.write (lent ended) [] [] seven under-ttl seven, on-good answerTold (plain.Refused BadTable) (write 2 [] 7 7 []) ended ended-obeys 6 refl)
     and no-more
 
-deletes : AllShown calls.Delete (calls.possible calls.Delete)
-unfolding calls.leaves calls.refusals answerTold call nodeOf setNode decide wish act find sameBytes zeros records
+deletes : AllShown calls.Delete (0 ∷ 14 ∷ 2 ∷ 1 ∷ 3 ∷ 6 ∷ [])
+unfolding calls.leaves answerTold call nodeOf setNode decide wish act find sameBytes zeros records
 deletes =
     (calls.delete (lent usual) (1 ∷ []) seven seven, on-good answerTold (plain.Refused BadTable) (call (Deleting 7) 7 (1 ∷ [])) usual usual-obeys 0 refl)
     and (calls.delete [] [] seven seven, on-bad answerTold (plain.Refused BadTable) (call (Deleting 7) 7 []) 14 refl)
@@ -279,8 +287,8 @@ deletes =
     and (calls.delete (lent ended) (1 ∷ []) seven seven, on-good answerTold (plain.Refused BadTable) (call (Deleting 7) 7 (1 ∷ [])) ended ended-obeys 6 refl)
     and no-more
 
-deletes-ttl : AllShown calls.DeleteAfterTtl (calls.possible calls.DeleteAfterTtl)
-unfolding calls.leaves calls.refusals answerTold call nodeOf setNode decide wish act find sameBytes zeros records
+deletes-ttl : AllShown calls.DeleteAfterTtl (0 ∷ 14 ∷ 2 ∷ 1 ∷ 3 ∷ 6 ∷ [])
+unfolding calls.leaves answerTold call nodeOf setNode decide wish act find sameBytes zeros records
 deletes-ttl =
     (calls.delete-after-ttl (lent usual) (1 ∷ []) seven seven, on-good answerTold (plain.Refused BadTable) (call (DeletingAfterTtl 7) 7 (1 ∷ [])) usual usual-obeys 0 refl)
     and (calls.delete-after-ttl [] [] seven seven, on-bad answerTold (plain.Refused BadTable) (call (DeletingAfterTtl 7) 7 []) 14 refl)
@@ -290,8 +298,8 @@ deletes-ttl =
     and (calls.delete-after-ttl (lent ended) (1 ∷ []) seven seven, on-good answerTold (plain.Refused BadTable) (call (DeletingAfterTtl 7) 7 (1 ∷ [])) ended ended-obeys 6 refl)
     and no-more
 
-collected : AllShown calls.RemoveScheduled (calls.possible calls.RemoveScheduled)
-unfolding calls.leaves calls.refusals answerTold gc
+collected : AllShown calls.RemoveScheduled (0 ∷ 14 ∷ [])
+unfolding calls.leaves answerTold gc
 collected =
     (calls.remove-scheduled (lent []) seven seven, on-good answerTold (plain.Refused BadTable) (gc 7 7) [] none-obeys 0 refl)
     and (calls.remove-scheduled [] seven seven, on-bad answerTold (plain.Refused BadTable) (gc 7 7) 14 refl)
@@ -299,16 +307,16 @@ collected =
 
 -- ---- heartbeats
 
-offers : AllShown calls.OfferHeartbeat (calls.possible calls.OfferHeartbeat)
-unfolding calls.leaves calls.refusals offeredTold offer nodeOf setNode offerOf
+offers : AllShown calls.OfferHeartbeat (0 ∷ 14 ∷ 2 ∷ [])
+unfolding calls.leaves offeredTold offer nodeOf setNode offerOf
 offers =
     (calls.offer-heartbeat (lent newly) seven seven, on-good offeredTold (offered.Refused BadTable) (offer 7 (beats 7)) newly newly-obeys 0 refl)
     and (calls.offer-heartbeat [] seven seven, on-bad offeredTold (offered.Refused BadTable) (offer 7 (beats 7)) 14 refl)
     and (calls.offer-heartbeat (lent []) seven seven, on-good offeredTold (offered.Refused BadTable) (offer 7 (beats 7)) [] none-obeys 2 refl)
     and no-more
 
-beaten : AllShown calls.LocalBeat (calls.possible calls.LocalBeat)
-unfolding calls.leaves calls.refusals answerTold localBeat nodeOf setNode
+beaten : AllShown calls.LocalBeat (0 ∷ 14 ∷ 2 ∷ 6 ∷ [])
+unfolding calls.leaves answerTold localBeat nodeOf setNode
 beaten =
     (calls.local-beat (lent newly) seven, on-good answerTold (plain.Refused BadTable) (localBeat 7) newly newly-obeys 0 refl)
     and (calls.local-beat [] seven, on-bad answerTold (plain.Refused BadTable) (localBeat 7) 14 refl)
@@ -318,8 +326,8 @@ beaten =
 
 -- ---- readings
 
-finds : AllShown calls.Find (calls.possible calls.Find)
-unfolding calls.leaves calls.refusals foundTold nodeOf findRec zeros
+finds : AllShown calls.Find (0 ∷ 14 ∷ 2 ∷ 1 ∷ [])
+unfolding calls.leaves foundTold nodeOf findRec zeros
 finds =
     (calls.find (lent newly) [] seven, from-good (λ a. foundTold a .number) (found.Refused BadTable) (foundIn 7 []) newly newly-obeys 0 refl)
     and (calls.find [] [] seven, from-bad (λ a. foundTold a .number) (found.Refused BadTable) (foundIn 7 []) 14 refl)
@@ -327,8 +335,8 @@ finds =
     and (calls.find (lent newly) (zeros 33) seven, from-good (λ a. foundTold a .number) (found.Refused BadTable) (foundIn 7 (zeros 33)) newly newly-obeys 1 refl)
     and no-more
 
-lists : AllShown calls.ListPrefix (calls.possible calls.ListPrefix)
-unfolding calls.leaves calls.refusals listedTold prefixed nodeOf hitsFrom startsWith zeros
+lists : AllShown calls.ListPrefix (0 ∷ 14 ∷ 2 ∷ 1 ∷ 8 ∷ [])
+unfolding calls.leaves listedTold prefixed nodeOf hitsFrom startsWith zeros
 lists =
     (calls.list-prefix (lent newly) [] [] seven, from-good (λ (a : Given Listed Bytes). listedTold (a .answer) .number) (given (listed.Refused BadTable) []) (λ t. prefixed 7 [] t []) newly newly-obeys 0 refl)
     and (calls.list-prefix [] [] [] seven, from-bad (λ (a : Given Listed Bytes). listedTold (a .answer) .number) (given (listed.Refused BadTable) []) (λ t. prefixed 7 [] t []) 14 refl)
@@ -337,39 +345,39 @@ lists =
     and (calls.list-prefix (lent usual) [] [] seven, from-good (λ (a : Given Listed Bytes). listedTold (a .answer) .number) (given (listed.Refused BadTable) []) (λ t. prefixed 7 [] t []) usual usual-obeys 8 refl)
     and no-more
 
-counts : AllShown calls.NodeCount (calls.possible calls.NodeCount)
-unfolding calls.leaves calls.refusals countTold
+counts : AllShown calls.NodeCount (0 ∷ 14 ∷ [])
+unfolding calls.leaves countTold
 counts =
     (calls.node-count (lent []), from-good (λ a. countTold a .number) (count.Refused BadTable) nodeCount [] none-obeys 0 refl)
     and (calls.node-count [], from-bad (λ a. countTold a .number) (count.Refused BadTable) nodeCount 14 refl)
     and no-more
 
-numbered : AllShown calls.NodeNumber (calls.possible calls.NodeNumber)
-unfolding calls.leaves calls.refusals nodeNumberTold elementAt
+numbered : AllShown calls.NodeNumber (0 ∷ 14 ∷ 8 ∷ [])
+unfolding calls.leaves nodeNumberTold elementAt
 numbered =
     (calls.node-number (lent newly) 0, from-good (λ a. nodeNumberTold a .number) (number.Refused BadTable) (nodeNumber 0) newly newly-obeys 0 refl)
     and (calls.node-number [] 0, from-bad (λ a. nodeNumberTold a .number) (number.Refused BadTable) (nodeNumber 0) 14 refl)
     and (calls.node-number (lent []) 0, from-good (λ a. nodeNumberTold a .number) (number.Refused BadTable) (nodeNumber 0) [] none-obeys 8 refl)
     and no-more
 
-headed : AllShown calls.NodeHeader (calls.possible calls.NodeHeader)
-unfolding calls.leaves calls.refusals nodeHeaderTold nodeOf
+headed : AllShown calls.NodeHeader (0 ∷ 14 ∷ 2 ∷ [])
+unfolding calls.leaves nodeHeaderTold nodeOf
 headed =
     (calls.node-header (lent newly) seven, from-good (λ a. nodeHeaderTold a .number) (header.Refused BadTable) (nodeHeader 7) newly newly-obeys 0 refl)
     and (calls.node-header [] seven, from-bad (λ a. nodeHeaderTold a .number) (header.Refused BadTable) (nodeHeader 7) 14 refl)
     and (calls.node-header (lent []) seven, from-good (λ a. nodeHeaderTold a .number) (header.Refused BadTable) (nodeHeader 7) [] none-obeys 2 refl)
     and no-more
 
-record-counts : AllShown calls.RecordCount (calls.possible calls.RecordCount)
-unfolding calls.leaves calls.refusals countTold nodeOf
+record-counts : AllShown calls.RecordCount (0 ∷ 14 ∷ 2 ∷ [])
+unfolding calls.leaves countTold nodeOf
 record-counts =
     (calls.record-count (lent newly) seven, from-good (λ a. countTold a .number) (count.Refused BadTable) (recordCount 7) newly newly-obeys 0 refl)
     and (calls.record-count [] seven, from-bad (λ a. countTold a .number) (count.Refused BadTable) (recordCount 7) 14 refl)
     and (calls.record-count (lent []) seven, from-good (λ a. countTold a .number) (count.Refused BadTable) (recordCount 7) [] none-obeys 2 refl)
     and no-more
 
-records-at : AllShown calls.RecordAt (calls.possible calls.RecordAt)
-unfolding calls.leaves calls.refusals recordReadTold nodeOf elementAt
+records-at : AllShown calls.RecordAt (0 ∷ 14 ∷ 2 ∷ 8 ∷ [])
+unfolding calls.leaves recordReadTold nodeOf elementAt
 records-at =
     (calls.record-at (lent usual) seven 0, from-good (λ a. recordReadTold a .number) (rec.Refused BadTable) (readRecord 7 0) usual usual-obeys 0 refl)
     and (calls.record-at [] seven 0, from-bad (λ a. recordReadTold a .number) (rec.Refused BadTable) (readRecord 7 0) 14 refl)
@@ -377,16 +385,16 @@ records-at =
     and (calls.record-at (lent newly) seven 0, from-good (λ a. recordReadTold a .number) (rec.Refused BadTable) (readRecord 7 0) newly newly-obeys 8 refl)
     and no-more
 
-records-of : AllShown calls.RecordOf (calls.possible calls.RecordOf)
-unfolding calls.leaves calls.refusals recordReadTold elementAt
+records-of : AllShown calls.RecordOf (0 ∷ 14 ∷ 8 ∷ [])
+unfolding calls.leaves recordReadTold elementAt
 records-of =
     (calls.record-of (lent usual) 0 0, from-good (λ a. recordReadTold a .number) (rec.Refused BadTable) (recordOfPlaces 0 0) usual usual-obeys 0 refl)
     and (calls.record-of [] 0 0, from-bad (λ a. recordReadTold a .number) (rec.Refused BadTable) (recordOfPlaces 0 0) 14 refl)
     and (calls.record-of (lent newly) 0 0, from-good (λ a. recordReadTold a .number) (rec.Refused BadTable) (recordOfPlaces 0 0) newly newly-obeys 8 refl)
     and no-more
 
-keyed : AllShown calls.RecordByKey (calls.possible calls.RecordByKey)
-unfolding calls.leaves calls.refusals recordReadTold nodeOf readKey zeros
+keyed : AllShown calls.RecordByKey (0 ∷ 14 ∷ 2 ∷ 1 ∷ [])
+unfolding calls.leaves recordReadTold nodeOf readKey zeros
 keyed =
     (calls.record-by-key (lent newly) [] seven, from-good (λ a. recordReadTold a .number) (rec.Refused BadTable) (recordByKey 7 []) newly newly-obeys 0 refl)
     and (calls.record-by-key [] [] seven, from-bad (λ a. recordReadTold a .number) (rec.Refused BadTable) (recordByKey 7 []) 14 refl)
@@ -394,16 +402,16 @@ keyed =
     and (calls.record-by-key (lent newly) (zeros 33) seven, from-good (λ a. recordReadTold a .number) (rec.Refused BadTable) (recordByKey 7 (zeros 33)) newly newly-obeys 1 refl)
     and no-more
 
-all-rows : AllShown calls.NodeRows (calls.possible calls.NodeRows)
-unfolding calls.leaves calls.refusals rowsTold nodeOf
+all-rows : AllShown calls.NodeRows (0 ∷ 14 ∷ 2 ∷ [])
+unfolding calls.leaves rowsTold nodeOf
 all-rows =
     (calls.node-rows (lent newly) seven, from-good (λ a. rowsTold a .number) (rows.Refused BadTable) (nodeRows 7) newly newly-obeys 0 refl)
     and (calls.node-rows [] seven, from-bad (λ a. rowsTold a .number) (rows.Refused BadTable) (nodeRows 7) 14 refl)
     and (calls.node-rows (lent []) seven, from-good (λ a. rowsTold a .number) (rows.Refused BadTable) (nodeRows 7) [] none-obeys 2 refl)
     and no-more
 
-some-rows : AllShown calls.PrefixRows (calls.possible calls.PrefixRows)
-unfolding calls.leaves calls.refusals rowsTold nodeOf zeros
+some-rows : AllShown calls.PrefixRows (0 ∷ 14 ∷ 2 ∷ 1 ∷ [])
+unfolding calls.leaves rowsTold nodeOf zeros
 some-rows =
     (calls.prefix-rows (lent newly) [] seven, from-good (λ a. rowsTold a .number) (rows.Refused BadTable) (prefixRows 7 []) newly newly-obeys 0 refl)
     and (calls.prefix-rows [] [] seven, from-bad (λ a. rowsTold a .number) (rows.Refused BadTable) (prefixRows 7 []) 14 refl)
@@ -411,8 +419,8 @@ some-rows =
     and (calls.prefix-rows (lent newly) (zeros 33) seven, from-good (λ a. rowsTold a .number) (rows.Refused BadTable) (prefixRows 7 (zeros 33)) newly newly-obeys 1 refl)
     and no-more
 
-texts : AllShown calls.FindText (calls.possible calls.FindText)
-unfolding calls.leaves calls.refusals foundTold nodeOf elementAt
+texts : AllShown calls.FindText (0 ∷ 14 ∷ 2 ∷ 8 ∷ [])
+unfolding calls.leaves foundTold nodeOf elementAt
 texts =
     (calls.find-text (lent usual) seven 0 text.Key, from-good (λ a. foundTold a .number) (found.Refused BadTable) (textFound text.Key 7 0) usual usual-obeys 0 refl)
     and (calls.find-text [] seven 0 text.Key, from-bad (λ a. foundTold a .number) (found.Refused BadTable) (textFound text.Key 7 0) 14 refl)
@@ -422,8 +430,8 @@ texts =
 
 -- ---- digests
 
-digests : AllShown calls.WriteDigest (calls.possible calls.WriteDigest)
-unfolding calls.leaves calls.refusals writtenTold writeDigest digestOf digestBytes headWidth zeros bytesOf flat
+digests : AllShown calls.WriteDigest (0 ∷ 14 ∷ 20 ∷ 8 ∷ [])
+unfolding calls.leaves writtenTold writeDigest digestOf digestBytes headWidth zeros bytesOf flat
 digests =
     (calls.write-digest (lent []) 0 [] (zeros 2) 0, from-good (λ (a : Given Written Bytes). writtenTold (a .answer) .number) (given (written.Refused BadTable) (zeros 2)) (λ t. writeDigest 0 [] 0 t (zeros 2)) [] none-obeys 0 refl)
     and (calls.write-digest [] 0 [] [] 0, from-bad (λ (a : Given Written Bytes). writtenTold (a .answer) .number) (given (written.Refused BadTable) []) (λ t. writeDigest 0 [] 0 t []) 14 refl)
@@ -431,8 +439,8 @@ digests =
     and (calls.write-digest (lent []) 0 [] [] 0, from-good (λ (a : Given Written Bytes). writtenTold (a .answer) .number) (given (written.Refused BadTable) []) (λ t. writeDigest 0 [] 0 t []) [] none-obeys 8 refl)
     and no-more
 
-digest-reads : AllShown calls.ReadDigest (calls.possible calls.ReadDigest)
-unfolding calls.leaves calls.refusals digestTold digestIn readDigest readEntries natOf unblock tellAll
+digest-reads : AllShown calls.ReadDigest (0 ∷ 20 ∷ 9 ∷ 13 ∷ [])
+unfolding calls.leaves digestTold digestIn readDigest readEntries natOf unblock tellAll
 digest-reads =
     (calls.read-digest 0 (0 ∷ 0 ∷ []), refl)
     and (calls.read-digest 2 [], refl)
@@ -440,10 +448,20 @@ digest-reads =
     and (calls.read-digest 0 (9 ∷ 0 ∷ []), refl)
     and no-more
 
+entries : AllShown calls.DigestEntry (0 ∷ 20 ∷ 9 ∷ 13 ∷ 8 ∷ [])
+unfolding calls.leaves entryTold digestIn readDigest readEntries natOf unblock tell tellAll zeros
+entries =
+    (calls.digest-entry (zeros 32) 1 0, refl)
+    and (calls.digest-entry [] 2 0, refl)
+    and (calls.digest-entry [] 0 0, refl)
+    and (calls.digest-entry (9 ∷ 0 ∷ []) 0 0, refl)
+    and (calls.digest-entry [] 1 0, refl)
+    and no-more
+
 -- ---- deltas
 
-computes : AllShown calls.Compute (calls.possible calls.Compute)
-unfolding calls.leaves calls.refusals computedTold computing.compute readDigest readEntries natOf unblock tellAll zeros
+computes : AllShown calls.Compute (0 ∷ 14 ∷ 20 ∷ 7 ∷ 8 ∷ 15 ∷ 9 ∷ 13 ∷ [])
+unfolding calls.leaves computedTold computing.compute readDigest readEntries natOf unblock tellAll zeros
 computes =
     (calls.compute (lent []) 0 (0 ∷ 0 ∷ []) [] [] (zeros 100) 100 0, from-good (λ (a : Given Computed Bytes). computedTold (a .answer) .number) (given (computed.Refused BadTable) (zeros 100)) (λ t. computing.compute 0 [] [] 100 0 (0 ∷ 0 ∷ []) t (zeros 100)) [] none-obeys 0 refl)
     and (calls.compute [] 0 [] [] [] [] 100 0, from-bad (λ (a : Given Computed Bytes). computedTold (a .answer) .number) (given (computed.Refused BadTable) []) (λ t. computing.compute 0 [] [] 100 0 [] t []) 14 refl)
@@ -460,8 +478,8 @@ unfoldable ninth : (n : ℕ) → List Op
 ninth zero = []
 ninth (suc n) = NodeOp n 0 0 ∷ ninth n
 
-delta-reads : AllShown calls.ReadDelta (calls.possible calls.ReadDelta)
-unfolding calls.leaves calls.refusals readTold deltaRead readDelta readOps readOp readNode readKeyValue readSetMaxVersion follow natOf among zeros deltaBytes opBytes flat bytesOf ninth partsOf
+delta-reads : AllShown calls.ReadDelta (0 ∷ 13 ∷ 9 ∷ 1 ∷ 10 ∷ 11 ∷ 12 ∷ [])
+unfolding calls.leaves readTold deltaRead readDelta readOps readOp readNode readKeyValue readSetMaxVersion follow natOf among zeros deltaBytes opBytes flat bytesOf ninth partsOf
 delta-reads =
     (calls.read-delta [], refl)
     and (calls.read-delta (deltaBytes (ninth 9)), refl)
@@ -480,8 +498,8 @@ not-applied : appliedTold (lentApply [] 7 [] [] .answer) .number ≡ 14
 unfolding lentApplyAs appliedTold
 not-applied = ap (λ (b : Bool). appliedTold (pick b (storedApply (decodeWhole []) (apply (waysOf (decodeWhole [] .mode)) [] 7 (decodeWhole [] .table) [])) (given (applied.Refused BadTable 0) (both [] [])) .answer) .number) none-valid
 
-applies : AllShown calls.Apply (calls.possible calls.Apply)
-unfolding calls.leaves calls.refusals received appliedTold apply all deltaRead readDelta readOps readOp readNode readKeyValue readSetMaxVersion follow natOf among zeros deltaBytes opBytes flat bytesOf ninth partsOf
+applies : AllShown calls.Apply (0 ∷ 14 ∷ 13 ∷ 9 ∷ 1 ∷ 10 ∷ 11 ∷ 12 ∷ 8 ∷ [])
+unfolding calls.leaves received appliedTold apply all deltaRead readDelta readOps readOp readNode readKeyValue readSetMaxVersion follow natOf among zeros deltaBytes opBytes flat bytesOf ninth partsOf
 applies =
     (calls.apply (lent []) (received [] refl) [] seven, applying (received [] refl) [] 0 refl)
     and (calls.apply [] (received [] refl) [] seven, not-applied)
@@ -494,11 +512,26 @@ applies =
     and (calls.apply (lent []) (received (deltaBytes (NodeOp 7 0 0 ∷ [])) refl) [] seven, applying (received (deltaBytes (NodeOp 7 0 0 ∷ [])) refl) [] 8 refl)
     and no-more
 
-shows : AllShown calls.ListDelta (calls.possible calls.ListDelta)
-unfolding calls.leaves calls.refusals writtenTold listing listingOf decimal digits readDelta readOps zeros flat
+shows : AllShown calls.ListDelta (0 ∷ 8 ∷ [])
+unfolding calls.leaves writtenTold listing listingOf decimal digits readDelta readOps zeros flat
 shows =
     (calls.list-delta [] (zeros 100), refl)
     and (calls.list-delta [] [], refl)
+    and no-more
+
+-- the listing of any operations, as if they were accepted
+abbrev telling : (ops : List Op) → Bytes
+telling ops = listingOf (Good ops) (length (deltaBytes ops))
+
+makes : AllShown calls.MakeDelta (0 ∷ 16 ∷ 13 ∷ 11 ∷ 12 ∷ 8 ∷ [])
+unfolding calls.leaves madeTold placed unlist readLines readLine front valueFrom startsWith sameBytes listingOf opLine decimal digits readDelta readOps readOp readNode readSetMaxVersion follow natOf among deltaBytes opBytes flat bytesOf ninth sizeOf
+makes =
+    (calls.make-delta (telling []) [], refl)
+    and (calls.make-delta [] [], refl)
+    and (calls.make-delta (telling (ninth 9)) [], refl)
+    and (calls.make-delta (telling (SetMaxVersionOp 0 ∷ [])) [], refl)
+    and (calls.make-delta (telling (NodeOp 7 0 0 ∷ NodeOp 7 0 0 ∷ [])) [], refl)
+    and (calls.make-delta (telling (NodeOp 7 0 0 ∷ [])) [], refl)
     and no-more
 
 -- ---- exchanges
@@ -532,8 +565,8 @@ unfolding lentExchange readyFor exchangedTold
 not-asked g =
     ap (λ (b : Bool). exchangedTold (afterAsking g [] [] (pick b (pick (validWhole []) (readyOn (g .edition) (g .unasked) (roomsOf g) (decodeWhole [] .table) (decodeWhole [] .table)) (ready.No Delta BadTable)) (ready.No Digest BadTable)) .answer) .number) none-valid
 
-exchanges : AllShown calls.Exchange (calls.possible calls.Exchange)
-unfolding calls.leaves calls.refusals exchangedTold readyOn roomsFor askedOf digestOf digestBytes headWidth bytesOf flat zeros
+exchanges : AllShown calls.Exchange (0 ∷ 14 ∷ 20 ∷ 8 ∷ 7 ∷ 15 ∷ [])
+unfolding calls.leaves exchangedTold readyOn roomsFor askedOf digestOf digestBytes headWidth bytesOf flat zeros
 exchanges =
     (calls.exchange (lent []) (lent []) 0 [] [] [] (zeros 2) (zeros 100) [] 100 seven, done-as (asking 0 100 [] (zeros 2) (zeros 100)) refl)
     and (calls.exchange [] [] 0 [] [] [] [] [] [] 100 seven, not-asked (asking 0 100 [] [] []))
@@ -545,36 +578,41 @@ exchanges =
 
 -- ---- all kinds
 
-all-shown : (k : calls.Kind) → AllShown k (calls.possible k)
-all-shown calls.NewTable = new-tables
-all-shown calls.AddNode = added
-all-shown calls.RemoveNode = removed
-all-shown calls.LastHeartbeat = asked
-all-shown calls.Write = writes
-all-shown calls.Delete = deletes
-all-shown calls.DeleteAfterTtl = deletes-ttl
-all-shown calls.RemoveScheduled = collected
-all-shown calls.OfferHeartbeat = offers
-all-shown calls.LocalBeat = beaten
-all-shown calls.Find = finds
-all-shown calls.ListPrefix = lists
-all-shown calls.NodeCount = counts
-all-shown calls.NodeNumber = numbered
-all-shown calls.NodeHeader = headed
-all-shown calls.RecordCount = record-counts
-all-shown calls.RecordAt = records-at
-all-shown calls.RecordOf = records-of
-all-shown calls.RecordByKey = keyed
-all-shown calls.NodeRows = all-rows
-all-shown calls.PrefixRows = some-rows
-all-shown calls.FindText = texts
-all-shown calls.WriteDigest = digests
-all-shown calls.ReadDigest = digest-reads
-all-shown calls.Compute = computes
-all-shown calls.ReadDelta = delta-reads
-all-shown calls.Apply = applies
-all-shown calls.ListDelta = shows
-all-shown calls.Exchange = exchanges
+all-shown : (k : calls.Kind) → Covered k
+unfolding calls.refusals among all
+all-shown calls.NewTable = (_, new-tables, refl)
+all-shown calls.AddNode = (_, added, refl)
+all-shown calls.RemoveNode = (_, removed, refl)
+all-shown calls.LastHeartbeat = (_, asked, refl)
+all-shown calls.Write = (_, writes, refl)
+all-shown calls.Delete = (_, deletes, refl)
+all-shown calls.DeleteAfterTtl = (_, deletes-ttl, refl)
+all-shown calls.RemoveScheduled = (_, collected, refl)
+all-shown calls.OfferHeartbeat = (_, offers, refl)
+all-shown calls.LocalBeat = (_, beaten, refl)
+all-shown calls.Find = (_, finds, refl)
+all-shown calls.ListPrefix = (_, lists, refl)
+all-shown calls.NodeCount = (_, counts, refl)
+all-shown calls.NodeNumber = (_, numbered, refl)
+all-shown calls.NodeHeader = (_, headed, refl)
+all-shown calls.RecordCount = (_, record-counts, refl)
+all-shown calls.RecordAt = (_, records-at, refl)
+all-shown calls.RecordOf = (_, records-of, refl)
+all-shown calls.RecordByKey = (_, keyed, refl)
+all-shown calls.NodeRows = (_, all-rows, refl)
+all-shown calls.PrefixRows = (_, some-rows, refl)
+all-shown calls.FindText = (_, texts, refl)
+all-shown calls.WriteDigest = (_, digests, refl)
+all-shown calls.ReadDigest = (_, digest-reads, refl)
+all-shown calls.DigestEntry = (_, entries, refl)
+all-shown calls.Compute = (_, computes, refl)
+all-shown calls.ReadDelta = (_, delta-reads, refl)
+all-shown calls.Apply = (_, applies, refl)
+all-shown calls.ListDelta = (_, shows, refl)
+all-shown calls.MakeDelta = (_, makes, refl)
+all-shown calls.Exchange = (_, exchanges, refl)
 
 pub each : (k : calls.Kind) (n : ℕ) → among n (calls.possible k) ≡ true → (c : calls.Call k) × (calls.leaves c .answer .number ≡ n)
-each k n e = shown-in k (calls.possible k) (all-shown k) n e
+each k n e =
+    let s = all-shown k in
+    shown-in k (s .0) (s .1) n (all-from (λ m. among m (s .0)) (calls.possible k) (s .2) n (among-in n (calls.possible k) e))

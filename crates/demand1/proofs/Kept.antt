@@ -4,8 +4,8 @@ use mathlib.Core.Bool.{Bool, true, false, _&&_}
 use mathlib.Core.List.{List, [], _∷_}
 use mathlib.Core.Path.{_≡_, _∙_, ap, refl, subst, sym}
 use lib.Dec.{eqb}
-use lib.ListN.{length, take}
-use Rattle.fields.specs.Choice.{all, pick, _∈_}
+use lib.ListN.{length}
+use Rattle.fields.specs.Choice.{pick, _∈_}
 use Rattle.fields.specs.Numbers.{Bytes}
 use Rattle.fields.proofs.Choice.{and-intro, and-left, and-right}
 use Rattle.rules.specs.Apply.{Ways, apply, applyNode, waysOf}
@@ -43,6 +43,7 @@ use Rattle.exchange_ask.specs.declared.Ready.{Ready}
 use Rattle.exchange_ask.specs.declared.Ready.the-variants as ready
 use Rattle.exchange.proofs.Refusing.{IsReady, delta-made, delta-read, digest-told, ds, is-ready, sent}
 use Rattle.demand1.specs.Calls as calls
+use Rattle.demand1.specs.Demand1.{obeyAll}
 
 -- a valid table obeys
 whole-obeys : (l : Bytes) → validWhole l ≡ true → obeys (decodeWhole l .table) ≡ true
@@ -139,20 +140,22 @@ module _ (g : Lending) (publisher follower : Bytes) (clock : g .clock < numbers)
 -- ---- all calls
 
 -- one table
-one : (a b : Bytes) → (validWhole a ≡ true → validWhole b ≡ true) → all validWhole (a ∷ []) ≡ true → all validWhole (b ∷ []) ≡ true
-unfolding all
+one : (a b : Bytes) → (validWhole a ≡ true → validWhole b ≡ true) → obeyAll (validWhole ∷ []) (a ∷ []) ≡ true → obeyAll (validWhole ∷ []) (b ∷ []) ≡ true
+unfolding obeyAll
 one a b f e = and-intro (validWhole b) true (f (and-left (validWhole a) true e)) refl
 
 -- two tables, of which the first stays
-two : (p a b : Bytes) → (validWhole a ≡ true → validWhole b ≡ true) → all validWhole (p ∷ a ∷ []) ≡ true → all validWhole (p ∷ b ∷ []) ≡ true
-unfolding all
+two : (p a b : Bytes) → (validWhole a ≡ true → validWhole b ≡ true)
+    → obeyAll (validWhole ∷ validWhole ∷ []) (p ∷ a ∷ []) ≡ true
+    → obeyAll (validWhole ∷ validWhole ∷ []) (p ∷ b ∷ []) ≡ true
+unfolding obeyAll
 two p a b f e =
     and-intro (validWhole p) (validWhole b && true) (and-left (validWhole p) (validWhole a && true) e) (one a b f (and-right (validWhole p) (validWhole a && true) e))
 
 pub obeying : {k : calls.Kind} (c : calls.Call k)
-    → all validWhole (take (calls.tables k) (calls.lentTo c)) ≡ true
-    → all validWhole (take (calls.tables k) (calls.leaves c .lent)) ≡ true
-unfolding calls.leaves calls.lentTo
+    → obeyAll (calls.checks k) (calls.lentTo c) ≡ true
+    → obeyAll (calls.checks k) (calls.leaves c .lent) ≡ true
+unfolding calls.leaves calls.lentTo obeyAll
 obeying (calls.new-table t m) = one t _ (made m t)
 obeying (calls.add-node t i) = one t _ (kept-whole (plain.Refused BadTable) (addWhole (i .value)) (λ w o. add-keeps-whole w o (i .value) (i .fits)) t)
 obeying (calls.remove-node t i) = one t _ (kept-whole (plain.Refused BadTable) (removeWhole (i .value)) (λ w o. remove-keeps-whole w o (i .value)) t)
@@ -184,11 +187,13 @@ obeying (calls.prefix-rows t k i) = λ e. e
 obeying (calls.find-text t i j x) = λ e. e
 obeying (calls.write-digest t edition excluded datagram place) = λ e. e
 obeying (calls.read-digest edition digest) = λ e. e
+obeying (calls.digest-entry digest edition i) = λ e. e
 obeying (calls.compute t edition digest excluded ties datagram mtu place) = λ e. e
 obeying (calls.read-delta delta) = λ e. e
 obeying (calls.apply t delta answers now) =
     one t _
     (λ v. applying (delta .bytes) (now .value) answers t v (apply-keeps (waysOf (decodeWhole t .mode)) (mode-lawful (decodeWhole t .mode)) (delta .bytes) (now .value) (decodeWhole t .table) answers (delta .are) (now .fits)))
 obeying (calls.list-delta delta out) = λ e. e
+obeying (calls.make-delta text out) = λ e. e
 obeying (calls.exchange publisher follower edition unasked unsent ties digest delta answers mtu now) =
     two publisher follower _ (exchanged (lending edition unasked unsent ties mtu (now .value) digest delta answers) publisher follower (now .fits))

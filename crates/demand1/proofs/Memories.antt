@@ -111,9 +111,11 @@ remembered (calls.prefix-rows t k i) e = refl
 remembered (calls.find-text t i j x) e = refl
 remembered (calls.write-digest t edition excluded datagram place) e = refl
 remembered (calls.read-digest edition digest) e = refl
+remembered (calls.digest-entry digest edition i) e = refl
 remembered (calls.compute t edition digest excluded ties datagram mtu place) e = refl
 remembered (calls.read-delta delta) e = refl
 remembered (calls.apply t delta answers now) e = one t _ (applying (delta .bytes) (now .value) answers t)
 remembered (calls.list-delta delta out) e = refl
+remembered (calls.make-delta text out) e = refl
 remembered (calls.exchange publisher follower edition unasked unsent ties digest delta answers mtu now) e =
     two publisher follower _ (exchanged (lending edition unasked unsent ties mtu (now .value) digest delta answers) publisher follower)

@@ -3,7 +3,7 @@ use Prim.Native.Nat.{ℕ}
 use mathlib.Core.Bool.{Bool, false, true}
 use mathlib.Core.List.{[], _∷_}
 use mathlib.Core.Path.{_≡_, ap, ap₂, refl}
-use lib.Dec.{eqb}
+use lib.Dec.{eqb, leb}
 use lib.ListN.{length}
 use Rattle.fields.specs.Choice.{pick}
 use Rattle.fields.specs.Numbers.{Bytes}
@@ -37,6 +37,9 @@ use Rattle.rules.specs.declared.Written.the-variants as written
 use Rattle.rules.proofs.Refusing.{beat-refused, call-refused, compute-refused, digest-refused, lent-apply-refused, lent-refused, offer-refused, prefixed-refused, write-refused}
 use Rattle.rules.proofs.Memories.{add-whole-refused, remove-whole-refused, whole-refused}
 use Rattle.nodes.specs.New.{lentMade}
+use Rattle.delta_make.specs.declared.Made.the-variants as making
+use Rattle.listing_read.specs.Unlist.{Delta, Faulty, NotInForm, Unlisted, unlist}
+use Rattle.listing_make.specs.Make.{lentMake, lentUnlisted, madeTold, placed}
 use Rattle.exchange.specs.Exchanging.{ExchangeLent, Lending, afterAsking, allFour, exchangedTold, lending, lentExchange, roomsOf}
 use Rattle.exchange_ask.specs.Asking.{readyFor}
 use Rattle.exchange.specs.declared.Exchanged.{Exchanged}
@@ -133,6 +136,20 @@ shown text l = go (fitsAt 0 (length text) l)
     go true h = absurd (h refl)
     go false h = refl
 
+made-delta : (text out : Bytes) → Refuses (madeTold (lentMake text out .answer)) → lentMake text out .lent ≡ out
+unfolding placed madeTold
+made-delta text out = go (unlist text)
+  where
+    fits : (b : Bytes) (t : Bool) → Refuses (madeTold (pick t (given (making.Bytes (length b)) (put 0 b out)) (given (making.Refused NoPlace 0) out) .answer))
+        → pick t (given (making.Bytes (length b)) (put 0 b out)) (given (making.Refused NoPlace 0) out) .lent ≡ out
+    fits b true h = absurd (h refl)
+    fits b false h = refl
+
+    go : (x : Unlisted) → Refuses (madeTold (lentUnlisted x out .answer)) → lentUnlisted x out .lent ≡ out
+    go (Delta b) h = fits b (leb (length b) (length out)) h
+    go (NotInForm n) h = refl
+    go (Faulty why at) h = refl
+
 -- an exchange that goes ahead is not refused
 exchanged : (g : Lending) (publisher follower : Bytes) → Refuses (exchangedTold (lentExchange g publisher follower .answer))
     → lentExchange g publisher follower .lent ≡ allFour follower (g .digest) (g .delta) (g .answers)
@@ -198,6 +215,7 @@ nothing (calls.write-digest t edition excluded datagram place) h =
     (into-list writtenTold (written.Refused BadTable) (λ t. writeDigest edition excluded place t datagram) datagram
     (λ t g. let x = by-written _ g in digest-refused edition excluded place t datagram (x .0) (x .1)) t h)
 nothing (calls.read-digest edition digest) h = refl
+nothing (calls.digest-entry digest edition i) h = refl
 nothing (calls.compute t edition digest excluded ties datagram mtu place) h =
     ap (λ (u : Bytes). t ∷ digest ∷ excluded ∷ ties ∷ u ∷ [])
     (into-list computedTold (computed.Refused BadTable) (λ t. computing.compute edition excluded ties mtu place digest t datagram) datagram
@@ -208,6 +226,7 @@ nothing (calls.apply t delta answers now) h =
     let s = lent-apply-refused (waysOf (decodeWhole t .mode)) (delta .bytes) (now .value) answers t (x .0) (x .1) (x .2) in
     ap₂ (λ (u m : Bytes). u ∷ delta .bytes ∷ m ∷ []) (s .0) (s .1)
 nothing (calls.list-delta delta out) h = ap (λ (u : Bytes). delta ∷ u ∷ []) (shown (listing delta) out h)
+nothing (calls.make-delta text out) h = ap (λ (u : Bytes). text ∷ u ∷ []) (made-delta text out h)
 nothing (calls.exchange publisher follower edition unasked unsent ties digest delta answers mtu now) h =
     ap (λ (u : ExchangeLent). publisher ∷ u .follower ∷ unasked ∷ unsent ∷ ties ∷ u .digest ∷ u .delta ∷ u .answers ∷ [])
     (exchanged (lending edition unasked unsent ties mtu (now .value) digest delta answers) publisher follower h)

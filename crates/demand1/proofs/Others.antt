@@ -5,14 +5,14 @@ use mathlib.Core.List.{List, [], _∷_}
 use mathlib.Core.Option.{Option, none, some}
 use mathlib.Core.Path.{_∙_, _≡_, ap, refl, subst, sym}
 use lib.Dec.{eqb, leb, ltb}
-use lib.ListN.{length}
+use lib.ListN.{getD, length}
 use borrow.Author.Tests.{eq-eqb}
 use Rattle.fields.specs.Choice.{pick}
 use Rattle.fields.specs.Numbers.{Bytes}
 use Rattle.fields.specs.Order.{sameBytes}
 use Rattle.fields.specs.Parts.{put}
 use Rattle.rules.specs.Sizes.{leastMtu, maxDelta, maxKey, maxNodes, maxValue, top}
-use Rattle.rules.specs.Answers.{Told, numberOf, answerTold, appliedTold, computedTold, listedTold, offeredTold, readTold, rememberedTold, writtenTold}
+use Rattle.rules.specs.Answers.{Told, refused, numberOf, answerTold, appliedTold, computedTold, listedTold, offeredTold, readTold, rememberedTold, writtenTold}
 use Rattle.rules.specs.Apply.{ApplyOutcome, apply, applyNode, applyOps, waysOf}
 use Rattle.rules.specs.Compute as computing
 use Rattle.rules.specs.Delta.{Faulty, Good, Op, Ops, deltaRead, partsOf, readAnswer, readDelta}
@@ -56,7 +56,8 @@ use Rattle.inspect.specs.declared.Rows.the-variants as rows
 use Rattle.prefix.specs.Rows.{runRows, prefixRowsOn, prefixRows}
 use Rattle.inspect_text.specs.Texts.{placeOn, textFound, textOn}
 use Rattle.inspect_text.specs.declared.Text.{Text}
-use Rattle.digest_read.specs.Held.{digestIn, heldOf}
+use Rattle.digest_read.specs.Held.{digestIn, heldOf, inPlaces, unused}
+use Rattle.digest_read.specs.declared.NodeDigest.{NodeDigest as Place}
 use Rattle.digest_read.specs.Told.{digestTold}
 use Rattle.compute.specs.Asking.{askedOf, isFree, mtuFits}
 use Rattle.compute.specs.declared.Asked.the-variants as asked
@@ -66,8 +67,12 @@ use Rattle.exchange.specs.declared.Exchanged.{Exchanged}
 use Rattle.exchange_ask.specs.declared.Ready.{Ready}
 use Rattle.exchange_ask.specs.declared.Ready.the-variants as ready
 use Rattle.exchange_ask.specs.declared.Step.the-variants.{Applying, Delta, Digest}
+use Rattle.rules.proofs.Obeys.{in-among}
 use Rattle.rules.proofs.Writing.{write-is}
 use Rattle.exchange.proofs.Refusing.{is-ready, ready-done}
+use Rattle.listing_make.specs.Make.{lentMake, madeTold}
+use Rattle.listing_make.proofs.Numbers.{made-numbers}
+use Rattle.answers.specs.Shown.{entryTold, placeTold}
 use Rattle.demand1.specs.Calls as calls
 use Rattle.demand1.proofs.Deltas.{OpsSo, delta-comes, digest-comes}
 
@@ -438,6 +443,17 @@ digest-reads : (edition : ℕ) (l : Bytes) → Of calls.ReadDigest (digestTold (
 unfolding digestIn digestTold among calls.refusals
 digest-reads edition l = digest-comes (λ x. Of calls.ReadDigest (digestTold (heldOf (length l) x))) refl (λ n. refl) refl (λ ds rest. refl) edition l
 
+-- past the last entry 8
+entries : (edition : ℕ) (l : Bytes) (i : ℕ) → Of calls.DigestEntry (entryTold i (digestIn edition l))
+unfolding digestIn entryTold among calls.refusals
+entries edition l i =
+    digest-comes (λ x. Of calls.DigestEntry (entryTold i (heldOf (length l) x))) refl (λ n. refl) refl (λ ds rest. go (leb maxNodes i) (leb (length ds) i) (inPlaces ds .entries)) edition l
+  where
+    go : (a b : Bool) (ps : List Place) → Of calls.DigestEntry (pick a (refused NoPlace []) (pick b (refused NoPlace []) (placeTold (getD ps i unused))))
+    go true b ps = refl
+    go false true ps = refl
+    go false false ps = refl
+
 -- ---- deltas
 
 computes : (edition : ℕ) (excluded ties : List ℕ) (mtu place : ℕ) (told d l : Bytes)
@@ -499,6 +515,10 @@ applies delta now answers l = start (validWhole l)
 shows : (delta out : Bytes) → Of calls.ListDelta (writtenTold (digest.writeBytes (listing delta) 0 out .answer))
 unfolding writtenTold among calls.refusals
 shows delta out = writes calls.ListDelta (listing delta) 0 out refl (λ n. refl)
+
+makes : (text out : Bytes) → Of calls.MakeDelta (madeTold (lentMake text out .answer))
+unfolding calls.refusals
+makes text out = in-among (made-numbers text out)
 
 -- ---- an exchange
 
@@ -581,9 +601,11 @@ no-other (calls.prefix-rows t k i) = some-rows (i .value) k t
 no-other (calls.find-text t i j x) = texts x (i .value) j t
 no-other (calls.write-digest t edition excluded datagram place) = digests edition excluded place datagram t
 no-other (calls.read-digest edition digest) = digest-reads edition digest
+no-other (calls.digest-entry digest edition i) = entries edition digest i
 no-other (calls.compute t edition digest excluded ties datagram mtu place) = computes edition excluded ties mtu place digest datagram t
 no-other (calls.read-delta delta) = delta-reads delta
 no-other (calls.apply t delta answers now) = applies (delta .bytes) (now .value) answers t
 no-other (calls.list-delta delta out) = shows delta out
+no-other (calls.make-delta text out) = makes text out
 no-other (calls.exchange publisher follower edition unasked unsent ties digest delta answers mtu now) =
     exchanges (lending edition unasked unsent ties mtu (now .value) digest delta answers) publisher follower

@@ -11,6 +11,7 @@ use Rattle.rules.specs.Node.{Deleting, DeletingAfterTtl, beats}
 use Rattle.rules.specs.Delta.{deltaRead}
 use Rattle.rules.specs.Listing.{listDelta}
 use Rattle.rules.specs.Lent.{lentAdd, lentRemoveNode, lentRemoved, lentCall, lentWrite, lentGc, lentOffer, lentBeat, lentPrefixed, lentDigest, lentCompute, lentApply}
+use Rattle.rules.specs.Whole.{validWhole}
 use Rattle.rules.specs.declared.Mode.{Mode}
 use Rattle.nodes.specs.New.{lentMade}
 use Rattle.lookup.specs.Lookup.{lentFind}
@@ -22,6 +23,8 @@ use Rattle.inspect_text.specs.Texts.{lentTextFound}
 use Rattle.inspect_text.specs.declared.Text.{Text}
 use Rattle.digest_read.specs.Held.{digestIn}
 use Rattle.digest_read.specs.Told.{digestTold}
+use Rattle.listing_make.specs.Make.{lentMake, madeTold}
+use Rattle.answers.specs.Shown.{entryTold}
 use Rattle.exchange.specs.Exchanging.{exchangedTold, lending, lentExchange}
 
 -- ---- calls
@@ -62,13 +65,15 @@ pub data Kind : Type 0 where
   FindText : Kind
   WriteDigest : Kind
   ReadDigest : Kind
+  DigestEntry : Kind
   Compute : Kind
   ReadDelta : Kind
   Apply : Kind
   ListDelta : Kind
+  MakeDelta : Kind
   Exchange : Kind
 
--- one call of an entry point: what is lent comes first, tables before all else
+-- one call of an entry point: what is lent comes first, tables before all else, and what has other rules before what has none
 pub data Call : Kind → Type 0 where
   new-table : (table : Bytes) (mode : Mode) → Call NewTable
   add-node : (table : Bytes) (number : U64) → Call AddNode
@@ -95,10 +100,12 @@ pub data Call : Kind → Type 0 where
   find-text : (table : Bytes) (number : U64) (j : ℕ) (text : Text) → Call FindText
   write-digest : (table : Bytes) (edition : ℕ) (excluded : List ℕ) (datagram : Bytes) (place : ℕ) → Call WriteDigest
   read-digest : (edition : ℕ) (digest : Bytes) → Call ReadDigest
+  digest-entry : (digest : Bytes) (edition i : ℕ) → Call DigestEntry
   compute : (table : Bytes) (edition : ℕ) (digest : Bytes) (excluded ties : List ℕ) (datagram : Bytes) (mtu place : ℕ) → Call Compute
   read-delta : (delta : Bytes) → Call ReadDelta
   apply : (table : Bytes) (delta : Received) (answers : Bytes) (clock : U64) → Call Apply
   list-delta : (delta out : Bytes) → Call ListDelta
+  make-delta : (text out : Bytes) → Call MakeDelta
   exchange : (publisher follower : Bytes) (edition : ℕ) (unasked unsent ties : List ℕ) (digest delta answers : Bytes) (mtu : ℕ) (clock : U64) → Call Exchange
 
 -- everything lent to a call
@@ -127,18 +134,51 @@ lentTo (prefix-rows t k i) = t ∷ k ∷ []
 lentTo (find-text t i j x) = t ∷ []
 lentTo (write-digest t edition excluded datagram place) = t ∷ excluded ∷ datagram ∷ []
 lentTo (read-digest edition digest) = digest ∷ []
+lentTo (digest-entry digest edition i) = digest ∷ []
 lentTo (compute t edition digest excluded ties datagram mtu place) = t ∷ digest ∷ excluded ∷ ties ∷ datagram ∷ []
 lentTo (read-delta delta) = delta ∷ []
 lentTo (apply t delta answers now) = t ∷ delta .bytes ∷ answers ∷ []
 lentTo (list-delta delta out) = delta ∷ out ∷ []
+lentTo (make-delta text out) = text ∷ out ∷ []
 lentTo (exchange publisher follower edition unasked unsent ties digest delta answers mtu now) =
     publisher ∷ follower ∷ unasked ∷ unsent ∷ ties ∷ digest ∷ delta ∷ answers ∷ []
 
+-- the rules that they obey, one test for each of the first of them; what comes behind these has none
+abbrev pub checks : (kind : Kind) → List (Bytes → Bool)
+checks NewTable = validWhole ∷ []
+checks AddNode = validWhole ∷ []
+checks RemoveNode = validWhole ∷ []
+checks LastHeartbeat = validWhole ∷ []
+checks Write = validWhole ∷ []
+checks Delete = validWhole ∷ []
+checks DeleteAfterTtl = validWhole ∷ []
+checks RemoveScheduled = validWhole ∷ []
+checks OfferHeartbeat = validWhole ∷ []
+checks LocalBeat = validWhole ∷ []
+checks Find = validWhole ∷ []
+checks ListPrefix = validWhole ∷ []
+checks NodeCount = validWhole ∷ []
+checks NodeNumber = validWhole ∷ []
+checks NodeHeader = validWhole ∷ []
+checks RecordCount = validWhole ∷ []
+checks RecordAt = validWhole ∷ []
+checks RecordOf = validWhole ∷ []
+checks RecordByKey = validWhole ∷ []
+checks NodeRows = validWhole ∷ []
+checks PrefixRows = validWhole ∷ []
+checks FindText = validWhole ∷ []
+checks WriteDigest = validWhole ∷ []
+checks ReadDigest = []
+checks DigestEntry = []
+checks Compute = validWhole ∷ []
+checks ReadDelta = []
+checks Apply = validWhole ∷ []
+checks ListDelta = []
+checks MakeDelta = []
+checks Exchange = validWhole ∷ validWhole ∷ []
+
 -- how many of them, the first ones, are tables
 abbrev pub tables : (kind : Kind) → ℕ
-tables ReadDigest = 0
-tables ReadDelta = 0
-tables ListDelta = 0
 tables NewTable = 1
 tables AddNode = 1
 tables RemoveNode = 1
@@ -162,8 +202,13 @@ tables NodeRows = 1
 tables PrefixRows = 1
 tables FindText = 1
 tables WriteDigest = 1
+tables ReadDigest = 0
+tables DigestEntry = 0
 tables Compute = 1
+tables ReadDelta = 0
 tables Apply = 1
+tables ListDelta = 0
+tables MakeDelta = 0
 tables Exchange = 2
 
 -- ---- what a call gives
@@ -198,11 +243,13 @@ leaves (prefix-rows t k i) = given (rowsTold (lentPrefixRows (i .value) k t)) (t
 leaves (find-text t i j x) = given (foundTold (lentTextFound x (i .value) j t)) (t ∷ [])
 leaves (write-digest t edition excluded datagram place) = asTold writtenTold (λ u. t ∷ excluded ∷ u ∷ []) (lentDigest edition excluded place datagram t)
 leaves (read-digest edition digest) = given (digestTold (digestIn edition digest)) (digest ∷ [])
+leaves (digest-entry digest edition i) = given (entryTold i (digestIn edition digest)) (digest ∷ [])
 leaves (compute t edition digest excluded ties datagram mtu place) =
     asTold computedTold (λ u. t ∷ digest ∷ excluded ∷ ties ∷ u ∷ []) (lentCompute edition excluded ties mtu place digest datagram t)
 leaves (read-delta delta) = given (readTold (deltaRead delta)) (delta ∷ [])
 leaves (apply t delta answers now) = asTold appliedTold (λ u. u .table ∷ delta .bytes ∷ u .list ∷ []) (lentApply (delta .bytes) (now .value) answers t)
 leaves (list-delta delta out) = asTold writtenTold (λ u. delta ∷ u ∷ []) (listDelta delta out)
+leaves (make-delta text out) = asTold madeTold (λ u. text ∷ u ∷ []) (lentMake text out)
 leaves (exchange publisher follower edition unasked unsent ties digest delta answers mtu now) =
     asTold exchangedTold (λ u. publisher ∷ u .follower ∷ unasked ∷ unsent ∷ ties ∷ u .digest ∷ u .delta ∷ u .answers ∷ [])
     (lentExchange (lending edition unasked unsent ties mtu (now .value) digest delta answers) publisher follower)
@@ -234,10 +281,12 @@ refusals PrefixRows = 14 ∷ 2 ∷ 1 ∷ []
 refusals FindText = 14 ∷ 2 ∷ 8 ∷ []
 refusals WriteDigest = 14 ∷ 20 ∷ 8 ∷ []
 refusals ReadDigest = 20 ∷ 9 ∷ 13 ∷ []
+refusals DigestEntry = 20 ∷ 9 ∷ 13 ∷ 8 ∷ []
 refusals Compute = 14 ∷ 20 ∷ 7 ∷ 8 ∷ 15 ∷ 9 ∷ 13 ∷ []
 refusals ReadDelta = 13 ∷ 9 ∷ 1 ∷ 10 ∷ 11 ∷ 12 ∷ []
 refusals Apply = 14 ∷ 13 ∷ 9 ∷ 1 ∷ 10 ∷ 11 ∷ 12 ∷ 8 ∷ []
 refusals ListDelta = 8 ∷ []
+refusals MakeDelta = 16 ∷ 13 ∷ 11 ∷ 12 ∷ 8 ∷ []
 refusals Exchange = 14 ∷ 20 ∷ 8 ∷ 7 ∷ 15 ∷ []
 
 -- ---- the calls that may change what is remembered
@@ -267,10 +316,12 @@ remembers PrefixRows = false
 remembers FindText = false
 remembers WriteDigest = false
 remembers ReadDigest = false
+remembers DigestEntry = false
 remembers Compute = false
 remembers ReadDelta = false
 remembers Apply = false
 remembers ListDelta = false
+remembers MakeDelta = false
 remembers Exchange = false
 
 -- 0 where the call is accepted

@@ -39,9 +39,9 @@ ghost use Rattle.digest_read.specs.Held.{digestIn};
 ghost use Rattle.digest_read.specs.Told.{digestTold};
 ghost use Rattle.exchange.specs.Exchanging.{allFour, exchangedTold, lending, lentExchange};
 ghost use Rattle.answers.specs.Shown.{shownAs, numberShown, countShown, nodeShown, heartbeatShown, foundShown, headerShown, recordShown, rowsShown};
-ghost use Rattle.answers.specs.Shown.{digestShown, entryShown, computedShown, deltaShown, appliedShown, exchangedShown};
-ghost use Rattle.answers.specs.Shown.{madeShown, shownBy};
-ghost use Rattle.listing_make.specs.Make.{lentMake};
+ghost use Rattle.answers.specs.Shown.{digestShown, entryTold, entryShown, computedShown, deltaShown, appliedShown, exchangedShown};
+ghost use Rattle.answers.specs.Shown.{madeShown};
+ghost use Rattle.listing_make.specs.Make.{lentMake, madeTold};
 ghost use Rattle.library.specs.Numbers.{checkNumber, madeBy};
 
 pub mod good;
@@ -340,7 +340,7 @@ pub extern "C" fn kev_read_digest(edition: u64, digest: &[u8]) -> KevDigest
 // What a digest tells of the node in place `i`, in the order of their numbers: 20, 9, 13, 8.
 #[no_mangle]
 pub extern "C" fn kev_digest_entry(edition: u64, digest: &[u8], i: usize) -> KevEntry
-    ensures { λ r. ⌜ r ≡ entryShown i (digestIn edition (now (digest .entry)) .read) (digestIn edition (now (digest .entry)) .entries) ⌝ }
+    ensures { λ r. ⌜ r ≡ entryShown (entryTold i (digestIn edition (now (digest .entry)))) ⌝ }
 {
     answers::entry(digest_read::read_digest(edition, digest), i)
 }
@@ -364,7 +364,7 @@ pub extern "C" fn kev_list_delta(delta: &[u8], out: &mut [u8]) -> KevCount
 // The delta that a listing tells, at the front of the buffer: 16, 13, 11, 12, 8.
 #[no_mangle]
 pub extern "C" fn kev_make_delta(text: &[u8], out: &mut [u8]) -> KevMade
-    ensures { λ r. ⌜ Gives (shownBy madeShown (lentMake (now (text .entry)) (now (out .entry)))) r (now (out .exit)) ⌝ }
+    ensures { λ r. ⌜ Gives (shownAs madeTold madeShown (lentMake (now (text .entry)) (now (out .entry)))) r (now (out .exit)) ⌝ }
 {
     answers::made(listing_make::make_delta(text, out))
 }

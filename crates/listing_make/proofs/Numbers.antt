@@ -24,7 +24,7 @@ use Rattle.rules.proofs.Ops.{read-written}
 use Rattle.listing_read.specs.Unlist.{All, BadLine, Delta, Faulty, Lines, NotInForm, Unlisted, judged, ofLines, readLines, unlist}
 use Rattle.listing_read.proofs.Relisted.{lines-are}
 use Rattle.delta_make.specs.declared.Made.the-variants as made
-use Rattle.listing_make.specs.Make.{lentMake, lentUnlisted, madeNumber, placed}
+use Rattle.listing_make.specs.Make.{lentMake, lentUnlisted, madeTold, placed}
 
 -- ---- reading whole operations
 
@@ -121,12 +121,12 @@ unlisted-few t = go (readLines (length t) 0 0 t) refl
 
 -- ---- the call
 
-placed-number : (b out : Bytes) → madeNumber (placed b out .answer) ∈ (0 ∷ 16 ∷ 13 ∷ 11 ∷ 12 ∷ 8 ∷ [])
-unfolding placed
+placed-number : (b out : Bytes) → madeTold (placed b out .answer) .number ∈ (0 ∷ 16 ∷ 13 ∷ 11 ∷ 12 ∷ 8 ∷ [])
+unfolding placed madeTold
 placed-number b out = go (leb (length b) (length out))
   where
     go : (t : Bool)
-        → madeNumber (pick t (given (made.Bytes (length b)) (put 0 b out)) (given (made.Refused NoPlace 0) out) .answer) ∈ (0 ∷ 16 ∷ 13 ∷ 11 ∷ 12 ∷ 8 ∷ [])
+        → madeTold (pick t (given (made.Bytes (length b)) (put 0 b out)) (given (made.Refused NoPlace 0) out) .answer) .number ∈ (0 ∷ 16 ∷ 13 ∷ 11 ∷ 12 ∷ 8 ∷ [])
     go true = here refl
     go false = later (later (later (later (later (here refl)))))
 
@@ -136,10 +136,11 @@ in-front n (later (here e)) = later (here e)
 in-front n (later (later (here e))) = later (later (here e))
 
 -- 0 where the delta is accepted, or one of five numbers
-pub made-numbers : (text out : Bytes) → madeNumber (lentMake text out .answer) ∈ (0 ∷ 16 ∷ 13 ∷ 11 ∷ 12 ∷ 8 ∷ [])
+pub made-numbers : (text out : Bytes) → madeTold (lentMake text out .answer) .number ∈ (0 ∷ 16 ∷ 13 ∷ 11 ∷ 12 ∷ 8 ∷ [])
+unfolding madeTold
 made-numbers text out = go (unlist text) (unlisted-few text)
   where
-    go : (x : Unlisted) → FewUnlisted x → madeNumber (lentUnlisted x out .answer) ∈ (0 ∷ 16 ∷ 13 ∷ 11 ∷ 12 ∷ 8 ∷ [])
+    go : (x : Unlisted) → FewUnlisted x → madeTold (lentUnlisted x out .answer) .number ∈ (0 ∷ 16 ∷ 13 ∷ 11 ∷ 12 ∷ 8 ∷ [])
     go (Delta b) w = placed-number b out
     go (NotInForm n) w = later (here refl)
     go (Faulty why at) w = later (later (in-front (numberOf why) w))

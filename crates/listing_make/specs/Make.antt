@@ -1,11 +1,11 @@
 -- A delta made from its whole listing, into lent memory, for every text and all memory.
-use Prim.Native.Nat.{ℕ}
+use mathlib.Core.List.{[], _∷_}
 use lib.Dec.{leb}
 use lib.ListN.{length}
 use Rattle.fields.specs.Choice.{pick}
 use Rattle.fields.specs.Numbers.{Bytes}
 use Rattle.fields.specs.Parts.{put}
-use Rattle.rules.specs.Answers.{numberOf}
+use Rattle.rules.specs.Answers.{Told, accepted, refused}
 use Rattle.rules.specs.Given.{Given, given}
 use Rattle.rules.specs.declared.Refusal.the-variants.{NoPlace}
 use Rattle.listing_read.specs.Unlist.{Delta, Faulty, NotInForm, Unlisted, unlist}
@@ -25,8 +25,9 @@ lentUnlisted (Faulty why at) out = given (made.Refused why at) out
 abbrev pub lentMake : (text out : Bytes) → Given Made Bytes
 lentMake text out = lentUnlisted (unlist text) out
 
--- the number of an answer
-abbrev pub madeNumber : (answer : Made) → ℕ
-madeNumber (made.Bytes n) = 0
-madeNumber (made.BadLine n) = 16
-madeNumber (made.Refused why at) = numberOf why
+-- What the answer tells: the delta's bytes; or 16 and the first line that is not in its form; or the number of a refused delta and the place of the faulty
+-- operation's tag. A refusal's values are the line and the place, and one that there is not is 0.
+unfoldable pub madeTold : (answer : Made) → Told
+madeTold (made.Bytes n) = accepted (n ∷ [])
+madeTold (made.BadLine n) = record { number = 16; values = n ∷ 0 ∷ []; need = 0 }
+madeTold (made.Refused why at) = refused why (0 ∷ at ∷ [])

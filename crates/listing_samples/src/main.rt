@@ -50,8 +50,9 @@ fn replay(i: usize) -> bool {
     streams::put(&path[..len]);
     streams::put(b"\n");
     let mut input = [0u8; sizes::LONGEST_DELTA + 1];
-    let n = io::read_full(file, &mut input);
-    if n <= sizes::LONGEST_DELTA && !streams::ended(file) {
+    let filled = streams::fill(file, &mut input);
+    let n = filled.len;
+    if n <= sizes::LONGEST_DELTA && !filled.ended {
         return false;
     }
     libc::close(file);

@@ -4,8 +4,9 @@ use rules::sizes;
 
 fn main() {
     let mut input = [0u8; sizes::LONGEST_DELTA + 1];
-    let n = io::read_full(STDIN_FILENO, &mut input);
-    if n <= sizes::LONGEST_DELTA && !streams::ended(STDIN_FILENO) {
+    let filled = streams::fill(STDIN_FILENO, &mut input);
+    let n = filled.len;
+    if n <= sizes::LONGEST_DELTA && !filled.ended {
         return;
     }
     listing_show::show(&input[..n]);

@@ -7,7 +7,7 @@ use std::hint::black_box;
 
 use judge::raw::Raw;
 use judge::timed::{self, Timed};
-use kevdarosh::{Mode, OwnedTable, Record, Status, TableView};
+use kevdarosh::{Mode, OwnedTable, Record, Status, TableView, Wanted};
 use script::table::AREA_BYTES;
 
 use crate::inputs::{self, NODES, RECORDS};
@@ -45,7 +45,7 @@ fn both() -> (Raw, Box<OwnedTable>) {
     for record in inputs::all() {
         let (key, value) = (inputs::key(NODE, record), inputs::value(NODE, record, 0));
         raw.set(&key, &value);
-        table.set(NODE, key.as_bytes(), value.as_bytes()).expect("room for a record");
+        table.write(NODE, key.as_bytes(), value.as_bytes(), Wanted::Set).expect("room for a record");
     }
     (raw, table)
 }
@@ -104,7 +104,7 @@ fn set_with_ttl(rows: &mut Rows) {
                     for asked in &keys {
                         let (key, value) =
                             (black_box(asked.key.as_bytes()), black_box(asked.values[pass % 2].as_bytes()));
-                        black_box(table.set_with_ttl(NODE, key, value, NOW).is_ok());
+                        black_box(table.write(NODE, key, value, Wanted::Ttl(NOW)).is_ok());
                     }
                 }
             })

@@ -1,6 +1,6 @@
 //! The port's calls, as a hub makes them: by the Rust crate over the library (`rust/kevdarosh`). A lent table is checked in each call, an owned one is not.
 
-use kevdarosh::{Digest, Edition, LentTable, OwnedTable, TableView};
+use kevdarosh::{Digest, Edition, LentTable, OwnedTable, TableView, Wanted};
 
 /// Digests are of V0, whose bytes the original writes without blocks.
 const EDITION: Edition = Edition::V0;
@@ -46,8 +46,8 @@ impl Port {
     pub fn set(&mut self, node: u64, key: &str, value: &str) -> bool {
         let (key, value) = (key.as_bytes(), value.as_bytes());
         match self {
-            Lent(bytes) => LentTable::over(bytes).set(node, key, value).is_ok(),
-            Owned(table) => table.set(node, key, value).is_ok(),
+            Lent(bytes) => LentTable::over(bytes).write(node, key, value, Wanted::Set).is_ok(),
+            Owned(table) => table.write(node, key, value, Wanted::Set).is_ok(),
         }
     }
 

@@ -253,16 +253,17 @@ impl Port {
         let told = ffi::read_digest(edition, bytes);
         self.calls += 2 + told.count.get() as u64;
         let entries = (0..told.count.get()).map(|i| ffi::digest_entry(edition, bytes, i)).map(|entry| {
-            assert_eq!(entry.number, 0);
+            assert_eq!((entry.number, entry.need.get()), (0, 0));
             DigestEntry { node: entry.node, heartbeat: entry.heartbeat, last_gc: entry.last_gc, max: entry.max }
         });
         let entries = entries.collect();
-        let past = ffi::digest_entry(edition, bytes, told.count.get()).number;
+        let past = ffi::digest_entry(edition, bytes, told.count.get());
+        let past = (past.number, past.need.get());
         if told.number != 0 {
-            assert_eq!((told.number, told.count.get(), told.rest.get()), (past, 0, 0));
+            assert_eq!((told.number, told.need.get(), told.count.get(), told.rest.get()), (past.0, past.1, 0, 0));
             return or_cut(told.number, told.need.get(), Answer::Done).1;
         }
-        assert_eq!(past, 8);
+        assert_eq!(past, (8, 0));
         Answer::Digest { entries, rest: bytes.len() - told.rest.get() }
     }
 

@@ -8,7 +8,7 @@ mod store;
 use std::path::PathBuf;
 use std::process::ExitCode;
 
-use kevdarosh::{Mode, OwnedTable};
+use kevdarosh::{Mode, OwnedTable, Wanted};
 
 fn run(path: PathBuf) -> Result<(), Box<dyn std::error::Error>> {
     let mut table = Box::new(match store::load(&path) {
@@ -20,7 +20,7 @@ fn run(path: PathBuf) -> Result<(), Box<dyn std::error::Error>> {
     });
     table.add_node(7)?;
     let starts = table.get(7, b"starts")?.and_then(|value| std::str::from_utf8(value).ok()).and_then(|text| text.parse().ok()).unwrap_or(0u64) + 1;
-    table.set(7, b"starts", starts.to_string().as_bytes())?;
+    table.write(7, b"starts", starts.to_string().as_bytes(), Wanted::Set)?;
     store::store(&table, &path)?;
     println!("{}: {starts} starts, version {}", path.display(), table.node_state(7)?.max_version());
     Ok(())

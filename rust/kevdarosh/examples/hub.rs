@@ -19,7 +19,7 @@ use std::process::ExitCode;
 use std::sync::mpsc::{Receiver, TryRecvError, channel};
 use std::time::{Duration, SystemTime, UNIX_EPOCH};
 
-use kevdarosh::{Digest, Edition, Mode, NODES, OwnedTable};
+use kevdarosh::{Digest, Edition, Mode, NODES, OwnedTable, Wanted};
 
 const MTU: usize = 1_400;
 const TICK: Duration = Duration::from_millis(20);
@@ -109,7 +109,7 @@ impl Hub {
     fn line(&mut self, line: &str) -> Outcome<bool> {
         let words: Vec<&str> = line.split_whitespace().collect();
         let refused = match words[..] {
-            ["set", key, value] => self.table.set(self.own, key.as_bytes(), value.as_bytes()),
+            ["set", key, value] => self.table.write(self.own, key.as_bytes(), value.as_bytes(), Wanted::Set),
             ["delete", key] => self.table.delete(self.own, key.as_bytes(), clock()),
             ["show"] => return self.show().map(|()| true),
             ["quit"] => return Ok(false),

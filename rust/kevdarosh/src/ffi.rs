@@ -127,6 +127,7 @@ pub struct Entry {
     pub heartbeat: u64,
     pub last_gc: u64,
     pub max: u64,
+    pub need: Size,
 }
 
 #[repr(C)]

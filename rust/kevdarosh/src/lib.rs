@@ -4,13 +4,13 @@
 //! operating system behind it. A call either does what it says or is refused by a [`Refusal`] and changes nothing.
 //!
 //! ```
-//! use kevdarosh::{DIGEST, Edition, Mode, OwnedTable};
+//! use kevdarosh::{DIGEST, Edition, Mode, OwnedTable, Wanted};
 //!
 //! # fn main() -> Result<(), Box<dyn std::error::Error>> {
 //! // A publisher owns node 7 and sets a reading; a follower knows the node and no more.
 //! let mut publisher = OwnedTable::new(Mode::Guarded);
 //! publisher.add_node(7)?;
-//! publisher.set(7, b"total", b"004127.3 kWh")?;
+//! publisher.write(7, b"total", b"004127.3 kWh", Wanted::Set)?;
 //! let mut follower = OwnedTable::new(Mode::Guarded);
 //! follower.add_node(7)?;
 //!
@@ -29,13 +29,13 @@
 //! A lookup borrows from the table, nodes and records are iterators:
 //!
 //! ```
-//! # use kevdarosh::{Mode, OwnedTable, Status};
+//! # use kevdarosh::{Mode, OwnedTable, Status, Wanted};
 //! # fn main() -> Result<(), kevdarosh::Refusal> {
 //! let mut table = OwnedTable::new(Mode::Plain);
 //! table.add_node(12)?;
-//! table.set(12, b"flow.day", b"11")?;
-//! table.set(12, b"flow.night", b"3")?;
-//! table.set(12, b"total", b"88")?;
+//! table.write(12, b"flow.day", b"11", Wanted::Set)?;
+//! table.write(12, b"flow.night", b"3", Wanted::Set)?;
+//! table.write(12, b"total", b"88", Wanted::Set)?;
 //! table.delete(12, b"flow.night", 500)?;
 //!
 //! let node = table.node_state(12)?;
@@ -76,7 +76,7 @@ mod wire;
 
 pub use refusal::{ExchangeRefused, Fault, ListingRefused, Refusal, Step};
 pub use row::Records;
-pub use table::{Answer, Answers, Computed, Header, LentTable, Mode, NodeState, OwnedTable, Record, Status, Table, TableView};
+pub use table::{Answer, Answers, Computed, Header, LentTable, Mode, NodeState, OwnedTable, Record, Status, Table, TableView, Wanted};
 pub use wire::{Datagrams, DeltaRead, Digest, Edition, Exchanged, NodeDigest, exchange, list_delta, make_delta, read_delta};
 
 /// Bytes of a table.

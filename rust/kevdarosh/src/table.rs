@@ -52,6 +52,25 @@ impl Status {
     }
 }
 
+/// The status that a write wants. There are two; a caller cannot ask for another, so that a write is never refused with [`Refusal::BadTag`].
+#[derive(Clone, Copy, Debug, PartialEq, Eq)]
+pub enum Wanted {
+    /// The record stays.
+    Set,
+    /// It can be read, and is scheduled for removal from this time on.
+    Ttl(u64),
+}
+
+impl Wanted {
+    /// The status by its number, and the time of the call, which counts under TTL alone.
+    fn numbers(self) -> (u64, u64) {
+        match self {
+            Wanted::Set => (0, 0),
+            Wanted::Ttl(clock) => (2, clock),
+        }
+    }
+}
+
 /// What a node has beside its records.
 #[derive(Clone, Copy, Debug, PartialEq, Eq)]
 pub struct Header {
@@ -297,14 +316,11 @@ impl<S: BytesMut> Table<S> {
         accepted(ffi::remove_node(&mut self.store, node))
     }
 
-    /// The key's record takes this value. Where it has it already, nothing changes, and no version is given.
-    pub fn set(&mut self, node: u64, key: &[u8], value: &[u8]) -> Result<(), Refusal> {
-        accepted(ffi::write(&mut self.store, node, key, value, 0, 0))
-    }
-
-    /// The same, and the record is scheduled for removal from this time on.
-    pub fn set_with_ttl(&mut self, node: u64, key: &[u8], value: &[u8], clock: u64) -> Result<(), Refusal> {
-        accepted(ffi::write(&mut self.store, node, key, value, 2, clock))
+    /// The key's record takes this value under the wanted status. Where it has both already, nothing changes, and no version is given: a record under
+    /// TTL keeps the time that it is scheduled from.
+    pub fn write(&mut self, node: u64, key: &[u8], value: &[u8], wanted: Wanted) -> Result<(), Refusal> {
+        let (status, clock) = wanted.numbers();
+        accepted(ffi::write(&mut self.store, node, key, value, status, clock))
     }
 
     /// The key's record becomes a tombstone, which is removed after the grace: [`Refusal::NoKey`].

@@ -1,6 +1,6 @@
 //! Every call of the crate, on an owned and on a lent table; the refusals by number.
 
-use kevdarosh::{Answer, DIGEST, Datagrams, Digest, Edition, ExchangeRefused, Fault, LISTING, LentTable, ListingRefused, Mode, OwnedTable, Refusal, Status, Step, TABLE, TableView, exchange, list_delta, make_delta, read_delta};
+use kevdarosh::{Answer, DIGEST, Datagrams, Digest, Edition, ExchangeRefused, Fault, LISTING, LentTable, ListingRefused, Mode, OwnedTable, Refusal, Status, Step, TABLE, TableView, Wanted, exchange, list_delta, make_delta, read_delta};
 
 /// The same story for both kinds of table.
 macro_rules! story {
@@ -12,16 +12,16 @@ macro_rules! story {
             table.add_node(node).unwrap();
         }
         assert_eq!(table.nodes().unwrap().collect::<Vec<_>>(), [3, 7, 12]);
-        table.set(7, b"total", b"1").unwrap();
-        table.set(7, b"total", b"1").unwrap();
-        table.set_with_ttl(7, b"tariff", b"night", 10).unwrap();
-        table.set(7, b"", b"").unwrap();
+        table.write(7, b"total", b"1", Wanted::Set).unwrap();
+        table.write(7, b"total", b"1", Wanted::Set).unwrap();
+        table.write(7, b"tariff", b"night", Wanted::Ttl(10)).unwrap();
+        table.write(7, b"", b"", Wanted::Set).unwrap();
         table.delete(7, b"total", 20).unwrap();
         table.delete_after_ttl(7, b"", 20).unwrap();
         assert_eq!(table.delete(7, b"absent", 20), Err(Refusal::NoKey));
-        assert_eq!(table.set(7, &[b'k'; 33], b""), Err(Refusal::TooLong));
-        assert_eq!(table.set(7, b"k", &[b'v'; 65]), Err(Refusal::TooLong));
-        assert_eq!(table.set(8, b"k", b"v"), Err(Refusal::NoNode));
+        assert_eq!(table.write(7, &[b'k'; 33], b"", Wanted::Set), Err(Refusal::TooLong));
+        assert_eq!(table.write(7, b"k", &[b'v'; 65], Wanted::Set), Err(Refusal::TooLong));
+        assert_eq!(table.write(8, b"k", b"v", Wanted::Set), Err(Refusal::NoNode));
         assert_eq!(table.try_set_heartbeat(7, 5), Ok(false));
         assert_eq!(table.try_set_heartbeat(7, 6), Ok(true));
         table.inc_heartbeat(7).unwrap();
@@ -55,10 +55,10 @@ macro_rules! story {
         }
         assert_eq!(table.add_node(26), Err(Refusal::NinthNode));
         for key in 0..31u8 {
-            let _ = table.set(20, &[key], b"");
+            let _ = table.write(20, &[key], b"", Wanted::Set);
         }
-        table.set(20, &[31], b"").unwrap();
-        assert_eq!(table.set(20, &[32], b""), Err(Refusal::NodeFull));
+        table.write(20, &[31], b"", Wanted::Set).unwrap();
+        assert_eq!(table.write(20, &[32], b"", Wanted::Set), Err(Refusal::NodeFull));
 
         // a digest and a delta, and what is at fault in them
         let (mut digest, mut delta) = ([0; DIGEST], [0; 1_400]);
@@ -109,6 +109,24 @@ macro_rules! story {
 }
 
 #[test]
+fn one_write_under_either_status() {
+    let mut table = OwnedTable::new(Mode::Plain);
+    table.add_node(7).unwrap();
+    for (wanted, told) in [
+        (Wanted::Set, (Status::Set, 1, 0)),
+        (Wanted::Set, (Status::Set, 1, 0)),
+        (Wanted::Ttl(10), (Status::DeleteAfterTtl, 2, 10)),
+        (Wanted::Ttl(20), (Status::DeleteAfterTtl, 2, 10)),
+        (Wanted::Set, (Status::Set, 3, 0)),
+    ] {
+        table.write(7, b"k", b"v", wanted).unwrap();
+        let node = table.node_state(7).unwrap();
+        let record = node.get_versioned(b"k").unwrap().unwrap();
+        assert_eq!((record.status, record.version, record.start), told);
+    }
+}
+
+#[test]
 fn an_owned_and_a_lent_table_do_the_same() {
     let owned = story!(OwnedTable::new(Mode::Fenced));
     let mut bytes = vec![1; TABLE];
@@ -133,7 +151,7 @@ fn bytes_that_are_no_table_are_refused() {
 fn an_exchange_in_one_call() {
     let mut publisher = OwnedTable::new(Mode::Plain);
     publisher.add_node(7).unwrap();
-    publisher.set(7, b"total", b"1").unwrap();
+    publisher.write(7, b"total", b"1", Wanted::Set).unwrap();
     let mut follower = vec![0; TABLE];
     LentTable::new_in(&mut follower, Mode::Plain).unwrap().add_node(7).unwrap();
     let unanswered = exchange(publisher.as_bytes(), &mut follower.clone(), Edition::V1, 1_400, [&[], &[], &[0]], 5, Datagrams { digest: &mut [0; DIGEST], delta: &mut [0; 1_400], answers: &mut [] });
@@ -168,13 +186,13 @@ fn a_late_delta_is_fenced() {
     let mut follower = OwnedTable::new(Mode::Fenced);
     publisher.add_node(7).unwrap();
     follower.add_node(7).unwrap();
-    publisher.set(7, b"a", b"1").unwrap();
-    publisher.set(7, b"b", b"1").unwrap();
+    publisher.write(7, b"a", b"1", Wanted::Set).unwrap();
+    publisher.write(7, b"b", b"1", Wanted::Set).unwrap();
     let n = follower.compute_digest(Edition::V0, &[], &mut digest).unwrap();
     let held = publisher.compute_partial_delta_respecting_mtu(Edition::V0, &digest[..n], 200, &[], &[0], &mut late).unwrap();
     publisher.delete(7, b"b", 0).unwrap();
     publisher.gc_keys_marked_for_deletion(10, 5).unwrap();
-    publisher.set(7, b"c", &[b'x'; 60]).unwrap();
+    publisher.write(7, b"c", &[b'x'; 60], Wanted::Set).unwrap();
     let sent = publisher.compute_partial_delta_respecting_mtu(Edition::V0, &digest[..n], 100, &[], &[0], &mut delta).unwrap();
     assert_eq!(follower.apply_delta(&delta[..sent.bytes], 10).unwrap().iter().collect::<Vec<_>>(), [Answer::ApplyAfterReset]);
     assert_eq!(follower.apply_delta(&late[..held.bytes], 10).unwrap().iter().collect::<Vec<_>>(), [Answer::Fenced]);
@@ -203,7 +221,7 @@ fn records_read_in_the_table() {
     }
     let keys: Vec<Vec<u8>> = (0..32).map(|i| (0..=i).map(|j| if j < 3 { (i >> (2 - j) & 1) as u8 } else { 0xFF }).collect()).collect();
     for (i, key) in keys.iter().enumerate() {
-        table.set(2, key, &vec![i as u8; 2 * i + 2]).unwrap();
+        table.write(2, key, &vec![i as u8; 2 * i + 2], Wanted::Set).unwrap();
         match i % 4 {
             1 => table.delete(2, key, u64::MAX - i as u64).unwrap(),
             2 => table.delete_after_ttl(2, key, i as u64).unwrap(),
@@ -239,7 +257,7 @@ fn nodes_and_headers_are_read_once() {
         assert_eq!(table.nodes().unwrap().len(), i);
         table.add_node(number).unwrap();
         for value in [b"1", b"2"] {
-            table.set(number, b"k", value).unwrap();
+            table.write(number, b"k", value, Wanted::Set).unwrap();
         }
         table.inc_heartbeat(number).unwrap();
         assert!(table.nodes().unwrap().eq(numbers[..=i].iter().copied()));

@@ -7,11 +7,11 @@ use Rattle.delta_put.proofs.take_all.Statement.{statement}
 use Rattle.delta_put.proofs.take_all.Tie as tie
 
 abbrev Inv-loop : tie.InvT-loop
-Inv-loop fd delta₀ line₀ piece₀ making₀ left₀ delta line piece making left =
+Inv-loop fd delta₀ line₀ piece₀ making₀ left₀ ended₀ delta line piece making left ended =
     (length delta ≡ length delta₀) × (349 ≡ length line) × (4096 ≡ length piece)
 
 abbrev μ-loop : tie.MeasureT-loop
-μ-loop fd delta₀ line₀ piece₀ making₀ left₀ delta line piece making left = left
+μ-loop fd delta₀ line₀ piece₀ making₀ left₀ ended₀ delta line piece making left ended = left
 
 room : 349 ≡ length {A = ℕ} (replicate 349 0)
 room = sym (length-replicate {A = ℕ} 349 0)
@@ -25,11 +25,11 @@ start-requires c κs = search needs
 loop-holds : tie.Need-loop-holds Inv-loop μ-loop
 loop-holds c = (refl, room, buffer)
 
-slice-aggregate-read-full : tie.Need-slice-aggregate-read-full Inv-loop μ-loop
-slice-aggregate-read-full c = search needs
+slice-aggregate-fill : tie.Need-slice-aggregate-fill Inv-loop μ-loop
+slice-aggregate-fill c = search needs
 
-read-full-requires : tie.Need-read-full-requires Inv-loop μ-loop
-read-full-requires c κs = search needs
+fill-requires : tie.Need-fill-requires Inv-loop μ-loop
+fill-requires c κs = search needs
 
 slice-aggregate-front : tie.Need-slice-aggregate-front Inv-loop μ-loop
 slice-aggregate-front c = search needs
@@ -52,9 +52,6 @@ loop-less c = search needs
 loop-again : tie.Need-loop-again Inv-loop μ-loop
 loop-again c = search needs
 
-ended-requires : tie.Need-ended-requires Inv-loop μ-loop
-ended-requires c κs = search needs
-
 same-length : tie.Need-same-length Inv-loop μ-loop
 same-length c = search needs
 
@@ -69,8 +66,8 @@ take-all-spec =
     μ-loop
     start-requires
     loop-holds
-    slice-aggregate-read-full
-    read-full-requires
+    slice-aggregate-fill
+    fill-requires
     slice-aggregate-front
     front-requires
     slice-aggregate-take-in
@@ -78,6 +75,5 @@ take-all-spec =
     pieces-left-requires
     loop-less
     loop-again
-    ended-requires
     same-length
     returns)

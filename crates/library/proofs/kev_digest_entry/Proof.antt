@@ -1,6 +1,6 @@
 -- `library::kev_digest_entry` meets its contract: the digest that was read, and one of its places. Assumes nothing.
 use mathlib.Core.Path.{ap, _∙_}
-use Rattle.answers.specs.Shown.{entryShown}
+use Rattle.answers.specs.Shown.{entryShown, entryTold}
 use Rattle.digest_read.specs.declared.Digest.{Digest}
 use Rattle.digest_read.proofs.Values.{same-digest}
 use borrow.Author.Needs.{needs}
@@ -14,7 +14,7 @@ entry-requires : tie.Need-entry-requires
 entry-requires c κs = search needs
 
 returns : tie.Need-returns
-returns c = c .entry .ensures ∙ ap (λ (d : Digest). entryShown (c .before .before .before .args .i) (d .read) (d .entries)) (same-digest _ _ (c .before .read-digest .ensures))
+returns c = c .entry .ensures ∙ ap (λ (d : Digest). entryShown (entryTold (c .before .before .before .args .i) d)) (same-digest _ _ (c .before .read-digest .ensures))
 
 pub kev-digest-entry-spec : {M : Type 1} → statement M
 kev-digest-entry-spec = tie.close (tie.spec read-digest-requires entry-requires returns)

@@ -78,7 +78,7 @@ loop-again c =
     let inv = q .before .loop .inv in
     let e = down-done l (st .pre .0) (st .args .i) (place q) (inv .0) (below q) (q .before .loop .table) (inv .3) (p .node-place .result) (p .node-place .ensures) (w .last .0) (w .ensures)
     (w .kept .0) in
-    (omega (arith, inv .0), q .loop-test .taken, ap length e ∙ down-long l (st .pre .0) (st .args .i) (place q + 1) (omega (arith, inv .0)) (below q), e)
+    (omega (arith, inv .0), omega (arith, q .loop-test .taken), ap length e ∙ down-long l (st .pre .0) (st .args .i) (place q + 1) (omega (arith, inv .0)) (below q), e)
 
 same-length : tie.Need-same-length Inv-loop μ-loop
 same-length c = c .before .loop .inv .2
