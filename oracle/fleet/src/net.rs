@@ -387,6 +387,7 @@ impl<S: Side> Net<S> {
                 let mut chance =
                     Chance::of(self.plan.seed, For::Ties, (began.0 as usize) << 8 | usize::from(copy), began.1.into());
                 let ties: [u64; NODES] = std::array::from_fn(|_| chance.below(NODES) as u64);
+                S::set_ties(&ties);
                 let start = Instant::now();
                 let delta = self.hubs[hub].compute(&bytes, self.plan.mtu, &ties, &mut self.datagram[..]);
                 self.spent.compute += elapsed(start);

@@ -48,8 +48,12 @@ impl Side for Old {
         Old::offer(self, digest, own);
     }
 
-    fn compute(&self, digest: &[u8], mtu: usize, ties: &[u64], _datagram: &mut [u8]) -> Option<Sent> {
-        let computed = Old::compute(self, digest, mtu, ties)?;
+    fn set_ties(ties: &[u64]) {
+        judge::fleet::set_ties(ties);
+    }
+
+    fn compute(&self, digest: &[u8], mtu: usize, _ties: &[u64], _datagram: &mut [u8]) -> Option<Sent> {
+        let computed = Old::compute(self, digest, mtu)?;
         Some(Sent { bytes: computed.stream.into(), len: computed.len, extra: computed.extra })
     }
 

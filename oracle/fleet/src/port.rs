@@ -2,7 +2,7 @@
 
 use std::borrow::Cow;
 
-use kevdarosh::{Answer, DIGEST, Digest, Edition, Mode, OwnedTable};
+use kevdarosh::{Answer, DIGEST, Digest, Edition, Mode, OwnedTable, Wanted};
 
 use crate::plan::NODES;
 use crate::side::{Change, Sent, Side, Taken};
@@ -14,8 +14,8 @@ pub struct Port(Box<OwnedTable>);
 
 fn written(table: &mut OwnedTable, node: u64, key: &[u8], change: Change, clock: u64) {
     let done = match change {
-        Change::Set(value) => table.set(node, key, value.as_bytes()),
-        Change::SetWithTtl(value) => table.set_with_ttl(node, key, value.as_bytes(), clock),
+        Change::Set(value) => table.write(node, key, value.as_bytes(), Wanted::Set),
+        Change::SetWithTtl(value) => table.write(node, key, value.as_bytes(), Wanted::Ttl(clock)),
         // A key that is gone cannot be deleted; nothing changes.
         Change::Delete => table.delete(node, key, clock).or(Ok(())),
     };

@@ -42,6 +42,8 @@ pub trait Side: Sized {
     fn digest(&self) -> Sent;
     /// Takes the heartbeats of a digest, but for those of the own node.
     fn offer(&mut self, digest: &[u8], own: Option<u64>);
+    /// The ties of the next delta, where they are no argument of computing.
+    fn set_ties(_ties: &[u64]) {}
     /// Nothing where nothing is owed. The datagram has 16,384 bytes.
     fn compute(&self, digest: &[u8], mtu: usize, ties: &[u64], datagram: &mut [u8]) -> Option<Sent>;
     fn apply(&mut self, delta: &[u8], clock: u64, own: Option<u64>) -> Taken;

@@ -31,6 +31,11 @@ pub struct Computed {
 
 pub struct Old(Hub);
 
+/// How the original puts nodes in order that are equally stale, from now on: the ties of the nodes 1 to 8.
+pub fn set_ties(ties: &[u64]) {
+    rand::set_ties(ties.iter().enumerate().map(|(place, &tie)| (place as u64 + 1, tie)));
+}
+
 impl Old {
     pub fn new() -> Old {
         let mut old = Old(Hub::new(script::table::PLAIN));
@@ -105,8 +110,7 @@ impl Old {
 
     /// The delta that document 01's MTU lets through. The original's own limit for it hangs on how many Nodes the delta has; where eight would let too much through, it is
     /// asked once more with the number that there are.
-    pub fn compute(&self, digest: &[u8], mtu: usize, ties: &[u64]) -> Option<Computed> {
-        rand::set_ties(ties.iter().enumerate().map(|(place, &tie)| (place as u64 + 1, tie)));
+    pub fn compute(&self, digest: &[u8], mtu: usize) -> Option<Computed> {
         let held = Digest::deserialize(ProtocolVersion::V0, &mut &digest[..]).expect("a digest of the fleet");
         let nobody = HashSet::new();
         let begun = Instant::now();
