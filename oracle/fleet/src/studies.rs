@@ -10,6 +10,7 @@ use crate::{HUBS, work};
 
 const MTU: usize = 1_400;
 const RECORDS: usize = 32;
+const LONGER: [u64; 5] = [10, 20, 40, 60, 80];
 const GRACES: [u64; 6] = [5, 10, 15, 20, 25, 30];
 
 fn plan(hubs: usize, seed: u64) -> Plan {
@@ -93,9 +94,34 @@ fn graces(seed: u64, jobs: usize) -> usize {
     reports.iter().map(|report| report.broken() as usize).sum()
 }
 
+/// Hubs are switched off and on, for up to 60 ticks, with a longer and longer grace.
+fn lives(seed: u64, jobs: usize) -> usize {
+    let mtus = [135, 508, 1_400].map(|mtu| Plan { mtu, ..plan(1_000, seed) });
+    let plans = mtus.into_iter().flat_map(|plan| LONGER.map(|grace| Plan { grace, ..plan })).collect();
+    let reports = work::each(plans, jobs, story::whole::<Port>);
+    println!(
+        "Hubs that are switched off and on, by the grace: 1,000 guarded hubs, 32 records\n\n\
+         | MTU | grace | resets | Fenced | agree after | left behind |\n|---|---|---|---|---|---|"
+    );
+    for report in &reports {
+        let behind = report.behind(Part::End);
+        println!(
+            "| {} | {} | {} | {} | {} | {} |",
+            grouped(report.plan.mtu as u64),
+            report.plan.grace,
+            grouped(report.counts.resets),
+            grouped(report.counts.fenced),
+            if behind > 0 { "no".into() } else { format!("{} ticks", span(report.ticks(Part::End))) },
+            grouped(behind as u64),
+        );
+    }
+    println!();
+    reports.iter().map(|report| report.broken() as usize).sum()
+}
+
 /// How many claims are broken.
 pub fn all(seed: u64, jobs: usize) -> usize {
-    let broken = peers(seed, jobs) + links(seed, jobs) + asking(seed, jobs) + graces(seed, jobs);
+    let broken = peers(seed, jobs) + links(seed, jobs) + asking(seed, jobs) + graces(seed, jobs) + lives(seed, jobs);
     println!("claims broken: {broken}");
     broken
 }
