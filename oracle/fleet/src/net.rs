@@ -221,13 +221,15 @@ impl<S: Side> Net<S> {
             if self.off[hub].is_some() {
                 continue;
             }
+            let forgets = !self.plan.owns(hub) || self.plan.wrong == Some(Wrong::OwnerLost);
+            // Owners are few: where they are to lose writes they are switched off more often.
+            let once_in = if self.plan.owns(hub) && forgets { once_in / 10 } else { once_in };
             let mut chance = self.chance(For::Off, hub);
             if chance.below(once_in) > 0 {
                 continue;
             }
             let at = self.tick + 1 + chance.below(5) as u64;
             let until = at + 1 + chance.below(60) as u64;
-            let forgets = !self.plan.owns(hub) || self.plan.wrong == Some(Wrong::OwnerLost);
             let kept = forgets.then(|| self.hubs[hub].table().into_owned());
             self.off[hub] = Some(Off { at, until, kept });
             self.counts.switched += 1;
