@@ -113,7 +113,9 @@ fn run(words: &[String]) -> Option<usize> {
         }
         [command, seed, jobs] if command == "small" => small(number(seed)? as u64, number(jobs)?),
         [command, seed] if command == "wrong" => wrong::all(number(seed)? as u64),
-        [command, seed, jobs] if command == "choose" => studies::all(number(seed)? as u64, number(jobs)?),
+        [command, seed, jobs, study @ ..] if command == "choose" => {
+            studies::play(number(seed)? as u64, number(jobs)?, study.first().map(String::as_str))?
+        }
         [command, folder, out] if command == "pictures" => {
             picture::all(Path::new(folder), Path::new(out));
             0

@@ -118,9 +118,12 @@ fn lives(seed: u64, jobs: usize) -> usize {
     reports.iter().map(|report| report.broken() as usize).sum()
 }
 
-/// How many claims are broken.
-pub fn all(seed: u64, jobs: usize) -> usize {
-    let broken = peers(seed, jobs) + links(seed, jobs) + asking(seed, jobs) + graces(seed, jobs) + lives(seed, jobs);
-    println!("claims broken: {broken}");
-    broken
+/// One of them, or all. How many claims are broken; none where there is no such study.
+pub fn play(seed: u64, jobs: usize, name: Option<&str>) -> Option<usize> {
+    let studies: [(&str, fn(u64, usize) -> usize); 5] =
+        [("peers", peers), ("links", links), ("asking", asking), ("graces", graces), ("lives", lives)];
+    let wanted = studies.into_iter().filter(|(study, _)| name.is_none_or(|name| name == *study));
+    let broken: Vec<usize> = wanted.map(|(_, study)| study(seed, jobs)).collect();
+    println!("claims broken: {}", broken.iter().sum::<usize>());
+    (!broken.is_empty()).then(|| broken.iter().sum())
 }
