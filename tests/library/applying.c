@@ -1,6 +1,6 @@
-/* What applying goes into: `applying ORDER TIMES` applies a delta of eight nodes with 32 records each, 14,400 bytes, to a table of eight fresh nodes, TIMES times.
+/* What applying goes into: `applying ORDER TIMES` applies a delta of eight nodes with 32 records each, 13,512 bytes, to a table of eight fresh nodes, TIMES times.
  * ORDER is how the keys stand in the delta, which is the order of their versions: `rising`, `falling`, `scattered`, or `held`: scattered, to a table that has
- * every key already under an older version. A delta's records are counted by valgrind --tool=callgrind (docs/SPEED.md, "Where applying goes"). */
+ * every key already under an older version. Its instructions are counted by valgrind --tool=callgrind (docs/SPEED.md, "Where applying goes"). */
 #include <stdio.h>
 #include <stdlib.h>
 #include <string.h>
