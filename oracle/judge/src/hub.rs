@@ -243,7 +243,7 @@ fn read_counted(bytes: &[u8]) -> Outcome<(Digest, usize)> {
 /// The original's MTU under which the last operation of a delta with `nodes` Nodes fits exactly where document 01
 /// lets it fit under `mtu`. The original counts 9 bytes more a Node, 3 bytes a block and 1 at the end; above
 /// 16,384 bytes it needs a second block.
-fn original_mtu(mtu: usize, nodes: usize) -> usize {
+pub(crate) fn original_mtu(mtu: usize, nodes: usize) -> usize {
     let bytes = mtu + wire::NAME_EXTRA * nodes;
     bytes + if bytes >= 16_384 { 7 } else { 4 }
 }
