@@ -75,6 +75,17 @@ typedef uint64_t kev_size;
 #define KEV_UNKNOWN 4 /* the table has no such node */
 #define KEV_LATE 5    /* older than the reset that a fenced or guarded node is in: it stays as it is */
 
+/* ---- what is wrong with a line of a plan */
+
+#define KEV_NOT_HELD 1     /* the table has no such node */
+#define KEV_EXCLUDED 2     /* the node is excluded */
+#define KEV_NAMED_BEFORE 3 /* a line before it names the same node */
+#define KEV_UP_TO_DATE 4   /* the digest is not behind with the node */
+#define KEV_COUNT_ABOVE 5  /* the count is above the node's stale records */
+#define KEV_COUNT_ZERO 6   /* the count is 0, though the node has stale records */
+#define KEV_NO_FIT 7       /* it does not fit into what the lines before it leave of the MTU */
+#define KEV_ALONE 8        /* a node without a count, or a count without a node */
+
 /* ---- numbers of refusals */
 
 #define KEV_TOO_LONG 1         /* a key over 32 bytes, a value over 64 */
@@ -94,6 +105,7 @@ typedef uint64_t kev_size;
 #define KEV_BAD_TIES 15        /* not one tie for each node */
 #define KEV_BAD_LINE 16        /* a line of a listing is not as it is printed */
 #define KEV_BAD_EDITION 20     /* no such edition of a digest */
+#define KEV_BAD_PLAN 23        /* a plan is not accepted, or its two lists are not as long as each other */
 
 /* ---- answers */
 
@@ -186,6 +198,13 @@ struct kev_computed {
     uint64_t number;
     kev_size ops;
     kev_size bytes;
+    kev_size need; /* with 9, how many bytes the digest's field lacks */
+};
+
+struct kev_judged {
+    uint64_t number;
+    kev_size line; /* with 23, the first line of the plan that is at fault, counted from 0 */
+    uint64_t why;  /* with 23, what is wrong with it (KEV_NOT_HELD and on) */
     kev_size need; /* with 9, how many bytes the digest's field lacks */
 };
 
@@ -436,6 +455,23 @@ struct kev_computed kev_compute(
     const uint64_t *excluded, kev_size excluded_len, const uint64_t *ties, kev_size ties_len, uint8_t *datagram,
     kev_size datagram_len, kev_size place);
 
+/* The delta of a plan for a peer's digest of this edition: these nodes in this order, and of each so many of its stale records, the lowest versions first; where a
+ * node has none, its max. The plan is accepted exactly if every node is held, not excluded, named once, and stale; each count is at most the node's stale records,
+ * and not 0 unless there are none; and the bytes fit mtu. Nothing of it is cut or dropped. It goes into the datagram from the place on, where mtu bytes must be
+ * free. An empty plan is accepted and sends nothing.
+ * Numbers: 14, 20, 7, 8, 9, 13, 23. */
+struct kev_computed kev_compute_plan(
+    const uint8_t *table, kev_size table_len, uint64_t edition, const uint8_t *digest, kev_size digest_len, kev_size mtu,
+    const uint64_t *excluded, kev_size excluded_len, const uint64_t *nodes, kev_size nodes_len, const uint64_t *counts,
+    kev_size counts_len, uint8_t *datagram, kev_size datagram_len, kev_size place);
+
+/* Whether kev_compute_plan would accept the plan: 0 if it would, else 23 with the first line at fault and what is wrong with it.
+ * Numbers: 14, 20, 7, 9, 13, 23. */
+struct kev_judged kev_plan_fault(
+    const uint8_t *table, kev_size table_len, uint64_t edition, const uint8_t *digest, kev_size digest_len, kev_size mtu,
+    const uint64_t *excluded, kev_size excluded_len, const uint64_t *nodes, kev_size nodes_len, const uint64_t *counts,
+    kev_size counts_len);
+
 /* The verdict on a delta: its operations and node deltas.
  * Numbers: 13, 9, 1, 10, 11, 12. */
 struct kev_delta kev_read_delta(const uint8_t *delta, kev_size delta_len);
@@ -564,6 +600,18 @@ struct kev_computed kev_good_compute(
     const uint8_t *table, kev_size table_len, uint64_t edition, const uint8_t *digest, kev_size digest_len, kev_size mtu,
     const uint64_t *excluded, kev_size excluded_len, const uint64_t *ties, kev_size ties_len, uint8_t *datagram,
     kev_size datagram_len, kev_size place);
+
+/* Numbers: 20, 7, 8, 9, 13, 23. */
+struct kev_computed kev_good_compute_plan(
+    const uint8_t *table, kev_size table_len, uint64_t edition, const uint8_t *digest, kev_size digest_len, kev_size mtu,
+    const uint64_t *excluded, kev_size excluded_len, const uint64_t *nodes, kev_size nodes_len, const uint64_t *counts,
+    kev_size counts_len, uint8_t *datagram, kev_size datagram_len, kev_size place);
+
+/* Numbers: 20, 7, 9, 13, 23. */
+struct kev_judged kev_good_plan_fault(
+    const uint8_t *table, kev_size table_len, uint64_t edition, const uint8_t *digest, kev_size digest_len, kev_size mtu,
+    const uint64_t *excluded, kev_size excluded_len, const uint64_t *nodes, kev_size nodes_len, const uint64_t *counts,
+    kev_size counts_len);
 
 /* Numbers: 13, 9, 1, 10, 11, 12, 8. */
 struct kev_applied kev_good_apply(

@@ -346,6 +346,8 @@ static void local_calls(void) {
     GIVES(KEV_BAD_TABLE, kev_value_at(T(table), 10, 0).number);
     GIVES(KEV_BAD_TABLE, kev_write_digest(T(table), KEV_V0, NO_NUMBERS, T(out), 0).number);
     GIVES(KEV_BAD_TABLE, kev_compute(T(table), KEV_V0, NO_BYTES, 0, NO_NUMBERS, NO_NUMBERS, T(out), 0).number);
+    GIVES(KEV_BAD_TABLE, kev_compute_plan(T(table), KEV_V0, NO_BYTES, 0, NO_NUMBERS, NO_NUMBERS, NO_NUMBERS, T(out), 0).number);
+    GIVES(KEV_BAD_TABLE, kev_plan_fault(T(table), KEV_V0, NO_BYTES, 0, NO_NUMBERS, NO_NUMBERS, NO_NUMBERS).number);
     GIVES(KEV_BAD_TABLE, kev_apply(T(table), NO_BYTES, 0, T(out)).number);
     GIVES(KEV_BAD_TABLE, kev_check(nothing, 0));
     CHECK(same(table) && same(out));
@@ -410,6 +412,44 @@ static void peers(void) {
     CHECK(c.number == 0 && c.ops == 2 && c.bytes > 0);
     c = kev_compute(T(a), KEV_V0, digest.at, d.count, 1400, NO_NUMBERS, ties, 2, T(delta), 0);
     CHECK(c.number == 0 && c.ops == 4);
+
+    /* a plan: 8 before 7, a record each; what it refuses leaves the datagram, and the line at fault is told */
+    static const uint64_t eight_seven[2] = {8, 7}, ones[2] = {1, 1}, eight_zero[2] = {1, 0}, eight_twice[2] = {8, 8}, stranger[1] = {9}, two[1] = {2};
+    struct lent planned = lend(1400);
+#define PLAN(mtu, nodes, n, counts, k) digest.at, d.count, mtu, NO_NUMBERS, nodes, n, counts, k
+    GIVES(KEV_BAD_EDITION, kev_compute_plan(T(a), 2, PLAN(99, eight_seven, 2, ones, 1), T(planned), 0).number);
+    GIVES(KEV_BAD_EDITION, kev_good_compute_plan(T(a), 2, PLAN(99, eight_seven, 2, ones, 1), T(planned), 0).number);
+    GIVES(KEV_BAD_MTU, kev_compute_plan(T(a), KEV_V0, PLAN(99, eight_seven, 2, ones, 1), T(planned), 1400).number);
+    GIVES(KEV_BAD_MTU, kev_good_compute_plan(T(a), KEV_V0, PLAN(KEV_DELTA + 1, eight_seven, 2, ones, 1), T(planned), 1400).number);
+    GIVES(KEV_NO_PLACE, kev_compute_plan(T(a), KEV_V0, PLAN(1400, eight_seven, 2, ones, 1), T(planned), 1).number);
+    GIVES(KEV_CUT, kev_compute_plan(T(a), KEV_V0, digest.at, 1, 1400, NO_NUMBERS, eight_seven, 2, ones, 1, T(planned), 0).number);
+    CHECK(kev_compute_plan(T(a), KEV_V0, digest.at, 1, 1400, NO_NUMBERS, eight_seven, 2, ones, 1, T(planned), 0).need == 1);
+    GIVES(KEV_TOO_MANY, kev_good_compute_plan(T(a), KEV_V0, nine, 2, 1400, NO_NUMBERS, eight_seven, 2, ones, 1, T(planned), 0).number);
+    GIVES(KEV_BAD_PLAN, kev_compute_plan(T(a), KEV_V0, PLAN(1400, eight_seven, 2, ones, 1), T(planned), 0).number);
+    GIVES(KEV_BAD_PLAN, kev_good_compute_plan(T(a), KEV_V0, PLAN(1400, eight_seven, 2, eight_zero, 2), T(planned), 0).number);
+    CHECK(same(planned));
+    GIVES(KEV_BAD_EDITION, kev_plan_fault(T(a), 2, PLAN(99, eight_seven, 2, ones, 1)).number);
+    GIVES(KEV_BAD_MTU, kev_good_plan_fault(T(a), KEV_V0, PLAN(99, eight_seven, 2, ones, 1)).number);
+    GIVES(KEV_CUT, kev_plan_fault(T(a), KEV_V0, digest.at, 1, 1400, NO_NUMBERS, eight_seven, 2, ones, 1).number);
+    CHECK(kev_plan_fault(T(a), KEV_V0, digest.at, 1, 1400, NO_NUMBERS, eight_seven, 2, ones, 1).need == 1);
+    GIVES(KEV_TOO_MANY, kev_plan_fault(T(a), KEV_V0, nine, 2, 1400, NO_NUMBERS, eight_seven, 2, ones, 1).number);
+#define FAULT(l, w, told) do { struct kev_judged j = (told); CHECK(given(j.number) == KEV_BAD_PLAN && j.line == (l) && j.why == (w) && j.need == 0); } while (0)
+    FAULT(0, KEV_NOT_HELD, kev_plan_fault(T(a), KEV_V0, PLAN(1400, stranger, 1, ones, 1)));
+    FAULT(1, KEV_EXCLUDED, kev_plan_fault(T(a), KEV_V0, digest.at, d.count, 1400, one, 1, eight_seven, 2, ones, 2));
+    FAULT(1, KEV_NAMED_BEFORE, kev_good_plan_fault(T(a), KEV_V0, PLAN(1400, eight_twice, 2, ones, 2)));
+    FAULT(0, KEV_COUNT_ABOVE, kev_plan_fault(T(a), KEV_V0, PLAN(1400, eight_seven, 1, two, 1)));
+    FAULT(1, KEV_COUNT_ZERO, kev_plan_fault(T(a), KEV_V0, PLAN(1400, eight_seven, 2, eight_zero, 2)));
+    FAULT(1, KEV_ALONE, kev_good_plan_fault(T(a), KEV_V0, PLAN(1400, eight_seven, 2, ones, 1)));
+    FAULT(0, KEV_ALONE, kev_plan_fault(T(a), KEV_V0, PLAN(1400, none, 0, ones, 1)));
+    struct kev_judged said = kev_good_plan_fault(T(a), KEV_V0, PLAN(1400, eight_seven, 2, ones, 2));
+    CHECK(said.number == 0 && said.line == 0 && said.why == 0 && said.need == 0);
+    struct kev_computed by_plan = kev_good_compute_plan(T(a), KEV_V0, PLAN(1000, eight_seven, 1, ones, 1), T(planned), 400);
+    CHECK(by_plan.number == 0 && by_plan.ops == 2 && by_plan.bytes > 0);
+    by_plan = kev_compute_plan(T(a), KEV_V0, PLAN(1400, eight_seven, 2, ones, 2), T(planned), 0);
+    CHECK(by_plan.number == 0 && by_plan.ops == 4 && by_plan.bytes == c.bytes && planned.at[1] == 8);
+    CHECK(kev_compute_plan(T(a), KEV_V0, PLAN(1400, none, 0, none, 0), T(planned), 0).bytes == 0);
+    give_back(planned);
+
     struct kev_delta v = kev_read_delta(delta.at, c.bytes);
     CHECK(v.number == 0 && v.ops == 4 && v.nodes == 2 && v.at == 0);
     struct lent listing = lend(KEV_LISTING), brief = lend(10);

@@ -26,6 +26,7 @@ use Rattle.answers.specs.declared.KevRows.{KevRows}
 use Rattle.answers.specs.declared.KevDigest.{KevDigest}
 use Rattle.answers.specs.declared.KevEntry.{KevEntry}
 use Rattle.answers.specs.declared.KevComputed.{KevComputed}
+use Rattle.answers.specs.declared.KevJudged.{KevJudged}
 use Rattle.answers.specs.declared.KevDelta.{KevDelta}
 use Rattle.answers.specs.declared.KevApplied.{KevApplied}
 use Rattle.answers.specs.declared.KevExchanged.{KevExchanged}
@@ -140,6 +141,10 @@ entryShown t =
 
 abbrev pub computedShown : (told : Told) → KevComputed
 computedShown t = record { number = t .number; ops = valueAt 0 (t .values); bytes = valueAt 1 (t .values); need = t .need }
+
+-- what is said of a plan: with 23 it has a line and a fault
+abbrev pub judgedShown : (told : Told) → KevJudged
+judgedShown t = record { number = t .number; line = valueAt 0 (t .values); why = valueAt 1 (t .values); need = t .need }
 
 abbrev pub deltaShown : (told : Told) → KevDelta
 deltaShown t =

@@ -13,6 +13,7 @@ use inspect::Rows;
 use lookup::Found;
 use over_find::FoundOver;
 use over_list::ListedOver;
+use plan::Judged;
 use rules::Answer;
 use rules::Applied;
 use rules::Computed;
@@ -33,9 +34,11 @@ ghost use Rattle.inspect.specs.Told.{countTold, nodeNumberTold, nodeHeaderTold,
 ghost use Rattle.digest_read.specs.Told.{digestTold};
 ghost use Rattle.exchange.specs.Exchanging.{exchangedTold, stepCode};
 ghost use Rattle.listing_make.specs.Make.{madeTold};
+ghost use Rattle.plan.specs.Faults.{judgedTold};
 ghost use Rattle.answers.specs.Shown.{numberShown, countShown, nodeShown, heartbeatShown, foundShown, headerShown, recordShown, rowsShown, noRecord};
 ghost use Rattle.answers.specs.Shown.{foundOverShown, listedOverShown};
-ghost use Rattle.answers.specs.Shown.{digestShown, entryTold, entryShown, computedShown, deltaShown, appliedShown, exchangedShown, madeShown};
+ghost use Rattle.answers.specs.Shown.{digestShown, entryTold, entryShown, computedShown, judgedShown};
+ghost use Rattle.answers.specs.Shown.{deltaShown, appliedShown, exchangedShown, madeShown};
 
 // A count: of nodes, records, hits or bytes; of an offer, 1 where it was news.
 #[repr(C)]
@@ -145,6 +148,16 @@ pub struct KevComputed {
     pub number: u64,
     pub ops: usize,
     pub bytes: usize,
+    pub need: usize,
+}
+
+// What is said of a plan: with 23 its first line at fault, counted from 0, and the number of the fault; with 9, how many bytes the field of the digest lacks in
+// which its bytes end.
+#[repr(C)]
+pub struct KevJudged {
+    pub number: u64,
+    pub line: usize,
+    pub why: u64,
     pub need: usize,
 }
 
@@ -532,6 +545,31 @@ pub fn computed(sent: Computed) -> KevComputed
             ops: 0,
             bytes: 0,
             need: why.need(),
+        },
+    }
+}
+
+pub fn judged(said: Judged) -> KevJudged
+    ensures { λ r. ⌜ r ≡ judgedShown (judgedTold said) ⌝ }
+{
+    match said {
+        Judged::Accepted => KevJudged {
+            number: 0,
+            line: 0,
+            why: 0,
+            need: 0,
+        },
+        Judged::AtFault { line, why } => KevJudged {
+            number: Refusal::BadPlan.number(),
+            line,
+            why: why.code(),
+            need: 0,
+        },
+        Judged::Refused(refusal) => KevJudged {
+            number: refusal.number(),
+            line: 0,
+            why: 0,
+            need: refusal.need(),
         },
     }
 }

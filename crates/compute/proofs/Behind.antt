@@ -14,7 +14,7 @@ use Rattle.digest_read.specs.Held.{pairOf}
 use Rattle.digest_read.specs.declared.Pair.{Pair}
 use Rattle.table_read.specs.Find.{entryAt}
 use Rattle.compute_order.specs.Line.{isStale}
-use Rattle.compute.specs.Plan.{fromAt, stalenessOf}
+use Rattle.compute.specs.Lined.{fromAt, stalenessOf}
 use Rattle.compute.specs.declared.Staleness.{Staleness}
 use Rattle.compute.specs.declared.Staleness.the-variants.{UpToDate, From}
 

@@ -30,7 +30,7 @@ use Rattle.compute_write.specs.declared.Sent.{Sent}
 use Rattle.compute_write.proofs.Steps.{gives}
 use Rattle.rules.specs.declared.Computed.{Computed}
 use Rattle.rules.specs.declared.Computed.the-variants as computed
-use Rattle.compute.specs.Plan.{atFront, deltaIn}
+use Rattle.compute.specs.Lined.{atFront, deltaIn}
 use Rattle.compute.specs.Asking.{mtuFits, isFree, askedOf}
 use Rattle.compute.specs.declared.Asked.{Asked}
 use Rattle.compute.specs.declared.Asked.the-variants as asked

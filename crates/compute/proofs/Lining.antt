@@ -18,7 +18,7 @@ use Rattle.compute_stale.proofs.Arranged.{insert-in, length-put-in, listed-put-
 use Rattle.table_read.specs.Find.{entryAt}
 use Rattle.compute_order.specs.Line.{rankFor, ahead, rankAt, aheadAt, staleAt, isStale, soonerAt}
 use Rattle.compute_order.proofs.Lined.{ahead-is}
-use Rattle.compute.specs.Plan.{fromAt, Planned}
+use Rattle.compute.specs.Lined.{fromAt, LinedUp}
 
 module _ (excluded : List ℕ) (ds : List NodeDigest) (ties : List ℕ) (t : Table) where
   abbrev countAt : ℕ → ℕ
@@ -133,7 +133,7 @@ module _ (excluded : List ℕ) (ds : List NodeDigest) (ties : List ℕ) (t : Tab
 
   -- all nodes are through
   pub all-in-line : (n i : ℕ) (line froms counts : List ℕ) → length t ≤ maxNodes → i ≡ 0 → Upto n i line froms counts
-      → Planned excluded ds ties t (record { line = line; froms = froms; count = n })
+      → LinedUp excluded ds ties t (record { line = line; froms = froms; count = n })
   all-in-line n i line froms counts h z u =
       let f = u .few in
       let e : length t - i ≡ length t = omega arith in

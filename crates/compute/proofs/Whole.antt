@@ -16,8 +16,8 @@ use Rattle.compute_stale.specs.Arranged.{listed}
 use Rattle.compute_order.specs.Line.{staleAt}
 use Rattle.compute_order.proofs.Lined.{line-nodes, line-in}
 use Rattle.compute_write.specs.Sending.{opsOfNode, opsAt, counts, behind, sending}
-use Rattle.compute.specs.Plan.{fromAt, Planned, atFront, deltaIn}
-use Rattle.compute.specs.declared.Plan.{Plan}
+use Rattle.compute.specs.Lined.{fromAt, LinedUp, atFront, deltaIn}
+use Rattle.compute.specs.declared.Lined.{Lined}
 
 -- behind nothing
 from-none : (os : List Op) (l : Bytes) → behind 0 0 os l ≡ atFront os l
@@ -31,9 +31,9 @@ module _ (excluded : List ℕ) (ds : List NodeDigest) (ties : List ℕ) (t : Tab
   ops-at froms (p ∷ l) h =
       ap₂ (λ (from : ℕ) (os : List Op). opsOfNode t p from ++ os) (h p (here refl)) (ops-at froms l (λ q m. h q (later m)))
 
-  module _ (r : Plan) (k : Planned excluded ds ties t r) where
-    planned : opsAt t (r .froms) (listed (r .count) (r .line)) ≡ allOps (ordered (staleNodes excluded ds ties t))
-    planned =
+  module _ (r : Lined) (k : LinedUp excluded ds ties t r) where
+    lined : opsAt t (r .froms) (listed (r .count) (r .line)) ≡ allOps (ordered (staleNodes excluded ds ties t))
+    lined =
         ops-at (r .froms) (listed (r .count) (r .line)) (k .from-of)
         ∙ ap (λ (l : List ℕ). allOps (map (staleAt ds ties t) l)) (k .in-line)
         ∙ ap allOps (line-nodes excluded ds ties t)
@@ -41,7 +41,7 @@ module _ (excluded : List ℕ) (ds : List NodeDigest) (ties : List ℕ) (t : Tab
     pub delta-is : (l : Bytes) → sending 0 0 (opsAt t (r .froms) (listed (r .count) (r .line))) l ≡ deltaIn excluded ties ds t l
     unfolding sending deltaFor
     delta-is l =
-        (λ i. behind 0 0 (cut (sub-zero (length l) i) (planned i)) l) ∙ from-none (cut (length l) (allOps (ordered (staleNodes excluded ds ties t)))) l
+        (λ i. behind 0 0 (cut (sub-zero (length l) i) (lined i)) l) ∙ from-none (cut (length l) (allOps (ordered (staleNodes excluded ds ties t)))) l
 
     pub line-within : (p : ℕ) → p ∈ listed (r .count) (r .line) → p < length t
     line-within p m = line-in excluded ds ties t (subst (λ (l : List ℕ). p ∈ l) (k .in-line) m)

@@ -22,7 +22,7 @@ ghost use Rattle.table.specs.Tests.{nodesOf};
 ghost use Rattle.digest_read.specs.Held.{entriesIn};
 ghost use Rattle.rules.specs.Lent.{lentCompute};
 ghost use Rattle.compute.specs.Asking.{mtuFits, isFree, askedOf};
-ghost use Rattle.compute.specs.Plan.{stalenessOf, Planned, deltaIn};
+ghost use Rattle.compute.specs.Lined.{stalenessOf, LinedUp, deltaIn};
 
 // How a digest stands to a node of the table.
 pub enum Staleness {
@@ -33,7 +33,7 @@ pub enum Staleness {
 }
 
 // The stale nodes by their places in the table, the first of the line last; a from stands at its node's place.
-pub struct Plan {
+pub struct Lined {
     pub line: [usize; sizes::NODES],
     pub froms: [u64; sizes::NODES],
     pub count: usize,
@@ -53,7 +53,7 @@ fn from_of(own_last_gc: u64, last_gc: u64, max: u64) -> u64
 }
 
 // How the digest stands to the node at a place.
-fn stale_from(table: &[u8], p: usize, digest: Digest, excluded: &[u64]) -> Staleness
+pub fn stale_from(table: &[u8], p: usize, digest: Digest, excluded: &[u64]) -> Staleness
     requires { ⌜ LaidTable (now table) × (p < nodesOf (now table)) ⌝ }
     ensures { λ r. ⌜ r ≡ stalenessOf (now (excluded .entry)) (entriesIn digest) (decode (now (table .entry))) p ⌝ }
 {
@@ -70,9 +70,9 @@ fn stale_from(table: &[u8], p: usize, digest: Digest, excluded: &[u64]) -> Stale
 }
 
 // The line of the stale nodes.
-fn line_up(table: &[u8], digest: Digest, excluded: &[u64], ties: &[u64]) -> Plan
+fn line_up(table: &[u8], digest: Digest, excluded: &[u64], ties: &[u64]) -> Lined
     requires { ⌜ LaidTable (now table) × (nodesOf (now table) ≤ length (now ties)) ⌝ }
-    ensures { λ r. ⌜ Planned (now (excluded .entry)) (entriesIn digest) (now (ties .entry)) (decode (now (table .entry))) r ⌝ }
+    ensures { λ r. ⌜ LinedUp (now (excluded .entry)) (entriesIn digest) (now (ties .entry)) (decode (now (table .entry))) r ⌝ }
 {
     let mut line = [0usize; sizes::NODES];
     let mut froms = [0u64; sizes::NODES];
@@ -88,7 +88,7 @@ fn line_up(table: &[u8], digest: Digest, excluded: &[u64], ties: &[u64]) -> Plan
             n += 1;
         }
     }
-    Plan {
+    Lined {
         line,
         froms,
         count: n,
@@ -107,10 +107,10 @@ pub fn write_delta(
     ensures { λ r. ⌜ Gives (deltaIn (now (excluded .entry)) (now (ties .entry)) (entriesIn digest) (decode (now (table .entry))) (now (part .entry)))
         r (now (part .exit)) ⌝ }
 {
-    let plan = line_up(table, digest, excluded, ties);
-    let line = plan.line;
-    let froms = plan.froms;
-    compute_write::write_nodes(table, &froms, &line, plan.count, part)
+    let lined = line_up(table, digest, excluded, ties);
+    let line = lined.line;
+    let froms = lined.froms;
+    compute_write::write_nodes(table, &froms, &line, lined.count, part)
 }
 
 // Whether a call can go ahead, by its numbers alone.
@@ -120,7 +120,7 @@ pub enum Asked {
 }
 
 // Whether the MTU is one.
-fn mtu_fits(mtu: usize) -> bool
+pub fn mtu_fits(mtu: usize) -> bool
     ensures { λ r. ⌜ r ≡ mtuFits mtu ⌝ }
 {
     if mtu < sizes::LEAST_MTU {
@@ -130,7 +130,7 @@ fn mtu_fits(mtu: usize) -> bool
 }
 
 // Whether a whole MTU is free from the place on, in a datagram of so many bytes.
-fn is_free(place: usize, mtu: usize, room: usize) -> bool
+pub fn is_free(place: usize, mtu: usize, room: usize) -> bool
     ensures { λ r. ⌜ r ≡ isFree place mtu room ⌝ }
 {
     if room < place {

@@ -22,7 +22,7 @@ pub struct Sent {
 }
 
 // The Node operation of the node at `p`.
-fn write_node(table: &[u8], p: usize, from: u64, datagram: &mut [u8]) -> Wrote
+pub fn write_node(table: &[u8], p: usize, from: u64, datagram: &mut [u8]) -> Wrote
     requires { ⌜ LaidTable (now table) × (p < nodesOf (now table)) ⌝ }
     ensures { λ r. ⌜ Gives (writeOp (nodeOpAt (decode (now (table .entry))) p from) (now (datagram .entry))) r (now (datagram .exit)) ⌝ }
 {
@@ -35,7 +35,7 @@ fn write_node(table: &[u8], p: usize, from: u64, datagram: &mut [u8]) -> Wrote
 }
 
 // Record `q` of the node at `p`.
-fn write_record(table: &[u8], p: usize, q: usize, datagram: &mut [u8]) -> Wrote
+pub fn write_record(table: &[u8], p: usize, q: usize, datagram: &mut [u8]) -> Wrote
     requires { ⌜ LaidTable (now table) × (p < nodesOf (now table)) × (q < length (entryAt (decode (now table)) p .node .recs)) ⌝ }
     ensures { λ r. ⌜ Gives (writeOp (KeyValueOp (recordAt (decode (now (table .entry))) p q)) (now (datagram .entry))) r (now (datagram .exit)) ⌝ }
 {
@@ -52,7 +52,7 @@ fn write_record(table: &[u8], p: usize, q: usize, datagram: &mut [u8]) -> Wrote
 }
 
 // SetMaxVersion, where the node at `p` has no stale records. It is dropped where it does not fit.
-fn write_max(table: &[u8], p: usize, stale: usize, datagram: &mut [u8]) -> Sent
+pub fn write_max(table: &[u8], p: usize, stale: usize, datagram: &mut [u8]) -> Sent
     requires { ⌜ LaidTable (now table) × (p < nodesOf (now table)) ⌝ }
     ensures { λ r. ⌜ Gives (closed stale (entryAt (decode (now (table .entry))) p .node .max) (now (datagram .entry))) r (now (datagram .exit)) ⌝ }
 {

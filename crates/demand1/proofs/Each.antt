@@ -92,6 +92,10 @@ use Rattle.exchange_ask.specs.declared.Step.the-variants.{Delta, Digest}
 use Rattle.exchange_ask.specs.declared.Ready.{Ready}
 use Rattle.exchange_ask.specs.declared.Ready.the-variants as ready
 use Rattle.exchange.proofs.Refusing.{is-ready, ready-done}
+use Rattle.plan.specs.Faults.{judge, judgeFrom, judgePlan, judgedTold}
+use Rattle.plan.specs.Plan.{accepts, computePlan, deltaBy, linesFit, planOps}
+use Rattle.plan.specs.declared.Judged.{Judged}
+use Rattle.plan.specs.declared.Judged.the-variants as judged
 use Rattle.demand1.specs.Calls as calls
 
 -- ---- one call for each number
@@ -613,6 +617,31 @@ computes =
     and (calls.compute (lent []) 0 (9 ∷ 0 ∷ []) [] [] (zeros 100) 100 0, from-good (λ (a : Given Computed Bytes). computedTold (a .answer) .number) (given (computed.Refused BadTable) (zeros 100)) (λ t. computing.compute 0 [] [] 100 0 (9 ∷ 0 ∷ []) t (zeros 100)) [] none-obeys 13 refl)
     and no-more
 
+plans : AllShown calls.ComputePlan (0 ∷ 14 ∷ 20 ∷ 7 ∷ 8 ∷ 9 ∷ 13 ∷ 23 ∷ [])
+unfolding calls.leaves computedTold computePlan accepts deltaBy linesFit planOps differ among deltaBytes flat readDigest readEntries natOf unblock tellAll zeros
+plans =
+    (calls.compute-plan (lent []) 0 (0 ∷ 0 ∷ []) [] [] [] (zeros 100) 100 0, from-good (λ (a : Given Computed Bytes). computedTold (a .answer) .number) (given (computed.Refused BadTable) (zeros 100)) (λ t. computePlan 0 [] [] [] 100 0 (0 ∷ 0 ∷ []) t (zeros 100)) [] none-obeys 0 refl)
+    and (calls.compute-plan [] 0 [] [] [] [] [] 100 0, from-bad (λ (a : Given Computed Bytes). computedTold (a .answer) .number) (given (computed.Refused BadTable) []) (λ t. computePlan 0 [] [] [] 100 0 [] t []) 14 refl)
+    and (calls.compute-plan (lent []) 2 [] [] [] [] [] 99 0, from-good (λ (a : Given Computed Bytes). computedTold (a .answer) .number) (given (computed.Refused BadTable) []) (λ t. computePlan 2 [] [] [] 99 0 [] t []) [] none-obeys 20 refl)
+    and (calls.compute-plan (lent []) 0 [] [] [] [] [] 99 0, from-good (λ (a : Given Computed Bytes). computedTold (a .answer) .number) (given (computed.Refused BadTable) []) (λ t. computePlan 0 [] [] [] 99 0 [] t []) [] none-obeys 7 refl)
+    and (calls.compute-plan (lent []) 0 [] [] [] [] [] 100 0, from-good (λ (a : Given Computed Bytes). computedTold (a .answer) .number) (given (computed.Refused BadTable) []) (λ t. computePlan 0 [] [] [] 100 0 [] t []) [] none-obeys 8 refl)
+    and (calls.compute-plan (lent []) 0 [] [] [] [] (zeros 100) 100 0, from-good (λ (a : Given Computed Bytes). computedTold (a .answer) .number) (given (computed.Refused BadTable) (zeros 100)) (λ t. computePlan 0 [] [] [] 100 0 [] t (zeros 100)) [] none-obeys 9 refl)
+    and (calls.compute-plan (lent []) 0 (9 ∷ 0 ∷ []) [] [] [] (zeros 100) 100 0, from-good (λ (a : Given Computed Bytes). computedTold (a .answer) .number) (given (computed.Refused BadTable) (zeros 100)) (λ t. computePlan 0 [] [] [] 100 0 (9 ∷ 0 ∷ []) t (zeros 100)) [] none-obeys 13 refl)
+    and (calls.compute-plan (lent []) 0 (0 ∷ 0 ∷ []) [] (1 ∷ []) [] (zeros 100) 100 0, from-good (λ (a : Given Computed Bytes). computedTold (a .answer) .number) (given (computed.Refused BadTable) (zeros 100)) (λ t. computePlan 0 [] (1 ∷ []) [] 100 0 (0 ∷ 0 ∷ []) t (zeros 100)) [] none-obeys 23 refl)
+    and no-more
+
+judges : AllShown calls.PlanFault (0 ∷ 14 ∷ 20 ∷ 7 ∷ 9 ∷ 13 ∷ 23 ∷ [])
+unfolding calls.leaves judgedTold judgePlan judge judgeFrom readDigest readEntries natOf unblock tellAll
+judges =
+    (calls.plan-fault (lent []) 0 (0 ∷ 0 ∷ []) [] [] [] 100, from-good (λ (a : Judged). judgedTold a .number) (judged.Refused BadTable) (judgePlan 0 [] [] [] 100 (0 ∷ 0 ∷ [])) [] none-obeys 0 refl)
+    and (calls.plan-fault [] 0 [] [] [] [] 100, from-bad (λ (a : Judged). judgedTold a .number) (judged.Refused BadTable) (judgePlan 0 [] [] [] 100 []) 14 refl)
+    and (calls.plan-fault (lent []) 2 [] [] [] [] 99, from-good (λ (a : Judged). judgedTold a .number) (judged.Refused BadTable) (judgePlan 2 [] [] [] 99 []) [] none-obeys 20 refl)
+    and (calls.plan-fault (lent []) 0 [] [] [] [] 99, from-good (λ (a : Judged). judgedTold a .number) (judged.Refused BadTable) (judgePlan 0 [] [] [] 99 []) [] none-obeys 7 refl)
+    and (calls.plan-fault (lent []) 0 [] [] [] [] 100, from-good (λ (a : Judged). judgedTold a .number) (judged.Refused BadTable) (judgePlan 0 [] [] [] 100 []) [] none-obeys 9 refl)
+    and (calls.plan-fault (lent []) 0 (9 ∷ 0 ∷ []) [] [] [] 100, from-good (λ (a : Judged). judgedTold a .number) (judged.Refused BadTable) (judgePlan 0 [] [] [] 100 (9 ∷ 0 ∷ [])) [] none-obeys 13 refl)
+    and (calls.plan-fault (lent []) 0 (0 ∷ 0 ∷ []) [] (1 ∷ []) [] 100, from-good (λ (a : Judged). judgedTold a .number) (judged.Refused BadTable) (judgePlan 0 [] (1 ∷ []) [] 100 (0 ∷ 0 ∷ [])) [] none-obeys 23 refl)
+    and no-more
+
 -- nine Nodes, 0 to 8
 unfoldable ninth : (n : ℕ) → List Op
 ninth zero = []
@@ -753,6 +782,8 @@ all-shown calls.WriteDigest = (_, digests, refl)
 all-shown calls.ReadDigest = (_, digest-reads, refl)
 all-shown calls.DigestEntry = (_, entries, refl)
 all-shown calls.Compute = (_, computes, refl)
+all-shown calls.ComputePlan = (_, plans, refl)
+all-shown calls.PlanFault = (_, judges, refl)
 all-shown calls.ReadDelta = (_, delta-reads, refl)
 all-shown calls.Apply = (_, applies, refl)
 all-shown calls.ListDelta = (_, shows, refl)

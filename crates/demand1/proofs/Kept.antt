@@ -204,6 +204,8 @@ obeying (calls.write-digest t edition excluded datagram place) = λ e. e
 obeying (calls.read-digest edition digest) = λ e. e
 obeying (calls.digest-entry digest edition i) = λ e. e
 obeying (calls.compute t edition digest excluded ties datagram mtu place) = λ e. e
+obeying (calls.compute-plan t edition digest excluded nodes counts datagram mtu place) = λ e. e
+obeying (calls.plan-fault t edition digest excluded nodes counts mtu) = λ e. e
 obeying (calls.read-delta delta) = λ e. e
 obeying (calls.apply t delta answers now) =
     one t _

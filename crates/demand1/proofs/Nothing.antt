@@ -56,6 +56,8 @@ use Rattle.over_list.specs.declared.ListedOver.the-variants as over
 use Rattle.delta_make.specs.declared.Made.the-variants as making
 use Rattle.listing_read.specs.Unlist.{Delta, Faulty, NotInForm, Unlisted, unlist}
 use Rattle.listing_make.specs.Make.{lentMake, lentUnlisted, madeTold, placed}
+use Rattle.plan.proofs.Refusing.{plan-refused}
+use Rattle.plan.specs.Plan.{computePlan}
 use Rattle.exchange.specs.Exchanging.{ExchangeLent, Lending, afterAsking, allFour, exchangedTold, lending, lentExchange, roomsOf}
 use Rattle.exchange_ask.specs.Asking.{readyFor}
 use Rattle.exchange.specs.declared.Exchanged.{Exchanged}
@@ -333,6 +335,11 @@ nothing (calls.compute t edition digest excluded ties datagram mtu place) h =
     ap (λ (u : Bytes). t ∷ digest ∷ excluded ∷ ties ∷ u ∷ [])
     (into-list computedTold (computed.Refused BadTable) (λ t. computing.compute edition excluded ties mtu place digest t datagram) datagram
     (λ t g. let x = by-computed _ g in compute-refused edition excluded ties mtu place digest t datagram (x .0) (x .1)) t h)
+nothing (calls.compute-plan t edition digest excluded nodes counts datagram mtu place) h =
+    ap (λ (u : Bytes). t ∷ digest ∷ excluded ∷ nodes ∷ counts ∷ u ∷ [])
+    (into-list computedTold (computed.Refused BadTable) (λ t. computePlan edition excluded nodes counts mtu place digest t datagram) datagram
+    (λ t g. let x = by-computed _ g in plan-refused edition excluded nodes counts mtu place digest t datagram (x .0) (x .1)) t h)
+nothing (calls.plan-fault t edition digest excluded nodes counts mtu) h = refl
 nothing (calls.read-delta delta) h = refl
 nothing (calls.apply t delta answers now) h =
     let x = by-applied _ h in

@@ -39,7 +39,7 @@ use Rattle.rules.specs.declared.Listed.{Listed}
 use Rattle.rules.specs.declared.Listed.the-variants as listed
 use Rattle.rules.specs.declared.Offered.the-variants as offered
 use Rattle.rules.specs.declared.Refusal.{Refusal}
-use Rattle.rules.specs.declared.Refusal.the-variants.{BadMtu, BadTable, BadTag, BadTies, Exhausted, NinthNode, NoNode, NodeFull, NoPlace, TooLong, BadEdition}
+use Rattle.rules.specs.declared.Refusal.the-variants.{BadMtu, BadPlan, BadTable, BadTag, BadTies, Exhausted, NinthNode, NoNode, NodeFull, NoPlace, TooLong, BadEdition}
 use Rattle.rules.specs.declared.Status.the-variants.{Set, Ttl}
 use Rattle.rules.specs.declared.Written.{Written}
 use Rattle.rules.specs.declared.Written.the-variants as written
@@ -94,6 +94,11 @@ use Rattle.listing_make.specs.Make.{lentMake, madeTold}
 use Rattle.listing_make.proofs.Numbers.{made-numbers}
 use Rattle.answers.specs.Shown.{entryTold, placeTold}
 use Rattle.demand1.specs.Calls as calls
+use Rattle.plan.proofs.Judging.{isAccepted, said-number}
+use Rattle.plan.specs.Faults.{judge, judgeOn, judgePlan, judgedTold}
+use Rattle.plan.specs.Plan.{accepts, computePlan, deltaBy, planOn}
+use Rattle.plan.specs.declared.Judged.{Judged}
+use Rattle.plan.specs.declared.Judged.the-variants as judged
 use Rattle.demand1.proofs.Deltas.{OpsSo, delta-comes, digest-comes}
 
 -- the number is one that the kind of call can give
@@ -613,6 +618,50 @@ computes edition excluded ties mtu place told d l =
     known t true = go t (leb leastMtu mtu && leb mtu maxDelta) (digest.fitsAt place mtu d) (eqb (length ties) (length t))
     known t false = refl
 
+plans : (edition : ℕ) (excluded nodes counts : List ℕ) (mtu place : ℕ) (told d l : Bytes)
+    → Of calls.ComputePlan (computedTold (fromTable (given (computed.Refused BadTable) d) (λ t. computePlan edition excluded nodes counts mtu place told t d) l .answer))
+unfolding computePlan computedTold among calls.refusals
+plans edition excluded nodes counts mtu place told d l =
+    from-table (λ (a : Given Computed Bytes). Of calls.ComputePlan (computedTold (a .answer))) (given (computed.Refused BadTable) d)
+    (λ t. computePlan edition excluded nodes counts mtu place told t d) refl
+    (λ t. go t (digest.isEdition edition) (leb leastMtu mtu && leb mtu maxDelta) (digest.fitsAt place mtu d)) l
+  where
+    by : (x : List Op) (b : Bool) → Of calls.ComputePlan (computedTold (pick b (computing.written x place d) (given (computed.Refused BadPlan) d) .answer))
+    by x true = refl
+    by x false = refl
+
+    read : (t : Table) → Of calls.ComputePlan (computedTold (planOn excluded nodes counts mtu place (digest.readDigest edition told) t d .answer))
+    read t =
+        digest-comes (λ x. Of calls.ComputePlan (computedTold (planOn excluded nodes counts mtu place x t d .answer))) refl (λ n. refl) refl
+        (λ ds rest. by (deltaBy excluded nodes counts ds t) (accepts excluded nodes counts mtu ds t)) edition told
+
+    go : (t : Table) (a b c : Bool)
+        → Of calls.ComputePlan (computedTold (pick a (pick b (pick c (planOn excluded nodes counts mtu place (digest.readDigest edition told) t d) (given (computed.Refused NoPlace) d)) (given (computed.Refused BadMtu) d)) (given (computed.Refused BadEdition) d) .answer))
+    go t false b c = refl
+    go t true false c = refl
+    go t true true false = refl
+    go t true true true = read t
+
+judges : (edition : ℕ) (excluded nodes counts : List ℕ) (mtu : ℕ) (told l : Bytes) → Of calls.PlanFault (judgedTold (fromTable (judged.Refused BadTable) (judgePlan edition excluded nodes counts mtu told) l))
+unfolding judgePlan judgedTold among calls.refusals
+judges edition excluded nodes counts mtu told l =
+    from-table (λ (a : Judged). Of calls.PlanFault (judgedTold a)) (judged.Refused BadTable) (judgePlan edition excluded nodes counts mtu told) refl
+    (λ t. go t (digest.isEdition edition) (leb leastMtu mtu && leb mtu maxDelta)) l
+  where
+    by : (n : ℕ) (b : Bool) → n ≡ pick b 0 23 → among n (calls.possible calls.PlanFault) ≡ true
+    by n true e = ap (λ (m : ℕ). among m (calls.possible calls.PlanFault)) e
+    by n false e = ap (λ (m : ℕ). among m (calls.possible calls.PlanFault)) e
+
+    read : (t : Table) → Of calls.PlanFault (judgedTold (judgeOn excluded nodes counts mtu (digest.readDigest edition told) t))
+    read t =
+        digest-comes (λ x. Of calls.PlanFault (judgedTold (judgeOn excluded nodes counts mtu x t))) refl (λ n. refl) refl
+        (λ ds rest. by (judgedTold (judge excluded nodes counts mtu ds t) .number) (isAccepted (judge excluded nodes counts mtu ds t)) (said-number excluded nodes counts mtu ds t)) edition told
+
+    go : (t : Table) (a b : Bool) → Of calls.PlanFault (judgedTold (pick a (pick b (judgeOn excluded nodes counts mtu (digest.readDigest edition told) t) (judged.Refused BadMtu)) (judged.Refused BadEdition)))
+    go t false b = refl
+    go t true false = refl
+    go t true true = read t
+
 delta-reads : (l : Bytes) → Of calls.ReadDelta (readTold (deltaRead l))
 unfolding deltaRead readTold among calls.refusals
 delta-reads l = go (readDelta l) (delta-comes F refl (λ n. refl) refl refl refl refl l)
@@ -744,6 +793,8 @@ no-other (calls.write-digest t edition excluded datagram place) = digests editio
 no-other (calls.read-digest edition digest) = digest-reads edition digest
 no-other (calls.digest-entry digest edition i) = entries edition digest i
 no-other (calls.compute t edition digest excluded ties datagram mtu place) = computes edition excluded ties mtu place digest datagram t
+no-other (calls.compute-plan t edition digest excluded nodes counts datagram mtu place) = plans edition excluded nodes counts mtu place digest datagram t
+no-other (calls.plan-fault t edition digest excluded nodes counts mtu) = judges edition excluded nodes counts mtu digest t
 no-other (calls.read-delta delta) = delta-reads delta
 no-other (calls.apply t delta answers now) = applies (delta .bytes) (now .value) answers t
 no-other (calls.list-delta delta out) = shows delta out

@@ -30,6 +30,8 @@ use Rattle.digest_read.specs.Held.{digestIn}
 use Rattle.digest_read.specs.Told.{digestTold}
 use Rattle.listing_make.specs.Make.{lentMake, madeTold}
 use Rattle.answers.specs.Shown.{entryTold}
+use Rattle.plan.specs.Faults.{judgedTold, lentJudge}
+use Rattle.plan.specs.Plan.{lentComputePlan}
 use Rattle.exchange.specs.Exchanging.{exchangedTold, lending, lentExchange}
 
 -- ---- calls
@@ -79,6 +81,8 @@ pub data Kind : Type 0 where
   ReadDigest : Kind
   DigestEntry : Kind
   Compute : Kind
+  ComputePlan : Kind
+  PlanFault : Kind
   ReadDelta : Kind
   Apply : Kind
   ListDelta : Kind
@@ -122,6 +126,8 @@ pub data Call : Kind → Type 0 where
   read-digest : (edition : ℕ) (digest : Bytes) → Call ReadDigest
   digest-entry : (digest : Bytes) (edition i : ℕ) → Call DigestEntry
   compute : (table : Bytes) (edition : ℕ) (digest : Bytes) (excluded ties : List ℕ) (datagram : Bytes) (mtu place : ℕ) → Call Compute
+  compute-plan : (table : Bytes) (edition : ℕ) (digest : Bytes) (excluded nodes counts : List ℕ) (datagram : Bytes) (mtu place : ℕ) → Call ComputePlan
+  plan-fault : (table : Bytes) (edition : ℕ) (digest : Bytes) (excluded nodes counts : List ℕ) (mtu : ℕ) → Call PlanFault
   read-delta : (delta : Bytes) → Call ReadDelta
   apply : (table : Bytes) (delta : Received) (answers : Bytes) (clock : U64) → Call Apply
   list-delta : (delta out : Bytes) → Call ListDelta
@@ -163,6 +169,8 @@ lentTo (write-digest t edition excluded datagram place) = t ∷ excluded ∷ dat
 lentTo (read-digest edition digest) = digest ∷ []
 lentTo (digest-entry digest edition i) = digest ∷ []
 lentTo (compute t edition digest excluded ties datagram mtu place) = t ∷ digest ∷ excluded ∷ ties ∷ datagram ∷ []
+lentTo (compute-plan t edition digest excluded nodes counts datagram mtu place) = t ∷ digest ∷ excluded ∷ nodes ∷ counts ∷ datagram ∷ []
+lentTo (plan-fault t edition digest excluded nodes counts mtu) = t ∷ digest ∷ excluded ∷ nodes ∷ counts ∷ []
 lentTo (read-delta delta) = delta ∷ []
 lentTo (apply t delta answers now) = t ∷ delta .bytes ∷ answers ∷ []
 lentTo (list-delta delta out) = delta ∷ out ∷ []
@@ -205,6 +213,8 @@ checks WriteDigest = validWhole ∷ []
 checks ReadDigest = []
 checks DigestEntry = []
 checks Compute = validWhole ∷ []
+checks ComputePlan = validWhole ∷ []
+checks PlanFault = validWhole ∷ []
 checks ReadDelta = []
 checks Apply = validWhole ∷ []
 checks ListDelta = []
@@ -246,6 +256,8 @@ tables WriteDigest = 1
 tables ReadDigest = 0
 tables DigestEntry = 0
 tables Compute = 1
+tables ComputePlan = 1
+tables PlanFault = 1
 tables ReadDelta = 0
 tables Apply = 1
 tables ListDelta = 0
@@ -294,6 +306,10 @@ leaves (read-digest edition digest) = given (digestTold (digestIn edition digest
 leaves (digest-entry digest edition i) = given (entryTold i (digestIn edition digest)) (digest ∷ [])
 leaves (compute t edition digest excluded ties datagram mtu place) =
     asTold computedTold (λ u. t ∷ digest ∷ excluded ∷ ties ∷ u ∷ []) (lentCompute edition excluded ties mtu place digest datagram t)
+leaves (compute-plan t edition digest excluded nodes counts datagram mtu place) =
+    asTold computedTold (λ u. t ∷ digest ∷ excluded ∷ nodes ∷ counts ∷ u ∷ []) (lentComputePlan edition excluded nodes counts mtu place digest datagram t)
+leaves (plan-fault t edition digest excluded nodes counts mtu) =
+    given (judgedTold (lentJudge edition excluded nodes counts mtu digest t)) (t ∷ digest ∷ excluded ∷ nodes ∷ counts ∷ [])
 leaves (read-delta delta) = given (readTold (deltaRead delta)) (delta ∷ [])
 leaves (apply t delta answers now) = asTold appliedTold (λ u. u .table ∷ delta .bytes ∷ u .list ∷ []) (lentApply (delta .bytes) (now .value) answers t)
 leaves (list-delta delta out) = asTold writtenTold (λ u. delta ∷ u ∷ []) (listDelta delta out)
@@ -338,6 +354,8 @@ refusals WriteDigest = 14 ∷ 20 ∷ 8 ∷ []
 refusals ReadDigest = 20 ∷ 9 ∷ 13 ∷ []
 refusals DigestEntry = 20 ∷ 9 ∷ 13 ∷ 8 ∷ []
 refusals Compute = 14 ∷ 20 ∷ 7 ∷ 8 ∷ 15 ∷ 9 ∷ 13 ∷ []
+refusals ComputePlan = 14 ∷ 20 ∷ 7 ∷ 8 ∷ 9 ∷ 13 ∷ 23 ∷ []
+refusals PlanFault = 14 ∷ 20 ∷ 7 ∷ 9 ∷ 13 ∷ 23 ∷ []
 refusals ReadDelta = 13 ∷ 9 ∷ 1 ∷ 10 ∷ 11 ∷ 12 ∷ []
 refusals Apply = 14 ∷ 13 ∷ 9 ∷ 1 ∷ 10 ∷ 11 ∷ 12 ∷ 8 ∷ []
 refusals ListDelta = 8 ∷ []
@@ -380,6 +398,8 @@ remembers WriteDigest = false
 remembers ReadDigest = false
 remembers DigestEntry = false
 remembers Compute = false
+remembers ComputePlan = false
+remembers PlanFault = false
 remembers ReadDelta = false
 remembers Apply = false
 remembers ListDelta = false

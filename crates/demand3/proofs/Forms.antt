@@ -1,13 +1,13 @@
 -- The laws of the calls that come in more than one form (specs/Forms), each with a case for each form. What the worlds and nets do with a removal or a
 -- computing rests on these and on nothing else. Assumes nothing.
 use Prim.Native.Nat.{_<_, ℕ}
-use mathlib.Core.Bool.{Bool, false≢true, true}
+use mathlib.Core.Bool.{Bool, false≢true, not, true}
 use mathlib.Core.List.{List, [], _∷_}
 use mathlib.Core.Option.{some}
-use mathlib.Core.Path.{_∙_, _≡_, ap, refl}
+use mathlib.Core.Path.{_∙_, _≡_, ap, refl, subst, sym}
 use lib.ListN.{length}
 use borrow.Author.Tests.{leb-true}
-use Rattle.fields.specs.Choice.{_∈_}
+use Rattle.fields.specs.Choice.{_∈_, here}
 use Rattle.fields.specs.Numbers.{Bytes}
 use Rattle.fields.specs.Parts.{part, put}
 use Rattle.rules.proofs.Accepted.{delta-bytes}
@@ -26,11 +26,15 @@ use Rattle.rules.specs.declared.Computed.{Computed}
 use Rattle.rules.specs.declared.Computed.the-variants as computed
 use Rattle.rules.specs.declared.Refusal.{Refusal}
 use Rattle.rules.specs.declared.Refusal.the-variants.{BadTable}
+use Rattle.plan.proofs.Comes as planner
+use Rattle.plan.proofs.Sent.{planned-within}
+use Rattle.plan.specs.Plan.{accepts, deltaBy}
 use Rattle.demand3.proofs.EachNode.{nodeAt, removed}
 use Rattle.demand3.proofs.Nearer.{Stirs, line-stirs}
 use Rattle.demand3.proofs.OnTheWay.{PartFor, Sendable, computed-part, computed-sendable}
-use Rattle.demand3.specs.Demand3.{leastWidth, wideEnough}
-use Rattle.demand3.specs.Forms.{ByClock, InLine, Order, Removal, computeBy, lentComputeBy, lentRemovedBy, opsBy, removedBy}
+use Rattle.demand3.proofs.Planned.{planned-for, planned-sendable, planned-stirs}
+use Rattle.demand3.specs.Demand3.{isNone, leastWidth, wideEnough}
+use Rattle.demand3.specs.Forms.{AsPlanned, ByClock, InLine, Order, Removal, computeBy, lentComputeBy, lentRemovedBy, opsBy, removedBy}
 
 -- ---- removals
 
@@ -80,9 +84,26 @@ comes edition excluded (InLine ties) mtu place d t l ok = go _ (line.comes editi
         writes ds rest e
         (record { sendable = computed-sendable excluded ties mtu ds t ok h; each = computed-part excluded ties mtu ds t ok; stirs = stirs excluded ds })
         (delta-bytes edition excluded ties mtu place d t l ds g)
+comes edition excluded (AsPlanned nodes counts) mtu place d t l ok = go _ (planner.plan-comes edition excluded nodes counts mtu place d t l)
+  where
+    stirs : (ds : List NodeDigest) → accepts excluded nodes counts mtu ds t ≡ true → (ns : List ℕ) → nodes ≡ ns → not (isNone ns) ≡ true → Stirs t (deltaBy excluded nodes counts ds t)
+    stirs ds taken [] q wide = absurd (false≢true wide)
+    stirs ds taken (i ∷ is) q wide = planned-stirs excluded nodes counts mtu ds t ok taken i (subst (λ (l : List ℕ). i ∈ l) (sym q) (here refl))
+
+    go : (o : Given Computed (List ℕ)) → planner.PlanComes edition excluded nodes counts mtu place d t l o → Comes edition excluded (AsPlanned nodes counts) mtu place d t l o
+    go o (planner.refuses r) = refuses r
+    go o (planner.writes ds rest e taken h g) =
+        writes ds rest e
+        (record {
+          sendable = planned-sendable excluded nodes counts mtu ds t ok taken h;
+          each = planned-for excluded nodes counts mtu ds t ok taken;
+          stirs = λ wide e m says. stirs ds taken nodes refl wide;
+        })
+        (planner.plan-bytes edition excluded nodes counts mtu place d t l ds (planned-within excluded nodes counts mtu ds t ok taken) g)
 
 -- of lent bytes it is 14, or what it is of the table
 pub lent-computing : (edition : ℕ) (excluded : List ℕ) (order : Order) (mtu place : ℕ) (digest d l : Bytes)
     → lentComputeBy edition excluded order mtu place digest d l
     ≡ fromTable (given (computed.Refused BadTable) d) (λ t. computeBy edition excluded order mtu place digest t d) l
 lent-computing edition excluded (InLine ties) mtu place digest d l = refl
+lent-computing edition excluded (AsPlanned nodes counts) mtu place digest d l = refl

@@ -12,6 +12,7 @@ use Rattle.rules.specs.Delta.{Op}
 use Rattle.rules.specs.Compute.{compute, deltaFor}
 use Rattle.rules.specs.Lent.{lentGc, lentCompute}
 use Rattle.rules.specs.declared.Computed.{Computed}
+use Rattle.plan.specs.Plan.{computePlan, deltaBy, lentComputePlan}
 
 -- ---- removals
 
@@ -32,15 +33,20 @@ lentRemovedBy (ByClock now grace) l = lentGc now grace l .lent
 pub data Order : Type 0 where
   -- document 01's: nodes stand in line by their staleness, and the tie list decides between equals
   InLine : List ℕ → Order
+  -- a planner's (document 02, ticket 13): the nodes to send, in this order, and how many stale records of each
+  AsPlanned : List ℕ → List ℕ → Order
 
 -- the call
 abbrev pub computeBy : (edition : ℕ) (excluded : List ℕ) (order : Order) (mtu place : ℕ) (digest : Bytes) (table : Table) (datagram : Bytes) → Given Computed Bytes
 computeBy edition excluded (InLine ties) mtu place d t l = compute edition excluded ties mtu place d t l
+computeBy edition excluded (AsPlanned nodes counts) mtu place d t l = computePlan edition excluded nodes counts mtu place d t l
 
 -- the operations that it writes, where it is not refused
 abbrev pub opsBy : (excluded : List ℕ) (order : Order) (mtu : ℕ) (ds : List NodeDigest) (table : Table) → List Op
 opsBy excluded (InLine ties) mtu ds t = deltaFor excluded ties mtu ds t
+opsBy excluded (AsPlanned nodes counts) mtu ds t = deltaBy excluded nodes counts ds t
 
 -- the call on lent bytes
 abbrev pub lentComputeBy : (edition : ℕ) (excluded : List ℕ) (order : Order) (mtu place : ℕ) (digest datagram table : Bytes) → Given Computed Bytes
 lentComputeBy edition excluded (InLine ties) mtu place digest d l = lentCompute edition excluded ties mtu place digest d l
+lentComputeBy edition excluded (AsPlanned nodes counts) mtu place digest d l = lentComputePlan edition excluded nodes counts mtu place digest d l

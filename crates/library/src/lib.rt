@@ -12,6 +12,7 @@ use answers::KevFound;
 use answers::KevFoundOver;
 use answers::KevHeader;
 use answers::KevHeartbeat;
+use answers::KevJudged;
 use answers::KevListedOver;
 use answers::KevMade;
 use answers::KevNode;
@@ -41,8 +42,10 @@ ghost use Rattle.digest_read.specs.Held.{digestIn};
 ghost use Rattle.digest_read.specs.Told.{digestTold};
 ghost use Rattle.exchange.specs.Exchanging.{allFour, exchangedTold, lending, lentExchange};
 ghost use Rattle.answers.specs.Shown.{shownAs, numberShown, countShown, nodeShown, heartbeatShown, foundShown, headerShown, recordShown, rowsShown};
-ghost use Rattle.answers.specs.Shown.{digestShown, entryTold, entryShown, computedShown, deltaShown, appliedShown, exchangedShown};
+ghost use Rattle.answers.specs.Shown.{digestShown, entryTold, entryShown, computedShown, judgedShown, deltaShown, appliedShown, exchangedShown};
 ghost use Rattle.answers.specs.Shown.{madeShown};
+ghost use Rattle.plan.specs.Faults.{judgedTold, lentJudge};
+ghost use Rattle.plan.specs.Plan.{lentComputePlan};
 ghost use Rattle.listing_make.specs.Make.{lentMake, madeTold};
 ghost use Rattle.overrides.specs.Overrides.{lentNewOverrides, lentWriteOverride, lentCallOverride, lentRemoveOverrides};
 ghost use Rattle.over_find.specs.Over.{lentFindOver};
@@ -415,6 +418,55 @@ pub extern "C" fn kev_compute(
         datagram,
         place,
     ))
+}
+
+// The delta of a plan, its nodes in their order with so many stale records each, into the datagram from the place on: 14, 20, 7, 8, 9, 13, 23.
+#[no_mangle]
+pub extern "C" fn kev_compute_plan(
+    table: &[u8],
+    edition: u64,
+    digest: &[u8],
+    mtu: usize,
+    excluded: &[u64],
+    nodes: &[u64],
+    counts: &[u64],
+    datagram: &mut [u8],
+    place: usize,
+) -> KevComputed
+    ensures { λ r. ⌜ Gives
+        (shownAs computedTold computedShown
+        (lentComputePlan edition (now (excluded .entry)) (now (nodes .entry)) (now (counts .entry)) mtu place (now (digest .entry))
+        (now (datagram .entry)) (now (table .entry))))
+        r (now (datagram .exit)) ⌝ }
+{
+    answers::computed(compute_plan::compute_plan(
+        table,
+        edition,
+        digest,
+        mtu,
+        excluded,
+        nodes,
+        counts,
+        datagram,
+        place,
+    ))
+}
+
+// The first line of a plan that is at fault, and why: 14, 20, 7, 9, 13, 23.
+#[no_mangle]
+pub extern "C" fn kev_plan_fault(
+    table: &[u8],
+    edition: u64,
+    digest: &[u8],
+    mtu: usize,
+    excluded: &[u64],
+    nodes: &[u64],
+    counts: &[u64],
+) -> KevJudged
+    ensures { λ r. ⌜ r ≡ judgedShown (judgedTold
+        (lentJudge edition (now (excluded .entry)) (now (nodes .entry)) (now (counts .entry)) mtu (now (digest .entry)) (now (table .entry)))) ⌝ }
+{
+    answers::judged(compute_plan::plan_fault(table, edition, digest, mtu, excluded, nodes, counts))
 }
 
 // A delta taken into the table, an answer for each node delta: 14, 13, 9, 1, 10, 11, 12, 8.

@@ -1,4 +1,5 @@
--- What the runs show: the claims fail of plain nets, of a plain relay among hubs that are not plain, and of an owner restored with a write lost. Assumes nothing.
+-- What the runs show: the claims fail of plain nets, of a plain relay among hubs that are not plain, of a plain leaf whose neighbour is not steady, and of an owner restored with a
+-- write lost. Assumes nothing.
 use Prim.Native.Nat.{_<_, ℕ}
 use mathlib.Core.List.{List, [], _∷_}
 use mathlib.Core.Option.{Option, none, some}
@@ -14,15 +15,16 @@ use Rattle.rules.specs.Apply.{Ways, apply, applyEach, applyNode, codes, deltaSt
 use Rattle.rules.specs.Compute.{allOps, byVersion, compute, cut, deltaFor, fromOf, keyValueOps, ordered, queue, sooner, stale, staleNodes, toldOf}
 use Rattle.rules.specs.Delta.{deltaBytes, follow, maxOf, opBytes, partsOf, readDelta, readKeyValue, readNode, readOp, readOps, readSetMaxVersion, recsOf, sizeOf, textBytes}
 use Rattle.rules.specs.Digest.{digestBytes, entryBytes, entryOf, headWidth, readDigest, readEntries, tell, tellAll}
-use Rattle.rules.specs.Local.{add, call, gc}
+use Rattle.rules.specs.Local.{add, call, gc, removeNode}
 use Rattle.rules.specs.Node.{KeyValue, Node, Rec, act, decide, find, lastGc, remove, store, wish, write}
-use Rattle.rules.specs.Table.{Table, addNode, among, nodeOf, numbersOf, removeAll, setNode, versions}
+use Rattle.rules.specs.Table.{Table, addNode, among, dropNode, nodeOf, numbersOf, removeAll, setNode, versions}
 use Rattle.demand3.proofs.EachNode.{nodeAt, orFresh}
 use Rattle.demand3.specs.Demand3.{Holds}
 use Rattle.demand3.specs.World.{nthSent}
-use Rattle.net.specs.Net.{Net, NetSafe, NetSound, Plan, after, begin, happen}
+use Rattle.net.specs.Net.{Net, NetSafe, NetSound, Plan, after, begin, happen, placed}
+use Rattle.net_runs.proofs.Losses.{leaf-readded, leaf-restored}
 use Rattle.net_runs.proofs.Runs.{line-plain, lost-fenced, lost-guarded, poison-fenced, poison-guarded, triangle-plain}
-use Rattle.net_runs.proofs.Stories.{alike, dead, line, lost, pairAt, poison, relay, triangle}
+use Rattle.net_runs.proofs.Stories.{alike, dead, leafPlan, leafReadded, leafRestored, line, lost, pairAt, poison, relay, triangle}
 
 -- a node with a version is there
 held : (o : Option Node) → 0 < orFresh o .max → o ≡ some (orFresh o)
@@ -90,6 +92,23 @@ pub relay-poisons-guarded : NetSafe (relay guardedWays) → ⊥
 relay-poisons-guarded s =
     let w : Net = after (relay guardedWays) poison begin in
     failed (relay guardedWays .ways) w 3 3 3 (omega arith) (poison-guarded .0) (poison-guarded .1) (there-poison .1) (gone-by (w .hubs 0) (poison-guarded .2)) (s .at-every-moment poison)
+
+-- ---- a plain leaf whose neighbour is not steady
+
+there-leaf : There (after (leafPlan guardedWays) leafRestored begin) 2 × There (after (leafPlan guardedWays) leafReadded begin) 2
+unfolding after happen nthSent add addNode numbersOf call gc nodeOf setNode removeAll decide wish find act write store remove lastGc keep all sameBytes lessBytes among digestBytes headWidth entryBytes entryOf readEntries readDigest tell tellAll compute deltaFor cut allOps ordered queue sooner staleNodes toldOf fromOf stale byVersion keyValueOps sizeOf deltaBytes opBytes textBytes bytesOf natOf part put flat unblock apply applyEach applyNode deltaStatus statusOf newerOf outcome takeAll takes codes readDelta readOps readOp readNode readKeyValue readSetMaxVersion follow partsOf recsOf maxOf versions removeNode dropNode placed
+there-leaf = ((record { kv = dead; start = 0 }, later (here refl), refl), (record { kv = dead; start = 0 }, later (here refl), refl))
+
+-- hub 2 is plain and hears hub 1 alone, at once; hub 1 is restored, or removes the node and adds it
+pub leaf-restored-fails : NetSound (leafPlan guardedWays) (after (leafPlan guardedWays) leafRestored begin) → ⊥
+leaf-restored-fails s =
+    let w : Net = after (leafPlan guardedWays) leafRestored begin in
+    failed (leafPlan guardedWays .ways) w 2 3 3 (omega arith) (leaf-restored .0) (leaf-restored .1) (there-leaf .0) (gone-by (w .hubs 0) (leaf-restored .2)) s
+
+pub leaf-readded-fails : NetSound (leafPlan guardedWays) (after (leafPlan guardedWays) leafReadded begin) → ⊥
+leaf-readded-fails s =
+    let w : Net = after (leafPlan guardedWays) leafReadded begin in
+    failed (leafPlan guardedWays .ways) w 2 3 3 (omega arith) (leaf-readded .0) (leaf-readded .1) (there-leaf .1) (gone-by (w .hubs 0) (leaf-readded .2)) s
 
 -- ---- an owner restored with a write lost
 

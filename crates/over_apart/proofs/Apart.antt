@@ -27,12 +27,13 @@ use Rattle.exchange_ask.specs.Asking.{readyFor, readyOn}
 use Rattle.exchange_ask.specs.declared.Ready.{Ready}
 use Rattle.exchange_ask.specs.declared.Ready.the-variants as ready
 use Rattle.exchange_ask.specs.declared.Step.the-variants.{Delta, Digest}
+use Rattle.plan.specs.Plan as planning
 use Rattle.overrides.specs.Overrides.{validNode}
 use Rattle.overrides.proofs.Valid.{never-table}
 use Rattle.demand1.specs.Calls as calls
 use Rattle.demand1.specs.Calls.{Kind, Call, lentTo, leaves, tables}
 use Rattle.demand1.proofs.Demand1.{demand1}
-use Rattle.over_apart.specs.Apart.{Gossips, writes-digest, computes, applies, exchanges, NeverGossiped}
+use Rattle.over_apart.specs.Apart.{Gossips, writes-digest, computes, plans, applies, exchanges, NeverGossiped}
 
 -- the table is the overrides
 no-table : (o t : Bytes) → validNode o ≡ true → o ≡ t → validWhole t ≡ false
@@ -76,6 +77,9 @@ fourteen k writes-digest (calls.write-digest t edition excluded datagram place) 
     (no-table o t v (only o t m))
 fourteen k computes (calls.compute t edition digest excluded ties datagram mtu place) o v m =
     ap (λ (b : Bool). computedTold (pick {X = Given Computed Bytes} b (computing.compute edition excluded ties mtu place digest (decodeWhole t .table) datagram) (given (computed.Refused BadTable) datagram) .answer) .number)
+    (no-table o t v (only o t m))
+fourteen k plans (calls.compute-plan t edition digest excluded nodes counts datagram mtu place) o v m =
+    ap (λ (b : Bool). computedTold (pick {X = Given Computed Bytes} b (planning.computePlan edition excluded nodes counts mtu place digest (decodeWhole t .table) datagram) (given (computed.Refused BadTable) datagram) .answer) .number)
     (no-table o t v (only o t m))
 fourteen k applies (calls.apply t delta answers now) o v m =
     ap (λ (b : Bool). appliedTold (pick b (storedApply (decodeWhole t) (apply (waysOf (decodeWhole t .mode)) (delta .bytes) (now .value) (decodeWhole t .table) answers)) (given (applied.Refused BadTable 0) (both t answers)) .answer) .number)

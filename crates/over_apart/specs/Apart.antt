@@ -13,6 +13,7 @@ use Rattle.demand1.specs.Calls.{Kind, Call, lentTo, leaves, tables}
 pub data Gossips : Kind → Type 0 where
   writes-digest : Gossips calls.WriteDigest
   computes : Gossips calls.Compute
+  plans : Gossips calls.ComputePlan
   applies : Gossips calls.Apply
   exchanges : Gossips calls.Exchange
 

@@ -22,13 +22,8 @@ use Rattle.lookup.specs.declared.Found.the-variants as one
 use Rattle.overrides.specs.Overrides.{validNode}
 use Rattle.overrides.specs.Both.{fromBoth}
 use Rattle.overrides.specs.declared.Which.the-variants as which
-use Rattle.over_find.specs.Over.{overOf, foundOver, lentFindOver}
-use Rattle.over_find.specs.declared.FoundOver.{FoundOver}
+use Rattle.over_find.specs.Over.{overOf, foundOver, lentFindOver, plainly}
 use Rattle.over_find.specs.declared.FoundOver.the-variants.{Refused}
-
--- what the ordinary lookup found, as one over both
-abbrev pub plainly : Found → FoundOver
-plainly f = overOf one.Nothing f
 
 nothing-own : (own f : Found) → ((s n : ℕ) → own ≡ one.At s n → ⊥) → overOf own f ≡ plainly f
 nothing-own (one.At s n) f h = absurd (h s n refl)

@@ -63,6 +63,10 @@ overOf own (one.At start len) = firstOf own (InTable start len)
 overOf own one.Nothing = firstOf own Nothing
 overOf own (one.Refused r) = Refused which.Neither r
 
+-- what the ordinary lookup found, as one over both
+abbrev pub plainly : (shared : Found) → FoundOver
+plainly f = overOf one.Nothing f
+
 -- in good overrides, whose bytes begin with the node's, and a good table: 2, 1
 abbrev pub foundOver : (number : ℕ) (key : Bytes) (over : Node) (table : Table) → FoundOver
 foundOver number k o t = overOf (findOn k 0 (some o)) (foundIn number k t)

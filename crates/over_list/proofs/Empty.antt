@@ -10,7 +10,7 @@ use Rattle.fields.specs.Choice.{pick}
 use Rattle.fields.specs.Parts.{put}
 use Rattle.fields.proofs.Choice.{pick-true}
 use Rattle.rules.specs.Sizes.{maxKey}
-use Rattle.rules.specs.Given.{Given, given}
+use Rattle.rules.specs.Given.{given}
 use Rattle.rules.specs.Node.{Rec, Node, hits, hitsFrom}
 use Rattle.rules.specs.Table.{Table, nodeOf}
 use Rattle.rules.specs.Local as rule
@@ -18,23 +18,14 @@ use Rattle.rules.specs.Local.{prefixOn, prefixed}
 use Rattle.rules.specs.Lent.{fromTable, lentPrefixed}
 use Rattle.rules.specs.Layout.{decodeNode}
 use Rattle.rules.specs.Whole.{decodeWhole, validWhole}
-use Rattle.rules.specs.declared.Listed.{Listed}
 use Rattle.rules.specs.declared.Listed.the-variants as plain
 use Rattle.rules.specs.declared.Refusal.the-variants.{BadTable, NoPlace, TooLong}
 use Rattle.overrides.specs.Overrides.{validNode}
 use Rattle.overrides.specs.Both.{fromBoth}
 use Rattle.overrides.specs.declared.Which.the-variants as which
+use Rattle.over_list.specs.Stated.{plainlyGiven}
 use Rattle.over_list.specs.Merged.{hitsIn, overlaid, placesOf, listing, listInto, listOn, listOver, lentListOver}
-use Rattle.over_list.specs.declared.ListedOver.{ListedOver}
 use Rattle.over_list.specs.declared.ListedOver.the-variants as listed
-
--- what the ordinary listing answers, as one over both
-abbrev pub plainly : Listed → ListedOver
-plainly (plain.Hits n) = listed.Hits n
-plainly (plain.Refused r) = listed.Refused which.Neither r
-
-abbrev pub plainlyGiven : (of : Given Listed (List ℕ)) → Given ListedOver (List ℕ)
-plainlyGiven of = given (plainly (of .answer)) (of .lent)
 
 -- the places of the hits are document 01's
 places-plain : (p : List ℕ) (i : ℕ) (l : List Rec) → placesOf (hitsIn p i l) ≡ hitsFrom p i l

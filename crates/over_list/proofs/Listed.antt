@@ -37,6 +37,7 @@ use Rattle.overrides.proofs.Valid.{over-obeys}
 use Rattle.over_find.specs.Over.{overOf, firstOf, foundOver}
 use Rattle.over_find.specs.declared.FoundOver.{FoundOver}
 use Rattle.over_find.specs.declared.FoundOver.the-variants.{InOverrides, InTable, Nothing, Refused}
+use Rattle.over_list.specs.Stated.{placeOf, listedAt}
 use Rattle.over_list.specs.Merged.{Hit, hit, keyOfHit, overPlace, hitsIn, layOver, overlaid, placesOf, recsOf, listing, listInto}
 use Rattle.over_list.specs.declared.ListedOver.the-variants as listed
 use Rattle.over_list.proofs.Laying.{hits-few, overlaid-few, hits-rise, overlaid-rise, recs-sorted}
@@ -70,16 +71,6 @@ keys-once p o n s =
     (recs-sorted (overlaid (hitsIn p overPlace o) (hitsIn p 0 n)) (overlaid-rise (hitsIn p overPlace o) (hitsIn p 0 n) (hits-rise p 0 n (keys-sorted n s))))
 
 -- ---- a key is listed exactly where the lookup finds it
-
--- where a hit says that its value stands: in the overrides, whose bytes begin with the node's, or in a table, in which the node's begin at `start`
-abbrev pub placeOf : (start : ℕ) (hit : Hit) → FoundOver
-placeOf start h =
-    pick (leb overPlace (h .place)) (InOverrides (valuePlace 0 (h .place - overPlace)) (length (h .rec .kv .value))) (InTable (valuePlace start (h .place)) (length (h .rec .kv .value)))
-
--- where the first hit of the key says it; nothing, where the key is not listed
-unfoldable pub listedAt : (key : List ℕ) (start : ℕ) (hits : List Hit) → FoundOver
-listedAt k start [] = Nothing
-listedAt k start (h ∷ l) = pick (sameBytes k (keyOfHit h)) (placeOf start h) (listedAt k start l)
 
 -- the first of two that is there
 abbrev orElse : FoundOver → FoundOver → FoundOver

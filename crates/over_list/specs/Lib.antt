@@ -1,3 +1,4 @@
 pub mod Merged
 pub mod Turns
 pub mod Told
+pub mod Stated

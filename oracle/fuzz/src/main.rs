@@ -25,6 +25,8 @@ mod over;
 #[allow(dead_code)]
 #[path = "../../compare/src/pieces.rs"]
 mod pieces;
+#[path = "../../compare/src/plans.rs"]
+mod plans;
 mod port;
 #[allow(dead_code)]
 #[path = "../../compare/src/random.rs"]
@@ -84,9 +86,13 @@ impl Run {
         for line in lines {
             let mut call = Call::parse(line).ok_or_else(|| format!("not a call: {line}"))?;
             match &mut call {
-                Call::ReadDigest { bytes, .. } | Call::ReadDelta { bytes } | Call::Apply { bytes, .. } | Call::Table { bytes } | Call::Compute { digest: bytes, .. } => {
-                    write_out(bytes, &digest, &delta)
-                }
+                Call::ReadDigest { bytes, .. }
+                | Call::ReadDelta { bytes }
+                | Call::Apply { bytes, .. }
+                | Call::Table { bytes }
+                | Call::Compute { digest: bytes, .. }
+                | Call::Plan { digest: bytes, .. }
+                | Call::PlanFault { digest: bytes, .. } => write_out(bytes, &digest, &delta),
                 _ => {}
             }
             self.lines += 1;
@@ -132,6 +138,7 @@ fn kind(answer: &Answer) -> String {
     match answer {
         Answer::Refused(number) | Answer::RefusedAt(number, _) => format!("refused{number:02}"),
         Answer::Cut { .. } => "refused09".into(),
+        Answer::AtFault { .. } => "refused23".into(),
         Answer::Applied(_) => "applied".into(),
         Answer::DeltaWritten { .. } => "delta-written".into(),
         Answer::DeltaRead { .. } => "delta-read".into(),

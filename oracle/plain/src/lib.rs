@@ -7,5 +7,6 @@ mod delta;
 mod digest;
 pub mod local;
 pub mod over;
+mod plan;
 pub mod side;
 pub mod table;

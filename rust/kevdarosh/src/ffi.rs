@@ -162,6 +162,15 @@ pub struct Computed {
 
 #[repr(C)]
 #[derive(Clone, Copy)]
+pub struct Judged {
+    pub number: u64,
+    pub line: Size,
+    pub why: u64,
+    pub need: Size,
+}
+
+#[repr(C)]
+#[derive(Clone, Copy)]
 pub struct Delta {
     pub number: u64,
     pub ops: Size,
@@ -369,6 +378,10 @@ unsafe extern "C" {
     fn kev_digest_entry(edition: u64, digest: *const u8, digest_len: Size, i: Size) -> Entry;
     fn kev_compute(table: *const u8, table_len: Size, edition: u64, digest: *const u8, digest_len: Size, mtu: Size, excluded: *const u64, excluded_len: Size, ties: *const u64, ties_len: Size, datagram: *mut u8, datagram_len: Size, place: Size) -> Computed;
     fn kev_good_compute(table: *const u8, table_len: Size, edition: u64, digest: *const u8, digest_len: Size, mtu: Size, excluded: *const u64, excluded_len: Size, ties: *const u64, ties_len: Size, datagram: *mut u8, datagram_len: Size, place: Size) -> Computed;
+    fn kev_compute_plan(table: *const u8, table_len: Size, edition: u64, digest: *const u8, digest_len: Size, mtu: Size, excluded: *const u64, excluded_len: Size, nodes: *const u64, nodes_len: Size, counts: *const u64, counts_len: Size, datagram: *mut u8, datagram_len: Size, place: Size) -> Computed;
+    fn kev_good_compute_plan(table: *const u8, table_len: Size, edition: u64, digest: *const u8, digest_len: Size, mtu: Size, excluded: *const u64, excluded_len: Size, nodes: *const u64, nodes_len: Size, counts: *const u64, counts_len: Size, datagram: *mut u8, datagram_len: Size, place: Size) -> Computed;
+    fn kev_plan_fault(table: *const u8, table_len: Size, edition: u64, digest: *const u8, digest_len: Size, mtu: Size, excluded: *const u64, excluded_len: Size, nodes: *const u64, nodes_len: Size, counts: *const u64, counts_len: Size) -> Judged;
+    fn kev_good_plan_fault(table: *const u8, table_len: Size, edition: u64, digest: *const u8, digest_len: Size, mtu: Size, excluded: *const u64, excluded_len: Size, nodes: *const u64, nodes_len: Size, counts: *const u64, counts_len: Size) -> Judged;
     fn kev_read_delta(delta: *const u8, delta_len: Size) -> Delta;
     fn kev_apply(table: *mut u8, table_len: Size, delta: *const u8, delta_len: Size, clock: u64, answers: *mut u8, answers_len: Size) -> Applied;
     fn kev_good_apply(table: *mut u8, table_len: Size, delta: *const u8, delta_len: Size, clock: u64, answers: *mut u8, answers_len: Size) -> Applied;
@@ -583,6 +596,18 @@ pub fn compute<S: Bytes>(store: &S, edition: u64, digest: &[u8], mtu: usize, exc
     let call = if S::GOOD { kev_good_compute } else { kev_compute };
     let table = store.bytes();
     unsafe { call(table.as_ptr(), len(table), edition, digest.as_ptr(), len(digest), Size::of(mtu), excluded.as_ptr(), len(excluded), ties.as_ptr(), len(ties), datagram.as_mut_ptr(), len(datagram), Size::of(place)) }
+}
+
+pub fn compute_plan<S: Bytes>(store: &S, edition: u64, digest: &[u8], mtu: usize, excluded: &[u64], nodes: &[u64], counts: &[u64], datagram: &mut [u8], place: usize) -> Computed {
+    let call = if S::GOOD { kev_good_compute_plan } else { kev_compute_plan };
+    let table = store.bytes();
+    unsafe { call(table.as_ptr(), len(table), edition, digest.as_ptr(), len(digest), Size::of(mtu), excluded.as_ptr(), len(excluded), nodes.as_ptr(), len(nodes), counts.as_ptr(), len(counts), datagram.as_mut_ptr(), len(datagram), Size::of(place)) }
+}
+
+pub fn plan_fault<S: Bytes>(store: &S, edition: u64, digest: &[u8], mtu: usize, excluded: &[u64], nodes: &[u64], counts: &[u64]) -> Judged {
+    let call = if S::GOOD { kev_good_plan_fault } else { kev_plan_fault };
+    let table = store.bytes();
+    unsafe { call(table.as_ptr(), len(table), edition, digest.as_ptr(), len(digest), Size::of(mtu), excluded.as_ptr(), len(excluded), nodes.as_ptr(), len(nodes), counts.as_ptr(), len(counts)) }
 }
 
 pub fn read_delta(delta: &[u8]) -> Delta {

@@ -94,7 +94,7 @@ mod table;
 mod wire;
 
 pub use over::{Merged, Overrides};
-pub use refusal::{ExchangeRefused, Fault, ListingRefused, Refusal, Step};
+pub use refusal::{ExchangeRefused, Fault, LineFault, ListingRefused, PlanFault, Refusal, Step};
 pub use row::Records;
 pub use table::{Answer, Answers, Computed, Header, LentTable, Mode, NodeState, OwnedTable, Record, Status, Table, TableView, Wanted};
 pub use wire::{Datagrams, DeltaRead, Digest, Edition, Exchanged, NodeDigest, exchange, list_delta, make_delta, read_delta};

@@ -18,7 +18,7 @@ use Rattle.table_read.specs.Find.{entryAt}
 use Rattle.table_read.proofs.Located.{lent-node, node-long, count-low, recs-are}
 use Rattle.digest_read.specs.Held.{entriesIn}
 use Rattle.compute_order.specs.Line.{isStale}
-use Rattle.compute.specs.Plan.{fromAt}
+use Rattle.compute.specs.Lined.{fromAt}
 use Rattle.compute.proofs.Behind.{told-stale, told-level}
 use Rattle.compute.proofs.Lining.{Upto, none-yet, above, stays, joins, all-in-line}
 use Rattle.compute.proofs.line_up.Statement.{statement}

@@ -22,10 +22,10 @@ slice-aggregate-write-nodes-2 c = search needs
 
 write-nodes-requires : tie.Need-write-nodes-requires
 write-nodes-requires c κs =
-    let planned = c .before .before .before .before .before in
-    let s = entry planned in
+    let lined = c .before .before .before .before .before in
+    let s = entry lined in
     let a = s .args in
-    let k = planned .line-up .ensures in
+    let k = lined .line-up .ensures in
     let within = line-within (a .excluded .now) (entriesIn (a .digest)) (a .ties .now) (decode (a .table .now)) _ k in
     (s .pre .0, k .froms-long, k .line-long, k .count-low, λ p m. rw (length-decode (a .table .now)) at (within p m))
 
@@ -34,9 +34,9 @@ same-length c = search needs
 
 returns : tie.Need-returns
 returns c =
-    let planned = c .before .before .before .before .before .before .before .before in
-    let a = entry planned .args in
-    let is = delta-is (a .excluded .now) (entriesIn (a .digest)) (a .ties .now) (decode (a .table .now)) _ (planned .line-up .ensures) (a .part .now) in
+    let lined = c .before .before .before .before .before .before .before .before in
+    let a = entry lined .args in
+    let is = delta-is (a .excluded .now) (entriesIn (a .digest)) (a .ties .now) (decode (a .table .now)) _ (lined .line-up .ensures) (a .part .now) in
     gives-as is (c .before .before .write-nodes .ensures)
 
 pub write-delta-spec : {M : Type 1} → statement M

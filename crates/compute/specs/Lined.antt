@@ -20,9 +20,9 @@ use Rattle.compute_write.specs.Sending.{counts}
 use Rattle.compute_write.specs.declared.Sent.{Sent}
 use Rattle.compute.specs.declared.Staleness.{Staleness}
 use Rattle.compute.specs.declared.Staleness.the-variants.{UpToDate, From}
-use Rattle.compute.specs.declared.Plan.{Plan}
+use Rattle.compute.specs.declared.Lined.{Lined}
 
--- ---- the plan
+-- ---- the line
 
 -- the from of the node at a place, where it goes
 abbrev pub fromAt : (digest : List NodeDigest) (table : Table) (p : ℕ) → ℕ
@@ -32,7 +32,7 @@ abbrev pub stalenessOf : (excluded : List ℕ) (digest : List NodeDigest) (table
 stalenessOf excluded ds t p = pick (isStale excluded ds t p) (From (fromAt ds t p)) UpToDate
 
 -- the stale nodes in their order, each with its from
-pub record Planned (excluded : List ℕ) (digest : List NodeDigest) (ties : List ℕ) (table : Table) (r : Plan) : Type 0 where
+pub record LinedUp (excluded : List ℕ) (digest : List NodeDigest) (ties : List ℕ) (table : Table) (r : Lined) : Type 0 where
   pub count-low : r .count ≤ maxNodes
   pub line-long : length (r .line) ≡ maxNodes
   pub froms-long : length (r .froms) ≡ maxNodes
