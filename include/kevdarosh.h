@@ -4,8 +4,10 @@
  * takes any bytes, ends, and either does what its page says or refuses by a number and changes nothing: docs/RULES.md has the rules,
  * docs/FORMAT.md every byte.
  *
+ * Overrides are KEV_OVERRIDES bytes of the caller's: one node in form, for labels of a site that are never gossiped. No call that takes a table takes them: they are shorter.
+ *
  * What is proved. Every function that is declared here and stands in the archive is proved to meet a contract that says this. The inline
- * functions, kev_text and kev_row, are C that the hub's compiler takes in, and are tested, not proved.
+ * functions, kev_text, kev_text_over and kev_row, are C that the hub's compiler takes in, and are tested, not proved.
  *
  * What is answered. The number is 0 where the call was accepted; else it is one of those named at the function, asked in that order.
  * A number is never a count: where a call has more to tell, it returns a struct whose first field is the number. Values come back by
@@ -43,6 +45,9 @@ typedef uint64_t kev_size;
 #define KEV_LISTING 81979 /* bytes of a listing, at most */
 #define KEV_MODE_AT 29705 /* the byte of a table that says its mode */
 #define KEV_ROW 115       /* bytes of a record in a table */
+#define KEV_OVERRIDES 3713 /* bytes of overrides */
+#define KEV_OVER 128      /* what a hit in the overrides has before its place */
+#define KEV_PLACES 64     /* hits of a merged listing, at most */
 
 /* ---- modes of a table */
 
@@ -127,6 +132,24 @@ struct kev_found {
     kev_size found;
     kev_size start;
     kev_size len;
+};
+
+/* A text in the caller's overrides, over is 1, or in its table, over is 0: found is 1, and it is the len bytes from overrides + start or
+ * table + start on (see kev_text_over). With 14, which is 1 for the overrides and 2 for the table; with another number it is 0. */
+struct kev_found_over {
+    uint64_t number;
+    kev_size found;
+    kev_size over;
+    kev_size start;
+    kev_size len;
+    uint64_t which;
+};
+
+/* How many hits; which as in kev_found_over. */
+struct kev_listed_over {
+    uint64_t number;
+    kev_size count;
+    uint64_t which;
 };
 
 struct kev_header {
@@ -219,6 +242,11 @@ struct kev_exchanged {
 /* The first byte of a text that was found in this table. */
 static inline const uint8_t *kev_text(const uint8_t *table, struct kev_found text) {
     return table + text.start;
+}
+
+/* The first byte of a text that was found in these overrides or in this table. */
+static inline const uint8_t *kev_text_over(const uint8_t *overrides, const uint8_t *table, struct kev_found_over text) {
+    return (text.over ? overrides : table) + text.start;
 }
 
 /* Record i of these rows, where i is below their count, as kev_record_at tells it; read in the table, without a call. A row is its
@@ -358,6 +386,51 @@ struct kev_found kev_key_at(const uint8_t *table, kev_size table_len, uint64_t n
  * Numbers: 14, 2, 8. */
 struct kev_found kev_value_at(const uint8_t *table, kev_size table_len, uint64_t node, kev_size j);
 
+/* ---- overrides: labels of a site over those of a node */
+
+/* Whether the bytes are overrides that obey the rules: 0, or 14.
+ * Numbers: 14. */
+uint64_t kev_check_overrides(const uint8_t *overrides, kev_size overrides_len);
+
+/* The bytes become overrides without a record, whatever stood there. Their number is kept, and no call looks at it. 14 where overrides_len
+ * is not KEV_OVERRIDES.
+ * Numbers: 14. */
+uint64_t kev_new_overrides(uint8_t *overrides, kev_size overrides_len, uint64_t node);
+
+/* The key's override takes this value, under the wanted status, KEV_SET or KEV_TTL, as kev_write has it.
+ * Numbers: 14, 10, 1, 5, 6. */
+uint64_t kev_write_override(
+    uint8_t *overrides, kev_size overrides_len, const uint8_t *key, kev_size key_len, const uint8_t *value,
+    kev_size value_len, uint64_t wanted, uint64_t clock);
+
+/* The key's override is emptied and hidden, and scheduled from the clock on: the node's record shows again.
+ * Numbers: 14, 1, 3, 6. */
+uint64_t kev_delete_override(
+    uint8_t *overrides, kev_size overrides_len, const uint8_t *key, kev_size key_len, uint64_t clock);
+
+/* The key's override keeps its value, shows, and is scheduled from the clock on.
+ * Numbers: 14, 1, 3, 6. */
+uint64_t kev_delete_override_after_ttl(
+    uint8_t *overrides, kev_size overrides_len, const uint8_t *key, kev_size key_len, uint64_t clock);
+
+/* The scheduled overrides whose grace is over go. Without it deleted ones fill the 32 places.
+ * Numbers: 14. */
+uint64_t kev_remove_overrides(uint8_t *overrides, kev_size overrides_len, uint64_t clock, uint64_t grace);
+
+/* The value of a key: the override's if its record is there and not hidden, else the node's. Found is 0 where neither shows one. 14 is asked
+ * of the overrides first, then of the table; which says of which.
+ * Numbers: 14, 2, 1. */
+struct kev_found_over kev_find_over(
+    const uint8_t *overrides, kev_size overrides_len, const uint8_t *table, kev_size table_len, uint64_t node,
+    const uint8_t *key, kev_size key_len);
+
+/* The records of the overrides and of the node that are not hidden and whose keys begin with the prefix, each key once, in key order, at the
+ * front of out, a byte each: the place in the node, or KEV_OVER and the place in the overrides. KEV_PLACES places are always enough.
+ * Numbers: 14, 2, 1, 8. */
+struct kev_listed_over kev_list_over(
+    const uint8_t *overrides, kev_size overrides_len, const uint8_t *table, kev_size table_len, uint64_t node,
+    const uint8_t *prefix, kev_size prefix_len, uint8_t *out, kev_size out_len);
+
 /* ---- digests and deltas */
 
 /* The table's digest in this edition (KEV_V0, KEV_V1) without the excluded nodes, into the datagram from the place on. The count is its bytes, KEV_DIGEST at most.
@@ -470,6 +543,17 @@ struct kev_found kev_good_find(
 struct kev_count kev_good_list_prefix(
     const uint8_t *table, kev_size table_len, uint64_t node, const uint8_t *prefix, kev_size prefix_len, uint8_t *out,
     kev_size out_len);
+
+/* The overrides too are good: kev_new_overrides made them, or kev_check_overrides accepted them, and only calls on overrides wrote to them.
+ * Numbers: 2, 1. */
+struct kev_found_over kev_good_find_over(
+    const uint8_t *overrides, kev_size overrides_len, const uint8_t *table, kev_size table_len, uint64_t node,
+    const uint8_t *key, kev_size key_len);
+
+/* Numbers: 2, 1, 8. */
+struct kev_listed_over kev_good_list_over(
+    const uint8_t *overrides, kev_size overrides_len, const uint8_t *table, kev_size table_len, uint64_t node,
+    const uint8_t *prefix, kev_size prefix_len, uint8_t *out, kev_size out_len);
 
 /* Numbers: none. */
 struct kev_count kev_good_node_count(const uint8_t *table, kev_size table_len);

@@ -1070,6 +1070,100 @@ def bad_tables():
         yield "beat 7"
 
 
+def over_writes():
+    """Overrides: document 01's rules of one node without 2, at their boundaries, and the pairs of refusals in their order."""
+    yield "overrides 7"
+    yield "dump"
+    for key in (b"", b"k" * 32, b"k" * 33):
+        yield f"label {x(key)} x31 0 9"
+    for value in (b"", b"v" * 64, b"v" * 65):
+        yield f"label x61 {x(value)} 0 9"
+    for status in (0, 1, 2, 3, 255):
+        yield f"label x62 x32 {status} 9"
+    yield f"label {x(b'k' * 33)} {x(b'v' * 65)} 3 9"
+    yield f"label x61 {x(b'v' * 65)} 3 9"
+    yield f"unlabel {x(b'k' * 33)} 9"
+    yield f"unlabelttl {x(b'k' * 33)} 9"
+    yield from ("unlabel x63 9", "unlabelttl x63 9", "unlabel x61 9", "unlabel x61 10", "unlabelttl x61 11", "unlabelttl x61 12", "unlabelttl x62 12", "dump")
+    # As many records as a node has, and one more.
+    yield "overrides 7"
+    for rank in range(33):
+        yield f"label {x(b'%02d' % (rank * 7 % 33))} x31 0 9"
+    yield "label x3030 x32 0 9"
+    yield f"label {x(b'k')} {x(b'v' * 65)} 0 9"
+    yield "unlabel x3030 10"
+    yield "label x6b x31 0 11"
+    yield "dump"
+    # The last version, and none behind it.
+    for last in (TOP - 1, TOP):
+        yield f"table {x(slot(7, [record(b'a', b'1', 1)], last))}"
+        yield from ("label x61 x31 0 9", "unlabel x61 9", "dump")
+        yield f"table {x(slot(7, [record(b'a', b'1', 1)], last))}"
+        yield from ("unlabelttl x61 9", "label x62 x32 0 9", "dump")
+    yield f"table {x(slot(7, [record(b'%02d' % k, b'1', 1 + k) for k in range(32)], TOP))}"
+    yield from ("label x6b x31 0 9", "label x3030 x31 0 9", "label x3030 x32 0 9", "unlabel x6b 9", "unlabel x3030 9")
+    # Removal at the grace's end, behind it, and of what is not hidden.
+    for now in (18, 19, 20, TOP):
+        yield "overrides 7"
+        yield from ("label x61 x31 0 9", "label x62 x32 0 9", "label x63 x33 0 9", "unlabel x61 9", "unlabelttl x62 9", f"gclabels {now} 10", "dump")
+    for now, grace in ((0, 0), (0, TOP), (TOP, 0), (TOP, TOP)):
+        yield "overrides 7"
+        yield from ("label x61 x31 0 9", "label x62 x32 0 9", "unlabel x61 9", f"gclabels {now} {grace}", "dump")
+
+
+def over_reads():
+    """Reading over both: which of the two shows, a hidden override, an empty one, the places of either, and their number."""
+    calls = ("getover 3 7 x61", "getover 3 7 x62", "getover 3 7 x63", "getover 3 7 x64", "getover 3 7 x", "listover 3 7 x 64", "listover 3 7 x61 64", "listover 3 7 x 0")
+    one = [record(b"a", b"1", 1), record(b"b", b"2", 2, 1, 9), record(b"c", b"3", 3, 2, 9)]
+    many = ([], [record(b"a", b"4", 1)], [record(b"a", b"", 1)], [record(b"a", b"", 1, 1, 9)], [record(b"a", b"4", 1, 2, 9)],
+            [record(b"", b"5", 1), record(b"b", b"6", 2), record(b"c", b"7", 3), record(b"d", b"8", 4)])
+    for shared in ([], one):
+        yield f"table {x(table(slot(5, one, 5), slot(7, shared, 5)))}"
+        for own in many:
+            yield "hub 3"
+            yield f"table {x(slot(9, own, 5))}"
+            yield "hub 0"
+            yield from calls
+        yield from ("getover 3 9 x61", "listover 3 9 x 64")
+    # Every key of both is another: 64 hits. Then every key of both is the same: 32.
+    for prefix, many in ((b"l", 64), (b"k", 32)):
+        yield "hub 3"
+        yield f"table {x(slot(9, [record(prefix + b'%02d' % k, b'1', 1 + k) for k in range(32)], 32))}"
+        yield "hub 0"
+        yield f"table {x(table(slot(7, [record(b'k%02d' % k, b'2', 1 + k) for k in range(32)], 32)))}"
+        yield from (f"listover 3 7 x {places}" for places in (64, TOP, many, many - 1, 33, 32, 31, 0))
+        yield from (f"listover 3 7 {x(text)} 10" for text in (b"k0", b"l0", b"k1", b"l3", b"m", b"k" * 32))
+        yield from ("getover 3 7 x6b3331", "getover 3 7 x6c3331", "getover 3 7 x6b3332")
+
+
+def over_refusals():
+    """What is refused over both, and in which order; overrides where a table belongs, and a table where overrides belong."""
+    own = slot(9, [record(b"a", b"1", 1), record(b"b", b"2", 2)], 2)
+    long = x(b"k" * 33)
+    reads = ("getover 3 7 x61", "listover 3 7 x 64", "getover 3 6 x61", "listover 3 6 x 64", f"getover 3 7 {long}", f"listover 3 7 {long} 64", f"getover 3 6 {long}", f"listover 3 6 {long} 64",
+             "listover 3 7 x 1", f"listover 3 7 {long} 0")
+    writes = ("label x61 x31 0 9", f"label {long} x31 3 9", "unlabel x61 9", f"unlabel {long} 9", "unlabelttl x61 9", "gclabels 9 1")
+    good = table(slot(7, [record(b"a", b"3", 1), record(b"c", b"4", 2)], 2))
+    for below in (good, good[:-1], own):
+        yield f"table {x(below)}"
+        for data in (own, put(own, 32, 33), own[:-1], good):
+            yield "hub 3"
+            yield f"table {x(data)}"
+            yield "hub 0"
+            yield from reads
+    yield "hub 3"
+    for data in (own, put(own, 24, 3), put(own, 32, 33), put(own, 33, 33), own[:-1], own + b"\0", b"", own[:-1] + b"\1", put(own, 16, 1), good):
+        yield f"table {x(data)}"
+        yield from writes
+        yield "dump"
+    # Overrides are no table: no call writes, reads or applies gossip of them.
+    yield "overrides 7"
+    yield from CALLS
+    yield "hub 0"
+    yield from ("getover 0 7 x61", "listover 0 7 x 64", "overrides 7", "getover 0 7 x61", "listover 0 7 x 64")
+    yield from ("new", "add 7", "getover 1 7 x61")
+
+
 def malformed():
     """Lines that are not of the language, each beside one that is. The tables and the hub stay."""
     yield "add 1"
@@ -1084,6 +1178,11 @@ def malformed():
                 "compute x0000 100 - 0 0 100", "compute x0000 100 - 0 0 100 +1", "plan x0000 100 - - - 0 100", "plan x0000 100 - - - 0 100 0 0", "plan x0000 100 - - 0 100 0",
                 "plan x0000 100 - 1, - 0 100 0", "plan x0000 100 - - -1 0 100 0", "plan @ 100 - - - 0 100 0", "planfault x0000 100 - - -", "planfault x0000 100 - - - 0 0",
                 f"planfault x0000 100 - - {TOP + 1} 0", "planfault x0000 100 - - : 0", "plans x0000 100 - - - 0 100 0", "planfaults x0000 100 - - - 0")
+    yield "hub 3"
+    yield "overrides 1"
+    yield from ("overrides", "overrides :", "overrides 1 2", "label x61 x31 0", "label x61 x31 0 9 9", "label 61 x31 0 9", "label x61 x31 -1 9", "unlabel x61", "unlabel x61 9 9", "unlabelttl x61", "gclabels 9",
+                "gclabels 9 1 1", "labels x61 x31 0 9", "dump", "hub 0", "getover 4 1 x61", "getover 3 1", "getover 3 1 61", "getover : 1 x61", "getover 3 1 x61 0", "listover 4 1 x 64", "listover 3 1 x",
+                "listover 3 1 x 64 0", "listover 3 1 @digest 64", "getover 3 1 x61", "listover 3 1 x 64")
     yield "add 2"
 
 
@@ -1094,6 +1193,7 @@ SCRIPTS = {
     "from": from_where, "in-line": in_line, "plans": plans, "plan-lists": plan_lists, "plan-cuts": plan_cuts, "plan-refusals": plan_refusals,
     "cuts": cuts, "longest-record": longest_record, "verdicts": verdicts, "taking": taking, "room-counts": room, "fence": fence, "guard": guard, "two-datagrams": two_datagrams, "exchange": exchange,
     "net-triangle": triangle, "net-line": line, "net-relay": relay, "net-owner": owner, "net-behind": behind,
+    "over-writes": over_writes, "over-reads": over_reads, "over-refusals": over_refusals,
     "bad-tables": bad_tables, "malformed": malformed,
 }
 

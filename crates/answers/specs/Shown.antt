@@ -18,6 +18,8 @@ use Rattle.answers.specs.declared.KevCount.{KevCount}
 use Rattle.answers.specs.declared.KevNode.{KevNode}
 use Rattle.answers.specs.declared.KevHeartbeat.{KevHeartbeat}
 use Rattle.answers.specs.declared.KevFound.{KevFound}
+use Rattle.answers.specs.declared.KevFoundOver.{KevFoundOver}
+use Rattle.answers.specs.declared.KevListedOver.{KevListedOver}
 use Rattle.answers.specs.declared.KevHeader.{KevHeader}
 use Rattle.answers.specs.declared.KevRecord.{KevRecord}
 use Rattle.answers.specs.declared.KevRows.{KevRows}
@@ -68,6 +70,21 @@ heartbeatShown t = record { number = t .number; found = someOf (t .values); hear
 
 abbrev pub foundShown : (told : Told) → KevFound
 foundShown t = record { number = t .number; found = someOf (t .values); start = valueAt 0 (t .values); len = valueAt 1 (t .values) }
+
+-- in which of two slices; where it is refused, of which
+abbrev pub foundOverShown : (told : Told) → KevFoundOver
+foundOverShown t =
+    record {
+      number = t .number;
+      found = someOf (acceptedValues t);
+      over = valueAt 0 (acceptedValues t);
+      start = valueAt 1 (acceptedValues t);
+      len = valueAt 2 (acceptedValues t);
+      which = valueAt 0 (refusedValues t);
+    }
+
+abbrev pub listedOverShown : (told : Told) → KevListedOver
+listedOverShown t = record { number = t .number; count = valueAt 0 (acceptedValues t); which = valueAt 0 (refusedValues t) }
 
 abbrev pub headerShown : (told : Told) → KevHeader
 headerShown t =

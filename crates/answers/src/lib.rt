@@ -11,6 +11,8 @@ use inspect::NodeNumber;
 use inspect::RecordRead;
 use inspect::Rows;
 use lookup::Found;
+use over_find::FoundOver;
+use over_list::ListedOver;
 use plan::Judged;
 use rules::Answer;
 use rules::Applied;
@@ -26,12 +28,15 @@ ghost use mathlib.Core.List.{[]};
 ghost use mathlib.Core.Path.{_≡_};
 ghost use Rattle.rules.specs.Answers.{answerTold, offeredTold, rememberedTold, listedTold, writtenTold, computedTold, readTold, appliedTold, refused};
 ghost use Rattle.lookup.specs.Told.{foundTold};
+ghost use Rattle.over_find.specs.Told.{foundOverTold};
+ghost use Rattle.over_list.specs.Told.{listedOverTold};
 ghost use Rattle.inspect.specs.Told.{countTold, nodeNumberTold, nodeHeaderTold, recordReadTold, rowsTold};
 ghost use Rattle.digest_read.specs.Told.{digestTold};
 ghost use Rattle.exchange.specs.Exchanging.{exchangedTold, stepCode};
 ghost use Rattle.listing_make.specs.Make.{madeTold};
 ghost use Rattle.plan.specs.Faults.{judgedTold};
 ghost use Rattle.answers.specs.Shown.{numberShown, countShown, nodeShown, heartbeatShown, foundShown, headerShown, recordShown, rowsShown, noRecord};
+ghost use Rattle.answers.specs.Shown.{foundOverShown, listedOverShown};
 ghost use Rattle.answers.specs.Shown.{digestShown, entryTold, entryShown, computedShown, judgedShown};
 ghost use Rattle.answers.specs.Shown.{deltaShown, appliedShown, exchangedShown, madeShown};
 
@@ -64,6 +69,26 @@ pub struct KevFound {
     pub found: usize,
     pub start: usize,
     pub len: usize,
+}
+
+// Where a text stands in the lent overrides, `over` is 1, or in the lent table, `over` is 0; `found` is 1 where there is one. With 14, `which` is 1 for
+// the overrides and 2 for the table.
+#[repr(C)]
+pub struct KevFoundOver {
+    pub number: u64,
+    pub found: usize,
+    pub over: usize,
+    pub start: usize,
+    pub len: usize,
+    pub which: u64,
+}
+
+// How many hits a merged listing found; `which` as of `KevFoundOver`.
+#[repr(C)]
+pub struct KevListedOver {
+    pub number: u64,
+    pub count: usize,
+    pub which: u64,
 }
 
 // What a node has beside its records.
@@ -301,6 +326,62 @@ pub fn found(place: Found) -> KevFound
             found: 0,
             start: 0,
             len: 0,
+        },
+    }
+}
+
+pub fn found_over(place: FoundOver) -> KevFoundOver
+    ensures { λ r. ⌜ r ≡ foundOverShown (foundOverTold place) ⌝ }
+{
+    match place {
+        FoundOver::InOverrides { start, len } => KevFoundOver {
+            number: 0,
+            found: 1,
+            over: 1,
+            start,
+            len,
+            which: 0,
+        },
+        FoundOver::InTable { start, len } => KevFoundOver {
+            number: 0,
+            found: 1,
+            over: 0,
+            start,
+            len,
+            which: 0,
+        },
+        FoundOver::Nothing => KevFoundOver {
+            number: 0,
+            found: 0,
+            over: 0,
+            start: 0,
+            len: 0,
+            which: 0,
+        },
+        FoundOver::Refused { which, why } => KevFoundOver {
+            number: why.number(),
+            found: 0,
+            over: 0,
+            start: 0,
+            len: 0,
+            which: which.code(),
+        },
+    }
+}
+
+pub fn hits_over(listed: ListedOver) -> KevListedOver
+    ensures { λ r. ⌜ r ≡ listedOverShown (listedOverTold listed) ⌝ }
+{
+    match listed {
+        ListedOver::Hits(count) => KevListedOver {
+            number: 0,
+            count,
+            which: 0,
+        },
+        ListedOver::Refused { which, why } => KevListedOver {
+            number: why.number(),
+            count: 0,
+            which: which.code(),
         },
     }
 }

@@ -4,9 +4,11 @@ use answers::KevApplied;
 use answers::KevComputed;
 use answers::KevCount;
 use answers::KevFound;
+use answers::KevFoundOver;
 use answers::KevHeader;
 use answers::KevHeartbeat;
 use answers::KevJudged;
+use answers::KevListedOver;
 use answers::KevNode;
 use answers::KevRecord;
 use answers::KevRows;
@@ -36,7 +38,12 @@ ghost use Rattle.inspect_text.specs.declared.Text.the-variants.{Key, Value};
 ghost use Rattle.answers.specs.Shown.{shownAs, numberShown, countShown, nodeShown, heartbeatShown, foundShown, headerShown, recordShown, rowsShown};
 ghost use Rattle.plan.specs.Faults.{judgedTold, lentJudge};
 ghost use Rattle.plan.specs.Plan.{lentComputePlan};
-ghost use Rattle.answers.specs.Shown.{computedShown, judgedShown, appliedShown};
+ghost use Rattle.answers.specs.Shown.{computedShown, judgedShown, appliedShown, foundOverShown, listedOverShown};
+ghost use Rattle.overrides.specs.Overrides.{validNode};
+ghost use Rattle.over_find.specs.Over.{lentFindOver};
+ghost use Rattle.over_find.specs.Told.{foundOverTold};
+ghost use Rattle.over_list.specs.Merged.{lentListOver};
+ghost use Rattle.over_list.specs.Told.{listedOverTold};
 
 // ---- the table and its nodes
 
@@ -188,6 +195,44 @@ pub extern "C" fn kev_good_list_prefix(
         r (now (out .exit)) ⌝ }
 {
     answers::hits(prefix::list_good(&table[..layout::AREA], number, prefix, out))
+}
+
+// Where the value of the key stands, in overrides that `kev_check_overrides` accepts or in the table: 2, 1.
+#[no_mangle]
+pub extern "C" fn kev_good_find_over(
+    overrides: &[u8],
+    table: &[u8],
+    number: u64,
+    key: &[u8],
+) -> KevFoundOver
+    requires { ⌜ (validNode (now overrides) ≡ true) × (validWhole (now table) ≡ true) ⌝ }
+    ensures { λ r. ⌜ r ≡ foundOverShown (foundOverTold (lentFindOver number (now (key .entry)) (now (overrides .entry)) (now (table .entry)))) ⌝ }
+{
+    answers::found_over(over_find::find_over_good(overrides, &table[..layout::AREA], number, key))
+}
+
+// The merged listing of such overrides and the node, a byte for each hit; the count is how many: 2, 1, 8.
+#[no_mangle]
+pub extern "C" fn kev_good_list_over(
+    overrides: &[u8],
+    table: &[u8],
+    number: u64,
+    prefix: &[u8],
+    out: &mut [u8],
+) -> KevListedOver
+    requires { ⌜ (validNode (now overrides) ≡ true) × (validWhole (now table) ≡ true) ⌝ }
+    ensures { λ r. ⌜ Gives
+        (shownAs listedOverTold listedOverShown
+        (lentListOver number (now (prefix .entry)) (now (out .entry)) (now (overrides .entry)) (now (table .entry))))
+        r (now (out .exit)) ⌝ }
+{
+    answers::hits_over(over_list::list_over_good(
+        overrides,
+        &table[..layout::AREA],
+        number,
+        prefix,
+        out,
+    ))
 }
 
 // How many nodes the table holds.

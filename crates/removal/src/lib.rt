@@ -108,7 +108,7 @@ fn first_due(node: &[u8], clock: u64, grace: u64) -> usize
 
 // All records of a node that are due go, in one pass: from the first of them on, those that stay come down to the next free place. Where none goes,
 // nothing is written.
-fn remove_due(node: &mut [u8], clock: u64, grace: u64)
+pub fn remove_due(node: &mut [u8], clock: u64, grace: u64)
     requires { ⌜ LaidNode (now node) ⌝ }
     ensures { λ _. ⌜ now (node .exit) ≡ encodeNode (removed (due clock grace) (decodeNode (now (node .entry)))) ⌝ }
 {

@@ -53,6 +53,10 @@ pub enum Answer {
         need: usize,
     },
     Value(Vec<u8>),
+    /// A value of the overrides.
+    Label(Vec<u8>),
+    /// Number 14 of the overrides or of the table.
+    RefusedOf(&'static str),
     /// The last heartbeat of a removed node.
     Heartbeat(u64),
     /// Places of the hits among all records of the node in key order, hidden ones counted.
@@ -145,6 +149,8 @@ impl Display for Answer {
             Answer::Cut { at: None, need } => write!(f, "refused 9 need={need}"),
             Answer::Cut { at: Some(at), need } => write!(f, "refused 9 at={at} need={need}"),
             Answer::Value(value) => write!(f, "value {}", hex(value)),
+            Answer::Label(value) => write!(f, "label {}", hex(value)),
+            Answer::RefusedOf(which) => write!(f, "refused 14 of={which}"),
             Answer::Ranks(ranks) => {
                 f.write_str("ranks ")?;
                 list(f, ranks, |f, rank| write!(f, "{rank}"))

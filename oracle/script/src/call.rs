@@ -39,6 +39,15 @@ pub enum Call {
     Apply { bytes: Bytes, now: u64, places: u64 },
     Table { bytes: Bytes },
     Dump,
+    /// Overrides without a record in place of the current table. The calls on overrides are on what the current hub has.
+    Overrides { number: u64 },
+    Label { key: Vec<u8>, value: Vec<u8>, status: u64, now: u64 },
+    Unlabel { key: Vec<u8>, now: u64 },
+    UnlabelTtl { key: Vec<u8>, now: u64 },
+    GcLabels { now: u64, grace: u64 },
+    /// Readings over the overrides of a hub and the current table.
+    GetOver { hub: usize, node: u64, key: Vec<u8> },
+    ListOver { hub: usize, node: u64, prefix: Vec<u8>, places: u64 },
 }
 
 /// `x` and two lowercase digits a byte.
@@ -82,6 +91,10 @@ impl Words<'_> {
         self.number().filter(|&size| size <= 1 << 20).map(|size| size as usize)
     }
 
+    fn hub(&mut self) -> Option<usize> {
+        self.size().filter(|&hub| hub < HUBS)
+    }
+
     fn numbers(&mut self) -> Option<Vec<u64>> {
         match self.0.next()? {
             "-" => Some(Vec::new()),
@@ -111,7 +124,7 @@ impl Call {
         let call = match verb {
             "new" => Call::New { mode: 0 },
             "make" => Call::New { mode: w.number()? },
-            "hub" => Call::Hub(w.size().filter(|&hub| hub < HUBS)?),
+            "hub" => Call::Hub(w.hub()?),
             "add" => Call::Add { node: w.number()? },
             "remove" => Call::Remove { node: w.number()? },
             "removed" => Call::Removed { node: w.number()? },
@@ -167,6 +180,13 @@ impl Call {
             "apply" => Call::Apply { bytes: w.bytes()?, now: w.number()?, places: w.number()? },
             "table" => Call::Table { bytes: w.bytes()? },
             "dump" => Call::Dump,
+            "overrides" => Call::Overrides { number: w.number()? },
+            "label" => Call::Label { key: w.text()?, value: w.text()?, status: w.number()?, now: w.number()? },
+            "unlabel" => Call::Unlabel { key: w.text()?, now: w.number()? },
+            "unlabelttl" => Call::UnlabelTtl { key: w.text()?, now: w.number()? },
+            "gclabels" => Call::GcLabels { now: w.number()?, grace: w.number()? },
+            "getover" => Call::GetOver { hub: w.hub()?, node: w.number()?, key: w.text()? },
+            "listover" => Call::ListOver { hub: w.hub()?, node: w.number()?, prefix: w.text()?, places: w.number()? },
             _ => return None,
         };
         words.0.next().is_none().then_some(call)

@@ -5,6 +5,7 @@
 
 mod answer;
 mod call;
+mod over;
 mod run;
 pub mod table;
 

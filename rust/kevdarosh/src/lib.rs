@@ -58,6 +58,24 @@
 //! assert_eq!((refused, refused.number()), (Refusal::BadTable, 14));
 //! ```
 //!
+//! A caretaker's label over the manager's, which is never gossiped:
+//!
+//! ```
+//! # use kevdarosh::{Mode, Overrides, OwnedTable, Wanted};
+//! # fn main() -> Result<(), kevdarosh::Refusal> {
+//! let mut table = OwnedTable::new(Mode::Plain);
+//! table.add_node(7)?;
+//! table.write(7, b"name", b"Stair B", Wanted::Set)?;
+//! let mut labels = Overrides::new(7);
+//! labels.write(b"name", b"Bicycle cellar", Wanted::Set)?;
+//!
+//! assert_eq!(table.get_over(&labels, 7, b"name")?, Some(&b"Bicycle cellar"[..]));
+//! labels.delete(b"name", 1_000)?;
+//! assert_eq!(table.get_over(&labels, 7, b"name")?, Some(&b"Stair B"[..]));
+//! # Ok(())
+//! # }
+//! ```
+//!
 //! docs/MOVING.md of the repository takes an engineer from each call of chitchat's `NodeState` and `ClusterState` to its own here.
 
 #![no_std]
@@ -69,11 +87,13 @@
 compile_error!("this crate is for processors whose usize has 32 or 64 bits");
 
 mod ffi;
+mod over;
 mod refusal;
 mod row;
 mod table;
 mod wire;
 
+pub use over::{Merged, Overrides};
 pub use refusal::{ExchangeRefused, Fault, LineFault, ListingRefused, PlanFault, Refusal, Step};
 pub use row::Records;
 pub use table::{Answer, Answers, Computed, Header, LentTable, Mode, NodeState, OwnedTable, Record, Status, Table, TableView, Wanted};
@@ -97,6 +117,9 @@ pub const MTU_LEAST: usize = 100;
 pub const DELTA: usize = 16_384;
 /// Bytes of a delta's listing, at most.
 pub const LISTING: usize = 81_979;
+
+/// Bytes of overrides.
+pub const OVERRIDES: usize = 3_713;
 
 /// The byte of a table that says its mode.
 const MODE_AT: usize = 29_705;

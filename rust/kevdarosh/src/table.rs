@@ -63,7 +63,7 @@ pub enum Wanted {
 
 impl Wanted {
     /// The status by its number, and the time of the call, which counts under TTL alone.
-    fn numbers(self) -> (u64, u64) {
+    pub(crate) fn numbers(self) -> (u64, u64) {
         match self {
             Wanted::Set => (0, 0),
             Wanted::Ttl(clock) => (2, clock),
@@ -351,6 +351,12 @@ impl<S: Bytes> Table<S> {
         Ok(None)
     }
 
+    /// Where its bytes are, for a call.
+    #[inline]
+    pub(crate) fn store(&self) -> &S {
+        &self.store
+    }
+
     /// The bytes of the table that an answer names.
     #[inline]
     fn text(&self, start: Size, len: Size) -> &[u8] {
@@ -438,6 +444,12 @@ impl<'a, S: Bytes> NodeState<'a, S> {
     /// Its number.
     pub fn number(&self) -> u64 {
         self.node
+    }
+
+    /// The table that it is a node of.
+    #[inline]
+    pub(crate) fn table(&self) -> &'a Table<S> {
+        self.table
     }
 
     /// Heartbeat, max and last_gc.
