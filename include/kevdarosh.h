@@ -46,6 +46,8 @@ typedef uint64_t kev_size;
 #define KEV_MODE_AT 29705 /* the byte of a table that says its mode */
 #define KEV_ROW 115       /* bytes of a record in a table */
 #define KEV_OVERRIDES 3713 /* bytes of overrides */
+#define KEV_GRID 1097      /* bytes of a grid */
+#define KEV_PEERS 8        /* peers of a grid, numbered from 0 */
 #define KEV_OVER 128      /* what a hit in the overrides has before its place */
 #define KEV_PLACES 64     /* hits of a merged listing, at most */
 
@@ -105,6 +107,8 @@ typedef uint64_t kev_size;
 #define KEV_BAD_TIES 15        /* not one tie for each node */
 #define KEV_BAD_LINE 16        /* a line of a listing is not as it is printed */
 #define KEV_BAD_EDITION 20     /* no such edition of a digest */
+#define KEV_BAD_PEER 21        /* a peer's number above 7 */
+#define KEV_NOBODY_PRESENT 22  /* no peer is present */
 #define KEV_BAD_PLAN 23        /* a plan is not accepted, or its two lists are not as long as each other */
 
 /* ---- answers */
@@ -124,6 +128,25 @@ struct kev_heartbeat {
 struct kev_node {
     uint64_t number;
     uint64_t node;
+};
+
+/* The answer to a digest that a peer told. With 9, need is how many bytes the field lacks in which the digest ends. */
+struct kev_told {
+    uint64_t number;
+    kev_size need;
+};
+
+struct kev_least {
+    uint64_t number;
+    uint64_t max;
+};
+
+/* What a peer told of a node. Found is 1 where the peer is present. */
+struct kev_seen {
+    uint64_t number;
+    kev_size found;
+    uint64_t last_gc;
+    uint64_t max;
 };
 
 /* A text in the caller's table: found is 1, and it is the len bytes from table + start on (see kev_text). */
@@ -385,6 +408,47 @@ struct kev_found kev_key_at(const uint8_t *table, kev_size table_len, uint64_t n
 /* The value of the record in place j of a node, hidden or not.
  * Numbers: 14, 2, 8. */
 struct kev_found kev_value_at(const uint8_t *table, kev_size table_len, uint64_t node, kev_size j);
+
+/* ---- who has seen what: a grid beside a table
+
+ * A grid keeps, for eight peers and eight nodes, the pair of last_gc and max that each peer's digest told last. Its columns are the nodes of
+ * one table; nodes come and go through the grid. 14 where the grid or the table breaks a rule, or the columns are not the table's nodes. A
+ * node that is removed and added again past the grid is not seen: the number is the same, and the old pairs would stand for the new node. */
+
+/* The bytes become the grid of the table's nodes, with nobody present, whatever stood there. 14 where grid_len is not KEV_GRID.
+ * Numbers: 14. */
+uint64_t kev_new_grid(uint8_t *grid, kev_size grid_len, const uint8_t *table, kev_size table_len);
+
+/* Adds a fresh node to the table, and its column at (0,0). One held already stays, and so does its column.
+ * Numbers: 14, 4. */
+uint64_t kev_grid_add_node(uint8_t *grid, kev_size grid_len, uint8_t *table, kev_size table_len, uint64_t node);
+
+/* Removes a node, which the table remembers, and its column.
+ * Numbers: 14, 2. */
+uint64_t kev_grid_remove_node(uint8_t *grid, kev_size grid_len, uint8_t *table, kev_size table_len, uint64_t node);
+
+/* What a peer's digest tells takes the place of what it told before, also where a number falls; a node that it omits counts as (0,0). From
+ * then on the peer is present. A refused digest changes nothing.
+ * Numbers: 14, 21, 20, 9, 13. */
+struct kev_told kev_tell(
+    uint8_t *grid, kev_size grid_len, uint64_t peer, uint64_t edition, const uint8_t *digest, kev_size digest_len);
+
+/* A peer is taken out, and what it told with it. Of an absent one nothing changes.
+ * Numbers: 14, 21. */
+uint64_t kev_take_out(uint8_t *grid, kev_size grid_len, uint64_t peer);
+
+/* The least max of a node over the peers present.
+ * Numbers: 14, 22, 2. */
+struct kev_least kev_least_max(const uint8_t *grid, kev_size grid_len, uint64_t node);
+
+/* What a peer told of a node.
+ * Numbers: 14, 21, 2. */
+struct kev_seen kev_seen_by(const uint8_t *grid, kev_size grid_len, uint64_t peer, uint64_t node);
+
+/* As kev_remove_scheduled, but a record goes only if every peer present has told a max not below its version.
+ * Numbers: 14, 22. */
+uint64_t kev_remove_carefully(
+    const uint8_t *grid, kev_size grid_len, uint8_t *table, kev_size table_len, uint64_t clock, uint64_t grace);
 
 /* ---- overrides: labels of a site over those of a node */
 

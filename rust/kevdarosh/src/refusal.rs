@@ -60,6 +60,8 @@ refusals! {
     14 BadTable "the bytes are not a table that obeys the rules";
     15 BadTies "not one tie for each node of the table";
     20 BadEdition "no such edition of a digest";
+    21 BadPeer "a peer's number above 7";
+    22 NobodyPresent "no peer is present";
     23 BadPlan "the plan is not accepted, or its two lists are not as long as each other";
 }
 
