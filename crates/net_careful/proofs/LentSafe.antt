@@ -3,6 +3,7 @@ use Prim.Native.Nat.{ℕ}
 use mathlib.Core.List.{List, [], _∷_}
 use mathlib.Core.Path.{_∙_, _≡_, ap, subst, sym}
 use Rattle.rules.proofs.Keeps.{mode-lawful}
+use Rattle.rules.proofs.Obeys.{OkTable}
 use Rattle.rules.specs.declared.Mode.{Mode}
 use Rattle.net.proofs.LentNet.{Good, Same, begin-lent, happen-lent}
 use Rattle.net.proofs.Moments.{Moment, moment-begin}
@@ -15,15 +16,15 @@ module _ (owner : ℕ → ℕ) (modes : ℕ → Mode) (ms : List ℕ) where
   abbrev plan : Plan
   plan = planIn owner modes
 
-  after-lent : (es : List Event) (w : Net) (l : LentNet) → Good owner modes l → tablesIn l ≡ w → Moment owner w → Low ms w → CarefulRun plan ms es w → Same owner modes (after plan es w) (lentAfter owner es l)
+  pub after-lent : (es : List Event) (w : Net) (l : LentNet) → Good owner modes l → tablesIn l ≡ w → Moment owner w → Low ms w → CarefulRun plan ms es w → Same owner modes (after plan es w) (lentAfter owner es l)
   unfolding lentAfter after CarefulRun
   after-lent [] w l g q ok k c = (g, q)
   after-lent (e ∷ es) w l g q ok k c =
       let n = keeps plan (λ x. mode-lawful (modes x)) ms w ok k e (c .0) in
-      let r = happen-lent owner modes l g e (subst (λ (u : Net). Moment owner (happen plan e u)) (sym q) (n .moment)) in
+      let r = happen-lent owner modes l g e (λ x. subst (λ (u : Net). OkTable (happen plan e u .hubs x)) (sym q) (n .moment .tables x .obeyed)) in
       after-lent es (happen plan e w) (lentHappen owner e l) (r .0) (r .1 ∙ ap (happen plan e) q) (n .moment) (n .lows) (c .1)
 
-  lent-run : (es : List Event) → CarefulRun plan ms es begin → Same owner modes (after plan es begin) (lentAfter owner es (lentBegin modes))
+  pub lent-run : (es : List Event) → CarefulRun plan ms es begin → Same owner modes (after plan es begin) (lentAfter owner es (lentBegin modes))
   lent-run es c = let b = begin-lent owner modes in after-lent es begin (lentBegin modes) (b .0) (b .1) (moment-begin owner) (low-begin ms) c
 
   pub lent-careful-safe : LentCarefulSafe owner modes ms

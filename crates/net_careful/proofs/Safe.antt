@@ -50,7 +50,7 @@ use Rattle.net_careful.specs.Careful.{CarefulEvent, CarefulOver, Careful
 
 -- ---- what peers told
 
-max-is : (i : ℕ) (t : Table) → maxAt i t ≡ nodeAt i t .max
+pub max-is : (i : ℕ) (t : Table) → maxAt i t ≡ nodeAt i t .max
 max-is i t = go (nodeOf i t)
   where
     go : (o : Option Node) → maxOn o ≡ orFresh o .max

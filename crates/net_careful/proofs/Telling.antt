@@ -56,7 +56,7 @@ digest-has excluded (a ∷ t) i = go (among (a .number) excluded) refl (eqb i (a
 
 -- ---- a row
 
-behind : (n j : ℕ) → getD (zeros n) j 0 ≡ 0
+pub behind : (n j : ℕ) → getD (zeros n) j 0 ≡ 0
 unfolding zeros
 behind zero j = refl
 behind (suc n) zero = refl
@@ -67,7 +67,7 @@ with-zeros [] n j = behind n j
 with-zeros (x ∷ xs) n zero = refl
 with-zeros (x ∷ xs) n (suc j) = with-zeros xs n j
 
-taken : (n : ℕ) (l : List ℕ) (j : ℕ) → getD (take n l) j 0 ≤ getD l j 0
+pub taken : (n : ℕ) (l : List ℕ) (j : ℕ) → getD (take n l) j 0 ≤ getD l j 0
 taken zero l j = omega arith
 taken (suc n) [] j = omega arith
 taken (suc n) (x ∷ l) zero = omega arith
@@ -82,7 +82,7 @@ row-at f (n ∷ ns) i = go (eqb i n) refl (row-at f ns i)
     go true q h = subst (λ (k : ℕ). f n ≤ f k) (sym (eqb-true i n q)) (omega arith)
     go false q h = h
 
-row-has : (ds : List NodeDigest) (cols : List ℕ) (i : ℕ) → getD (rowTold (λ d. d .max) ds cols) (placeOf i cols) 0 ≤ toldOf i ds .max
+pub row-has : (ds : List NodeDigest) (cols : List ℕ) (i : ℕ) → getD (rowTold (λ d. d .max) ds cols) (placeOf i cols) 0 ≤ toldOf i ds .max
 unfolding rowTold fit
 row-has ds cols i =
     let f : ℕ → ℕ = λ k. toldOf k ds .max in
