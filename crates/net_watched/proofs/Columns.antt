@@ -1,7 +1,7 @@
 -- A node that is added through a grid leaves what the rows tell of every other node, and they tell 0 of it. Assumes nothing.
 use Prim.Native.Nat.{ℕ, suc, _≤_, _<_}
 use mathlib.Core.Bool.{Bool, true, false, _&&_}
-use mathlib.Core.List.{List, [], _∷_}
+use mathlib.Core.List.{[], _∷_}
 use mathlib.Core.Path.{_≡_, _∙_, ap, ap₂, refl, subst, sym}
 use native.Mathlib.Omega.{arith}
 use lib.Dec.{ltb}
@@ -12,7 +12,7 @@ use Rattle.fields.specs.Choice.{pick}
 use Rattle.fields.specs.Numbers.{Bytes}
 use Rattle.fields.proofs.Choice.{and-right, pick-false, pick-true}
 use Rattle.fields.proofs.Ordered.{same-true}
-use Rattle.rules.specs.Given.{Given, given}
+use Rattle.rules.specs.Given.{given}
 use Rattle.rules.specs.Lent.{addWhole, lentAdd, onWhole}
 use Rattle.rules.specs.Local.{Outcome, add, gives}
 use Rattle.rules.specs.Sizes.{maxNodes, numbers}
@@ -27,7 +27,7 @@ use Rattle.table.proofs.Tables.{table-obeys}
 use Rattle.table.proofs.Wholes.{whole-obeys}
 use Rattle.grid.specs.Grid.{Grid, addColumn, columnIn, columns, placeFor}
 use Rattle.grid.specs.GridLayout.{decodeGrid, encodeGrid, validGrid}
-use Rattle.grid.specs.LentGrid.{GridAndTable, both, fitsTable, gridOn, lentColumnIn, validBoth}
+use Rattle.grid.specs.LentGrid.{both, fitsTable, gridOn, lentColumnIn, validBoth}
 use Rattle.grid.proofs.GridBytes.{good-grid}
 use Rattle.grid.proofs.Places.{place-fits}
 use Rattle.grid_kept.proofs.Encoded.{decode-encode}

@@ -1,5 +1,5 @@
 -- A net whose hubs keep grids is a careful one: at every moment each row tells nothing that its peer has not. So it is safe, plain hubs too. Assumes nothing.
-use Prim.Native.Nat.{ℕ, _+_, _-_, _≤_, _<_}
+use Prim.Native.Nat.{ℕ, _-_, _≤_, _<_}
 use mathlib.Core.Bool.{Bool, true, false, false≢true, _&&_}
 use mathlib.Core.List.{List, [], _∷_, _++_}
 use mathlib.Core.Logic.{_⊎_, inl, inr}
@@ -8,33 +8,29 @@ use mathlib.Core.Path.{_≡_, _∙_, ap, refl, subst, sym}
 use native.Mathlib.Omega.{arith}
 use lib.Dec.{eqb, leb, ltb}
 use lib.ListN.{length, getD}
-use borrow.Author.Tests.{eq-eqb, eqb-false, eqb-true, leb-true, ltb-true}
+use borrow.Author.Tests.{eqb-false, eqb-true, leb-true, ltb-true}
 use Rattle.fields.specs.Blocks.{zeros}
-use Rattle.fields.specs.Choice.{_∈_, all, here, later, pick}
+use Rattle.fields.specs.Choice.{_∈_, pick}
 use Rattle.fields.specs.Numbers.{Bytes}
 use Rattle.fields.specs.Parts.{part, put}
 use Rattle.fields.proofs.Choice.{all-from, and-left, and-right, in-cons, in-none}
 use Rattle.fields.proofs.Parts.{part-put}
-use Rattle.rules.specs.Compute.{toldOf}
-use Rattle.rules.specs.Digest.{DigestRead, Entries, digestBytes, digestOf, fitsAt, isEdition, readDigest, writeBytes, writeDigest}
-use Rattle.rules.specs.Delta.{Good, Op, Part, partsOf, readDelta}
-use Rattle.rules.specs.Apply.{Lawful, applyNode}
+use Rattle.rules.specs.Digest.{DigestRead, Entries, digestBytes, digestOf, fitsAt, isEdition, readDigest, writeDigest}
+use Rattle.rules.specs.Apply.{Lawful}
 use Rattle.rules.specs.Given.{Given, given}
 use Rattle.rules.specs.Lent.{fromTable, lentDigest}
-use Rattle.rules.specs.Node.{Node}
 use Rattle.rules.specs.Sizes.{numbers}
-use Rattle.rules.specs.Table.{Table, among, nodeOf, obeys, rising}
-use Rattle.rules.specs.Whole.{decodeWhole, validWhole}
+use Rattle.rules.specs.Table.{Table, among, nodeOf, rising}
+use Rattle.rules.specs.Whole.{decodeWhole}
 use Rattle.rules.specs.declared.Answer.the-variants as plain
 use Rattle.rules.specs.declared.Mode.{Mode}
-use Rattle.rules.specs.declared.NodeAnswer.the-variants as node
 use Rattle.rules.specs.declared.Refusal.the-variants.{BadEdition, BadPeer, BadTable, NoPlace}
 use Rattle.rules.specs.declared.Written.{Written}
 use Rattle.rules.specs.declared.Written.the-variants as written
 use Rattle.rules.proofs.Digests.{read-written}
 use Rattle.rules.proofs.Keeps.{mode-lawful}
 use Rattle.rules.proofs.Obeys.{OkTable, among-in, facts-table}
-use Rattle.grid.specs.Grid.{Grid, columns, maxPeers, newGrid, takeOut, tellRow}
+use Rattle.grid.specs.Grid.{Grid, maxPeers, newGrid, takeOut, tellRow}
 use Rattle.grid.specs.GridLayout.{decodeGrid, encodeGrid, validGrid}
 use Rattle.grid.specs.LentGrid.{lentColumnIn, lentTakeOut, lentTell, tellOn, validBoth}
 use Rattle.grid_kept.proofs.Encoded.{decode-encode}
@@ -43,14 +39,14 @@ use Rattle.grid_kept.proofs.Sound.{Sound, valid-sound}
 use Rattle.demand3.specs.Forms.{Carefully}
 use Rattle.net.proofs.LentNet.{Same, begin-lent}
 use Rattle.net.proofs.Moments.{Moment, moment-begin, placed-in}
-use Rattle.net.specs.LentNet.{LentNet, LentSound, lentAfter, lentBegin, lentHappen, planIn, tablesIn}
+use Rattle.net.specs.LentNet.{lentAfter, planIn}
 use Rattle.net.specs.Net.{Adding, Arriving, Beating, Computing, Dropping, Event, Net, NetSound, Offering, Plan, Removing, Restoring, Saving, Writing, after, begin, happen, placed}
 use Rattle.net_careful.proofs.LentSafe.{after-lent}
 use Rattle.net_careful.proofs.Safe.{Low, careful-safe, keeps-run, low-begin, max-is}
 use Rattle.net_careful.proofs.Telling.{behind, digest-has}
 use Rattle.net_careful.specs.Careful.{CarefulEvent, CarefulOver, CarefulRun, CarefulSafe, ToldBy, maxAt, toldMax}
 use Rattle.net_watched.specs.Watched.{Act, Clearing, Digesting, Happening, Joining, TakingOut, Telling, Watch, WatchedSafe, Wrote, allPresent, doing, eightRows, eventsIn, eventsOf, gridsAfter, hasRow, joins, keptWrote, mild, toldGrid, watchBegin, watched, withGrid, wroteAfter}
-use Rattle.net_watched.proofs.Columns.{TellsLess, joined}
+use Rattle.net_watched.proofs.Columns.{joined}
 use Rattle.net_watched.proofs.Rows.{out-flag, out-flags, out-other, tell-flag, tell-other, tell-own}
 use Rattle.net_watched.proofs.ToldSmall.{told-gc-fits, told-max-fits}
 
