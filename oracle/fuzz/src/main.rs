@@ -10,7 +10,7 @@
 //! - where a delta was applied, its two parts do the same in either order, cut at a Node; cut elsewhere, the second is refused with 11,
 //! - now and then, the readings by place give the very table again.
 //!
-//! One script in sixteen is followed by a walk over overrides (`over.rs`), and one by a script of calls on a grid, beside the crate's `Watched` too (`grid.rs`).
+//! A call on a grid is made by the crate's `Watched` too (`grid.rs`). One script in sixteen is followed by a walk over overrides (`over.rs`).
 
 #[allow(dead_code)]
 #[path = "../../compare/src/damage.rs"]
@@ -19,6 +19,8 @@ mod damage;
 #[path = "../../../rust/kevdarosh/src/ffi.rs"]
 mod ffi;
 mod grid;
+#[path = "../../compare/src/grids.rs"]
+mod grids;
 #[allow(dead_code)]
 #[path = "../../compare/src/maker.rs"]
 mod maker;
@@ -50,7 +52,7 @@ pub const TABLE: usize = script::table::TABLE_BYTES;
 /// Bytes of overrides, for `ffi`.
 pub const OVERRIDES: usize = script::table::NODE_BYTES;
 
-/// How many turns a walk over overrides has, and a script of grids.
+/// How many turns a walk over overrides has.
 const TURNS: u64 = 200;
 
 /// Readings by place are asked once in so many calls of a script.
@@ -194,11 +196,7 @@ fn main() -> ExitCode {
                 }
             }
         }
-        let script = match index % 16 {
-            15 => scripts::peers(seed, index / 16),
-            3 => grid::script(seed, index, TURNS),
-            _ => scripts::beyond(seed, index),
-        };
+        let script = if index % 16 == 15 { scripts::peers(seed, index / 16) } else { scripts::beyond(seed, index) };
         if let Err(what) = run.script(&script, &mut port) {
             println!("seed={seed}, script {index}: {what}");
             for line in &script {
