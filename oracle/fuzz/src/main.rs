@@ -46,6 +46,7 @@ use plain::side::Lent;
 use script::{Answer, Bytes, Call, HUBS, Side};
 
 use port::Port;
+use random::Random;
 
 /// Bytes of a table, for `ffi`.
 pub const TABLE: usize = script::table::TABLE_BYTES;
@@ -196,7 +197,13 @@ fn main() -> ExitCode {
                 }
             }
         }
-        let script = if index % 16 == 15 { scripts::peers(seed, index / 16) } else { scripts::beyond(seed, index) };
+        // Grids among all others would be few.
+        let script = match index % 16 {
+            3 => grids::watched(Random::new(seed, index)),
+            11 => grids::given(Random::new(seed, index)),
+            15 => scripts::peers(seed, index / 16),
+            _ => scripts::beyond(seed, index),
+        };
         if let Err(what) = run.script(&script, &mut port) {
             println!("seed={seed}, script {index}: {what}");
             for line in &script {
