@@ -384,7 +384,7 @@ module _ (owner : ℕ → ℕ) (modes : ℕ → Mode) (peer : ℕ → ℕ → �
       none-present : (p : ℕ) → getD (newGrid [] .present) p 0 ≡ 0
       none-present p = behind maxPeers p
 
-  pub watched-careful : (acts : List Act) → CarefulRun plan ms (eventsIn owner peer ms acts (watchBegin modes)) begin
+  pub watched-careful : (acts : List Act) → CarefulRun (planIn owner modes) ms (eventsIn owner peer ms acts (watchBegin modes)) begin
   watched-careful acts = ran acts (watchBegin modes) begin start .run
 
   pub watched-safe : WatchedSafe owner modes peer ms
