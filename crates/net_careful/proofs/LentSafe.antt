@@ -20,7 +20,8 @@ module _ (owner : ℕ → ℕ) (modes : ℕ → Mode) (ms : List ℕ) where
   after-lent [] w l g q ok k c = (g, q)
   after-lent (e ∷ es) w l g q ok k c =
       let n = keeps plan (λ x. mode-lawful (modes x)) ms w ok k e (c .0) in
-      let r = happen-lent owner modes l g e (subst (λ (u : Net). Moment owner (happen plan e u)) (sym q) (n .moment)) in
+      let m = subst (λ (u : Net). Moment owner (happen plan e u)) (sym q) (n .moment) in
+      let r = happen-lent owner modes l g e (λ x. m .tables x .obeyed) in
       after-lent es (happen plan e w) (lentHappen owner e l) (r .0) (r .1 ∙ ap (happen plan e) q) (n .moment) (n .lows) (c .1)
 
   lent-run : (es : List Event) → CarefulRun plan ms es begin → Same owner modes (after plan es begin) (lentAfter owner es (lentBegin modes))
