@@ -107,12 +107,12 @@ there-leaf = ((record { kv = dead; start = 0 }, later (here refl), refl), (recor
 pub leaf-restored-fails : NetSound (leafPlan guardedWays) (after (leafPlan guardedWays) leafRestored begin) → ⊥
 leaf-restored-fails s =
     let w : Net = after (leafPlan guardedWays) leafRestored begin in
-    failed (leafPlan guardedWays .ways) w 2 3 3 (omega arith) (leaf-restored .0) (leaf-restored .1) (there-leaf .0) (gone-by (w .hubs 0) (leaf-restored .2)) s
+    failed (leafPlan guardedWays .ways) w 2 3 3 3 (omega arith) (leaf-restored .0) (leaf-restored .1) (there-leaf .0) (gone-by (w .hubs 0) (leaf-restored .2)) s
 
 pub leaf-readded-fails : NetSound (leafPlan guardedWays) (after (leafPlan guardedWays) leafReadded begin) → ⊥
 leaf-readded-fails s =
     let w : Net = after (leafPlan guardedWays) leafReadded begin in
-    failed (leafPlan guardedWays .ways) w 2 3 3 (omega arith) (leaf-readded .0) (leaf-readded .1) (there-leaf .1) (gone-by (w .hubs 0) (leaf-readded .2)) s
+    failed (leafPlan guardedWays .ways) w 2 3 3 3 (omega arith) (leaf-readded .0) (leaf-readded .1) (there-leaf .1) (gone-by (w .hubs 0) (leaf-readded .2)) s
 
 -- ---- an owner restored with a write lost
 
