@@ -221,7 +221,7 @@ impl<S: Side> Net<S> {
             if self.off[hub].is_some() {
                 continue;
             }
-            let forgets = !self.plan.owns(hub) || self.plan.wrong == Some(Wrong::OwnerLost);
+            let forgets = !self.plan.keeps && !self.plan.owns(hub) || self.plan.wrong == Some(Wrong::OwnerLost);
             // Owners are few: where they are to lose writes they are switched off more often.
             let once_in = if self.plan.owns(hub) && forgets { once_in / 10 } else { once_in };
             let mut chance = self.chance(For::Off, hub);
@@ -386,6 +386,7 @@ impl<S: Side> Net<S> {
         match kind {
             Kind::Digest => {
                 self.hubs[hub].offer(&bytes, own);
+                self.hubs[hub].tell(Plan::row(hub, from), &bytes);
                 let mut chance =
                     Chance::of(self.plan.seed, For::Ties, (began.0 as usize) << 8 | usize::from(copy), began.1.into());
                 let ties: [u64; NODES] = std::array::from_fn(|_| chance.below(NODES) as u64);
