@@ -61,6 +61,8 @@ pub struct Counts {
     pub fenced: u64,
     pub switched: u64,
     pub restored: u64,
+    /// Records that removal took, at all hubs.
+    pub removed: u64,
     /// Nodes of hubs looked at, and readings of hubs that fell to an older version.
     pub looked: u64,
     pub fell: u64,
@@ -319,6 +321,7 @@ impl<S: Side> Net<S> {
             self.spent.remove += elapsed(start);
             let after = removable(&self.hubs[hub]);
             for place in (0..NODES).filter(|&place| after[place] != before[place]) {
+                self.counts.removed += (before[place].1 - after[place].1) as u64;
                 self.stale[hub] |= 1 << place;
                 if place == hub {
                     self.owner_changed(place);

@@ -122,7 +122,7 @@ pub fn careful(seed: u64, jobs: usize) -> usize {
     let with_care = work::each(plans, jobs, story::whole::<Careful>);
     println!(
         "Careful removal: {} plain hubs, switched off and on, nobody restored\n\n\
-         | records of a node | MTU | removal | resets | hubs that show what is back: most at once | at the end | agree after | claims broken |\n|---|---|---|---|---|---|---|---|",
+         | records of a node | MTU | removal | records removed | resets | hubs that show what is back: most at once | at the end | agree after | claims broken |\n|---|---|---|---|---|---|---|---|---|",
         careful::HUBS
     );
     let mut faults = 0;
@@ -130,9 +130,10 @@ pub fn careful(seed: u64, jobs: usize) -> usize {
         for (name, report) in [("by the clock", clock), ("careful", care)] {
             let (most, end, _) = report.back();
             println!(
-                "| {} | {} | {name} | {} | {} | {} | {} | {} |",
+                "| {} | {} | {name} | {} | {} | {} | {} | {} | {} |",
                 report.plan.records,
                 grouped(report.plan.mtu as u64),
+                grouped(report.counts.removed),
                 grouped(report.counts.resets),
                 percent(most),
                 percent(end),
@@ -143,7 +144,8 @@ pub fn careful(seed: u64, jobs: usize) -> usize {
         for claim in report::broken(care) {
             println!("{:?}: BROKEN: {claim}", care.plan);
         }
-        faults += (care.broken() + care.counts.resets + care.behind(Part::End) as u64) as usize;
+        // A fleet that removes nothing would show nothing.
+        faults += (care.broken() + care.counts.resets + care.behind(Part::End) as u64) as usize + usize::from(care.counts.removed == 0);
     }
     println!();
     faults
