@@ -4,8 +4,10 @@
  * takes any bytes, ends, and either does what its page says or refuses by a number and changes nothing: docs/RULES.md has the rules,
  * docs/FORMAT.md every byte.
  *
+ * Overrides are KEV_OVERRIDES bytes of the caller's: one node in form, for labels of a site that are never gossiped. No call that takes a table takes them: they are shorter.
+ *
  * What is proved. Every function that is declared here and stands in the archive is proved to meet a contract that says this. The inline
- * functions, kev_text and kev_row, are C that the hub's compiler takes in, and are tested, not proved.
+ * functions, kev_text, kev_text_over and kev_row, are C that the hub's compiler takes in, and are tested, not proved.
  *
  * What is answered. The number is 0 where the call was accepted; else it is one of those named at the function, asked in that order.
  * A number is never a count: where a call has more to tell, it returns a struct whose first field is the number. Values come back by
@@ -43,6 +45,11 @@ typedef uint64_t kev_size;
 #define KEV_LISTING 81979 /* bytes of a listing, at most */
 #define KEV_MODE_AT 29705 /* the byte of a table that says its mode */
 #define KEV_ROW 115       /* bytes of a record in a table */
+#define KEV_OVERRIDES 3713 /* bytes of overrides */
+#define KEV_GRID 1097      /* bytes of a grid */
+#define KEV_PEERS 8        /* peers of a grid, numbered from 0 */
+#define KEV_OVER 128      /* what a hit in the overrides has before its place */
+#define KEV_PLACES 64     /* hits of a merged listing, at most */
 
 /* ---- modes of a table */
 
@@ -70,6 +77,17 @@ typedef uint64_t kev_size;
 #define KEV_UNKNOWN 4 /* the table has no such node */
 #define KEV_LATE 5    /* older than the reset that a fenced or guarded node is in: it stays as it is */
 
+/* ---- what is wrong with a line of a plan */
+
+#define KEV_NOT_HELD 1     /* the table has no such node */
+#define KEV_EXCLUDED 2     /* the node is excluded */
+#define KEV_NAMED_BEFORE 3 /* a line before it names the same node */
+#define KEV_UP_TO_DATE 4   /* the digest is not behind with the node */
+#define KEV_COUNT_ABOVE 5  /* the count is above the node's stale records */
+#define KEV_COUNT_ZERO 6   /* the count is 0, though the node has stale records */
+#define KEV_NO_FIT 7       /* it does not fit into what the lines before it leave of the MTU */
+#define KEV_ALONE 8        /* a node without a count, or a count without a node */
+
 /* ---- numbers of refusals */
 
 #define KEV_TOO_LONG 1         /* a key over 32 bytes, a value over 64 */
@@ -89,6 +107,9 @@ typedef uint64_t kev_size;
 #define KEV_BAD_TIES 15        /* not one tie for each node */
 #define KEV_BAD_LINE 16        /* a line of a listing is not as it is printed */
 #define KEV_BAD_EDITION 20     /* no such edition of a digest */
+#define KEV_BAD_PEER 21        /* a peer's number above 7 */
+#define KEV_NOBODY_PRESENT 22  /* no peer is present */
+#define KEV_BAD_PLAN 23        /* a plan is not accepted, or its two lists are not as long as each other */
 
 /* ---- answers */
 
@@ -109,12 +130,49 @@ struct kev_node {
     uint64_t node;
 };
 
+/* The answer to a digest that a peer told. With 9, need is how many bytes the field lacks in which the digest ends. */
+struct kev_told {
+    uint64_t number;
+    kev_size need;
+};
+
+struct kev_least {
+    uint64_t number;
+    uint64_t max;
+};
+
+/* What a peer told of a node. Found is 1 where the peer is present. */
+struct kev_seen {
+    uint64_t number;
+    kev_size found;
+    uint64_t last_gc;
+    uint64_t max;
+};
+
 /* A text in the caller's table: found is 1, and it is the len bytes from table + start on (see kev_text). */
 struct kev_found {
     uint64_t number;
     kev_size found;
     kev_size start;
     kev_size len;
+};
+
+/* A text in the caller's overrides, over is 1, or in its table, over is 0: found is 1, and it is the len bytes from overrides + start or
+ * table + start on (see kev_text_over). With 14, which is 1 for the overrides and 2 for the table; with another number it is 0. */
+struct kev_found_over {
+    uint64_t number;
+    kev_size found;
+    kev_size over;
+    kev_size start;
+    kev_size len;
+    uint64_t which;
+};
+
+/* How many hits; which as in kev_found_over. */
+struct kev_listed_over {
+    uint64_t number;
+    kev_size count;
+    uint64_t which;
 };
 
 struct kev_header {
@@ -166,6 +224,13 @@ struct kev_computed {
     kev_size need; /* with 9, how many bytes the digest's field lacks */
 };
 
+struct kev_judged {
+    uint64_t number;
+    kev_size line; /* with 23, the first line of the plan that is at fault, counted from 0 */
+    uint64_t why;  /* with 23, what is wrong with it (KEV_NOT_HELD and on) */
+    kev_size need; /* with 9, how many bytes the digest's field lacks */
+};
+
 struct kev_delta {
     uint64_t number;
     kev_size ops;
@@ -200,6 +265,11 @@ struct kev_exchanged {
 /* The first byte of a text that was found in this table. */
 static inline const uint8_t *kev_text(const uint8_t *table, struct kev_found text) {
     return table + text.start;
+}
+
+/* The first byte of a text that was found in these overrides or in this table. */
+static inline const uint8_t *kev_text_over(const uint8_t *overrides, const uint8_t *table, struct kev_found_over text) {
+    return (text.over ? overrides : table) + text.start;
 }
 
 /* Record i of these rows, where i is below their count, as kev_record_at tells it; read in the table, without a call. A row is its
@@ -339,6 +409,92 @@ struct kev_found kev_key_at(const uint8_t *table, kev_size table_len, uint64_t n
  * Numbers: 14, 2, 8. */
 struct kev_found kev_value_at(const uint8_t *table, kev_size table_len, uint64_t node, kev_size j);
 
+/* ---- who has seen what: a grid beside a table
+
+ * A grid keeps, for eight peers and eight nodes, the pair of last_gc and max that each peer's digest told last. Its columns are the nodes of
+ * one table; nodes come and go through the grid. 14 where the grid or the table breaks a rule, or the columns are not the table's nodes. A
+ * node that is removed and added again past the grid is not seen: the number is the same, and the old pairs would stand for the new node. */
+
+/* The bytes become the grid of the table's nodes, with nobody present, whatever stood there. 14 where grid_len is not KEV_GRID.
+ * Numbers: 14. */
+uint64_t kev_new_grid(uint8_t *grid, kev_size grid_len, const uint8_t *table, kev_size table_len);
+
+/* Adds a fresh node to the table, and its column at (0,0). One held already stays, and so does its column.
+ * Numbers: 14, 4. */
+uint64_t kev_grid_add_node(uint8_t *grid, kev_size grid_len, uint8_t *table, kev_size table_len, uint64_t node);
+
+/* Removes a node, which the table remembers, and its column.
+ * Numbers: 14, 2. */
+uint64_t kev_grid_remove_node(uint8_t *grid, kev_size grid_len, uint8_t *table, kev_size table_len, uint64_t node);
+
+/* What a peer's digest tells takes the place of what it told before, also where a number falls; a node that it omits counts as (0,0). From
+ * then on the peer is present. A refused digest changes nothing.
+ * Numbers: 14, 21, 20, 9, 13. */
+struct kev_told kev_tell(
+    uint8_t *grid, kev_size grid_len, uint64_t peer, uint64_t edition, const uint8_t *digest, kev_size digest_len);
+
+/* A peer is taken out, and what it told with it. Of an absent one nothing changes.
+ * Numbers: 14, 21. */
+uint64_t kev_take_out(uint8_t *grid, kev_size grid_len, uint64_t peer);
+
+/* The least max of a node over the peers present.
+ * Numbers: 14, 22, 2. */
+struct kev_least kev_least_max(const uint8_t *grid, kev_size grid_len, uint64_t node);
+
+/* What a peer told of a node.
+ * Numbers: 14, 21, 2. */
+struct kev_seen kev_seen_by(const uint8_t *grid, kev_size grid_len, uint64_t peer, uint64_t node);
+
+/* As kev_remove_scheduled, but a record goes only if every peer present has told a max not below its version.
+ * Numbers: 14, 22. */
+uint64_t kev_remove_carefully(
+    const uint8_t *grid, kev_size grid_len, uint8_t *table, kev_size table_len, uint64_t clock, uint64_t grace);
+
+/* ---- overrides: labels of a site over those of a node */
+
+/* Whether the bytes are overrides that obey the rules: 0, or 14.
+ * Numbers: 14. */
+uint64_t kev_check_overrides(const uint8_t *overrides, kev_size overrides_len);
+
+/* The bytes become overrides without a record, whatever stood there. Their number is kept, and no call looks at it. 14 where overrides_len
+ * is not KEV_OVERRIDES.
+ * Numbers: 14. */
+uint64_t kev_new_overrides(uint8_t *overrides, kev_size overrides_len, uint64_t node);
+
+/* The key's override takes this value, under the wanted status, KEV_SET or KEV_TTL, as kev_write has it.
+ * Numbers: 14, 10, 1, 5, 6. */
+uint64_t kev_write_override(
+    uint8_t *overrides, kev_size overrides_len, const uint8_t *key, kev_size key_len, const uint8_t *value,
+    kev_size value_len, uint64_t wanted, uint64_t clock);
+
+/* The key's override is emptied and hidden, and scheduled from the clock on: the node's record shows again.
+ * Numbers: 14, 1, 3, 6. */
+uint64_t kev_delete_override(
+    uint8_t *overrides, kev_size overrides_len, const uint8_t *key, kev_size key_len, uint64_t clock);
+
+/* The key's override keeps its value, shows, and is scheduled from the clock on.
+ * Numbers: 14, 1, 3, 6. */
+uint64_t kev_delete_override_after_ttl(
+    uint8_t *overrides, kev_size overrides_len, const uint8_t *key, kev_size key_len, uint64_t clock);
+
+/* The scheduled overrides whose grace is over go. Without it deleted ones fill the 32 places.
+ * Numbers: 14. */
+uint64_t kev_remove_overrides(uint8_t *overrides, kev_size overrides_len, uint64_t clock, uint64_t grace);
+
+/* The value of a key: the override's if its record is there and not hidden, else the node's. Found is 0 where neither shows one. 14 is asked
+ * of the overrides first, then of the table; which says of which.
+ * Numbers: 14, 2, 1. */
+struct kev_found_over kev_find_over(
+    const uint8_t *overrides, kev_size overrides_len, const uint8_t *table, kev_size table_len, uint64_t node,
+    const uint8_t *key, kev_size key_len);
+
+/* The records of the overrides and of the node that are not hidden and whose keys begin with the prefix, each key once, in key order, at the
+ * front of out, a byte each: the place in the node, or KEV_OVER and the place in the overrides. KEV_PLACES places are always enough.
+ * Numbers: 14, 2, 1, 8. */
+struct kev_listed_over kev_list_over(
+    const uint8_t *overrides, kev_size overrides_len, const uint8_t *table, kev_size table_len, uint64_t node,
+    const uint8_t *prefix, kev_size prefix_len, uint8_t *out, kev_size out_len);
+
 /* ---- digests and deltas */
 
 /* The table's digest in this edition (KEV_V0, KEV_V1) without the excluded nodes, into the datagram from the place on. The count is its bytes, KEV_DIGEST at most.
@@ -362,6 +518,23 @@ struct kev_computed kev_compute(
     const uint8_t *table, kev_size table_len, uint64_t edition, const uint8_t *digest, kev_size digest_len, kev_size mtu,
     const uint64_t *excluded, kev_size excluded_len, const uint64_t *ties, kev_size ties_len, uint8_t *datagram,
     kev_size datagram_len, kev_size place);
+
+/* The delta of a plan for a peer's digest of this edition: these nodes in this order, and of each so many of its stale records, the lowest versions first; where a
+ * node has none, its max. The plan is accepted exactly if every node is held, not excluded, named once, and stale; each count is at most the node's stale records,
+ * and not 0 unless there are none; and the bytes fit mtu. Nothing of it is cut or dropped. It goes into the datagram from the place on, where mtu bytes must be
+ * free. An empty plan is accepted and sends nothing.
+ * Numbers: 14, 20, 7, 8, 9, 13, 23. */
+struct kev_computed kev_compute_plan(
+    const uint8_t *table, kev_size table_len, uint64_t edition, const uint8_t *digest, kev_size digest_len, kev_size mtu,
+    const uint64_t *excluded, kev_size excluded_len, const uint64_t *nodes, kev_size nodes_len, const uint64_t *counts,
+    kev_size counts_len, uint8_t *datagram, kev_size datagram_len, kev_size place);
+
+/* Whether kev_compute_plan would accept the plan: 0 if it would, else 23 with the first line at fault and what is wrong with it.
+ * Numbers: 14, 20, 7, 9, 13, 23. */
+struct kev_judged kev_plan_fault(
+    const uint8_t *table, kev_size table_len, uint64_t edition, const uint8_t *digest, kev_size digest_len, kev_size mtu,
+    const uint64_t *excluded, kev_size excluded_len, const uint64_t *nodes, kev_size nodes_len, const uint64_t *counts,
+    kev_size counts_len);
 
 /* The verdict on a delta: its operations and node deltas.
  * Numbers: 13, 9, 1, 10, 11, 12. */
@@ -435,6 +608,17 @@ struct kev_count kev_good_list_prefix(
     const uint8_t *table, kev_size table_len, uint64_t node, const uint8_t *prefix, kev_size prefix_len, uint8_t *out,
     kev_size out_len);
 
+/* The overrides too are good: kev_new_overrides made them, or kev_check_overrides accepted them, and only calls on overrides wrote to them.
+ * Numbers: 2, 1. */
+struct kev_found_over kev_good_find_over(
+    const uint8_t *overrides, kev_size overrides_len, const uint8_t *table, kev_size table_len, uint64_t node,
+    const uint8_t *key, kev_size key_len);
+
+/* Numbers: 2, 1, 8. */
+struct kev_listed_over kev_good_list_over(
+    const uint8_t *overrides, kev_size overrides_len, const uint8_t *table, kev_size table_len, uint64_t node,
+    const uint8_t *prefix, kev_size prefix_len, uint8_t *out, kev_size out_len);
+
 /* Numbers: none. */
 struct kev_count kev_good_node_count(const uint8_t *table, kev_size table_len);
 
@@ -480,6 +664,18 @@ struct kev_computed kev_good_compute(
     const uint8_t *table, kev_size table_len, uint64_t edition, const uint8_t *digest, kev_size digest_len, kev_size mtu,
     const uint64_t *excluded, kev_size excluded_len, const uint64_t *ties, kev_size ties_len, uint8_t *datagram,
     kev_size datagram_len, kev_size place);
+
+/* Numbers: 20, 7, 8, 9, 13, 23. */
+struct kev_computed kev_good_compute_plan(
+    const uint8_t *table, kev_size table_len, uint64_t edition, const uint8_t *digest, kev_size digest_len, kev_size mtu,
+    const uint64_t *excluded, kev_size excluded_len, const uint64_t *nodes, kev_size nodes_len, const uint64_t *counts,
+    kev_size counts_len, uint8_t *datagram, kev_size datagram_len, kev_size place);
+
+/* Numbers: 20, 7, 9, 13, 23. */
+struct kev_judged kev_good_plan_fault(
+    const uint8_t *table, kev_size table_len, uint64_t edition, const uint8_t *digest, kev_size digest_len, kev_size mtu,
+    const uint64_t *excluded, kev_size excluded_len, const uint64_t *nodes, kev_size nodes_len, const uint64_t *counts,
+    kev_size counts_len);
 
 /* Numbers: 13, 9, 1, 10, 11, 12, 8. */
 struct kev_applied kev_good_apply(

@@ -13,7 +13,8 @@ HERE = Path(__file__).resolve().parent
 TOP = 2**64 - 1
 NODE, AREA, TABLE = 3713, 29705, 29964
 CALLS = ("add 7", "remove 7", "removed 7", "write 7 x61 x31 0 9", "write 7 x61 x31 2 5", "write 7 x61 x31 1 5", "delete 7 x61 5", "deletettl 7 x61 5",
-         "offer 7 3", "beat 7", "get 7 x61", "list 7 x 32", "gc 9 1", "digest - 0 258 0", "compute x0000 100 - 0 0 100 0", "apply x 5 8")
+         "offer 7 3", "beat 7", "get 7 x61", "list 7 x 32", "gc 9 1", "digest - 0 258 0", "compute x0000 100 - 0 0 100 0", "plan x0000 100 - 7 1 0 100 0",
+         "planfault x0000 100 - 7 1 0", "apply x 5 8")
 
 
 def u64(*numbers):
@@ -629,6 +630,137 @@ def cuts():
             yield f"compute {x(digest(pair, (2, 0, 0, 2)))} {mtu} - 0,0,0 5 {mtu + 9} 0"
 
 
+def plan(nodes, counts, told=digest(), mtu=100, excluded="-", edition=0, place=0, size=None):
+    """Both lines of a plan: what is at fault in it, and the delta."""
+    asked = f"{x(told)} {mtu} {excluded} {nodes} {counts}"
+    yield f"planfault {asked} {edition}"
+    yield f"plan {asked} {place} {min(mtu, 16385) if size is None else size} {edition}"
+
+
+def planned_nodes():
+    """Eight nodes: records whose versions do not follow their keys, a tombstone and a TTL among them; no records; a reset that is due, with records and
+    without; and a node of which the digest below has the max, but not last_gc."""
+    return table(
+        slot(1, [record(b"a", b"3", 3, 2, 5), record(b"b", b"", 1, 1, 4), record(b"c", b"2", 2)], 3),
+        slot(2, [record(b"k", b"v" * 60, 9)], 9), slot(3, [], 7),
+        slot(4, [record(b"a", b"6", 6), record(b"b", b"2", 2)], 6, last_gc=5), slot(5, [], 2, last_gc=2), slot(6, [record(b"a", b"5", 5)], 5, last_gc=5),
+        slot(7, [record(bytes([97 + n]), b"v", 4 - n) for n in range(4)], 4), slot(8, [record(b"k", b"v" * 61, TOP)], TOP))
+
+
+PLANNED = ((4, 0, 0, 3), (5, 0, 0, 1), (6, 0, 0, 5), (7, 0, 0, 2))
+
+
+def plans():
+    """Each condition of a plan alone, beside plans that pass it: held, not excluded, named once, stale, the count. From, the lowest versions first, and
+    SetMaxVersion, in the plan's order."""
+    yield f"table {x(planned_nodes())}"
+    told = digest(*PLANNED)
+    def ask(nodes, counts, excluded="-", mtu=16384):
+        return plan(nodes, counts, told, mtu, excluded)
+    yield from ask("-", "-")
+    for number, most in ((1, 3), (2, 1), (3, 0), (4, 2), (5, 0), (6, 0), (7, 2), (8, 1)):
+        for count in (*range(most + 2), 33, 256, 2**32, 2**63, TOP - 1, TOP):
+            yield from ask(number, count)
+        yield from ask(number, most, f"9,{number}")
+        yield from ask(number, most, "9,10")
+    for number in (0, 9, 256 + 1, 2**32 + 1, TOP):
+        yield from ask(number, 0)
+        yield from ask(number, 1, number)
+    for nodes, counts in (("1,2", "3,1"), ("2,1", "1,3"), ("3,1", "0,2"), ("7,5,4,1", "1,0,1,1"), ("8,7,5,4,3,2,1", "1,2,0,2,0,1,3"), ("1,2,3,4,5,7,8", "1,1,0,1,0,1,1")):
+        yield from ask(nodes, counts)
+        yield "readdelta @delta"
+    # Named twice, and two faults in one line, or in two: the first one is told.
+    for nodes, counts in (("1,1", "1,1"), ("1,1", "1,2"), ("1,2,1", "1,1,1"), ("3,3", "0,0"), ("1,2,2,1", "1,1,1,1"), ("1,1", "1,4"), ("1,1", "1,0"), ("1,1", "4,1"), ("9,9", "0,0"),
+                          ("6,6", "0,0"), ("1,6,9", "1,0,0"), ("1,9,6", "1,0,0"), ("1,6", "1,1"), ("1,2", "0,2"), ("1,2", "1,2"), ("3,1,2", "1,0,0")):
+        yield from ask(nodes, counts)
+    for nodes, excluded in (("1,1", "1"), ("2,1", "1"), ("9", "9"), ("6", "6"), ("1,6", "6"), ("1,1", "2")):
+        yield from ask(nodes, "1,1"[:len(nodes)], excluded)
+    # Nothing but a max, and the digest is not at the beginning.
+    for told_max in (3, 6, 7):
+        yield from plan("3", "0", digest((3, 0, 0, told_max)), 16384)
+    yield from plan("3", "1", digest((3, 0, 0, 6)), 16384)
+    # What the digest leaves out counts as (0,0); what it tells twice, as it is told last.
+    yield from plan("6", "1", digest(), 16384)
+    yield from plan("4,6,7", "2,1,4", digest((5, 0, 0, 9)), 16384)
+    yield from plan("7", "2", digest((7, 0, 0, 4), (7, 0, 0, 2)), 16384)
+    yield from plan("7", "2", digest((7, 0, 0, 2), (7, 0, 0, 4)), 16384)
+    yield "dump"
+
+
+def plan_lists():
+    """Lists of unequal length, nine lines and more, in either edition."""
+    yield f"table {x(planned_nodes())}"
+    for edition, told in ((0, digest(*PLANNED)), (1, bare(*PLANNED))):
+        def ask(nodes, counts):
+            return plan(nodes, counts, told, 16384, edition=edition)
+        for nodes, counts in (("1", "-"), ("-", "1"), ("-", "0"), ("1,2", "1"), ("1", "1,1"), ("1,2,3", "1"), ("9", "-"), ("9,1", "1"), ("1", "0,0"), ("1,1", "1"), ("1", "1,1,1,1,1,1,1,1,1")):
+            yield from ask(nodes, counts)
+        # All eight nodes, but for the one that is not stale; then a ninth line.
+        seven, counts = "1,2,3,4,5,7,8", "1,1,0,1,0,1,1"
+        for more, count in (("", ""), (",6", ",1"), (",8", ",1"), (",9", ",0"), (",9,10", ",0,0"), (",9", ""), ("", ",1")):
+            yield from ask(seven + more, counts + count)
+    eight = [slot(number, [], 1) for number in range(1, 9)]
+    yield f"table {x(table(*eight))}"
+    all_eight = ",".join(str(number) for number in range(1, 9))
+    for more, count in (("", ""), (",1", ",0"), (",9", ",0"), (",8,9,10,11,12,13,14,15", ",0,0,0,0,0,0,0,0"), (",9", ""), ("", ",0")):
+        yield from plan(all_eight + more, "0,0,0,0,0,0,0,0" + count, mtu=272)
+    yield from plan("8,7,6,5,4,3,2,1", "0,0,0,0,0,0,0,0", mtu=272)
+    yield from plan("8,7,6,5,4,3,2,1", "0,0,0,0,0,0,0,0", mtu=271)
+    yield "new"
+    for nodes, counts in (("-", "-"), ("0", "0"), ("-", "0"), ("0", "-")):
+        yield from plan(nodes, counts)
+
+
+def plan_cuts():
+    """The bytes at the MTU and one above it: nothing is cut, and a SetMaxVersion is not dropped."""
+    yield f"table {x(planned_nodes())}"
+    told = digest(*PLANNED)
+    for nodes, counts, size in (("2", "1", 100), ("8", "1", 101), ("3,5", "0,0", 68), ("8,3", "1,0", 135), ("3,8", "0,1", 135), ("1,2", "1,1", 140), ("7,5,4,1", "1,0,1,1", 156),
+                                ("8,7,5,4,3,2,1", "1,2,0,2,0,1,3", 455), ("1,2,3,4,5,7,8", "3,1,0,2,0,2,1", 455)):
+        for mtu in sorted({100, max(size - 1, 100), max(size, 100), 455}):
+            yield from plan(nodes, counts, told, mtu)
+    # Three nodes with nothing but a max: 102 bytes.
+    yield "new"
+    for number in (1, 2, 3):
+        yield f"add {number}"
+        yield apply(node(number), top(number))
+    for mtu in (100, 101, 102):
+        yield from plan("3,1,2", "0,0,0", mtu=mtu)
+    # Five full nodes and a record: 16,384 bytes.
+    full = [slot(number, [record(b"%032d" % n, b"v" * 55, 1 + n) for n in range(32)], 40) for number in range(1, 6)]
+    for longer in (0, 1):
+        sixth = slot(6, [record(b"k" * 30, b"v" * (30 + longer), 1)], 1)
+        yield f"table {x(table(*full, sixth))}"
+        for mtu in (16383, 16384, 16385):
+            yield from plan("6,5,4,3,2,1", "1,32,32,32,32,32", mtu=mtu)
+        yield from plan("1,2,3,4,5,6", "32,32,32,31,32,1", mtu=16384)
+
+
+def plan_refusals():
+    """A plan's numbers, each pair in their order: 14, 20, 7, 8, then the digest's, then 23. No datagram is lent where the fault alone is asked for: 8 cannot come."""
+    cut, many = digest(count=1) + bytes(31), digest(count=9)
+    yield "table x"
+    for edition in (0, 2):
+        yield from plan("1", "-", cut, 0, edition=edition, size=0)
+    yield "new"
+    yield "add 1"
+    yield "write 1 x61 x31 0 9"
+    for counts in ("1", "2", "-"):
+        for edition, told in ((0, digest()), (0, cut), (1, b""), (1, cut), (2, digest()), (TOP, cut)):
+            for mtu in (0, 99, 100, 16384, 16385, TOP):
+                yield from plan("1", counts, told, mtu, edition=edition)
+        for told in (digest(), b"\0", b"", cut, many, many + bytes(288), digest(count=8)):
+            for place, size in ((0, 99), (0, 100), (1, 101)):
+                yield from plan("1", counts, told, place=place, size=size)
+        for told in (b"", bytes(31), bytes(32), bytes(288), bytes(289)):
+            for size in (99, 100):
+                yield from plan("1", counts, told, edition=1, size=size)
+        for place, size in ((1, 100), (100, 200), (101, 200), (200, 200), (201, 200), (TOP, 100), (TOP - 99, 100), (0, 0)):
+            yield from plan("1", counts, place=place, size=size)
+    yield from plan("1", "1", digest() + b"rest")
+    yield "dump"
+
+
 def longest_record():
     """A record of 110 bytes: MTU 135 carries it behind its Node, 134 the Node alone."""
     yield "add 1"
@@ -938,6 +1070,100 @@ def bad_tables():
         yield "beat 7"
 
 
+def over_writes():
+    """Overrides: document 01's rules of one node without 2, at their boundaries, and the pairs of refusals in their order."""
+    yield "overrides 7"
+    yield "dump"
+    for key in (b"", b"k" * 32, b"k" * 33):
+        yield f"label {x(key)} x31 0 9"
+    for value in (b"", b"v" * 64, b"v" * 65):
+        yield f"label x61 {x(value)} 0 9"
+    for status in (0, 1, 2, 3, 255):
+        yield f"label x62 x32 {status} 9"
+    yield f"label {x(b'k' * 33)} {x(b'v' * 65)} 3 9"
+    yield f"label x61 {x(b'v' * 65)} 3 9"
+    yield f"unlabel {x(b'k' * 33)} 9"
+    yield f"unlabelttl {x(b'k' * 33)} 9"
+    yield from ("unlabel x63 9", "unlabelttl x63 9", "unlabel x61 9", "unlabel x61 10", "unlabelttl x61 11", "unlabelttl x61 12", "unlabelttl x62 12", "dump")
+    # As many records as a node has, and one more.
+    yield "overrides 7"
+    for rank in range(33):
+        yield f"label {x(b'%02d' % (rank * 7 % 33))} x31 0 9"
+    yield "label x3030 x32 0 9"
+    yield f"label {x(b'k')} {x(b'v' * 65)} 0 9"
+    yield "unlabel x3030 10"
+    yield "label x6b x31 0 11"
+    yield "dump"
+    # The last version, and none behind it.
+    for last in (TOP - 1, TOP):
+        yield f"table {x(slot(7, [record(b'a', b'1', 1)], last))}"
+        yield from ("label x61 x31 0 9", "unlabel x61 9", "dump")
+        yield f"table {x(slot(7, [record(b'a', b'1', 1)], last))}"
+        yield from ("unlabelttl x61 9", "label x62 x32 0 9", "dump")
+    yield f"table {x(slot(7, [record(b'%02d' % k, b'1', 1 + k) for k in range(32)], TOP))}"
+    yield from ("label x6b x31 0 9", "label x3030 x31 0 9", "label x3030 x32 0 9", "unlabel x6b 9", "unlabel x3030 9")
+    # Removal at the grace's end, behind it, and of what is not hidden.
+    for now in (18, 19, 20, TOP):
+        yield "overrides 7"
+        yield from ("label x61 x31 0 9", "label x62 x32 0 9", "label x63 x33 0 9", "unlabel x61 9", "unlabelttl x62 9", f"gclabels {now} 10", "dump")
+    for now, grace in ((0, 0), (0, TOP), (TOP, 0), (TOP, TOP)):
+        yield "overrides 7"
+        yield from ("label x61 x31 0 9", "label x62 x32 0 9", "unlabel x61 9", f"gclabels {now} {grace}", "dump")
+
+
+def over_reads():
+    """Reading over both: which of the two shows, a hidden override, an empty one, the places of either, and their number."""
+    calls = ("getover 3 7 x61", "getover 3 7 x62", "getover 3 7 x63", "getover 3 7 x64", "getover 3 7 x", "listover 3 7 x 64", "listover 3 7 x61 64", "listover 3 7 x 0")
+    one = [record(b"a", b"1", 1), record(b"b", b"2", 2, 1, 9), record(b"c", b"3", 3, 2, 9)]
+    many = ([], [record(b"a", b"4", 1)], [record(b"a", b"", 1)], [record(b"a", b"", 1, 1, 9)], [record(b"a", b"4", 1, 2, 9)],
+            [record(b"", b"5", 1), record(b"b", b"6", 2), record(b"c", b"7", 3), record(b"d", b"8", 4)])
+    for shared in ([], one):
+        yield f"table {x(table(slot(5, one, 5), slot(7, shared, 5)))}"
+        for own in many:
+            yield "hub 3"
+            yield f"table {x(slot(9, own, 5))}"
+            yield "hub 0"
+            yield from calls
+        yield from ("getover 3 9 x61", "listover 3 9 x 64")
+    # Every key of both is another: 64 hits. Then every key of both is the same: 32.
+    for prefix, many in ((b"l", 64), (b"k", 32)):
+        yield "hub 3"
+        yield f"table {x(slot(9, [record(prefix + b'%02d' % k, b'1', 1 + k) for k in range(32)], 32))}"
+        yield "hub 0"
+        yield f"table {x(table(slot(7, [record(b'k%02d' % k, b'2', 1 + k) for k in range(32)], 32)))}"
+        yield from (f"listover 3 7 x {places}" for places in (64, TOP, many, many - 1, 33, 32, 31, 0))
+        yield from (f"listover 3 7 {x(text)} 10" for text in (b"k0", b"l0", b"k1", b"l3", b"m", b"k" * 32))
+        yield from ("getover 3 7 x6b3331", "getover 3 7 x6c3331", "getover 3 7 x6b3332")
+
+
+def over_refusals():
+    """What is refused over both, and in which order; overrides where a table belongs, and a table where overrides belong."""
+    own = slot(9, [record(b"a", b"1", 1), record(b"b", b"2", 2)], 2)
+    long = x(b"k" * 33)
+    reads = ("getover 3 7 x61", "listover 3 7 x 64", "getover 3 6 x61", "listover 3 6 x 64", f"getover 3 7 {long}", f"listover 3 7 {long} 64", f"getover 3 6 {long}", f"listover 3 6 {long} 64",
+             "listover 3 7 x 1", f"listover 3 7 {long} 0")
+    writes = ("label x61 x31 0 9", f"label {long} x31 3 9", "unlabel x61 9", f"unlabel {long} 9", "unlabelttl x61 9", "gclabels 9 1")
+    good = table(slot(7, [record(b"a", b"3", 1), record(b"c", b"4", 2)], 2))
+    for below in (good, good[:-1], own):
+        yield f"table {x(below)}"
+        for data in (own, put(own, 32, 33), own[:-1], good):
+            yield "hub 3"
+            yield f"table {x(data)}"
+            yield "hub 0"
+            yield from reads
+    yield "hub 3"
+    for data in (own, put(own, 24, 3), put(own, 32, 33), put(own, 33, 33), own[:-1], own + b"\0", b"", own[:-1] + b"\1", put(own, 16, 1), good):
+        yield f"table {x(data)}"
+        yield from writes
+        yield "dump"
+    # Overrides are no table: no call writes, reads or applies gossip of them.
+    yield "overrides 7"
+    yield from CALLS
+    yield "hub 0"
+    yield from ("getover 0 7 x61", "listover 0 7 x 64", "overrides 7", "getover 0 7 x61", "listover 0 7 x 64")
+    yield from ("new", "add 7", "getover 1 7 x61")
+
+
 def malformed():
     """Lines that are not of the language, each beside one that is. The tables and the hub stay."""
     yield "add 1"
@@ -949,7 +1175,14 @@ def malformed():
         yield f"digest {numbers} 0 34 0"
     yield from ("", " ", "add", "add 1 ", "add  1", " add 1", "add 1 2", "Add 1", "adds 1", "ad 1", "new 0", "make", "hub", "hub 4", "hub :", "dump 0",
                 "readdelta", "readdelta @delt", "table @", "gc 1", "digest - 0 34", "digest - 0 34 -1", "digest - 0 34 0 0", "readdigest x0000", "readdigest x0000 x",
-                "compute x0000 100 - 0 0 100", "compute x0000 100 - 0 0 100 +1")
+                "compute x0000 100 - 0 0 100", "compute x0000 100 - 0 0 100 +1", "plan x0000 100 - - - 0 100", "plan x0000 100 - - - 0 100 0 0", "plan x0000 100 - - 0 100 0",
+                "plan x0000 100 - 1, - 0 100 0", "plan x0000 100 - - -1 0 100 0", "plan @ 100 - - - 0 100 0", "planfault x0000 100 - - -", "planfault x0000 100 - - - 0 0",
+                f"planfault x0000 100 - - {TOP + 1} 0", "planfault x0000 100 - - : 0", "plans x0000 100 - - - 0 100 0", "planfaults x0000 100 - - - 0")
+    yield "hub 3"
+    yield "overrides 1"
+    yield from ("overrides", "overrides :", "overrides 1 2", "label x61 x31 0", "label x61 x31 0 9 9", "label 61 x31 0 9", "label x61 x31 -1 9", "unlabel x61", "unlabel x61 9 9", "unlabelttl x61", "gclabels 9",
+                "gclabels 9 1 1", "labels x61 x31 0 9", "dump", "hub 0", "getover 4 1 x61", "getover 3 1", "getover 3 1 61", "getover : 1 x61", "getover 3 1 x61 0", "listover 4 1 x 64", "listover 3 1 x",
+                "listover 3 1 x 64 0", "listover 3 1 @digest 64", "getover 3 1 x61", "listover 3 1 x 64")
     yield "add 2"
 
 
@@ -957,9 +1190,10 @@ SCRIPTS = {
     "nodes": nodes, "nodes-used": nodes_used, "beats": beats, "sizes": sizes, "versions": versions, "statuses": statuses, "wanted": wanted, "reading": reading, "keys": keys,
     "removal": removal, "removed": removed, "bad-memories": bad_memories,
     "digests": digests, "digest-reading": digest_reading, "editions": editions, "delta-reading": delta_reading, "lacking": lacking, "delta-lengths": delta_lengths, "asking": asking,
-    "from": from_where, "in-line": in_line,
+    "from": from_where, "in-line": in_line, "plans": plans, "plan-lists": plan_lists, "plan-cuts": plan_cuts, "plan-refusals": plan_refusals,
     "cuts": cuts, "longest-record": longest_record, "verdicts": verdicts, "taking": taking, "room-counts": room, "fence": fence, "guard": guard, "two-datagrams": two_datagrams, "exchange": exchange,
     "net-triangle": triangle, "net-line": line, "net-relay": relay, "net-owner": owner, "net-behind": behind,
+    "over-writes": over_writes, "over-reads": over_reads, "over-refusals": over_refusals,
     "bad-tables": bad_tables, "malformed": malformed,
 }
 

@@ -63,6 +63,103 @@ static const char long_value[] = "1234567890123456789012345678901234567890123456
 
 static void put64(uint8_t *at, uint64_t n) { for (int i = 0; i < 8; i++) at[i] = (uint8_t)(n >> (8 * i)); }
 
+/* Overrides, read together with node 10 of the table, whose keys that show are a, tariff and total, and with node 12, which is full. */
+static void overrides_of(struct lent table) {
+    struct lent over = lend(KEV_OVERRIDES), shorter = lend(KEV_OVERRIDES - 1), places = lend(KEV_PLACES), few = lend(1);
+    GIVES(KEV_BAD_TABLE, kev_check_overrides(T(over)));
+    GIVES(KEV_BAD_TABLE, kev_write_override(T(over), TEXT("total"), TEXT("x"), 3, 0));
+    GIVES(KEV_BAD_TABLE, kev_delete_override(T(over), TEXT("total"), 0));
+    GIVES(KEV_BAD_TABLE, kev_delete_override_after_ttl(T(over), TEXT("total"), 0));
+    GIVES(KEV_BAD_TABLE, kev_remove_overrides(T(over), 0, 0));
+    struct kev_found_over f = kev_find_over(T(over), T(shorter), 99, TEXT(long_key));
+    CHECK(f.number == KEV_BAD_TABLE && f.which == 1 && f.found == 0);
+    struct kev_listed_over l = kev_list_over(T(over), T(shorter), 99, TEXT(long_key), NO_OUT);
+    CHECK(l.number == KEV_BAD_TABLE && l.which == 1);
+    CHECK(same(over));
+    GIVES(KEV_BAD_TABLE, kev_new_overrides(T(shorter), 10));
+    CHECK(same(shorter));
+    GIVES(0, kev_new_overrides(T(over), 10));
+    GIVES(0, kev_check_overrides(T(over)));
+    f = kev_find_over(T(over), T(shorter), 99, TEXT(long_key));
+    CHECK(f.number == KEV_BAD_TABLE && f.which == 2);
+    l = kev_list_over(T(over), T(shorter), 99, TEXT(long_key), NO_OUT);
+    CHECK(l.number == KEV_BAD_TABLE && l.which == 2);
+
+    /* without a record they are not there */
+    f = kev_find_over(T(over), T(table), 10, TEXT("total"));
+    struct kev_found plain = kev_find(T(table), 10, TEXT("total"));
+    CHECK(f.number == 0 && f.found == 1 && f.over == 0 && f.start == plain.start && f.len == plain.len && f.which == 0);
+    l = kev_list_over(T(over), T(table), 10, NO_BYTES, T(places));
+    struct kev_count hits = kev_list_prefix(T(table), 10, NO_BYTES, T(shorter));
+    CHECK(l.number == 0 && l.count == hits.count && memcmp(places.at, shorter.at, hits.count) == 0);
+
+    GIVES(KEV_BAD_TAG, kev_write_override(T(over), TEXT(long_key), TEXT("x"), KEV_DELETE, 0));
+    GIVES(KEV_TOO_LONG, kev_write_override(T(over), TEXT(long_key), TEXT("x"), KEV_SET, 0));
+    GIVES(KEV_TOO_LONG, kev_write_override(T(over), TEXT("a"), TEXT(long_value), KEV_TTL, 0));
+    GIVES(KEV_NO_KEY, kev_delete_override(T(over), TEXT("total"), 5));
+    GIVES(KEV_NO_KEY, kev_delete_override_after_ttl(T(over), TEXT("total"), 5));
+    GIVES(KEV_TOO_LONG, kev_delete_override(T(over), TEXT(long_key), 5));
+    GIVES(0, kev_write_override(T(over), TEXT("total"), TEXT("cellar"), KEV_SET, 0));
+    GIVES(0, kev_write_override(T(over), TEXT("own"), NO_BYTES, KEV_TTL, 5));
+    f = kev_find_over(T(over), T(table), 10, TEXT("total"));
+    CHECK(f.over == 1 && f.len == 6 && memcmp(kev_text_over(over.at, table.at, f), "cellar", 6) == 0);
+    struct kev_found_over g = kev_good_find_over(T(over), T(table), 10, TEXT("total"));
+    CHECK(memcmp(&f, &g, sizeof f) == 0);
+    f = kev_find_over(T(over), T(table), 10, TEXT("own"));
+    CHECK(f.number == 0 && f.found == 1 && f.over == 1 && f.len == 0);
+    f = kev_find_over(T(over), T(table), 10, TEXT("absent"));
+    CHECK(f.number == 0 && f.found == 0 && f.over == 0);
+    GIVES(KEV_NO_NODE, kev_find_over(T(over), T(table), 99, TEXT("own")).number);
+    GIVES(KEV_NO_NODE, kev_find_over(T(over), T(table), 99, TEXT(long_key)).number);
+    GIVES(KEV_TOO_LONG, kev_find_over(T(over), T(table), 10, TEXT(long_key)).number);
+    GIVES(KEV_NO_NODE, kev_list_over(T(over), T(table), 99, TEXT(long_key), T(few)).number);
+    GIVES(KEV_TOO_LONG, kev_list_over(T(over), T(table), 10, TEXT(long_key), T(few)).number);
+    GIVES(KEV_NO_PLACE, kev_list_over(T(over), T(table), 10, TEXT("t"), T(few)).number);
+    CHECK(same(few));
+    /* tariff of the node, total of the overrides */
+    l = kev_list_over(T(over), T(table), 10, TEXT("t"), T(places));
+    struct kev_listed_over m = kev_good_list_over(T(over), T(table), 10, TEXT("t"), T(places));
+    CHECK(l.count == 2 && m.count == 2 && places.at[0] < KEV_OVER && places.at[1] == KEV_OVER + 1);
+    /* taken back, the node's shows again; then its place is free */
+    GIVES(0, kev_delete_override(T(over), TEXT("total"), 10));
+    f = kev_find_over(T(over), T(table), 10, TEXT("total"));
+    CHECK(f.found == 1 && f.over == 0 && f.start == plain.start);
+    GIVES(0, kev_delete_override_after_ttl(T(over), TEXT("own"), 10));
+    f = kev_find_over(T(over), T(table), 10, TEXT("own"));
+    CHECK(f.found == 1 && f.over == 1);
+    GIVES(0, kev_remove_overrides(T(over), 19, 10));
+    CHECK(over.at[32] == 2);
+    GIVES(0, kev_remove_overrides(T(over), 20, 10));
+    CHECK(over.at[32] == 0);
+    /* 32 and 32 other keys */
+    char key[3] = "~A";
+    for (int i = 0; i < KEV_RECORDS; i++) {
+        key[1] = (char)('A' + i);
+        GIVES(0, kev_write_override(T(over), (const uint8_t *)key, 2, TEXT("v"), KEV_SET, 0));
+    }
+    mark(over);
+    GIVES(KEV_NODE_FULL, kev_write_override(T(over), TEXT("one more"), TEXT("v"), KEV_SET, 0));
+    CHECK(same(over));
+    CHECK(kev_list_over(T(over), T(table), 12, NO_BYTES, T(places)).count == KEV_PLACES);
+    GIVES(KEV_NO_PLACE, kev_list_over(T(over), T(table), 12, NO_BYTES, places.at, KEV_PLACES - 1).number);
+    /* max is at its end */
+    memset(over.at + 16, 0xFF, 8);
+    GIVES(KEV_EXHAUSTED, kev_delete_override(T(over), TEXT("~A"), 0));
+    GIVES(KEV_EXHAUSTED, kev_write_override(T(over), TEXT("~A"), TEXT("w"), KEV_TTL, 0));
+    /* never gossiped: they are no table */
+    mark(over);
+    GIVES(KEV_BAD_TABLE, kev_write_digest(T(over), KEV_V0, NO_NUMBERS, T(places), 0).number);
+    GIVES(KEV_BAD_TABLE, kev_compute(T(over), KEV_V0, NO_BYTES, 100, NO_NUMBERS, NO_NUMBERS, T(places), 0).number);
+    GIVES(KEV_BAD_TABLE, kev_apply(T(over), NO_BYTES, 0, NO_OUT).number);
+    GIVES(KEV_BAD_TABLE, kev_exchange(T(over), T(table), KEV_V0, 100, NO_NUMBERS, NO_NUMBERS, NO_NUMBERS, 0, NO_OUT, T(places), NO_OUT).number);
+    GIVES(KEV_BAD_TABLE, kev_exchange(T(table), T(over), KEV_V0, 100, NO_NUMBERS, NO_NUMBERS, NO_NUMBERS, 0, NO_OUT, T(places), NO_OUT).number);
+    CHECK(same(over));
+    give_back(over);
+    give_back(shorter);
+    give_back(places);
+    give_back(few);
+}
+
 static void local_calls(void) {
     struct lent table = lend(KEV_TABLE), brief = lend(KEV_TABLE - 1);
     GIVES(KEV_BAD_TABLE, kev_new_table(T(brief), KEV_PLAIN));
@@ -153,6 +250,7 @@ static void local_calls(void) {
     CHECK(same(few));
     GIVES(KEV_TOO_LONG, kev_list_prefix(T(table), 10, TEXT(long_key), T(few)).number);
     GIVES(KEV_NO_NODE, kev_list_prefix(T(table), 99, NO_BYTES, T(few)).number);
+    overrides_of(table);
     CHECK(kev_node_count(T(table)).count == 7 && kev_good_node_count(T(table)).count == 7);
     CHECK(kev_node_number(T(table), 6).node == 16 && kev_good_node_number(T(table), 6).node == 16);
     GIVES(KEV_NO_PLACE, kev_node_number(T(table), 7).number);
@@ -248,6 +346,8 @@ static void local_calls(void) {
     GIVES(KEV_BAD_TABLE, kev_value_at(T(table), 10, 0).number);
     GIVES(KEV_BAD_TABLE, kev_write_digest(T(table), KEV_V0, NO_NUMBERS, T(out), 0).number);
     GIVES(KEV_BAD_TABLE, kev_compute(T(table), KEV_V0, NO_BYTES, 0, NO_NUMBERS, NO_NUMBERS, T(out), 0).number);
+    GIVES(KEV_BAD_TABLE, kev_compute_plan(T(table), KEV_V0, NO_BYTES, 0, NO_NUMBERS, NO_NUMBERS, NO_NUMBERS, T(out), 0).number);
+    GIVES(KEV_BAD_TABLE, kev_plan_fault(T(table), KEV_V0, NO_BYTES, 0, NO_NUMBERS, NO_NUMBERS, NO_NUMBERS).number);
     GIVES(KEV_BAD_TABLE, kev_apply(T(table), NO_BYTES, 0, T(out)).number);
     GIVES(KEV_BAD_TABLE, kev_check(nothing, 0));
     CHECK(same(table) && same(out));
@@ -312,6 +412,44 @@ static void peers(void) {
     CHECK(c.number == 0 && c.ops == 2 && c.bytes > 0);
     c = kev_compute(T(a), KEV_V0, digest.at, d.count, 1400, NO_NUMBERS, ties, 2, T(delta), 0);
     CHECK(c.number == 0 && c.ops == 4);
+
+    /* a plan: 8 before 7, a record each; what it refuses leaves the datagram, and the line at fault is told */
+    static const uint64_t eight_seven[2] = {8, 7}, ones[2] = {1, 1}, eight_zero[2] = {1, 0}, eight_twice[2] = {8, 8}, stranger[1] = {9}, two[1] = {2};
+    struct lent planned = lend(1400);
+#define PLAN(mtu, nodes, n, counts, k) digest.at, d.count, mtu, NO_NUMBERS, nodes, n, counts, k
+    GIVES(KEV_BAD_EDITION, kev_compute_plan(T(a), 2, PLAN(99, eight_seven, 2, ones, 1), T(planned), 0).number);
+    GIVES(KEV_BAD_EDITION, kev_good_compute_plan(T(a), 2, PLAN(99, eight_seven, 2, ones, 1), T(planned), 0).number);
+    GIVES(KEV_BAD_MTU, kev_compute_plan(T(a), KEV_V0, PLAN(99, eight_seven, 2, ones, 1), T(planned), 1400).number);
+    GIVES(KEV_BAD_MTU, kev_good_compute_plan(T(a), KEV_V0, PLAN(KEV_DELTA + 1, eight_seven, 2, ones, 1), T(planned), 1400).number);
+    GIVES(KEV_NO_PLACE, kev_compute_plan(T(a), KEV_V0, PLAN(1400, eight_seven, 2, ones, 1), T(planned), 1).number);
+    GIVES(KEV_CUT, kev_compute_plan(T(a), KEV_V0, digest.at, 1, 1400, NO_NUMBERS, eight_seven, 2, ones, 1, T(planned), 0).number);
+    CHECK(kev_compute_plan(T(a), KEV_V0, digest.at, 1, 1400, NO_NUMBERS, eight_seven, 2, ones, 1, T(planned), 0).need == 1);
+    GIVES(KEV_TOO_MANY, kev_good_compute_plan(T(a), KEV_V0, nine, 2, 1400, NO_NUMBERS, eight_seven, 2, ones, 1, T(planned), 0).number);
+    GIVES(KEV_BAD_PLAN, kev_compute_plan(T(a), KEV_V0, PLAN(1400, eight_seven, 2, ones, 1), T(planned), 0).number);
+    GIVES(KEV_BAD_PLAN, kev_good_compute_plan(T(a), KEV_V0, PLAN(1400, eight_seven, 2, eight_zero, 2), T(planned), 0).number);
+    CHECK(same(planned));
+    GIVES(KEV_BAD_EDITION, kev_plan_fault(T(a), 2, PLAN(99, eight_seven, 2, ones, 1)).number);
+    GIVES(KEV_BAD_MTU, kev_good_plan_fault(T(a), KEV_V0, PLAN(99, eight_seven, 2, ones, 1)).number);
+    GIVES(KEV_CUT, kev_plan_fault(T(a), KEV_V0, digest.at, 1, 1400, NO_NUMBERS, eight_seven, 2, ones, 1).number);
+    CHECK(kev_plan_fault(T(a), KEV_V0, digest.at, 1, 1400, NO_NUMBERS, eight_seven, 2, ones, 1).need == 1);
+    GIVES(KEV_TOO_MANY, kev_plan_fault(T(a), KEV_V0, nine, 2, 1400, NO_NUMBERS, eight_seven, 2, ones, 1).number);
+#define FAULT(l, w, told) do { struct kev_judged j = (told); CHECK(given(j.number) == KEV_BAD_PLAN && j.line == (l) && j.why == (w) && j.need == 0); } while (0)
+    FAULT(0, KEV_NOT_HELD, kev_plan_fault(T(a), KEV_V0, PLAN(1400, stranger, 1, ones, 1)));
+    FAULT(1, KEV_EXCLUDED, kev_plan_fault(T(a), KEV_V0, digest.at, d.count, 1400, one, 1, eight_seven, 2, ones, 2));
+    FAULT(1, KEV_NAMED_BEFORE, kev_good_plan_fault(T(a), KEV_V0, PLAN(1400, eight_twice, 2, ones, 2)));
+    FAULT(0, KEV_COUNT_ABOVE, kev_plan_fault(T(a), KEV_V0, PLAN(1400, eight_seven, 1, two, 1)));
+    FAULT(1, KEV_COUNT_ZERO, kev_plan_fault(T(a), KEV_V0, PLAN(1400, eight_seven, 2, eight_zero, 2)));
+    FAULT(1, KEV_ALONE, kev_good_plan_fault(T(a), KEV_V0, PLAN(1400, eight_seven, 2, ones, 1)));
+    FAULT(0, KEV_ALONE, kev_plan_fault(T(a), KEV_V0, PLAN(1400, none, 0, ones, 1)));
+    struct kev_judged said = kev_good_plan_fault(T(a), KEV_V0, PLAN(1400, eight_seven, 2, ones, 2));
+    CHECK(said.number == 0 && said.line == 0 && said.why == 0 && said.need == 0);
+    struct kev_computed by_plan = kev_good_compute_plan(T(a), KEV_V0, PLAN(1000, eight_seven, 1, ones, 1), T(planned), 400);
+    CHECK(by_plan.number == 0 && by_plan.ops == 2 && by_plan.bytes > 0);
+    by_plan = kev_compute_plan(T(a), KEV_V0, PLAN(1400, eight_seven, 2, ones, 2), T(planned), 0);
+    CHECK(by_plan.number == 0 && by_plan.ops == 4 && by_plan.bytes == c.bytes && planned.at[1] == 8);
+    CHECK(kev_compute_plan(T(a), KEV_V0, PLAN(1400, none, 0, none, 0), T(planned), 0).bytes == 0);
+    give_back(planned);
+
     struct kev_delta v = kev_read_delta(delta.at, c.bytes);
     CHECK(v.number == 0 && v.ops == 4 && v.nodes == 2 && v.at == 0);
     struct lent listing = lend(KEV_LISTING), brief = lend(10);

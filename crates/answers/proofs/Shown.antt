@@ -24,7 +24,15 @@ use Rattle.exchange_ask.specs.declared.Step.{Step}
 use Rattle.exchange.specs.declared.Exchanged.the-variants as exchanged
 use Rattle.delta_make.specs.declared.Made.the-variants as made
 use Rattle.listing_make.specs.Make.{madeTold}
-use Rattle.answers.specs.Shown.{valueAt, digestShown, entryAt, entryShown, placeTold, deltaShown, appliedShown, exchangedShown, madeShown}
+use Rattle.overrides.specs.Both.{whichCode}
+use Rattle.overrides.specs.declared.Which.{Which}
+use Rattle.over_find.specs.Told.{foundOverTold}
+use Rattle.over_find.specs.declared.FoundOver.the-variants as over
+use Rattle.over_list.specs.Told.{listedOverTold}
+use Rattle.over_list.specs.declared.ListedOver.the-variants as merged
+use Rattle.answers.specs.Shown.{valueAt, someOf, foundOverShown, listedOverShown, digestShown, entryAt, entryShown, placeTold, deltaShown, appliedShown, exchangedShown, madeShown}
+use Rattle.answers.specs.declared.KevFoundOver.{KevFoundOver}
+use Rattle.answers.specs.declared.KevListedOver.{KevListedOver}
 use Rattle.answers.specs.declared.KevDigest.{KevDigest}
 use Rattle.answers.specs.declared.KevDelta.{KevDelta}
 use Rattle.answers.specs.declared.KevApplied.{KevApplied}
@@ -55,6 +63,18 @@ unfolding readTold
 delta-refused r at =
     ap₂ (λ (a b : List ℕ). record { number = numberOf r; ops = valueAt 0 a; nodes = valueAt 1 a; at = valueAt 0 b; need = needOf r })
     (sym (none-accepted r (at ∷ []))) (sym (all-refused r (at ∷ [])))
+
+pub found-over-refused : (w : Which) (r : Refusal)
+    → _≡_ {A = KevFoundOver} (record { number = numberOf r; found = 0; over = 0; start = 0; len = 0; which = whichCode w }) (foundOverShown (foundOverTold (over.Refused w r)))
+unfolding foundOverTold
+found-over-refused w r =
+    ap₂ (λ (a b : List ℕ). record { number = numberOf r; found = someOf a; over = valueAt 0 a; start = valueAt 1 a; len = valueAt 2 a; which = valueAt 0 b })
+    (sym (none-accepted r (whichCode w ∷ []))) (sym (all-refused r (whichCode w ∷ [])))
+
+pub listed-over-refused : (w : Which) (r : Refusal) → _≡_ {A = KevListedOver} (record { number = numberOf r; count = 0; which = whichCode w }) (listedOverShown (listedOverTold (merged.Refused w r)))
+unfolding listedOverTold
+listed-over-refused w r =
+    ap₂ (λ (a b : List ℕ). record { number = numberOf r; count = valueAt 0 a; which = valueAt 0 b }) (sym (none-accepted r (whichCode w ∷ []))) (sym (all-refused r (whichCode w ∷ [])))
 
 abbrev noneApplied : (number at need : ℕ) → KevApplied
 noneApplied n at need = record { number = n; nodes = 0; at = at; need = need }

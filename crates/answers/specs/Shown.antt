@@ -18,12 +18,15 @@ use Rattle.answers.specs.declared.KevCount.{KevCount}
 use Rattle.answers.specs.declared.KevNode.{KevNode}
 use Rattle.answers.specs.declared.KevHeartbeat.{KevHeartbeat}
 use Rattle.answers.specs.declared.KevFound.{KevFound}
+use Rattle.answers.specs.declared.KevFoundOver.{KevFoundOver}
+use Rattle.answers.specs.declared.KevListedOver.{KevListedOver}
 use Rattle.answers.specs.declared.KevHeader.{KevHeader}
 use Rattle.answers.specs.declared.KevRecord.{KevRecord}
 use Rattle.answers.specs.declared.KevRows.{KevRows}
 use Rattle.answers.specs.declared.KevDigest.{KevDigest}
 use Rattle.answers.specs.declared.KevEntry.{KevEntry}
 use Rattle.answers.specs.declared.KevComputed.{KevComputed}
+use Rattle.answers.specs.declared.KevJudged.{KevJudged}
 use Rattle.answers.specs.declared.KevDelta.{KevDelta}
 use Rattle.answers.specs.declared.KevApplied.{KevApplied}
 use Rattle.answers.specs.declared.KevExchanged.{KevExchanged}
@@ -67,6 +70,21 @@ heartbeatShown t = record { number = t .number; found = someOf (t .values); hear
 
 abbrev pub foundShown : (told : Told) → KevFound
 foundShown t = record { number = t .number; found = someOf (t .values); start = valueAt 0 (t .values); len = valueAt 1 (t .values) }
+
+-- in which of two slices; where it is refused, of which
+abbrev pub foundOverShown : (told : Told) → KevFoundOver
+foundOverShown t =
+    record {
+      number = t .number;
+      found = someOf (acceptedValues t);
+      over = valueAt 0 (acceptedValues t);
+      start = valueAt 1 (acceptedValues t);
+      len = valueAt 2 (acceptedValues t);
+      which = valueAt 0 (refusedValues t);
+    }
+
+abbrev pub listedOverShown : (told : Told) → KevListedOver
+listedOverShown t = record { number = t .number; count = valueAt 0 (acceptedValues t); which = valueAt 0 (refusedValues t) }
 
 abbrev pub headerShown : (told : Told) → KevHeader
 headerShown t =
@@ -123,6 +141,10 @@ entryShown t =
 
 abbrev pub computedShown : (told : Told) → KevComputed
 computedShown t = record { number = t .number; ops = valueAt 0 (t .values); bytes = valueAt 1 (t .values); need = t .need }
+
+-- what is said of a plan: with 23 it has a line and a fault
+abbrev pub judgedShown : (told : Told) → KevJudged
+judgedShown t = record { number = t .number; line = valueAt 0 (t .values); why = valueAt 1 (t .values); need = t .need }
 
 abbrev pub deltaShown : (told : Told) → KevDelta
 deltaShown t =

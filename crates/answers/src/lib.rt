@@ -11,6 +11,9 @@ use inspect::NodeNumber;
 use inspect::RecordRead;
 use inspect::Rows;
 use lookup::Found;
+use over_find::FoundOver;
+use over_list::ListedOver;
+use plan::Judged;
 use rules::Answer;
 use rules::Applied;
 use rules::Computed;
@@ -25,12 +28,17 @@ ghost use mathlib.Core.List.{[]};
 ghost use mathlib.Core.Path.{_≡_};
 ghost use Rattle.rules.specs.Answers.{answerTold, offeredTold, rememberedTold, listedTold, writtenTold, computedTold, readTold, appliedTold, refused};
 ghost use Rattle.lookup.specs.Told.{foundTold};
+ghost use Rattle.over_find.specs.Told.{foundOverTold};
+ghost use Rattle.over_list.specs.Told.{listedOverTold};
 ghost use Rattle.inspect.specs.Told.{countTold, nodeNumberTold, nodeHeaderTold, recordReadTold, rowsTold};
 ghost use Rattle.digest_read.specs.Told.{digestTold};
 ghost use Rattle.exchange.specs.Exchanging.{exchangedTold, stepCode};
 ghost use Rattle.listing_make.specs.Make.{madeTold};
+ghost use Rattle.plan.specs.Faults.{judgedTold};
 ghost use Rattle.answers.specs.Shown.{numberShown, countShown, nodeShown, heartbeatShown, foundShown, headerShown, recordShown, rowsShown, noRecord};
-ghost use Rattle.answers.specs.Shown.{digestShown, entryTold, entryShown, computedShown, deltaShown, appliedShown, exchangedShown, madeShown};
+ghost use Rattle.answers.specs.Shown.{foundOverShown, listedOverShown};
+ghost use Rattle.answers.specs.Shown.{digestShown, entryTold, entryShown, computedShown, judgedShown};
+ghost use Rattle.answers.specs.Shown.{deltaShown, appliedShown, exchangedShown, madeShown};
 
 // A count: of nodes, records, hits or bytes; of an offer, 1 where it was news.
 #[repr(C)]
@@ -61,6 +69,26 @@ pub struct KevFound {
     pub found: usize,
     pub start: usize,
     pub len: usize,
+}
+
+// Where a text stands in the lent overrides, `over` is 1, or in the lent table, `over` is 0; `found` is 1 where there is one. With 14, `which` is 1 for
+// the overrides and 2 for the table.
+#[repr(C)]
+pub struct KevFoundOver {
+    pub number: u64,
+    pub found: usize,
+    pub over: usize,
+    pub start: usize,
+    pub len: usize,
+    pub which: u64,
+}
+
+// How many hits a merged listing found; `which` as of `KevFoundOver`.
+#[repr(C)]
+pub struct KevListedOver {
+    pub number: u64,
+    pub count: usize,
+    pub which: u64,
 }
 
 // What a node has beside its records.
@@ -120,6 +148,16 @@ pub struct KevComputed {
     pub number: u64,
     pub ops: usize,
     pub bytes: usize,
+    pub need: usize,
+}
+
+// What is said of a plan: with 23 its first line at fault, counted from 0, and the number of the fault; with 9, how many bytes the field of the digest lacks in
+// which its bytes end.
+#[repr(C)]
+pub struct KevJudged {
+    pub number: u64,
+    pub line: usize,
+    pub why: u64,
     pub need: usize,
 }
 
@@ -292,6 +330,62 @@ pub fn found(place: Found) -> KevFound
     }
 }
 
+pub fn found_over(place: FoundOver) -> KevFoundOver
+    ensures { λ r. ⌜ r ≡ foundOverShown (foundOverTold place) ⌝ }
+{
+    match place {
+        FoundOver::InOverrides { start, len } => KevFoundOver {
+            number: 0,
+            found: 1,
+            over: 1,
+            start,
+            len,
+            which: 0,
+        },
+        FoundOver::InTable { start, len } => KevFoundOver {
+            number: 0,
+            found: 1,
+            over: 0,
+            start,
+            len,
+            which: 0,
+        },
+        FoundOver::Nothing => KevFoundOver {
+            number: 0,
+            found: 0,
+            over: 0,
+            start: 0,
+            len: 0,
+            which: 0,
+        },
+        FoundOver::Refused { which, why } => KevFoundOver {
+            number: why.number(),
+            found: 0,
+            over: 0,
+            start: 0,
+            len: 0,
+            which: which.code(),
+        },
+    }
+}
+
+pub fn hits_over(listed: ListedOver) -> KevListedOver
+    ensures { λ r. ⌜ r ≡ listedOverShown (listedOverTold listed) ⌝ }
+{
+    match listed {
+        ListedOver::Hits(count) => KevListedOver {
+            number: 0,
+            count,
+            which: 0,
+        },
+        ListedOver::Refused { which, why } => KevListedOver {
+            number: why.number(),
+            count: 0,
+            which: which.code(),
+        },
+    }
+}
+
 pub fn header(read: NodeHeader) -> KevHeader
     ensures { λ r. ⌜ r ≡ headerShown (nodeHeaderTold read) ⌝ }
 {
@@ -451,6 +545,31 @@ pub fn computed(sent: Computed) -> KevComputed
             ops: 0,
             bytes: 0,
             need: why.need(),
+        },
+    }
+}
+
+pub fn judged(said: Judged) -> KevJudged
+    ensures { λ r. ⌜ r ≡ judgedShown (judgedTold said) ⌝ }
+{
+    match said {
+        Judged::Accepted => KevJudged {
+            number: 0,
+            line: 0,
+            why: 0,
+            need: 0,
+        },
+        Judged::AtFault { line, why } => KevJudged {
+            number: Refusal::BadPlan.number(),
+            line,
+            why: why.code(),
+            need: 0,
+        },
+        Judged::Refused(refusal) => KevJudged {
+            number: refusal.number(),
+            line: 0,
+            why: 0,
+            need: refusal.need(),
         },
     }
 }

@@ -4,6 +4,7 @@ use Prim.Native.Nat.{ℕ, zero, suc, _-_}
 use mathlib.Core.Bool.{Bool, true, false, false≢true}
 use mathlib.Core.List.{List, [], _∷_}
 use mathlib.Core.Path.{_≡_, _∙_, ap, refl, subst, sym}
+use native.Mathlib.Omega.{arith}
 use lib.Dec.{eqb, ltb}
 use lib.ListN.{length}
 use borrow.Author.Tests.{eq-eqb, eqb-true, ltb-true}
@@ -21,7 +22,7 @@ use Rattle.rules.specs.Compute as computing
 use Rattle.rules.specs.Delta.{Good, NodeOp, Op, SetMaxVersionOp, deltaBytes, deltaRead, follow, opBytes, partsOf, readDelta, readKeyValue, readNode, readOp, readOps, readSetMaxVersion, sizeOf}
 use Rattle.rules.specs.Digest.{digestBytes, digestOf, headWidth, readDigest, readEntries, tell, tellAll, writeDigest}
 use Rattle.rules.specs.Given.{Given, given}
-use Rattle.rules.specs.Layout.{decode, encode}
+use Rattle.rules.specs.Layout.{nodeWidth, encodeNode, decodeNode, decode, encode}
 use Rattle.rules.specs.Memory.{apart, heartbeatOf, memoryObeys, removedNumbers}
 use Rattle.rules.specs.Whole.{Whole, decodeMemory, decodeWhole, encodeWhole, obeysWhole, validWhole, wholeWidth}
 use Rattle.rules.specs.declared.Mode.the-variants as mode
@@ -29,7 +30,8 @@ use Rattle.rules.specs.Lent.{TableAndList, addWhole, both, fromTable, lentApply
 use Rattle.rules.specs.Listing.{decimal, digits, listing, listingOf, opLine}
 use Rattle.rules.specs.Local.{Outcome, add, call, gc, localBeat, offer, prefixed, removeNode, write}
 use Rattle.rules.specs.Node.{Deleting, DeletingAfterTtl, Node, Rec, act, beats, decide, find, fresh, hitsFrom, offerOf, wish}
-use Rattle.rules.specs.Table.{Table, among, differ, entryObeys, keysRise, nodeObeys, nodeOf, numbersOf, obeys, recObeys, rising, setNode, versions}
+use Rattle.rules.specs.Table.{Entry, Table, among, differ, entryObeys, keysRise, nodeObeys, nodeOf, numbersOf, obeys, recObeys, rising, setNode, versions}
+use Rattle.rules.specs.declared.Answer.{Answer}
 use Rattle.rules.specs.declared.Answer.the-variants as plain
 use Rattle.rules.specs.declared.Remembered.the-variants as remembered
 use Rattle.rules.specs.declared.Applied.{Applied}
@@ -47,6 +49,22 @@ use Rattle.rules.proofs.Calls.{none-obeys}
 use Rattle.rules.proofs.Obeys.{among-in}
 use Rattle.table.proofs.Encoded.{apply-whole, from-whole, on-whole, whole-whole}
 use Rattle.table.proofs.Wholes.{decode-encode-whole, length-whole, valid-encode-whole, without-memory}
+use Rattle.table.specs.Changes.{freshEntry}
+use Rattle.table.proofs.Nodes.{entry-obeys, fits-entry, length-node, decode-encode-node}
+use Rattle.overrides.specs.Overrides as overrides
+use Rattle.overrides.specs.Overrides.{validNode, storedNode, onOverrides, lentNewOverrides}
+use Rattle.overrides.specs.Both.{fromBoth}
+use Rattle.overrides.specs.declared.Which.{Which}
+use Rattle.overrides.specs.declared.Which.the-variants as which
+use Rattle.overrides.proofs.Valid.{length-stops, valid-by-node}
+use Rattle.over_find.specs.Over.{foundOver}
+use Rattle.over_find.specs.Told.{foundOverTold}
+use Rattle.over_find.specs.declared.FoundOver.the-variants as over
+use Rattle.over_list.specs.Merged as merging
+use Rattle.over_list.specs.Merged.{listOver}
+use Rattle.over_list.specs.Told.{listedOverTold}
+use Rattle.over_list.specs.declared.ListedOver.{ListedOver}
+use Rattle.over_list.specs.declared.ListedOver.the-variants as merged
 use Rattle.nodes.specs.New.{lentMade}
 use Rattle.lookup.specs.Lookup.{findRec, foundIn}
 use Rattle.lookup.specs.Told.{foundTold}
@@ -74,6 +92,10 @@ use Rattle.exchange_ask.specs.declared.Step.the-variants.{Delta, Digest}
 use Rattle.exchange_ask.specs.declared.Ready.{Ready}
 use Rattle.exchange_ask.specs.declared.Ready.the-variants as ready
 use Rattle.exchange.proofs.Refusing.{is-ready, ready-done}
+use Rattle.plan.specs.Faults.{judge, judgeFrom, judgePlan, judgedTold}
+use Rattle.plan.specs.Plan.{accepts, computePlan, deltaBy, linesFit, planOps}
+use Rattle.plan.specs.declared.Judged.{Judged}
+use Rattle.plan.specs.declared.Judged.the-variants as judged
 use Rattle.demand1.specs.Calls as calls
 
 -- ---- one call for each number
@@ -345,6 +367,128 @@ lists =
     and (calls.list-prefix (lent usual) [] [] seven, from-good (λ (a : Given Listed Bytes). listedTold (a .answer) .number) (given (listed.Refused BadTable) []) (λ t. prefixed 7 [] t []) usual usual-obeys 8 refl)
     and no-more
 
+-- ---- overrides: the node of a table, in its own bytes
+
+abbrev entry : Node → Entry
+entry n = record { number = 7; node = n }
+
+newly-entry : entryObeys (entry fresh) ≡ true
+unfolding all entryObeys nodeObeys differ keysRise versions
+newly-entry = refl
+
+usual-entry : entryObeys (entry (node 1 1 (live 1 1 ∷ []))) ≡ true
+unfolding all entryObeys nodeObeys recObeys differ keysRise versions among
+usual-entry = refl
+
+ended-entry : entryObeys (entry (node top top (live 1 1 ∷ []))) ≡ true
+unfolding all entryObeys nodeObeys recObeys differ keysRise versions among
+ended-entry = refl
+
+packed-entry : entryObeys (entry (node 0 32 (records 32))) ≡ true
+unfolding all entryObeys nodeObeys recObeys differ keysRise versions among records lessBytes
+packed-entry = refl
+
+-- no bytes are no overrides
+none-over : validNode [] ≡ false
+none-over = sym (length-stops [] (λ e. omega arith))
+
+over-good : (rule : Entry → Given Answer Entry) (e : Entry) → entryObeys e ≡ true → (n : ℕ) → answerTold (rule e .answer) .number ≡ n
+    → answerTold (onOverrides (plain.Refused BadTable) rule (encodeNode e) .answer) .number ≡ n
+unfolding onOverrides
+over-good rule e o n q =
+    ap (λ (b : Bool). answerTold (pick b (storedNode (rule (decodeNode (encodeNode e)))) (given (plain.Refused BadTable) (encodeNode e)) .answer) .number) (valid-by-node e o)
+    ∙ ap (λ (x : Entry). answerTold (rule x .answer) .number) (decode-encode-node e (fits-entry e (entry-obeys e o)))
+    ∙ q
+
+over-bad : (rule : Entry → Given Answer Entry) (n : ℕ) → answerTold (plain.Refused BadTable) .number ≡ n → answerTold (onOverrides (plain.Refused BadTable) rule [] .answer) .number ≡ n
+unfolding onOverrides
+over-bad rule n e = ap (λ (b : Bool). answerTold (pick b (storedNode (rule (decodeNode []))) (given (plain.Refused BadTable) []) .answer) .number) none-over ∙ e
+
+new-over : AllShown calls.NewOverrides (0 ∷ 14 ∷ [])
+unfolding calls.leaves lentNewOverrides answerTold
+new-over = (
+  calls.new-overrides (encodeNode (entry fresh)) seven,
+  ap (λ (b : Bool). answerTold (pick b (given plain.Done (encodeNode (freshEntry 7))) (given (plain.Refused BadTable) (encodeNode (entry fresh))) .answer) .number)
+      (eq-eqb (length (encodeNode (entry fresh))) nodeWidth (length-node (entry fresh))),
+)
+    and (calls.new-overrides [] seven, refl)
+    and no-more
+
+writes-over : AllShown calls.WriteOverride (0 ∷ 14 ∷ 10 ∷ 1 ∷ 5 ∷ 6 ∷ [])
+unfolding calls.leaves answerTold overrides.written decide wish act find sameBytes zeros records
+writes-over =
+    (calls.write-override (encodeNode (entry fresh)) [] [] under-set seven, over-good (overrides.written 0 [] 7 []) (entry fresh) newly-entry 0 refl)
+    and (calls.write-override [] [] [] under-set seven, over-bad (overrides.written 0 [] 7 []) 14 refl)
+    and (calls.write-override (encodeNode (entry fresh)) [] [] seven seven, over-good (overrides.written 7 [] 7 []) (entry fresh) newly-entry 10 refl)
+    and (calls.write-override (encodeNode (entry fresh)) (zeros 33) [] under-ttl seven, over-good (overrides.written 2 [] 7 (zeros 33)) (entry fresh) newly-entry 1 refl)
+    and (calls.write-override (encodeNode (entry (node 0 32 (records 32)))) [] [] under-set seven, over-good (overrides.written 0 [] 7 []) (entry (node 0 32 (records 32))) packed-entry 5 refl)
+    and (calls.write-override (encodeNode (entry (node top top (live 1 1 ∷ [])))) [] [] under-ttl seven, over-good (overrides.written 2 [] 7 []) (entry (node top top (live 1 1 ∷ []))) ended-entry 6 refl)
+    and no-more
+
+deletes-over : AllShown calls.DeleteOverride (0 ∷ 14 ∷ 1 ∷ 3 ∷ 6 ∷ [])
+unfolding calls.leaves answerTold decide wish act find sameBytes zeros
+deletes-over =
+    (calls.delete-override (encodeNode (entry (node 1 1 (live 1 1 ∷ [])))) (1 ∷ []) seven, over-good (overrides.called (Deleting 7) (1 ∷ [])) (entry (node 1 1 (live 1 1 ∷ []))) usual-entry 0 refl)
+    and (calls.delete-override [] [] seven, over-bad (overrides.called (Deleting 7) []) 14 refl)
+    and (calls.delete-override (encodeNode (entry fresh)) (zeros 33) seven, over-good (overrides.called (Deleting 7) (zeros 33)) (entry fresh) newly-entry 1 refl)
+    and (calls.delete-override (encodeNode (entry fresh)) [] seven, over-good (overrides.called (Deleting 7) []) (entry fresh) newly-entry 3 refl)
+    and (calls.delete-override (encodeNode (entry (node top top (live 1 1 ∷ [])))) (1 ∷ []) seven, over-good (overrides.called (Deleting 7) (1 ∷ [])) (entry (node top top (live 1 1 ∷ []))) ended-entry 6 refl)
+    and no-more
+
+deletes-over-ttl : AllShown calls.DeleteOverrideAfterTtl (0 ∷ 14 ∷ 1 ∷ 3 ∷ 6 ∷ [])
+unfolding calls.leaves answerTold decide wish act find sameBytes zeros
+deletes-over-ttl =
+    (calls.delete-override-after-ttl (encodeNode (entry (node 1 1 (live 1 1 ∷ [])))) (1 ∷ []) seven, over-good (overrides.called (DeletingAfterTtl 7) (1 ∷ [])) (entry (node 1 1 (live 1 1 ∷ []))) usual-entry 0 refl)
+    and (calls.delete-override-after-ttl [] [] seven, over-bad (overrides.called (DeletingAfterTtl 7) []) 14 refl)
+    and (calls.delete-override-after-ttl (encodeNode (entry fresh)) (zeros 33) seven, over-good (overrides.called (DeletingAfterTtl 7) (zeros 33)) (entry fresh) newly-entry 1 refl)
+    and (calls.delete-override-after-ttl (encodeNode (entry fresh)) [] seven, over-good (overrides.called (DeletingAfterTtl 7) []) (entry fresh) newly-entry 3 refl)
+    and (calls.delete-override-after-ttl (encodeNode (entry (node top top (live 1 1 ∷ [])))) (1 ∷ []) seven, over-good (overrides.called (DeletingAfterTtl 7) (1 ∷ [])) (entry (node top top (live 1 1 ∷ []))) ended-entry 6 refl)
+    and no-more
+
+cleans-over : AllShown calls.RemoveOverrides (0 ∷ 14 ∷ [])
+unfolding calls.leaves answerTold
+cleans-over =
+    (calls.remove-overrides (encodeNode (entry fresh)) seven seven, over-good (overrides.cleaned 7 7) (entry fresh) newly-entry 0 refl)
+    and (calls.remove-overrides [] seven seven, over-bad (overrides.cleaned 7 7) 14 refl)
+    and no-more
+
+-- overrides without a record, read together with a table
+abbrev none-laid : Bytes
+none-laid = encodeNode (entry fresh)
+
+both-good : {A : Type 0} (number : A → ℕ) (bad : Which → A) (rule : Node → Table → A) (t : Table) → obeys t ≡ true → (n : ℕ) → number (rule fresh t) ≡ n
+    → number (fromBoth bad rule none-laid (lent t)) ≡ n
+unfolding fromBoth
+both-good number bad rule t o n e =
+    ap (λ (b : Bool). number (pick b (fromTable (bad which.Table) (rule (decodeNode none-laid .node)) (lent t)) (bad which.Overrides))) (valid-by-node (entry fresh) newly-entry)
+    ∙ ap (λ (x : Entry). number (fromTable (bad which.Table) (rule (x .node)) (lent t))) (decode-encode-node (entry fresh) (fits-entry (entry fresh) (entry-obeys (entry fresh) newly-entry)))
+    ∙ from-good number (bad which.Table) (rule fresh) t o n e
+
+both-bad : {A : Type 0} (number : A → ℕ) (bad : Which → A) (rule : Node → Table → A) (t : Bytes) (n : ℕ) → number (bad which.Overrides) ≡ n → number (fromBoth bad rule [] t) ≡ n
+unfolding fromBoth
+both-bad number bad rule t n e = ap (λ (b : Bool). number (pick b (fromTable (bad which.Table) (rule (decodeNode [] .node)) t) (bad which.Overrides))) none-over ∙ e
+
+finds-over : AllShown calls.FindOver (0 ∷ 14 ∷ 2 ∷ 1 ∷ [])
+unfolding calls.leaves foundOverTold nodeOf findRec zeros
+finds-over =
+    (calls.find-over (lent newly) none-laid [] seven, both-good (λ a. foundOverTold a .number) (λ w. over.Refused w BadTable) (foundOver 7 []) newly newly-obeys 0 refl)
+    and (calls.find-over [] [] [] seven, both-bad (λ a. foundOverTold a .number) (λ w. over.Refused w BadTable) (foundOver 7 []) [] 14 refl)
+    and (calls.find-over (lent []) none-laid [] seven, both-good (λ a. foundOverTold a .number) (λ w. over.Refused w BadTable) (foundOver 7 []) [] none-obeys 2 refl)
+    and (calls.find-over (lent newly) none-laid (zeros 33) seven, both-good (λ a. foundOverTold a .number) (λ w. over.Refused w BadTable) (foundOver 7 (zeros 33)) newly newly-obeys 1 refl)
+    and no-more
+
+lists-over : AllShown calls.ListOver (0 ∷ 14 ∷ 2 ∷ 1 ∷ 8 ∷ [])
+unfolding calls.leaves listedOverTold nodeOf merging.listing merging.hitsIn merging.overlaid merging.placesOf startsWith zeros
+lists-over =
+    (calls.list-over (lent newly) none-laid [] [] seven, both-good (λ (a : Given ListedOver Bytes). listedOverTold (a .answer) .number) (λ w. given (merged.Refused w BadTable) []) (listOver 7 [] []) newly newly-obeys 0 refl)
+    and (calls.list-over [] [] [] [] seven, both-bad (λ (a : Given ListedOver Bytes). listedOverTold (a .answer) .number) (λ w. given (merged.Refused w BadTable) []) (listOver 7 [] []) [] 14 refl)
+    and (calls.list-over (lent []) none-laid [] [] seven, both-good (λ (a : Given ListedOver Bytes). listedOverTold (a .answer) .number) (λ w. given (merged.Refused w BadTable) []) (listOver 7 [] []) [] none-obeys 2 refl)
+    and (calls.list-over (lent newly) none-laid (zeros 33) [] seven, both-good (λ (a : Given ListedOver Bytes). listedOverTold (a .answer) .number) (λ w. given (merged.Refused w BadTable) []) (listOver 7 (zeros 33) []) newly newly-obeys 1 refl)
+    and (calls.list-over (lent usual) none-laid [] [] seven, both-good (λ (a : Given ListedOver Bytes). listedOverTold (a .answer) .number) (λ w. given (merged.Refused w BadTable) []) (listOver 7 [] []) usual usual-obeys 8 refl)
+    and no-more
+
+-- ---- readings of a table
+
 counts : AllShown calls.NodeCount (0 ∷ 14 ∷ [])
 unfolding calls.leaves countTold
 counts =
@@ -473,6 +617,31 @@ computes =
     and (calls.compute (lent []) 0 (9 ∷ 0 ∷ []) [] [] (zeros 100) 100 0, from-good (λ (a : Given Computed Bytes). computedTold (a .answer) .number) (given (computed.Refused BadTable) (zeros 100)) (λ t. computing.compute 0 [] [] 100 0 (9 ∷ 0 ∷ []) t (zeros 100)) [] none-obeys 13 refl)
     and no-more
 
+plans : AllShown calls.ComputePlan (0 ∷ 14 ∷ 20 ∷ 7 ∷ 8 ∷ 9 ∷ 13 ∷ 23 ∷ [])
+unfolding calls.leaves computedTold computePlan accepts deltaBy linesFit planOps differ among deltaBytes flat readDigest readEntries natOf unblock tellAll zeros
+plans =
+    (calls.compute-plan (lent []) 0 (0 ∷ 0 ∷ []) [] [] [] (zeros 100) 100 0, from-good (λ (a : Given Computed Bytes). computedTold (a .answer) .number) (given (computed.Refused BadTable) (zeros 100)) (λ t. computePlan 0 [] [] [] 100 0 (0 ∷ 0 ∷ []) t (zeros 100)) [] none-obeys 0 refl)
+    and (calls.compute-plan [] 0 [] [] [] [] [] 100 0, from-bad (λ (a : Given Computed Bytes). computedTold (a .answer) .number) (given (computed.Refused BadTable) []) (λ t. computePlan 0 [] [] [] 100 0 [] t []) 14 refl)
+    and (calls.compute-plan (lent []) 2 [] [] [] [] [] 99 0, from-good (λ (a : Given Computed Bytes). computedTold (a .answer) .number) (given (computed.Refused BadTable) []) (λ t. computePlan 2 [] [] [] 99 0 [] t []) [] none-obeys 20 refl)
+    and (calls.compute-plan (lent []) 0 [] [] [] [] [] 99 0, from-good (λ (a : Given Computed Bytes). computedTold (a .answer) .number) (given (computed.Refused BadTable) []) (λ t. computePlan 0 [] [] [] 99 0 [] t []) [] none-obeys 7 refl)
+    and (calls.compute-plan (lent []) 0 [] [] [] [] [] 100 0, from-good (λ (a : Given Computed Bytes). computedTold (a .answer) .number) (given (computed.Refused BadTable) []) (λ t. computePlan 0 [] [] [] 100 0 [] t []) [] none-obeys 8 refl)
+    and (calls.compute-plan (lent []) 0 [] [] [] [] (zeros 100) 100 0, from-good (λ (a : Given Computed Bytes). computedTold (a .answer) .number) (given (computed.Refused BadTable) (zeros 100)) (λ t. computePlan 0 [] [] [] 100 0 [] t (zeros 100)) [] none-obeys 9 refl)
+    and (calls.compute-plan (lent []) 0 (9 ∷ 0 ∷ []) [] [] [] (zeros 100) 100 0, from-good (λ (a : Given Computed Bytes). computedTold (a .answer) .number) (given (computed.Refused BadTable) (zeros 100)) (λ t. computePlan 0 [] [] [] 100 0 (9 ∷ 0 ∷ []) t (zeros 100)) [] none-obeys 13 refl)
+    and (calls.compute-plan (lent []) 0 (0 ∷ 0 ∷ []) [] (1 ∷ []) [] (zeros 100) 100 0, from-good (λ (a : Given Computed Bytes). computedTold (a .answer) .number) (given (computed.Refused BadTable) (zeros 100)) (λ t. computePlan 0 [] (1 ∷ []) [] 100 0 (0 ∷ 0 ∷ []) t (zeros 100)) [] none-obeys 23 refl)
+    and no-more
+
+judges : AllShown calls.PlanFault (0 ∷ 14 ∷ 20 ∷ 7 ∷ 9 ∷ 13 ∷ 23 ∷ [])
+unfolding calls.leaves judgedTold judgePlan judge judgeFrom readDigest readEntries natOf unblock tellAll
+judges =
+    (calls.plan-fault (lent []) 0 (0 ∷ 0 ∷ []) [] [] [] 100, from-good (λ (a : Judged). judgedTold a .number) (judged.Refused BadTable) (judgePlan 0 [] [] [] 100 (0 ∷ 0 ∷ [])) [] none-obeys 0 refl)
+    and (calls.plan-fault [] 0 [] [] [] [] 100, from-bad (λ (a : Judged). judgedTold a .number) (judged.Refused BadTable) (judgePlan 0 [] [] [] 100 []) 14 refl)
+    and (calls.plan-fault (lent []) 2 [] [] [] [] 99, from-good (λ (a : Judged). judgedTold a .number) (judged.Refused BadTable) (judgePlan 2 [] [] [] 99 []) [] none-obeys 20 refl)
+    and (calls.plan-fault (lent []) 0 [] [] [] [] 99, from-good (λ (a : Judged). judgedTold a .number) (judged.Refused BadTable) (judgePlan 0 [] [] [] 99 []) [] none-obeys 7 refl)
+    and (calls.plan-fault (lent []) 0 [] [] [] [] 100, from-good (λ (a : Judged). judgedTold a .number) (judged.Refused BadTable) (judgePlan 0 [] [] [] 100 []) [] none-obeys 9 refl)
+    and (calls.plan-fault (lent []) 0 (9 ∷ 0 ∷ []) [] [] [] 100, from-good (λ (a : Judged). judgedTold a .number) (judged.Refused BadTable) (judgePlan 0 [] [] [] 100 (9 ∷ 0 ∷ [])) [] none-obeys 13 refl)
+    and (calls.plan-fault (lent []) 0 (0 ∷ 0 ∷ []) [] (1 ∷ []) [] 100, from-good (λ (a : Judged). judgedTold a .number) (judged.Refused BadTable) (judgePlan 0 [] (1 ∷ []) [] 100 (0 ∷ 0 ∷ [])) [] none-obeys 23 refl)
+    and no-more
+
 -- nine Nodes, 0 to 8
 unfoldable ninth : (n : ℕ) → List Op
 ninth zero = []
@@ -592,6 +761,13 @@ all-shown calls.OfferHeartbeat = (_, offers, refl)
 all-shown calls.LocalBeat = (_, beaten, refl)
 all-shown calls.Find = (_, finds, refl)
 all-shown calls.ListPrefix = (_, lists, refl)
+all-shown calls.NewOverrides = (_, new-over, refl)
+all-shown calls.WriteOverride = (_, writes-over, refl)
+all-shown calls.DeleteOverride = (_, deletes-over, refl)
+all-shown calls.DeleteOverrideAfterTtl = (_, deletes-over-ttl, refl)
+all-shown calls.RemoveOverrides = (_, cleans-over, refl)
+all-shown calls.FindOver = (_, finds-over, refl)
+all-shown calls.ListOver = (_, lists-over, refl)
 all-shown calls.NodeCount = (_, counts, refl)
 all-shown calls.NodeNumber = (_, numbered, refl)
 all-shown calls.NodeHeader = (_, headed, refl)
@@ -606,6 +782,8 @@ all-shown calls.WriteDigest = (_, digests, refl)
 all-shown calls.ReadDigest = (_, digest-reads, refl)
 all-shown calls.DigestEntry = (_, entries, refl)
 all-shown calls.Compute = (_, computes, refl)
+all-shown calls.ComputePlan = (_, plans, refl)
+all-shown calls.PlanFault = (_, judges, refl)
 all-shown calls.ReadDelta = (_, delta-reads, refl)
 all-shown calls.Apply = (_, applies, refl)
 all-shown calls.ListDelta = (_, shows, refl)

@@ -37,6 +37,9 @@ use Rattle.table.proofs.Wholes.{area-valid, valid-encode-whole, without-memory}
 use Rattle.table.proofs.Wholes as valid
 use Rattle.apply.proofs.Applied.{reads-is}
 use Rattle.nodes.specs.New.{lentMade}
+use Rattle.overrides.specs.Overrides.{validNode}
+use Rattle.overrides.proofs.Valid.{over-long}
+use Rattle.overrides.proofs.Keeps.{new-keeps, removal-keeps, call-keeps as over-call-keeps, write-keeps as over-write-keeps}
 use Rattle.exchange.specs.Exchanging.{Lending, afterAsking, afterComputing, afterDigesting, lentAnswer, lentExchange, roomsOf, threeCalls, lending}
 use Rattle.exchange_ask.specs.Asking.{readyFor}
 use Rattle.exchange_ask.specs.declared.Ready.{Ready}
@@ -139,6 +142,11 @@ module _ (g : Lending) (publisher follower : Bytes) (clock : g .clock < numbers)
 
 -- ---- all calls
 
+-- overrides
+over : (a b : Bytes) → (validNode a ≡ true → validNode b ≡ true) → obeyAll (validNode ∷ []) (a ∷ []) ≡ true → obeyAll (validNode ∷ []) (b ∷ []) ≡ true
+unfolding obeyAll
+over a b f e = and-intro (validNode b) true (f (and-left (validNode a) true e)) refl
+
 -- one table
 one : (a b : Bytes) → (validWhole a ≡ true → validWhole b ≡ true) → obeyAll (validWhole ∷ []) (a ∷ []) ≡ true → obeyAll (validWhole ∷ []) (b ∷ []) ≡ true
 unfolding obeyAll
@@ -175,6 +183,13 @@ obeying (calls.offer-heartbeat t i h) =
 obeying (calls.local-beat t i) = one t _ (kept (plain.Refused BadTable) (localBeat (i .value)) (beat-keeps (i .value)) (numbers-beat (i .value)) t)
 obeying (calls.find t k i) = λ e. e
 obeying (calls.list-prefix t k out i) = λ e. e
+obeying (calls.new-overrides o i) = over o _ (λ v. new-keeps (i .value) o (i .fits) (over-long o v))
+obeying (calls.write-override o k v wanted now) = over o _ (over-write-keeps (wanted .value) v (now .value) k o (now .fits))
+obeying (calls.delete-override o k now) = over o _ (over-call-keeps (Deleting (now .value)) k o (now .fits))
+obeying (calls.delete-override-after-ttl o k now) = over o _ (over-call-keeps (DeletingAfterTtl (now .value)) k o (now .fits))
+obeying (calls.remove-overrides o now grace) = over o _ (removal-keeps (now .value) (grace .value) o)
+obeying (calls.find-over t o k i) = λ e. e
+obeying (calls.list-over t o k out i) = λ e. e
 obeying (calls.node-count t) = λ e. e
 obeying (calls.node-number t i) = λ e. e
 obeying (calls.node-header t i) = λ e. e
@@ -189,6 +204,8 @@ obeying (calls.write-digest t edition excluded datagram place) = λ e. e
 obeying (calls.read-digest edition digest) = λ e. e
 obeying (calls.digest-entry digest edition i) = λ e. e
 obeying (calls.compute t edition digest excluded ties datagram mtu place) = λ e. e
+obeying (calls.compute-plan t edition digest excluded nodes counts datagram mtu place) = λ e. e
+obeying (calls.plan-fault t edition digest excluded nodes counts mtu) = λ e. e
 obeying (calls.read-delta delta) = λ e. e
 obeying (calls.apply t delta answers now) =
     one t _

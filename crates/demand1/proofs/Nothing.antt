@@ -2,7 +2,8 @@
 use Prim.Native.Nat.{ℕ}
 use mathlib.Core.Bool.{Bool, false, true}
 use mathlib.Core.List.{[], _∷_}
-use mathlib.Core.Path.{_≡_, ap, ap₂, refl}
+use mathlib.Core.Option.{Option, none, some}
+use mathlib.Core.Path.{_≡_, _∙_, ap, ap₂, refl}
 use lib.Dec.{eqb, leb}
 use lib.ListN.{length}
 use Rattle.fields.specs.Choice.{pick}
@@ -17,9 +18,12 @@ use Rattle.rules.specs.Whole.{decodeWhole, validWhole, wholeWidth}
 use Rattle.rules.specs.declared.Mode.{Mode}
 use Rattle.rules.specs.Lent.{addWhole, fromTable, lentNew, onTable, removeWhole}
 use Rattle.rules.specs.Listing.{listing}
-use Rattle.rules.specs.Local.{Outcome, call, gc, localBeat, offer, prefixed, write}
-use Rattle.rules.specs.Node.{Deleting, DeletingAfterTtl, beats}
-use Rattle.rules.specs.Table.{Table}
+use Rattle.rules.specs.Delta.{statusByte}
+use Rattle.rules.specs.Layout.{nodeWidth, encodeNode, decodeNode}
+use Rattle.rules.specs.Sizes.{maxKey}
+use Rattle.rules.specs.Local.{Outcome, answerOf, call, gc, localBeat, offer, prefixed, write}
+use Rattle.rules.specs.Node.{Call, Decision, Deleting, DeletingAfterTtl, Give, Leave, Node, Refuse, Setting, SettingTtl, act, beats, decide}
+use Rattle.rules.specs.Table.{Entry, Table, nodeOf}
 use Rattle.rules.specs.declared.Answer.{Answer}
 use Rattle.rules.specs.declared.Answer.the-variants as plain
 use Rattle.rules.specs.declared.Applied.{Applied}
@@ -31,15 +35,29 @@ use Rattle.rules.specs.declared.Listed.the-variants as listed
 use Rattle.rules.specs.declared.Offered.{Offered}
 use Rattle.rules.specs.declared.Offered.the-variants as offered
 use Rattle.rules.specs.declared.Refusal.{Refusal}
-use Rattle.rules.specs.declared.Refusal.the-variants.{BadTable, NoPlace}
+use Rattle.rules.specs.declared.Refusal.the-variants.{BadTable, BadTag, NoPlace, TooLong}
+use Rattle.rules.specs.declared.Status.the-variants.{Set, Ttl}
 use Rattle.rules.specs.declared.Written.{Written}
 use Rattle.rules.specs.declared.Written.the-variants as written
 use Rattle.rules.proofs.Refusing.{beat-refused, call-refused, compute-refused, digest-refused, lent-apply-refused, lent-refused, offer-refused, prefixed-refused, write-refused}
 use Rattle.rules.proofs.Memories.{add-whole-refused, remove-whole-refused, whole-refused}
 use Rattle.nodes.specs.New.{lentMade}
+use Rattle.table.specs.Changes.{withNode, freshEntry}
+use Rattle.overrides.specs.Overrides.{validNode, storedNode, onOverrides, called, cleaned, lentNewOverrides}
+use Rattle.overrides.specs.Overrides as overrides
+use Rattle.overrides.specs.Both.{fromBoth}
+use Rattle.overrides.specs.declared.Which.{Which}
+use Rattle.overrides.specs.declared.Which.the-variants as which
+use Rattle.overrides.proofs.Valid.{over-back}
+use Rattle.over_list.specs.Merged.{placesOf, listInto, listOn, listOver, lentListOver, listing as merged}
+use Rattle.over_list.specs.Told.{listedOverTold}
+use Rattle.over_list.specs.declared.ListedOver.{ListedOver}
+use Rattle.over_list.specs.declared.ListedOver.the-variants as over
 use Rattle.delta_make.specs.declared.Made.the-variants as making
 use Rattle.listing_read.specs.Unlist.{Delta, Faulty, NotInForm, Unlisted, unlist}
 use Rattle.listing_make.specs.Make.{lentMake, lentUnlisted, madeTold, placed}
+use Rattle.plan.proofs.Refusing.{plan-refused}
+use Rattle.plan.specs.Plan.{computePlan}
 use Rattle.exchange.specs.Exchanging.{ExchangeLent, Lending, afterAsking, allFour, exchangedTold, lending, lentExchange, roomsOf}
 use Rattle.exchange_ask.specs.Asking.{readyFor}
 use Rattle.exchange.specs.declared.Exchanged.{Exchanged}
@@ -150,6 +168,92 @@ made-delta text out = go (unlist text)
     go (NotInForm n) h = refl
     go (Faulty why at) h = refl
 
+-- ---- calls on overrides
+
+-- one that changes them
+on-over : (rule : Entry → Given Answer Entry) → ((e : Entry) → Refuses (answerTold (rule e .answer)) → rule e .lent ≡ e) → (o : Bytes)
+    → Refuses (answerTold (onOverrides (plain.Refused BadTable) rule o .answer)) → onOverrides (plain.Refused BadTable) rule o .lent ≡ o
+unfolding onOverrides
+on-over rule f o = go (validNode o) refl
+  where
+    out : Bool → Given Answer Bytes
+    out b = pick b (storedNode (rule (decodeNode o))) (given (plain.Refused BadTable) o)
+
+    go : (b : Bool) → validNode o ≡ b → Refuses (answerTold (out b .answer)) → out b .lent ≡ o
+    go true v h = ap encodeNode (f (decodeNode o) h) ∙ over-back o v
+    go false v h = refl
+
+-- a refused call leaves the node
+over-called : (c : Call) (k : Bytes) (e : Entry) → Refuses (answerTold (called c k e .answer)) → called c k e .lent ≡ e
+unfolding answerTold act
+over-called c k e h = go (decide c k (e .node)) h
+  where
+    go : (d : Decision) → Refuses (answerTold (answerOf d)) → withNode (act k d (e .node)) e ≡ e
+    go (Refuse r) h = refl
+    go Leave h = refl
+    go (Give x) h = absurd (h refl)
+
+over-written : (wanted : ℕ) (v : Bytes) (now : ℕ) (k : Bytes) (e : Entry) → Refuses (answerTold (overrides.written wanted v now k e .answer)) → overrides.written wanted v now k e .lent ≡ e
+unfolding overrides.written
+over-written wanted v now k e = go (eqb wanted (statusByte Set)) (eqb wanted (statusByte Ttl))
+  where
+    out : Bool → Bool → Given Answer Entry
+    out s t = pick s (called (Setting v) k e) (pick t (called (SettingTtl v now) k e) (given (plain.Refused BadTag) e))
+
+    go : (s t : Bool) → Refuses (answerTold (out s t .answer)) → out s t .lent ≡ e
+    go true t h = over-called (Setting v) k e h
+    go false true h = over-called (SettingTtl v now) k e h
+    go false false h = refl
+
+over-cleaned : (now grace : ℕ) (e : Entry) → Refuses (answerTold (cleaned now grace e .answer)) → cleaned now grace e .lent ≡ e
+unfolding answerTold
+over-cleaned now grace e h = absurd (h refl)
+
+over-made : (i : ℕ) (o : Bytes) → Refuses (answerTold (lentNewOverrides i o .answer)) → lentNewOverrides i o .lent ≡ o
+unfolding lentNewOverrides answerTold
+over-made i o = go (eqb (length o) nodeWidth)
+  where
+    out : Bool → Given Answer Bytes
+    out b = pick b (given plain.Done (encodeNode (freshEntry i))) (given (plain.Refused BadTable) o)
+
+    go : (b : Bool) → Refuses (answerTold (out b .answer)) → out b .lent ≡ o
+    go true h = absurd (h refl)
+    go false h = refl
+
+-- one that fills a lent list
+over-listed : (i : ℕ) (k out o t : Bytes) → Refuses (listedOverTold (lentListOver i k out o t .answer)) → lentListOver i k out o t .lent ≡ out
+unfolding fromBoth fromTable listedOverTold
+over-listed i k out o t = go (validNode o) (validWhole t)
+  where
+    n : Node
+    n = decodeNode o .node
+
+    u : Table
+    u = decodeWhole t .table
+
+    into : (found : Bytes) (b : Bool) → Refuses (listedOverTold (pick b (given (over.Hits (length found)) (put 0 found out)) (given (over.Refused which.Neither NoPlace) out) .answer))
+        → pick b (given (over.Hits (length found)) (put 0 found out)) (given (over.Refused which.Neither NoPlace) out) .lent ≡ out
+    into found true h = absurd (h refl)
+    into found false h = refl
+
+    limit : (found : Bytes) (b : Bool) → Refuses (listedOverTold (pick b (listInto found out) (given (over.Refused which.Neither TooLong) out) .answer))
+        → pick b (listInto found out) (given (over.Refused which.Neither TooLong) out) .lent ≡ out
+    limit found true h = into found (leb (length found) (length out)) h
+    limit found false h = refl
+
+    held : (m : Option Node) → Refuses (listedOverTold (listOn k n m out .answer)) → listOn k n m out .lent ≡ out
+    held none h = refl
+    held (some m) h = limit (placesOf (merged k (n .recs) (m .recs))) (leb (length k) maxKey) h
+
+    bad : Which → Given ListedOver Bytes
+    bad w = given (over.Refused w BadTable) out
+
+    go : (a b : Bool) → Refuses (listedOverTold (pick a (pick b (listOver i k out n u) (bad which.Table)) (bad which.Overrides) .answer))
+        → pick a (pick b (listOver i k out n u) (bad which.Table)) (bad which.Overrides) .lent ≡ out
+    go true true h = held (nodeOf i u) h
+    go true false h = refl
+    go false b h = refl
+
 -- an exchange that goes ahead is not refused
 exchanged : (g : Lending) (publisher follower : Bytes) → Refuses (exchangedTold (lentExchange g publisher follower .answer))
     → lentExchange g publisher follower .lent ≡ allFour follower (g .digest) (g .delta) (g .answers)
@@ -200,6 +304,17 @@ nothing (calls.list-prefix t k out i) h =
     ap (λ (u : Bytes). t ∷ k ∷ u ∷ [])
     (into-list listedTold (listed.Refused BadTable) (λ t. prefixed (i .value) k t out) out
     (λ t g. let x = by-listed _ g in prefixed-refused (i .value) k t out (x .0) (x .1)) t h)
+nothing (calls.new-overrides o i) h = ap (λ (u : Bytes). u ∷ []) (over-made (i .value) o h)
+nothing (calls.write-override o k v wanted now) h =
+    ap (λ (u : Bytes). u ∷ k ∷ v ∷ []) (on-over (overrides.written (wanted .value) v (now .value) k) (over-written (wanted .value) v (now .value) k) o h)
+nothing (calls.delete-override o k now) h =
+    ap (λ (u : Bytes). u ∷ k ∷ []) (on-over (called (Deleting (now .value)) k) (over-called (Deleting (now .value)) k) o h)
+nothing (calls.delete-override-after-ttl o k now) h =
+    ap (λ (u : Bytes). u ∷ k ∷ []) (on-over (called (DeletingAfterTtl (now .value)) k) (over-called (DeletingAfterTtl (now .value)) k) o h)
+nothing (calls.remove-overrides o now grace) h =
+    ap (λ (u : Bytes). u ∷ []) (on-over (cleaned (now .value) (grace .value)) (over-cleaned (now .value) (grace .value)) o h)
+nothing (calls.find-over t o k i) h = refl
+nothing (calls.list-over t o k out i) h = ap (λ (u : Bytes). t ∷ o ∷ k ∷ u ∷ []) (over-listed (i .value) k out o t h)
 nothing (calls.node-count t) h = refl
 nothing (calls.node-number t i) h = refl
 nothing (calls.node-header t i) h = refl
@@ -220,6 +335,11 @@ nothing (calls.compute t edition digest excluded ties datagram mtu place) h =
     ap (λ (u : Bytes). t ∷ digest ∷ excluded ∷ ties ∷ u ∷ [])
     (into-list computedTold (computed.Refused BadTable) (λ t. computing.compute edition excluded ties mtu place digest t datagram) datagram
     (λ t g. let x = by-computed _ g in compute-refused edition excluded ties mtu place digest t datagram (x .0) (x .1)) t h)
+nothing (calls.compute-plan t edition digest excluded nodes counts datagram mtu place) h =
+    ap (λ (u : Bytes). t ∷ digest ∷ excluded ∷ nodes ∷ counts ∷ u ∷ [])
+    (into-list computedTold (computed.Refused BadTable) (λ t. computePlan edition excluded nodes counts mtu place digest t datagram) datagram
+    (λ t g. let x = by-computed _ g in plan-refused edition excluded nodes counts mtu place digest t datagram (x .0) (x .1)) t h)
+nothing (calls.plan-fault t edition digest excluded nodes counts mtu) h = refl
 nothing (calls.read-delta delta) h = refl
 nothing (calls.apply t delta answers now) h =
     let x = by-applied _ h in

@@ -26,7 +26,9 @@ use Rattle.rules.specs.Listing.{listing}
 use Rattle.rules.specs.Local.{Outcome, add, answerOf, beatOn, call, callOn, gc, gives, listInto, localBeat, offer, offerOn, prefixOn, prefixed, removeNode, write, yesNo}
 use Rattle.rules.specs.Node.{Call, Change, Deleting, DeletingAfterTtl, Give, Leave, Node, Rec, Refuse, Setting, SettingTtl, allowed, beats, brought, decide, find, fullFor, hidden, hitsFrom, offerOf, sameStatus, unlessSame, wish}
 use Rattle.rules.specs.Table.{Entry, Table, addNode, among, dropNode, nodeOf, numbersOf}
-use Rattle.rules.specs.Layout.{nodePlace}
+use Rattle.rules.specs.Layout.{nodePlace, nodeWidth, encodeNode, decodeNode}
+use Rattle.rules.specs.Delta.{statusByte}
+use Rattle.rules.specs.declared.Answer.{Answer}
 use Rattle.rules.specs.declared.Answer.the-variants as plain
 use Rattle.rules.specs.declared.Heartbeat.{Heartbeat}
 use Rattle.rules.specs.declared.Remembered.the-variants as remembered
@@ -37,7 +39,8 @@ use Rattle.rules.specs.declared.Listed.{Listed}
 use Rattle.rules.specs.declared.Listed.the-variants as listed
 use Rattle.rules.specs.declared.Offered.the-variants as offered
 use Rattle.rules.specs.declared.Refusal.{Refusal}
-use Rattle.rules.specs.declared.Refusal.the-variants.{BadMtu, BadTable, BadTies, Exhausted, NinthNode, NoNode, NodeFull, NoPlace, TooLong, BadEdition}
+use Rattle.rules.specs.declared.Refusal.the-variants.{BadMtu, BadPlan, BadTable, BadTag, BadTies, Exhausted, NinthNode, NoNode, NodeFull, NoPlace, TooLong, BadEdition}
+use Rattle.rules.specs.declared.Status.the-variants.{Set, Ttl}
 use Rattle.rules.specs.declared.Written.{Written}
 use Rattle.rules.specs.declared.Written.the-variants as written
 use Rattle.table_read.specs.Find.{nodeStart}
@@ -45,7 +48,24 @@ use Rattle.apply.proofs.Applied.{reads-is}
 use Rattle.nodes.specs.New.{lentMade}
 use Rattle.lookup.specs.Lookup.{findOn, findRec, foundIn, valuePlace}
 use Rattle.lookup.specs.Told.{foundTold}
+use Rattle.lookup.specs.declared.Found.{Found}
 use Rattle.lookup.specs.declared.Found.the-variants as found
+use Rattle.table.specs.Changes.{freshEntry}
+use Rattle.overrides.specs.Overrides as overrides
+use Rattle.overrides.specs.Overrides.{validNode, storedNode, onOverrides, lentNewOverrides, lentWriteOverride, lentCallOverride, lentRemoveOverrides}
+use Rattle.overrides.specs.Both.{fromBoth}
+use Rattle.overrides.specs.declared.Which.{Which}
+use Rattle.overrides.specs.declared.Which.the-variants as which
+use Rattle.over_find.specs.Over.{firstOf, overOf, foundOver, lentFindOver}
+use Rattle.over_find.specs.Told.{foundOverTold}
+use Rattle.over_find.specs.declared.FoundOver.{FoundOver}
+use Rattle.over_find.specs.declared.FoundOver.the-variants as over
+use Rattle.over_list.specs.Merged as merging
+use Rattle.over_list.specs.Merged.{listOn, listOver, lentListOver}
+use Rattle.over_list.specs.Told.{listedOverTold}
+use Rattle.over_list.specs.declared.ListedOver.{ListedOver}
+use Rattle.over_list.specs.declared.ListedOver.the-variants as merged
+use Rattle.over_list.proofs.Listed.{searched}
 use Rattle.inspect.specs.Look.{elementAt, headerOn, nodeCount, nodeHeader, nodeNumber, numberOn, readAt, readKey, readRec, readRecord, recordByKey, recordByKeyOn, recordCount, recordIn, recordOfPlaces, recordOn, recordsOn, rowsOn, nodeRows}
 use Rattle.inspect.specs.Told.{countTold, nodeHeaderTold, nodeNumberTold, recordReadTold, rowsTold}
 use Rattle.inspect.specs.declared.Count.the-variants as count
@@ -74,6 +94,11 @@ use Rattle.listing_make.specs.Make.{lentMake, madeTold}
 use Rattle.listing_make.proofs.Numbers.{made-numbers}
 use Rattle.answers.specs.Shown.{entryTold, placeTold}
 use Rattle.demand1.specs.Calls as calls
+use Rattle.plan.proofs.Judging.{isAccepted, said-number}
+use Rattle.plan.specs.Faults.{judge, judgeOn, judgePlan, judgedTold}
+use Rattle.plan.specs.Plan.{accepts, computePlan, deltaBy, planOn}
+use Rattle.plan.specs.declared.Judged.{Judged}
+use Rattle.plan.specs.declared.Judged.the-variants as judged
 use Rattle.demand1.proofs.Deltas.{OpsSo, delta-comes, digest-comes}
 
 -- the number is one that the kind of call can give
@@ -208,40 +233,38 @@ called : (kind : calls.Kind) (c : Call) → Of kind (answerTold (plain.Refused B
 called kind c bad missing long f i k = on-table (λ a. Of kind (answerTold a)) (plain.Refused BadTable) (call c i k) bad (called-on kind c missing long f i k)
 
 -- a set: nothing to change, 5, 6
-sets : (c : Change) (k : Bytes) (n : Node) (o : Option Rec) → Of calls.Write (answerTold (answerOf (allowed k n (unlessSame o c))))
-unfolding answerTold among calls.refusals
-sets c k n o = go o
+sets : (kind : calls.Kind) → Of kind (answerTold plain.Done) → Of kind (answerTold (plain.Refused NodeFull)) → Of kind (answerTold (plain.Refused Exhausted)) → (c : Change) (k : Bytes) (n : Node) (o : Option Rec) → Of kind (answerTold (answerOf (allowed k n (unlessSame o c))))
+sets kind done full over c k n o = go o
   where
-    grant : (f b : Bool) → Of calls.Write (answerTold (answerOf (pick f (Refuse NodeFull) (pick b (Give c) (Refuse Exhausted)))))
-    grant true b = refl
-    grant false true = refl
-    grant false false = refl
+    grant : (f b : Bool) → Of kind (answerTold (answerOf (pick f (Refuse NodeFull) (pick b (Give c) (Refuse Exhausted)))))
+    grant true b = full
+    grant false true = done
+    grant false false = over
 
-    same : (b : Bool) → Of calls.Write (answerTold (answerOf (allowed k n (pick b Leave (Give c)))))
-    same true = refl
+    same : (b : Bool) → Of kind (answerTold (answerOf (allowed k n (pick b Leave (Give c)))))
+    same true = done
     same false = grant (fullFor (find k (n .recs)) n) (ltb (n .max) top)
 
-    go : (o : Option Rec) → Of calls.Write (answerTold (answerOf (allowed k n (unlessSame o c))))
+    go : (o : Option Rec) → Of kind (answerTold (answerOf (allowed k n (unlessSame o c))))
     go none = grant (fullFor (find k (n .recs)) n) (ltb (n .max) top)
     go (some r) = same (sameStatus (r .kv .status) (c .status) && sameBytes (r .kv .value) (c .value))
 
 -- a delete of a key that is there: 6 alone
-drops : (c : Change) (k : Bytes) (n : Node) (r : Rec) → find k (n .recs) ≡ some r → Of calls.Delete (answerTold (answerOf (allowed k n (Give c))))
-unfolding answerTold among calls.refusals
-drops c k n r e =
-    subst (λ (x : Option Rec). Of calls.Delete (answerTold (answerOf (pick (fullFor x n) (Refuse NodeFull) (pick (ltb (n .max) top) (Give c) (Refuse Exhausted))))))
+drops : (kind : calls.Kind) → Of kind (answerTold plain.Done) → Of kind (answerTold (plain.Refused Exhausted)) → (c : Change) (k : Bytes) (n : Node) (r : Rec) → find k (n .recs) ≡ some r → Of kind (answerTold (answerOf (allowed k n (Give c))))
+drops kind done over c k n r e =
+    subst (λ (x : Option Rec). Of kind (answerTold (answerOf (pick (fullFor x n) (Refuse NodeFull) (pick (ltb (n .max) top) (Give c) (Refuse Exhausted))))))
     (sym e) (rise (ltb (n .max) top))
   where
-    rise : (b : Bool) → Of calls.Delete (answerTold (answerOf (pick b (Give c) (Refuse Exhausted))))
-    rise true = refl
-    rise false = refl
+    rise : (b : Bool) → Of kind (answerTold (answerOf (pick b (Give c) (Refuse Exhausted))))
+    rise true = done
+    rise false = over
 
 wrote : (wanted : ℕ) (v : Bytes) (now i : ℕ) (k l : Bytes) → Of calls.Write (answerTold (onTable (plain.Refused BadTable) (write wanted v now i k) l .answer))
 unfolding wish answerTold among calls.refusals
 wrote wanted v now i k =
     on-table (λ a. Of calls.Write (answerTold a)) (plain.Refused BadTable) (write wanted v now i k) refl
-    (λ t. write-is wanted v now i k t (λ o. Of calls.Write (answerTold (o .answer))) (called-on calls.Write (Setting v) refl refl (λ k n o e. sets _ k n o) i k t)
-    (called-on calls.Write (SettingTtl v now) refl refl (λ k n o e. sets _ k n o) i k t) refl)
+    (λ t. write-is wanted v now i k t (λ o. Of calls.Write (answerTold (o .answer))) (called-on calls.Write (Setting v) refl refl (λ k n o e. sets calls.Write refl refl refl _ k n o) i k t)
+    (called-on calls.Write (SettingTtl v now) refl refl (λ k n o e. sets calls.Write refl refl refl _ k n o) i k t) refl)
 
 deleted : (now i : ℕ) (k l : Bytes) → Of calls.Delete (answerTold (onTable (plain.Refused BadTable) (call (Deleting now) i k) l .answer))
 unfolding wish answerTold among calls.refusals
@@ -249,7 +272,7 @@ deleted now = called calls.Delete (Deleting now) refl refl refl go
   where
     go : (k : Bytes) (n : Node) (o : Option Rec) → find k (n .recs) ≡ o → Of calls.Delete (answerTold (answerOf (allowed k n (wish (Deleting now) o))))
     go k n none e = refl
-    go k n (some r) e = drops _ k n r e
+    go k n (some r) e = drops calls.Delete refl refl _ k n r e
 
 deleted-ttl : (now i : ℕ) (k l : Bytes) → Of calls.DeleteAfterTtl (answerTold (onTable (plain.Refused BadTable) (call (DeletingAfterTtl now) i k) l .answer))
 unfolding wish answerTold among calls.refusals
@@ -258,7 +281,7 @@ deleted-ttl now = called calls.DeleteAfterTtl (DeletingAfterTtl now) refl refl r
     go : (k : Bytes) (n : Node) (o : Option Rec) → find k (n .recs) ≡ o
         → Of calls.DeleteAfterTtl (answerTold (answerOf (allowed k n (wish (DeletingAfterTtl now) o))))
     go k n none e = refl
-    go k n (some r) e = drops _ k n r e
+    go k n (some r) e = drops calls.Delete refl refl _ k n r e
 
 -- ---- readings
 
@@ -304,6 +327,122 @@ lists i k out l =
     go : (o : Option Node) → Of calls.ListPrefix (listedTold (prefixOn k o out .answer))
     go none = refl
     go (some n) = limit n (leb (length k) maxKey)
+
+-- ---- overrides
+
+over-made : (i : ℕ) (o : Bytes) → Of calls.NewOverrides (answerTold (lentNewOverrides i o .answer))
+unfolding lentNewOverrides answerTold among calls.refusals
+over-made i o = go (eqb (length o) nodeWidth)
+  where
+    go : (b : Bool) → Of calls.NewOverrides (answerTold (pick b (given plain.Done (encodeNode (freshEntry i))) (given (plain.Refused BadTable) o) .answer))
+    go true = refl
+    go false = refl
+
+on-over : (kind : calls.Kind) (rule : Entry → Given Answer Entry) → Of kind (answerTold (plain.Refused BadTable)) → ((e : Entry) → Of kind (answerTold (rule e .answer))) → (o : Bytes)
+    → Of kind (answerTold (onOverrides (plain.Refused BadTable) rule o .answer))
+unfolding onOverrides
+on-over kind rule bad f o = go (validNode o)
+  where
+    go : (b : Bool) → Of kind (answerTold (pick b (storedNode (rule (decodeNode o))) (given (plain.Refused BadTable) o) .answer))
+    go true = f (decodeNode o)
+    go false = bad
+
+-- 1, then what the call wants of the node
+over-called : (kind : calls.Kind) (c : Call) → Of kind (answerTold (plain.Refused TooLong))
+    → ((k : Bytes) (n : Node) (o : Option Rec) → find k (n .recs) ≡ o → Of kind (answerTold (answerOf (allowed k n (wish c o)))))
+    → (k : Bytes) (e : Entry) → Of kind (answerTold (overrides.called c k e .answer))
+unfolding decide
+over-called kind c long f k e = go (leb (length k) maxKey && leb (length (brought c)) maxValue)
+  where
+    go : (b : Bool) → Of kind (answerTold (answerOf (pick b (allowed k (e .node) (wish c (find k (e .node .recs)))) (Refuse TooLong))))
+    go true = f k (e .node) (find k (e .node .recs)) refl
+    go false = long
+
+over-wrote : (wanted : ℕ) (v : Bytes) (now : ℕ) (k o : Bytes) → Of calls.WriteOverride (answerTold (lentWriteOverride wanted v now k o .answer))
+unfolding overrides.written wish answerTold among calls.refusals
+over-wrote wanted v now k o = on-over calls.WriteOverride (overrides.written wanted v now k) refl (λ e. go e (eqb wanted (statusByte Set)) (eqb wanted (statusByte Ttl))) o
+  where
+    go : (e : Entry) (s t : Bool)
+        → Of calls.WriteOverride (answerTold (pick s (overrides.called (Setting v) k e) (pick t (overrides.called (SettingTtl v now) k e) (given (plain.Refused BadTag) e)) .answer))
+    go e true t = over-called calls.WriteOverride (Setting v) refl (λ k n o q. sets calls.WriteOverride refl refl refl _ k n o) k e
+    go e false true = over-called calls.WriteOverride (SettingTtl v now) refl (λ k n o q. sets calls.WriteOverride refl refl refl _ k n o) k e
+    go e false false = refl
+
+over-deleted : (now : ℕ) (k o : Bytes) → Of calls.DeleteOverride (answerTold (lentCallOverride (Deleting now) k o .answer))
+unfolding wish answerTold among calls.refusals
+over-deleted now k o = on-over calls.DeleteOverride (overrides.called (Deleting now) k) refl (over-called calls.DeleteOverride (Deleting now) refl go k) o
+  where
+    go : (k : Bytes) (n : Node) (o : Option Rec) → find k (n .recs) ≡ o → Of calls.DeleteOverride (answerTold (answerOf (allowed k n (wish (Deleting now) o))))
+    go k n none e = refl
+    go k n (some r) e = drops calls.DeleteOverride refl refl _ k n r e
+
+over-deleted-ttl : (now : ℕ) (k o : Bytes) → Of calls.DeleteOverrideAfterTtl (answerTold (lentCallOverride (DeletingAfterTtl now) k o .answer))
+unfolding wish answerTold among calls.refusals
+over-deleted-ttl now k o =
+    on-over calls.DeleteOverrideAfterTtl (overrides.called (DeletingAfterTtl now) k) refl (over-called calls.DeleteOverrideAfterTtl (DeletingAfterTtl now) refl go k) o
+  where
+    go : (k : Bytes) (n : Node) (o : Option Rec) → find k (n .recs) ≡ o
+        → Of calls.DeleteOverrideAfterTtl (answerTold (answerOf (allowed k n (wish (DeletingAfterTtl now) o))))
+    go k n none e = refl
+    go k n (some r) e = drops calls.DeleteOverrideAfterTtl refl refl _ k n r e
+
+over-cleaned : (now grace : ℕ) (o : Bytes) → Of calls.RemoveOverrides (answerTold (lentRemoveOverrides now grace o .answer))
+unfolding answerTold among calls.refusals
+over-cleaned now grace o = on-over calls.RemoveOverrides (overrides.cleaned now grace) refl (λ e. refl) o
+
+-- 14 of either, else by the rule
+from-both : {A : Type 0} (P : A → Type 0) (bad : Which → A) (rule : Node → Table → A) → ((w : Which) → P (bad w)) → ((n : Node) (t : Table) → P (rule n t)) → (o t : Bytes)
+    → P (fromBoth bad rule o t)
+unfolding fromBoth
+from-both P bad rule b f o t = go (validNode o)
+  where
+    go : (v : Bool) → P (pick v (fromTable (bad which.Table) (rule (decodeNode o .node)) t) (bad which.Overrides))
+    go true = from-table P (bad which.Table) (rule (decodeNode o .node)) (b which.Table) (f (decodeNode o .node)) t
+    go false = b which.Overrides
+
+found-over : (i : ℕ) (k o t : Bytes) → Of calls.FindOver (foundOverTold (lentFindOver i k o t))
+unfolding foundOverTold among calls.refusals
+found-over i k o t =
+    from-both (λ a. Of calls.FindOver (foundOverTold a)) (λ w. over.Refused w BadTable) (foundOver i k) (λ w. refl)
+    (λ n u. go (findOn k 0 (some n)) (nodeStart i u) (nodeOf i u)) o t
+  where
+    first : (own : Found) (x : FoundOver) → Of calls.FindOver (foundOverTold x) → Of calls.FindOver (foundOverTold (firstOf own x))
+    first (found.At s n) x h = refl
+    first found.Nothing x h = h
+    first (found.Refused r) x h = h
+
+    shows : (own : Found) (start j : ℕ) (l : List Rec) → Of calls.FindOver (foundOverTold (overOf own (findRec k start j l)))
+    shows own start j l =
+        searched (λ f. Of calls.FindOver (foundOverTold (overOf own f))) k start (first own over.Nothing refl) (λ s n. first own (over.InTable s n) refl) j l
+
+    limit : (own : Found) (start : ℕ) (n : Node) (b : Bool) → Of calls.FindOver (foundOverTold (overOf own (pick b (findRec k start 0 (n .recs)) (found.Refused TooLong))))
+    limit own start n true = shows own start 0 (n .recs)
+    limit own start n false = refl
+
+    go : (own : Found) (start : ℕ) (m : Option Node) → Of calls.FindOver (foundOverTold (overOf own (findOn k start m)))
+    go own start none = refl
+    go own start (some n) = limit own start n (leb (length k) maxKey)
+
+listed-over : (i : ℕ) (k out o t : Bytes) → Of calls.ListOver (listedOverTold (lentListOver i k out o t .answer))
+unfolding listedOverTold among calls.refusals
+listed-over i k out o t =
+    from-both (λ (a : Given ListedOver Bytes). Of calls.ListOver (listedOverTold (a .answer))) (λ w. given (merged.Refused w BadTable) out) (listOver i k out) (λ w. refl)
+    (λ n u. go n (nodeOf i u)) o t
+  where
+    into : (hits : Bytes) (b : Bool)
+        → Of calls.ListOver (listedOverTold (pick b (given (merged.Hits (length hits)) (put 0 hits out)) (given (merged.Refused which.Neither NoPlace) out) .answer))
+    into hits true = refl
+    into hits false = refl
+
+    limit : (hits : Bytes) (b : Bool) → Of calls.ListOver (listedOverTold (pick b (merging.listInto hits out) (given (merged.Refused which.Neither TooLong) out) .answer))
+    limit hits true = into hits (leb (length hits) (length out))
+    limit hits false = refl
+
+    go : (n : Node) (m : Option Node) → Of calls.ListOver (listedOverTold (listOn k n m out .answer))
+    go n none = refl
+    go n (some m) = limit (merging.placesOf (merging.listing k (n .recs) (m .recs))) (leb (length k) maxKey)
+
+-- ---- readings of a table
 
 counts : (l : Bytes) → Of calls.NodeCount (countTold (fromTable (count.Refused BadTable) nodeCount l))
 unfolding countTold among calls.refusals
@@ -479,6 +618,50 @@ computes edition excluded ties mtu place told d l =
     known t true = go t (leb leastMtu mtu && leb mtu maxDelta) (digest.fitsAt place mtu d) (eqb (length ties) (length t))
     known t false = refl
 
+plans : (edition : ℕ) (excluded nodes counts : List ℕ) (mtu place : ℕ) (told d l : Bytes)
+    → Of calls.ComputePlan (computedTold (fromTable (given (computed.Refused BadTable) d) (λ t. computePlan edition excluded nodes counts mtu place told t d) l .answer))
+unfolding computePlan computedTold among calls.refusals
+plans edition excluded nodes counts mtu place told d l =
+    from-table (λ (a : Given Computed Bytes). Of calls.ComputePlan (computedTold (a .answer))) (given (computed.Refused BadTable) d)
+    (λ t. computePlan edition excluded nodes counts mtu place told t d) refl
+    (λ t. go t (digest.isEdition edition) (leb leastMtu mtu && leb mtu maxDelta) (digest.fitsAt place mtu d)) l
+  where
+    by : (x : List Op) (b : Bool) → Of calls.ComputePlan (computedTold (pick b (computing.written x place d) (given (computed.Refused BadPlan) d) .answer))
+    by x true = refl
+    by x false = refl
+
+    read : (t : Table) → Of calls.ComputePlan (computedTold (planOn excluded nodes counts mtu place (digest.readDigest edition told) t d .answer))
+    read t =
+        digest-comes (λ x. Of calls.ComputePlan (computedTold (planOn excluded nodes counts mtu place x t d .answer))) refl (λ n. refl) refl
+        (λ ds rest. by (deltaBy excluded nodes counts ds t) (accepts excluded nodes counts mtu ds t)) edition told
+
+    go : (t : Table) (a b c : Bool)
+        → Of calls.ComputePlan (computedTold (pick a (pick b (pick c (planOn excluded nodes counts mtu place (digest.readDigest edition told) t d) (given (computed.Refused NoPlace) d)) (given (computed.Refused BadMtu) d)) (given (computed.Refused BadEdition) d) .answer))
+    go t false b c = refl
+    go t true false c = refl
+    go t true true false = refl
+    go t true true true = read t
+
+judges : (edition : ℕ) (excluded nodes counts : List ℕ) (mtu : ℕ) (told l : Bytes) → Of calls.PlanFault (judgedTold (fromTable (judged.Refused BadTable) (judgePlan edition excluded nodes counts mtu told) l))
+unfolding judgePlan judgedTold among calls.refusals
+judges edition excluded nodes counts mtu told l =
+    from-table (λ (a : Judged). Of calls.PlanFault (judgedTold a)) (judged.Refused BadTable) (judgePlan edition excluded nodes counts mtu told) refl
+    (λ t. go t (digest.isEdition edition) (leb leastMtu mtu && leb mtu maxDelta)) l
+  where
+    by : (n : ℕ) (b : Bool) → n ≡ pick b 0 23 → among n (calls.possible calls.PlanFault) ≡ true
+    by n true e = ap (λ (m : ℕ). among m (calls.possible calls.PlanFault)) e
+    by n false e = ap (λ (m : ℕ). among m (calls.possible calls.PlanFault)) e
+
+    read : (t : Table) → Of calls.PlanFault (judgedTold (judgeOn excluded nodes counts mtu (digest.readDigest edition told) t))
+    read t =
+        digest-comes (λ x. Of calls.PlanFault (judgedTold (judgeOn excluded nodes counts mtu x t))) refl (λ n. refl) refl
+        (λ ds rest. by (judgedTold (judge excluded nodes counts mtu ds t) .number) (isAccepted (judge excluded nodes counts mtu ds t)) (said-number excluded nodes counts mtu ds t)) edition told
+
+    go : (t : Table) (a b : Bool) → Of calls.PlanFault (judgedTold (pick a (pick b (judgeOn excluded nodes counts mtu (digest.readDigest edition told) t) (judged.Refused BadMtu)) (judged.Refused BadEdition)))
+    go t false b = refl
+    go t true false = refl
+    go t true true = read t
+
 delta-reads : (l : Bytes) → Of calls.ReadDelta (readTold (deltaRead l))
 unfolding deltaRead readTold among calls.refusals
 delta-reads l = go (readDelta l) (delta-comes F refl (λ n. refl) refl refl refl refl l)
@@ -589,6 +772,13 @@ no-other (calls.offer-heartbeat t i h) = offers (i .value) (h .value) t
 no-other (calls.local-beat t i) = beaten (i .value) t
 no-other (calls.find t k i) = finds (i .value) k t
 no-other (calls.list-prefix t k out i) = lists (i .value) k out t
+no-other (calls.new-overrides o i) = over-made (i .value) o
+no-other (calls.write-override o k v wanted now) = over-wrote (wanted .value) v (now .value) k o
+no-other (calls.delete-override o k now) = over-deleted (now .value) k o
+no-other (calls.delete-override-after-ttl o k now) = over-deleted-ttl (now .value) k o
+no-other (calls.remove-overrides o now grace) = over-cleaned (now .value) (grace .value) o
+no-other (calls.find-over t o k i) = found-over (i .value) k o t
+no-other (calls.list-over t o k out i) = listed-over (i .value) k out o t
 no-other (calls.node-count t) = counts t
 no-other (calls.node-number t i) = numbered i t
 no-other (calls.node-header t i) = headed (i .value) t
@@ -603,6 +793,8 @@ no-other (calls.write-digest t edition excluded datagram place) = digests editio
 no-other (calls.read-digest edition digest) = digest-reads edition digest
 no-other (calls.digest-entry digest edition i) = entries edition digest i
 no-other (calls.compute t edition digest excluded ties datagram mtu place) = computes edition excluded ties mtu place digest datagram t
+no-other (calls.compute-plan t edition digest excluded nodes counts datagram mtu place) = plans edition excluded nodes counts mtu place digest datagram t
+no-other (calls.plan-fault t edition digest excluded nodes counts mtu) = judges edition excluded nodes counts mtu digest t
 no-other (calls.read-delta delta) = delta-reads delta
 no-other (calls.apply t delta answers now) = applies (delta .bytes) (now .value) answers t
 no-other (calls.list-delta delta out) = shows delta out

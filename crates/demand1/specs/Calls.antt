@@ -19,12 +19,19 @@ use Rattle.lookup.specs.Told.{foundTold}
 use Rattle.inspect.specs.Look.{lentNodeCount, lentNodeNumber, lentNodeHeader, lentRecordCount, lentReadRecord, lentRecordOf, lentRecordByKey, lentNodeRows}
 use Rattle.inspect.specs.Told.{countTold, nodeNumberTold, nodeHeaderTold, recordReadTold, rowsTold}
 use Rattle.prefix.specs.Rows.{lentPrefixRows}
+use Rattle.overrides.specs.Overrides.{validNode, lentNewOverrides, lentWriteOverride, lentCallOverride, lentRemoveOverrides}
+use Rattle.over_find.specs.Over.{lentFindOver}
+use Rattle.over_find.specs.Told.{foundOverTold}
+use Rattle.over_list.specs.Merged.{lentListOver}
+use Rattle.over_list.specs.Told.{listedOverTold}
 use Rattle.inspect_text.specs.Texts.{lentTextFound}
 use Rattle.inspect_text.specs.declared.Text.{Text}
 use Rattle.digest_read.specs.Held.{digestIn}
 use Rattle.digest_read.specs.Told.{digestTold}
 use Rattle.listing_make.specs.Make.{lentMake, madeTold}
 use Rattle.answers.specs.Shown.{entryTold}
+use Rattle.plan.specs.Faults.{judgedTold, lentJudge}
+use Rattle.plan.specs.Plan.{lentComputePlan}
 use Rattle.exchange.specs.Exchanging.{exchangedTold, lending, lentExchange}
 
 -- ---- calls
@@ -53,6 +60,13 @@ pub data Kind : Type 0 where
   LocalBeat : Kind
   Find : Kind
   ListPrefix : Kind
+  NewOverrides : Kind
+  WriteOverride : Kind
+  DeleteOverride : Kind
+  DeleteOverrideAfterTtl : Kind
+  RemoveOverrides : Kind
+  FindOver : Kind
+  ListOver : Kind
   NodeCount : Kind
   NodeNumber : Kind
   NodeHeader : Kind
@@ -67,6 +81,8 @@ pub data Kind : Type 0 where
   ReadDigest : Kind
   DigestEntry : Kind
   Compute : Kind
+  ComputePlan : Kind
+  PlanFault : Kind
   ReadDelta : Kind
   Apply : Kind
   ListDelta : Kind
@@ -88,6 +104,14 @@ pub data Call : Kind → Type 0 where
   local-beat : (table : Bytes) (number : U64) → Call LocalBeat
   find : (table key : Bytes) (number : U64) → Call Find
   list-prefix : (table prefix out : Bytes) (number : U64) → Call ListPrefix
+  -- overrides are no table
+  new-overrides : (overrides : Bytes) (number : U64) → Call NewOverrides
+  write-override : (overrides key value : Bytes) (wanted clock : U64) → Call WriteOverride
+  delete-override : (overrides key : Bytes) (clock : U64) → Call DeleteOverride
+  delete-override-after-ttl : (overrides key : Bytes) (clock : U64) → Call DeleteOverrideAfterTtl
+  remove-overrides : (overrides : Bytes) (clock grace : U64) → Call RemoveOverrides
+  find-over : (table overrides key : Bytes) (number : U64) → Call FindOver
+  list-over : (table overrides prefix out : Bytes) (number : U64) → Call ListOver
   node-count : (table : Bytes) → Call NodeCount
   node-number : (table : Bytes) (i : ℕ) → Call NodeNumber
   node-header : (table : Bytes) (number : U64) → Call NodeHeader
@@ -102,6 +126,8 @@ pub data Call : Kind → Type 0 where
   read-digest : (edition : ℕ) (digest : Bytes) → Call ReadDigest
   digest-entry : (digest : Bytes) (edition i : ℕ) → Call DigestEntry
   compute : (table : Bytes) (edition : ℕ) (digest : Bytes) (excluded ties : List ℕ) (datagram : Bytes) (mtu place : ℕ) → Call Compute
+  compute-plan : (table : Bytes) (edition : ℕ) (digest : Bytes) (excluded nodes counts : List ℕ) (datagram : Bytes) (mtu place : ℕ) → Call ComputePlan
+  plan-fault : (table : Bytes) (edition : ℕ) (digest : Bytes) (excluded nodes counts : List ℕ) (mtu : ℕ) → Call PlanFault
   read-delta : (delta : Bytes) → Call ReadDelta
   apply : (table : Bytes) (delta : Received) (answers : Bytes) (clock : U64) → Call Apply
   list-delta : (delta out : Bytes) → Call ListDelta
@@ -122,6 +148,13 @@ lentTo (offer-heartbeat t i h) = t ∷ []
 lentTo (local-beat t i) = t ∷ []
 lentTo (find t k i) = t ∷ k ∷ []
 lentTo (list-prefix t k out i) = t ∷ k ∷ out ∷ []
+lentTo (new-overrides o i) = o ∷ []
+lentTo (write-override o k v wanted now) = o ∷ k ∷ v ∷ []
+lentTo (delete-override o k now) = o ∷ k ∷ []
+lentTo (delete-override-after-ttl o k now) = o ∷ k ∷ []
+lentTo (remove-overrides o now grace) = o ∷ []
+lentTo (find-over t o k i) = t ∷ o ∷ k ∷ []
+lentTo (list-over t o k out i) = t ∷ o ∷ k ∷ out ∷ []
 lentTo (node-count t) = t ∷ []
 lentTo (node-number t i) = t ∷ []
 lentTo (node-header t i) = t ∷ []
@@ -136,6 +169,8 @@ lentTo (write-digest t edition excluded datagram place) = t ∷ excluded ∷ dat
 lentTo (read-digest edition digest) = digest ∷ []
 lentTo (digest-entry digest edition i) = digest ∷ []
 lentTo (compute t edition digest excluded ties datagram mtu place) = t ∷ digest ∷ excluded ∷ ties ∷ datagram ∷ []
+lentTo (compute-plan t edition digest excluded nodes counts datagram mtu place) = t ∷ digest ∷ excluded ∷ nodes ∷ counts ∷ datagram ∷ []
+lentTo (plan-fault t edition digest excluded nodes counts mtu) = t ∷ digest ∷ excluded ∷ nodes ∷ counts ∷ []
 lentTo (read-delta delta) = delta ∷ []
 lentTo (apply t delta answers now) = t ∷ delta .bytes ∷ answers ∷ []
 lentTo (list-delta delta out) = delta ∷ out ∷ []
@@ -157,6 +192,13 @@ checks OfferHeartbeat = validWhole ∷ []
 checks LocalBeat = validWhole ∷ []
 checks Find = validWhole ∷ []
 checks ListPrefix = validWhole ∷ []
+checks NewOverrides = validNode ∷ []
+checks WriteOverride = validNode ∷ []
+checks DeleteOverride = validNode ∷ []
+checks DeleteOverrideAfterTtl = validNode ∷ []
+checks RemoveOverrides = validNode ∷ []
+checks FindOver = validWhole ∷ validNode ∷ []
+checks ListOver = validWhole ∷ validNode ∷ []
 checks NodeCount = validWhole ∷ []
 checks NodeNumber = validWhole ∷ []
 checks NodeHeader = validWhole ∷ []
@@ -171,6 +213,8 @@ checks WriteDigest = validWhole ∷ []
 checks ReadDigest = []
 checks DigestEntry = []
 checks Compute = validWhole ∷ []
+checks ComputePlan = validWhole ∷ []
+checks PlanFault = validWhole ∷ []
 checks ReadDelta = []
 checks Apply = validWhole ∷ []
 checks ListDelta = []
@@ -191,6 +235,13 @@ tables OfferHeartbeat = 1
 tables LocalBeat = 1
 tables Find = 1
 tables ListPrefix = 1
+tables NewOverrides = 0
+tables WriteOverride = 0
+tables DeleteOverride = 0
+tables DeleteOverrideAfterTtl = 0
+tables RemoveOverrides = 0
+tables FindOver = 1
+tables ListOver = 1
 tables NodeCount = 1
 tables NodeNumber = 1
 tables NodeHeader = 1
@@ -205,6 +256,8 @@ tables WriteDigest = 1
 tables ReadDigest = 0
 tables DigestEntry = 0
 tables Compute = 1
+tables ComputePlan = 1
+tables PlanFault = 1
 tables ReadDelta = 0
 tables Apply = 1
 tables ListDelta = 0
@@ -231,6 +284,13 @@ leaves (offer-heartbeat t i h) = asTold offeredTold (λ u. u ∷ []) (lentOffer 
 leaves (local-beat t i) = asTold answerTold (λ u. u ∷ []) (lentBeat (i .value) t)
 leaves (find t k i) = given (foundTold (lentFind (i .value) k t)) (t ∷ k ∷ [])
 leaves (list-prefix t k out i) = asTold listedTold (λ u. t ∷ k ∷ u ∷ []) (lentPrefixed (i .value) k out t)
+leaves (new-overrides o i) = asTold answerTold (λ u. u ∷ []) (lentNewOverrides (i .value) o)
+leaves (write-override o k v wanted now) = asTold answerTold (λ u. u ∷ k ∷ v ∷ []) (lentWriteOverride (wanted .value) v (now .value) k o)
+leaves (delete-override o k now) = asTold answerTold (λ u. u ∷ k ∷ []) (lentCallOverride (Deleting (now .value)) k o)
+leaves (delete-override-after-ttl o k now) = asTold answerTold (λ u. u ∷ k ∷ []) (lentCallOverride (DeletingAfterTtl (now .value)) k o)
+leaves (remove-overrides o now grace) = asTold answerTold (λ u. u ∷ []) (lentRemoveOverrides (now .value) (grace .value) o)
+leaves (find-over t o k i) = given (foundOverTold (lentFindOver (i .value) k o t)) (t ∷ o ∷ k ∷ [])
+leaves (list-over t o k out i) = asTold listedOverTold (λ u. t ∷ o ∷ k ∷ u ∷ []) (lentListOver (i .value) k out o t)
 leaves (node-count t) = given (countTold (lentNodeCount t)) (t ∷ [])
 leaves (node-number t i) = given (nodeNumberTold (lentNodeNumber i t)) (t ∷ [])
 leaves (node-header t i) = given (nodeHeaderTold (lentNodeHeader (i .value) t)) (t ∷ [])
@@ -246,6 +306,10 @@ leaves (read-digest edition digest) = given (digestTold (digestIn edition digest
 leaves (digest-entry digest edition i) = given (entryTold i (digestIn edition digest)) (digest ∷ [])
 leaves (compute t edition digest excluded ties datagram mtu place) =
     asTold computedTold (λ u. t ∷ digest ∷ excluded ∷ ties ∷ u ∷ []) (lentCompute edition excluded ties mtu place digest datagram t)
+leaves (compute-plan t edition digest excluded nodes counts datagram mtu place) =
+    asTold computedTold (λ u. t ∷ digest ∷ excluded ∷ nodes ∷ counts ∷ u ∷ []) (lentComputePlan edition excluded nodes counts mtu place digest datagram t)
+leaves (plan-fault t edition digest excluded nodes counts mtu) =
+    given (judgedTold (lentJudge edition excluded nodes counts mtu digest t)) (t ∷ digest ∷ excluded ∷ nodes ∷ counts ∷ [])
 leaves (read-delta delta) = given (readTold (deltaRead delta)) (delta ∷ [])
 leaves (apply t delta answers now) = asTold appliedTold (λ u. u .table ∷ delta .bytes ∷ u .list ∷ []) (lentApply (delta .bytes) (now .value) answers t)
 leaves (list-delta delta out) = asTold writtenTold (λ u. delta ∷ u ∷ []) (listDelta delta out)
@@ -269,6 +333,13 @@ refusals OfferHeartbeat = 14 ∷ 2 ∷ []
 refusals LocalBeat = 14 ∷ 2 ∷ 6 ∷ []
 refusals Find = 14 ∷ 2 ∷ 1 ∷ []
 refusals ListPrefix = 14 ∷ 2 ∷ 1 ∷ 8 ∷ []
+refusals NewOverrides = 14 ∷ []
+refusals WriteOverride = 14 ∷ 10 ∷ 1 ∷ 5 ∷ 6 ∷ []
+refusals DeleteOverride = 14 ∷ 1 ∷ 3 ∷ 6 ∷ []
+refusals DeleteOverrideAfterTtl = 14 ∷ 1 ∷ 3 ∷ 6 ∷ []
+refusals RemoveOverrides = 14 ∷ []
+refusals FindOver = 14 ∷ 2 ∷ 1 ∷ []
+refusals ListOver = 14 ∷ 2 ∷ 1 ∷ 8 ∷ []
 refusals NodeCount = 14 ∷ []
 refusals NodeNumber = 14 ∷ 8 ∷ []
 refusals NodeHeader = 14 ∷ 2 ∷ []
@@ -283,6 +354,8 @@ refusals WriteDigest = 14 ∷ 20 ∷ 8 ∷ []
 refusals ReadDigest = 20 ∷ 9 ∷ 13 ∷ []
 refusals DigestEntry = 20 ∷ 9 ∷ 13 ∷ 8 ∷ []
 refusals Compute = 14 ∷ 20 ∷ 7 ∷ 8 ∷ 15 ∷ 9 ∷ 13 ∷ []
+refusals ComputePlan = 14 ∷ 20 ∷ 7 ∷ 8 ∷ 9 ∷ 13 ∷ 23 ∷ []
+refusals PlanFault = 14 ∷ 20 ∷ 7 ∷ 9 ∷ 13 ∷ 23 ∷ []
 refusals ReadDelta = 13 ∷ 9 ∷ 1 ∷ 10 ∷ 11 ∷ 12 ∷ []
 refusals Apply = 14 ∷ 13 ∷ 9 ∷ 1 ∷ 10 ∷ 11 ∷ 12 ∷ 8 ∷ []
 refusals ListDelta = 8 ∷ []
@@ -304,6 +377,13 @@ remembers OfferHeartbeat = false
 remembers LocalBeat = false
 remembers Find = false
 remembers ListPrefix = false
+remembers NewOverrides = false
+remembers WriteOverride = false
+remembers DeleteOverride = false
+remembers DeleteOverrideAfterTtl = false
+remembers RemoveOverrides = false
+remembers FindOver = false
+remembers ListOver = false
 remembers NodeCount = false
 remembers NodeNumber = false
 remembers NodeHeader = false
@@ -318,6 +398,8 @@ remembers WriteDigest = false
 remembers ReadDigest = false
 remembers DigestEntry = false
 remembers Compute = false
+remembers ComputePlan = false
+remembers PlanFault = false
 remembers ReadDelta = false
 remembers Apply = false
 remembers ListDelta = false

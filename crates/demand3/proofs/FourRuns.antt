@@ -1,8 +1,10 @@
--- Evidence, and no part of a promise: four runs. Runs computes them, Witnesses says what they show. The first needs every exchange that the closing count grants. In the second a reset forgets a deleted
+-- Evidence, and no part of a promise: four runs, and three by plans. Runs computes them, Witnesses says what they show. The first needs every exchange that the closing count grants. In the second a reset forgets a deleted
 -- key and takes a live one below last_gc; in the third one delta brings two nodes. In the fourth a delta arrives late, after the next digest,
 -- which no run of demand 3's world has for a plain follower; it brings a deleted key back, so that the demand must not be carried over to late deltas
--- there. The same run with a fenced follower is one of that world, and the key stays dead.
+-- there. The same run with a fenced follower is one of that world, and the key stays dead. Of those by plans the first closes; in the second the plans are empty,
+-- in the third the digest leaves out what they name, and neither closes.
 use Prim.Native.Nat.{ℕ}
+use mathlib.Core.Bool.{Bool, _&&_, true}
 use mathlib.Core.List.{List, [], _∷_, _++_}
 use mathlib.Core.Option.{Option, none, some}
 use lib.ListN.{replicate}
@@ -10,8 +12,9 @@ use Rattle.rules.specs.Node.{KeyValue, Rec, Node, Setting, Deleting, beats}
 use Rattle.rules.specs.Table.{Table, nodeOf}
 use Rattle.rules.specs.Apply.{Ways, fencedWays, plainWays}
 use Rattle.rules.specs.declared.Status.the-variants.{Set}
-use Rattle.demand3.specs.Forms.{ByClock, InLine}
-use Rattle.demand3.specs.World.{World, Publishers, Followers, Event, Writing, Beating, Offering, Removing, Digesting, Computing, Applying, Arriving, onExchange, start, after}
+use Rattle.demand3.specs.Forms.{AsPlanned, ByClock, InLine}
+use Rattle.demand3.specs.World.{World, Publishers, Followers, Event, Writing, Beating, Offering, Removing, Digesting, Computing, Applying, Arriving, onExchange, start, after, happen}
+use Rattle.demand3.specs.Demand3.{granted}
 
 -- one node, number 7, and its pair (last_gc, max)
 abbrev pub seven : List ℕ
@@ -76,6 +79,25 @@ lively =
     ∷ Applying 51 (0 ∷ [])
     ∷ []
 
+-- ---- by plans
+
+-- an exchange by a plan, under an MTU of 100
+abbrev byPlan : List ℕ → List ℕ → List Event
+byPlan nodes counts = Digesting 0 [] 0 (replicate 34 0) ∷ Computing 0 [] (AsPlanned nodes counts) 100 0 (replicate 100 0) ∷ Applying 50 (0 ∷ []) ∷ []
+
+-- one that names the node and its record, and then one in document 01's order
+abbrev pub planned : List Event
+planned = byPlan seven (1 ∷ []) ++ whole
+
+-- as many as the publisher holds records and nodes, whose plans are empty
+abbrev pub idle : List Event
+idle = byPlan [] [] ++ byPlan [] []
+
+-- nothing refused
+unfoldable pub allGranted : Ways → List Event → World → Bool
+allGranted ways [] w = true
+allGranted ways (e ∷ es) w = granted ways e w && allGranted ways es (happen ways e w)
+
 -- ---- a reset forgets what was removed, and takes what is live
 
 -- the keys of node 7 with their versions
@@ -113,6 +135,24 @@ bothNodes =
     ∷ Applying 50 (0 ∷ 0 ∷ [])
     ∷ [])
     (start (7 ∷ 9 ∷ []))
+
+-- Node 9 is up to date, 7 is not. As many exchanges as the publisher holds records and nodes, by a plan that names node 9, which the digest leaves out.
+abbrev pub oneBehind : World
+oneBehind =
+    after plainWays
+    (Writing 9 b (Setting one)
+    ∷ Digesting 0 [] 0 (replicate 66 0)
+    ∷ Computing 0 [] (InLine (0 ∷ 0 ∷ [])) 300 0 (replicate 300 0)
+    ∷ Applying 50 (0 ∷ [])
+    ∷ Writing 7 k (Setting one)
+    ∷ [])
+    (start (7 ∷ 9 ∷ []))
+
+abbrev leavesOut : List Event
+leavesOut = Digesting 0 (9 ∷ []) 0 (replicate 34 0) ∷ Computing 0 [] (AsPlanned (9 ∷ []) (1 ∷ [])) 100 0 (replicate 100 0) ∷ Applying 50 (0 ∷ []) ∷ []
+
+abbrev pub untold : List Event
+untold = leavesOut ++ (leavesOut ++ (leavesOut ++ leavesOut))
 
 -- ---- a late delta
 

@@ -10,10 +10,12 @@ pub mod OneNode
 pub mod EachNode
 pub mod OnTheWay
 pub mod Nearer
+pub mod Planned
 pub mod Forms
 pub mod Moments
 pub mod Quiet
 pub mod Whole
 pub mod Closing
 pub mod Demand3
+pub mod Planner
 pub mod Witnesses

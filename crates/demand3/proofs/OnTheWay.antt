@@ -99,20 +99,22 @@ stale-free excluded l ties (e ∷ t) o m = go (among (e .number) excluded) refl 
         at (inl p) = ap (λ (s : StaleNode). among (s .number) excluded) p ∙ q
         at (inr n) = ih n
 
--- what is made of a stale node is such a part
-pub part-for : (excluded : List ℕ) (ds : List NodeDigest) (ties : List ℕ) (t : Table) → obeys t ≡ true
-    → (o : StaleNode) → o ∈ staleNodes excluded ds ties t
-    → (i : ℕ) → i ≡ o .number
-    → (d : NodeDelta) (count : ℕ) (fits : Bool) → d ≡ nodeDelta (o .node) (o .told-gc) (o .told-max) count fits
-    → PartFor excluded ds t i d
-part-for excluded ds ties t ok o m i same d count fits is =
+-- a stale node is the table's node of its number, with the pair that the digest tells of it
+pub record Stands (ds : List NodeDigest) (t : Table) (i : ℕ) (o : StaleNode) : Type 0 where
+  pub held : (e : Entry) × (e ∈ t) × (i ≡ e .number)
+  pub node-is : o .node ≡ nodeAt i t
+  pub gc-is : o .told-gc ≡ toldOf i ds .last-gc
+  pub max-is : o .told-max ≡ toldOf i ds .max
+  pub behind : toldOf i ds .max < nodeAt i t .max
+
+pub stands : (excluded : List ℕ) (ds : List NodeDigest) (ties : List ℕ) (t : Table) → obeys t ≡ true → (o : StaleNode) → o ∈ staleNodes excluded ds ties t → (i : ℕ) → i ≡ o .number → Stands ds t i o
+stands excluded ds ties t ok o m i same =
     record {
       held = (x .entry, x .held, number-is);
-      free = ap (λ (j : ℕ). among j excluded) same ∙ stale-free excluded ds ties t o m;
+      node-is = node-is;
+      gc-is = x .gc-is ∙ ap (λ (j : ℕ). toldOf j ds .last-gc) (sym number-is);
+      max-is = max-is;
       behind = let a = x .behind in let b = max-is in let c = ap (λ (n : Node). n .max) node-is in omega arith;
-      count = count;
-      fits = fits;
-      delta-is = is ∙ (λ z. nodeDelta (node-is z) (gc-is z) (max-is z) count fits);
     }
   where
     x : Behind ds t o
@@ -124,11 +126,25 @@ part-for excluded ds ties t ok o m i same d count fits is =
     node-is : o .node ≡ nodeAt i t
     node-is = x .node-is ∙ sym (ap orFresh (node-entry (x .entry) (table-facts t ok .ascending) (x .held))) ∙ ap (λ (j : ℕ). nodeAt j t) (sym number-is)
 
-    gc-is : o .told-gc ≡ toldOf i ds .last-gc
-    gc-is = x .gc-is ∙ ap (λ (j : ℕ). toldOf j ds .last-gc) (sym number-is)
-
     max-is : o .told-max ≡ toldOf i ds .max
     max-is = x .max-is ∙ ap (λ (j : ℕ). toldOf j ds .max) (sym number-is)
+
+-- what is made of a stale node is such a part
+pub part-for : (excluded : List ℕ) (ds : List NodeDigest) (ties : List ℕ) (t : Table) → obeys t ≡ true
+    → (o : StaleNode) → o ∈ staleNodes excluded ds ties t
+    → (i : ℕ) → i ≡ o .number
+    → (d : NodeDelta) (count : ℕ) (fits : Bool) → d ≡ nodeDelta (o .node) (o .told-gc) (o .told-max) count fits
+    → PartFor excluded ds t i d
+part-for excluded ds ties t ok o m i same d count fits is =
+    let x = stands excluded ds ties t ok o m i same in
+    record {
+      held = x .held;
+      free = ap (λ (j : ℕ). among j excluded) same ∙ stale-free excluded ds ties t o m;
+      behind = x .behind;
+      count = count;
+      fits = fits;
+      delta-is = is ∙ (λ z. nodeDelta (x .node-is z) (x .gc-is z) (x .max-is z) count fits);
+    }
 
 pub made-of : {excluded : List ℕ} {ds : List NodeDigest} {t : Table} {i : ℕ} {d : NodeDelta} → PartFor excluded ds t i d → MadeOf (nodeAt i t) d
 made-of {ds = ds} {i = i} x = record { told-gc = toldOf i ds .last-gc; told-max = toldOf i ds .max; count = x .count; fits = x .fits; delta-is = x .delta-is }

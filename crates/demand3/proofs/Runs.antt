@@ -1,5 +1,6 @@
 -- The four runs of FourRuns, computed through every byte. The long line under each statement names all that a run unfolds, from the world down to a byte: a
 -- proof opens a definition only by naming it under its own signature, so the line stands with each. Assumes nothing.
+use mathlib.Core.Bool.{true}
 use mathlib.Core.List.{[], _++_, _∷_}
 use mathlib.Core.Path.{_≡_, refl}
 use Rattle.fields.specs.Blocks.{flat, unblock}
@@ -13,9 +14,10 @@ use Rattle.rules.specs.Delta.{deltaBytes, follow, maxOf, opBytes, partsOf, read
 use Rattle.rules.specs.Digest.{digestBytes, digestOf, entryBytes, entryOf, headWidth, readDigest, readEntries, tell, tellAll, writeDigest}
 use Rattle.rules.specs.Local.{call, gc, localBeat, offer}
 use Rattle.rules.specs.Node.{act, decide, find, lastGc, offerOf, remove, store, wish, write}
-use Rattle.rules.specs.Table.{among, nodeOf, removeAll, setNode}
+use Rattle.rules.specs.Table.{among, differ, nodeOf, removeAll, setNode}
+use Rattle.plan.specs.Plan.{accepts, computePlan, deltaBy, linesFit, named, planOps}
 use Rattle.demand3.specs.Demand3.{NotBegun, holdings, wholes}
-use Rattle.demand3.proofs.FourRuns.{amid, bothNodes, caughtUp, fencedUp, forgotten, heldOff, keys, keysOf, lively, oneRecord, pair, pairAt, removedThere, tookLate, wasReset, whole}
+use Rattle.demand3.proofs.FourRuns.{allGranted, amid, bothNodes, caughtUp, fencedUp, forgotten, heldOff, idle, keys, keysOf, lively, oneBehind, oneRecord, pair, pairAt, planned, removedThere, tookLate, untold, wasReset, whole}
 use Rattle.demand3.specs.World.{after, freshTable, happen, nthSent, start}
 
 -- the publisher holds one record and one node; one whole exchange brings the follower to (3,1), the second to (3,3), also with beats in it
@@ -27,6 +29,28 @@ pub tight : (pair (oneRecord .publisher) ≡ 3 ∷ 3 ∷ [])
     × (pair (after plainWays (whole ++ lively) oneRecord .follower) ≡ 3 ∷ 3 ∷ [])
 unfolding holdings wholes localBeat offer offerOf after happen start freshTable call gc nodeOf setNode removeAll decide wish find act write store remove lastGc keep sameBytes lessBytes among writeDigest digestOf digestBytes headWidth entryBytes entryOf readEntries readDigest tell tellAll compute deltaFor cut allOps ordered queue sooner staleNodes toldOf fromOf stale byVersion keyValueOps sizeOf deltaBytes opBytes textBytes bytesOf natOf part put flat unblock apply applyEach applyNode deltaStatus statusOf newerOf outcome takeAll takes codes readDelta readOps readOp readNode readKeyValue readSetMaxVersion follow partsOf recsOf maxOf
 tight = (refl, refl, refl, refl, refl, refl)
+
+-- a planned exchange under an MTU of 100 and one in document 01's order: both count, and the follower is at (3,3)
+pub planned-closes : (wholes plainWays NotBegun planned oneRecord ≡ 2) × (pair (after plainWays planned oneRecord .follower) ≡ 3 ∷ 3 ∷ [])
+unfolding holdings wholes allGranted after happen start freshTable call gc nodeOf setNode removeAll decide wish find act write store remove lastGc keep sameBytes lessBytes among writeDigest digestOf digestBytes headWidth entryBytes entryOf readEntries readDigest tell tellAll compute deltaFor cut allOps ordered queue sooner staleNodes toldOf fromOf stale byVersion keyValueOps sizeOf deltaBytes opBytes textBytes bytesOf natOf part put flat unblock apply applyEach applyNode deltaStatus statusOf newerOf outcome takeAll takes codes readDelta readOps readOp readNode readKeyValue readSetMaxVersion follow partsOf recsOf maxOf computePlan accepts deltaBy linesFit planOps named differ
+planned-closes = (refl, refl)
+
+-- two exchanges by the empty plan: nothing is refused, none counts, and the follower stays at (0,0)
+pub idle-stays : (allGranted plainWays idle oneRecord ≡ true)
+    × (wholes plainWays NotBegun idle oneRecord ≡ 0)
+    × (pair (after plainWays idle oneRecord .publisher) ≡ 3 ∷ 3 ∷ [])
+    × (pair (after plainWays idle oneRecord .follower) ≡ 0 ∷ 0 ∷ [])
+unfolding holdings wholes allGranted after happen start freshTable call gc nodeOf setNode removeAll decide wish find act write store remove lastGc keep sameBytes lessBytes among writeDigest digestOf digestBytes headWidth entryBytes entryOf readEntries readDigest tell tellAll compute deltaFor cut allOps ordered queue sooner staleNodes toldOf fromOf stale byVersion keyValueOps sizeOf deltaBytes opBytes textBytes bytesOf natOf part put flat unblock apply applyEach applyNode deltaStatus statusOf newerOf outcome takeAll takes codes readDelta readOps readOp readNode readKeyValue readSetMaxVersion follow partsOf recsOf maxOf computePlan accepts deltaBy linesFit planOps named differ
+idle-stays = (refl, refl, refl, refl)
+
+-- four exchanges by a plan that names what the digest left out: nothing is refused, none counts, and node 7 stays at (0,0)
+pub untold-stays : (holdings (oneBehind .publisher) ≡ 4)
+    × (allGranted plainWays untold oneBehind ≡ true)
+    × (wholes plainWays NotBegun untold oneBehind ≡ 0)
+    × (pair (after plainWays untold oneBehind .publisher) ≡ 0 ∷ 1 ∷ [])
+    × (pair (after plainWays untold oneBehind .follower) ≡ 0 ∷ 0 ∷ [])
+unfolding holdings wholes allGranted after happen start freshTable call gc nodeOf setNode removeAll decide wish find act write store remove lastGc keep sameBytes lessBytes among writeDigest digestOf digestBytes headWidth entryBytes entryOf readEntries readDigest tell tellAll compute deltaFor cut allOps ordered queue sooner staleNodes toldOf fromOf stale byVersion keyValueOps sizeOf deltaBytes opBytes textBytes bytesOf natOf part put flat unblock apply applyEach applyNode deltaStatus statusOf newerOf outcome takeAll takes codes readDelta readOps readOp readNode readKeyValue readSetMaxVersion follow partsOf recsOf maxOf computePlan accepts deltaBy linesFit planOps named differ
+untold-stays = (refl, refl, refl, refl, refl)
 
 -- the publisher is at (3,3) with b alone; the follower, which had k alone, is reset, has b alone, and is at (3,2)
 pub forgets : (keys (removedThere .publisher) ≡ (2 ∷ 98 ∷ []) ∷ [])

@@ -23,7 +23,7 @@ use Rattle.rules.specs.declared.Computed.{Computed}
 use Rattle.rules.specs.declared.Computed.the-variants as computed
 use Rattle.rules.specs.declared.Applied.{Applied}
 use Rattle.rules.specs.declared.Applied.the-variants as applied
-use Rattle.demand3.specs.Forms.{Order, InLine, computeBy}
+use Rattle.demand3.specs.Forms.{Order, InLine, AsPlanned, computeBy}
 use Rattle.demand3.specs.World.{World, Exchange, Idle, DigestSent, DeltaSent, Event, Writing, Beating, Offering, Removing, Digesting, Computing, Applying, Sending, Arriving, possible, happen, after, start}
 
 -- ---- the claims at a moment
@@ -92,9 +92,11 @@ abbrev pub isNone : (excluded : List ℕ) → Bool
 isNone [] = true
 isNone (i ∷ is) = false
 
--- a computing whose exchange counts: in document 01's order no node is excluded, and the MTU is wide enough
+-- A computing whose exchange counts. In document 01's order no node is excluded, and the MTU is wide enough. A plan counts if it names a node: any MTU that it fits, any nodes
+-- excluded from the delta.
 abbrev pub wideEnough : (excluded : List ℕ) (order : Order) (mtu : ℕ) → Bool
 wideEnough excluded (InLine ties) mtu = isNone excluded && leb leastWidth mtu
+wideEnough excluded (AsPlanned nodes counts) mtu = not (isNone nodes)
 
 -- no node is excluded from the digest, and the computing counts
 abbrev pub unlimited : (event : Event) → Bool
@@ -144,7 +146,7 @@ granted ways (Applying now l) w = possible ways (Applying now l) && isApplied wa
 granted ways (Sending edition digest excluded order mtu place l) w = true
 granted ways (Arriving k now l) w = true
 
--- A whole exchange is a digest, a delta and its applying, in this order, with no node excluded, an MTU of 135 or more, nothing lost and nothing
+-- A whole exchange is a digest, a delta and its applying, in this order, with no node excluded and an MTU of 135 or more, or by a plan that names a node; nothing lost and nothing
 -- refused, and both ends use one edition: the delta is computed in the edition that the digest was written in. Beats, offers and late deltas may fall
 -- between its steps. The stages: none has begun, its digest is written in an edition, its delta is computed.
 pub data Stage : Type 0 where

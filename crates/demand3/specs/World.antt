@@ -1,6 +1,6 @@
 -- Demand 3's world: a publisher's table and a follower's, all that may happen to them, and where their exchange stands. A run is a list of
--- events, and `after` gives the world after it. Whatever happens is a call of document 01, as the files beside this one define it: local
--- calls and removal (Local), digest writing (Digest), computing (Compute), applying (Apply). Bytes go from one side to the other. `Ways` are the
+-- events, and `after` gives the world after it. Whatever happens is a call of document 01 or 02, as `rules` and `plan` define it: local
+-- calls and removal (Local), digest writing (Digest), computing (Compute, Plan), applying (Apply). Bytes go from one side to the other. `Ways` are the
 -- follower's (Apply); document 01's are `plainWays`.
 use Prim.Native.Nat.{ℕ, zero, suc, _+_}
 use mathlib.Core.Bool.{Bool, true, _&&_}

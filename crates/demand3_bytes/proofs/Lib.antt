@@ -3,3 +3,4 @@ pub mod LentDemand3
 pub mod Runs
 pub mod Closing
 pub mod Start
+pub mod Planner

@@ -4,8 +4,11 @@ use answers::KevApplied;
 use answers::KevComputed;
 use answers::KevCount;
 use answers::KevFound;
+use answers::KevFoundOver;
 use answers::KevHeader;
 use answers::KevHeartbeat;
+use answers::KevJudged;
+use answers::KevListedOver;
 use answers::KevNode;
 use answers::KevRecord;
 use answers::KevRows;
@@ -33,7 +36,14 @@ ghost use Rattle.prefix.specs.Rows.{lentPrefixRows};
 ghost use Rattle.inspect_text.specs.Texts.{lentTextFound};
 ghost use Rattle.inspect_text.specs.declared.Text.the-variants.{Key, Value};
 ghost use Rattle.answers.specs.Shown.{shownAs, numberShown, countShown, nodeShown, heartbeatShown, foundShown, headerShown, recordShown, rowsShown};
-ghost use Rattle.answers.specs.Shown.{computedShown, appliedShown};
+ghost use Rattle.plan.specs.Faults.{judgedTold, lentJudge};
+ghost use Rattle.plan.specs.Plan.{lentComputePlan};
+ghost use Rattle.answers.specs.Shown.{computedShown, judgedShown, appliedShown, foundOverShown, listedOverShown};
+ghost use Rattle.overrides.specs.Overrides.{validNode};
+ghost use Rattle.over_find.specs.Over.{lentFindOver};
+ghost use Rattle.over_find.specs.Told.{foundOverTold};
+ghost use Rattle.over_list.specs.Merged.{lentListOver};
+ghost use Rattle.over_list.specs.Told.{listedOverTold};
 
 // ---- the table and its nodes
 
@@ -187,6 +197,44 @@ pub extern "C" fn kev_good_list_prefix(
     answers::hits(prefix::list_good(&table[..layout::AREA], number, prefix, out))
 }
 
+// Where the value of the key stands, in overrides that `kev_check_overrides` accepts or in the table: 2, 1.
+#[no_mangle]
+pub extern "C" fn kev_good_find_over(
+    overrides: &[u8],
+    table: &[u8],
+    number: u64,
+    key: &[u8],
+) -> KevFoundOver
+    requires { ⌜ (validNode (now overrides) ≡ true) × (validWhole (now table) ≡ true) ⌝ }
+    ensures { λ r. ⌜ r ≡ foundOverShown (foundOverTold (lentFindOver number (now (key .entry)) (now (overrides .entry)) (now (table .entry)))) ⌝ }
+{
+    answers::found_over(over_find::find_over_good(overrides, &table[..layout::AREA], number, key))
+}
+
+// The merged listing of such overrides and the node, a byte for each hit; the count is how many: 2, 1, 8.
+#[no_mangle]
+pub extern "C" fn kev_good_list_over(
+    overrides: &[u8],
+    table: &[u8],
+    number: u64,
+    prefix: &[u8],
+    out: &mut [u8],
+) -> KevListedOver
+    requires { ⌜ (validNode (now overrides) ≡ true) × (validWhole (now table) ≡ true) ⌝ }
+    ensures { λ r. ⌜ Gives
+        (shownAs listedOverTold listedOverShown
+        (lentListOver number (now (prefix .entry)) (now (out .entry)) (now (overrides .entry)) (now (table .entry))))
+        r (now (out .exit)) ⌝ }
+{
+    answers::hits_over(over_list::list_over_good(
+        overrides,
+        &table[..layout::AREA],
+        number,
+        prefix,
+        out,
+    ))
+}
+
 // How many nodes the table holds.
 #[no_mangle]
 pub extern "C" fn kev_good_node_count(table: &[u8]) -> KevCount
@@ -337,6 +385,65 @@ pub extern "C" fn kev_good_compute(
         ties,
         datagram,
         place,
+    ))
+}
+
+// The delta of a plan, its nodes in their order with so many stale records each, into the datagram from the place on: 20, 7, 8, 9, 13, 23.
+#[no_mangle]
+pub extern "C" fn kev_good_compute_plan(
+    table: &[u8],
+    edition: u64,
+    digest: &[u8],
+    mtu: usize,
+    excluded: &[u64],
+    nodes: &[u64],
+    counts: &[u64],
+    datagram: &mut [u8],
+    place: usize,
+) -> KevComputed
+    requires { ⌜ validWhole (now table) ≡ true ⌝ }
+    ensures { λ r. ⌜ Gives
+        (shownAs computedTold computedShown
+        (lentComputePlan edition (now (excluded .entry)) (now (nodes .entry)) (now (counts .entry)) mtu place (now (digest .entry))
+        (now (datagram .entry)) (now (table .entry))))
+        r (now (datagram .exit)) ⌝ }
+{
+    answers::computed(compute_plan::compute_plan_good(
+        &table[..layout::AREA],
+        edition,
+        digest,
+        mtu,
+        excluded,
+        nodes,
+        counts,
+        datagram,
+        place,
+    ))
+}
+
+// The first line of a plan that is at fault, and why: 20, 7, 9, 13, 23.
+#[no_mangle]
+pub extern "C" fn kev_good_plan_fault(
+    table: &[u8],
+    edition: u64,
+    digest: &[u8],
+    mtu: usize,
+    excluded: &[u64],
+    nodes: &[u64],
+    counts: &[u64],
+) -> KevJudged
+    requires { ⌜ validWhole (now table) ≡ true ⌝ }
+    ensures { λ r. ⌜ r ≡ judgedShown (judgedTold
+        (lentJudge edition (now (excluded .entry)) (now (nodes .entry)) (now (counts .entry)) mtu (now (digest .entry)) (now (table .entry)))) ⌝ }
+{
+    answers::judged(compute_plan::plan_fault_good(
+        &table[..layout::AREA],
+        edition,
+        digest,
+        mtu,
+        excluded,
+        nodes,
+        counts,
     ))
 }
 

@@ -9,8 +9,11 @@ use answers::KevDigest;
 use answers::KevEntry;
 use answers::KevExchanged;
 use answers::KevFound;
+use answers::KevFoundOver;
 use answers::KevHeader;
 use answers::KevHeartbeat;
+use answers::KevJudged;
+use answers::KevListedOver;
 use answers::KevMade;
 use answers::KevNode;
 use answers::KevRecord;
@@ -39,12 +42,21 @@ ghost use Rattle.digest_read.specs.Held.{digestIn};
 ghost use Rattle.digest_read.specs.Told.{digestTold};
 ghost use Rattle.exchange.specs.Exchanging.{allFour, exchangedTold, lending, lentExchange};
 ghost use Rattle.answers.specs.Shown.{shownAs, numberShown, countShown, nodeShown, heartbeatShown, foundShown, headerShown, recordShown, rowsShown};
-ghost use Rattle.answers.specs.Shown.{digestShown, entryTold, entryShown, computedShown, deltaShown, appliedShown, exchangedShown};
+ghost use Rattle.answers.specs.Shown.{digestShown, entryTold, entryShown, computedShown, judgedShown, deltaShown, appliedShown, exchangedShown};
 ghost use Rattle.answers.specs.Shown.{madeShown};
+ghost use Rattle.plan.specs.Faults.{judgedTold, lentJudge};
+ghost use Rattle.plan.specs.Plan.{lentComputePlan};
 ghost use Rattle.listing_make.specs.Make.{lentMake, madeTold};
-ghost use Rattle.library.specs.Numbers.{checkNumber, madeBy};
+ghost use Rattle.overrides.specs.Overrides.{lentNewOverrides, lentWriteOverride, lentCallOverride, lentRemoveOverrides};
+ghost use Rattle.over_find.specs.Over.{lentFindOver};
+ghost use Rattle.over_find.specs.Told.{foundOverTold};
+ghost use Rattle.over_list.specs.Merged.{lentListOver};
+ghost use Rattle.over_list.specs.Told.{listedOverTold};
+ghost use Rattle.answers.specs.Shown.{foundOverShown, listedOverShown};
+ghost use Rattle.library.specs.Numbers.{checkNumber, overridesNumber, madeBy};
 
 pub mod good;
+pub mod watch;
 
 // ---- the check
 
@@ -181,6 +193,100 @@ pub extern "C" fn kev_list_prefix(
     answers::hits(prefix::list_prefix(table, number, prefix, out))
 }
 
+// ---- overrides
+
+// 0 where the bytes are overrides that obey the rules, else 14.
+#[no_mangle]
+pub extern "C" fn kev_check_overrides(overrides: &[u8]) -> u64
+    ensures { λ r. ⌜ r ≡ overridesNumber (now (overrides .entry)) ⌝ }
+{
+    if overrides::check_overrides(overrides) {
+        return 0;
+    }
+    Refusal::BadTable.number()
+}
+
+// The slice becomes overrides without a record, under this number: 14 where it is not as long as a node.
+#[no_mangle]
+pub extern "C" fn kev_new_overrides(overrides: &mut [u8], number: u64) -> u64
+    ensures { λ r. ⌜ Gives (shownAs answerTold numberShown (lentNewOverrides number (now (overrides .entry)))) r (now (overrides .exit)) ⌝ }
+{
+    answers::number(overrides::new_overrides(overrides, number))
+}
+
+// The key's override takes this value under the wanted status, 0 Set or 2 TTL: 14, 10, 1, 5, 6.
+#[no_mangle]
+pub extern "C" fn kev_write_override(
+    overrides: &mut [u8],
+    key: &[u8],
+    value: &[u8],
+    wanted: u64,
+    clock: u64,
+) -> u64
+    ensures { λ r. ⌜ Gives (shownAs answerTold numberShown (lentWriteOverride wanted (now (value .entry)) clock (now (key .entry)) (now (overrides .entry))))
+        r (now (overrides .exit)) ⌝ }
+{
+    answers::number(overrides::write_override(overrides, key, value, local::wanted(wanted), clock))
+}
+
+// The key's override is emptied, hidden and scheduled: 14, 1, 3, 6.
+#[no_mangle]
+pub extern "C" fn kev_delete_override(overrides: &mut [u8], key: &[u8], clock: u64) -> u64
+    ensures { λ r. ⌜ Gives (shownAs answerTold numberShown (lentCallOverride (Deleting clock) (now (key .entry)) (now (overrides .entry))))
+        r (now (overrides .exit)) ⌝ }
+{
+    answers::number(overrides::delete_override(overrides, key, clock))
+}
+
+// The key's override keeps its value and is scheduled: 14, 1, 3, 6.
+#[no_mangle]
+pub extern "C" fn kev_delete_override_after_ttl(overrides: &mut [u8], key: &[u8], clock: u64) -> u64
+    ensures { λ r. ⌜ Gives (shownAs answerTold numberShown (lentCallOverride (DeletingAfterTtl clock) (now (key .entry)) (now (overrides .entry))))
+        r (now (overrides .exit)) ⌝ }
+{
+    answers::number(overrides::delete_override_after_ttl(overrides, key, clock))
+}
+
+// The scheduled overrides whose grace is over go: 14.
+#[no_mangle]
+pub extern "C" fn kev_remove_overrides(overrides: &mut [u8], clock: u64, grace: u64) -> u64
+    ensures { λ r. ⌜ Gives (shownAs answerTold numberShown (lentRemoveOverrides clock grace (now (overrides .entry)))) r (now (overrides .exit)) ⌝ }
+{
+    answers::number(overrides::remove_overrides(overrides, clock, grace))
+}
+
+// Where the value of the key stands, in the overrides or in the table: 14 of the overrides, 14 of the table, 2, 1.
+#[no_mangle]
+pub extern "C" fn kev_find_over(
+    overrides: &[u8],
+    table: &[u8],
+    number: u64,
+    key: &[u8],
+) -> KevFoundOver
+    ensures { λ r. ⌜ r ≡ foundOverShown (foundOverTold (lentFindOver number (now (key .entry)) (now (overrides .entry)) (now (table .entry)))) ⌝ }
+{
+    answers::found_over(over_find::find_over(overrides, table, number, key))
+}
+
+// The merged listing of the overrides and the node, a byte for each hit; the count is how many: 14 of the overrides, 14 of the table, 2, 1, 8.
+#[no_mangle]
+pub extern "C" fn kev_list_over(
+    overrides: &[u8],
+    table: &[u8],
+    number: u64,
+    prefix: &[u8],
+    out: &mut [u8],
+) -> KevListedOver
+    ensures { λ r. ⌜ Gives
+        (shownAs listedOverTold listedOverShown
+        (lentListOver number (now (prefix .entry)) (now (out .entry)) (now (overrides .entry)) (now (table .entry))))
+        r (now (out .exit)) ⌝ }
+{
+    answers::hits_over(over_list::list_over(overrides, table, number, prefix, out))
+}
+
+// ---- readings of nodes and records
+
 // How many nodes the table holds: 14.
 #[no_mangle]
 pub extern "C" fn kev_node_count(table: &[u8]) -> KevCount
@@ -313,6 +419,55 @@ pub extern "C" fn kev_compute(
         datagram,
         place,
     ))
+}
+
+// The delta of a plan, its nodes in their order with so many stale records each, into the datagram from the place on: 14, 20, 7, 8, 9, 13, 23.
+#[no_mangle]
+pub extern "C" fn kev_compute_plan(
+    table: &[u8],
+    edition: u64,
+    digest: &[u8],
+    mtu: usize,
+    excluded: &[u64],
+    nodes: &[u64],
+    counts: &[u64],
+    datagram: &mut [u8],
+    place: usize,
+) -> KevComputed
+    ensures { λ r. ⌜ Gives
+        (shownAs computedTold computedShown
+        (lentComputePlan edition (now (excluded .entry)) (now (nodes .entry)) (now (counts .entry)) mtu place (now (digest .entry))
+        (now (datagram .entry)) (now (table .entry))))
+        r (now (datagram .exit)) ⌝ }
+{
+    answers::computed(compute_plan::compute_plan(
+        table,
+        edition,
+        digest,
+        mtu,
+        excluded,
+        nodes,
+        counts,
+        datagram,
+        place,
+    ))
+}
+
+// The first line of a plan that is at fault, and why: 14, 20, 7, 9, 13, 23.
+#[no_mangle]
+pub extern "C" fn kev_plan_fault(
+    table: &[u8],
+    edition: u64,
+    digest: &[u8],
+    mtu: usize,
+    excluded: &[u64],
+    nodes: &[u64],
+    counts: &[u64],
+) -> KevJudged
+    ensures { λ r. ⌜ r ≡ judgedShown (judgedTold
+        (lentJudge edition (now (excluded .entry)) (now (nodes .entry)) (now (counts .entry)) mtu (now (digest .entry)) (now (table .entry)))) ⌝ }
+{
+    answers::judged(compute_plan::plan_fault(table, edition, digest, mtu, excluded, nodes, counts))
 }
 
 // A delta taken into the table, an answer for each node delta: 14, 13, 9, 1, 10, 11, 12, 8.

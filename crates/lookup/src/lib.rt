@@ -51,7 +51,7 @@ fn in_record(node: &[u8], start: usize, j: usize) -> Found
 }
 
 // The value of the key in a node's bytes, which begin at `start` in the table: 1.
-fn in_node(node: &[u8], start: usize, key: &[u8]) -> Found
+pub fn in_node(node: &[u8], start: usize, key: &[u8]) -> Found
     requires { ⌜ LaidNode (now node) × (keysRise (recsIn (now node)) ≡ true) × (start ≤ tableWidth) ⌝ }
     ensures { λ r. ⌜ r ≡ findOn (now (key .entry)) start (some (decodeNode (now (node .entry)) .node)) ⌝ }
 {

@@ -136,8 +136,8 @@ module _ (owner : ℕ → ℕ) (modes : ℕ → Mode) where
     net = tablesIn l
 
     -- the table that a hub gets obeys
-    pub obeyed : (x : ℕ) (h : ℕ → List KeyValue) (u : Table) → Moment owner (record { hubs = λ y. pick (eqb y x) u (net .hubs y); given = h; sent = l .sent; saved = net .saved }) → obeys u ≡ true
-    obeyed x h u m = facts-table u (subst (λ (c : Bool). OkTable (pick c u (net .hubs x))) (eq-eqb x x refl) (m .tables x .obeyed))
+    pub obeyed : (x : ℕ) (u : Table) → ((y : ℕ) → OkTable (pick (eqb y x) u (net .hubs y))) → obeys u ≡ true
+    obeyed x u m = facts-table u (subst (λ (c : Bool). OkTable (pick c u (net .hubs x))) (eq-eqb x x refl) (m x))
 
     -- one hub's bytes are others
     pub on-hub : (h : ℕ → List KeyValue) (x : ℕ) (u : Table) (b : List ℕ) → Holds (modes x) u b → Same (record { hubs = λ y. pick (eqb y x) u (net .hubs y); given = h; sent = l .sent; saved = net .saved }) (record { hubs = λ y. pick (eqb y x) b (l .hubs y); given = h; sent = l .sent; saved = l .saved })
@@ -153,15 +153,15 @@ module _ (owner : ℕ → ℕ) (modes : ℕ → Mode) where
         in-mode y true q = subst (λ (k : ℕ). In (modes k) b) (sym (eqb-true y x q)) (i .0)
         in-mode y false q = g .hubs y
 
-    calls-lent : (e : Event) → possible owner e net ≡ true → Moment owner (calls plan e net) → Same (calls plan e net) (lentCalls e l)
+    calls-lent : (e : Event) → possible owner e net ≡ true → ((x : ℕ) → OkTable (calls plan e net .hubs x)) → Same (calls plan e net) (lentCalls e l)
     unfolding addWhole removeWhole tablesOf
-    calls-lent (Writing x i k c) p m = on-hub _ x _ _ (on-table (modes x) (l .hubs x) (g .hubs x) (plain.Refused BadTable) (call c i k) (obeyed x _ _ m) (numbers-call c i k _))
-    calls-lent (Beating x i) p m = on-hub _ x _ _ (on-table (modes x) (l .hubs x) (g .hubs x) (plain.Refused BadTable) (localBeat i) (obeyed x _ _ m) (numbers-beat i _))
-    calls-lent (Offering x i h) p m = on-hub _ x _ _ (on-table (modes x) (l .hubs x) (g .hubs x) (offered.Refused BadTable) (offer i h) (obeyed x _ _ m) (numbers-offer i h _))
+    calls-lent (Writing x i k c) p m = on-hub _ x _ _ (on-table (modes x) (l .hubs x) (g .hubs x) (plain.Refused BadTable) (call c i k) (obeyed x _ m) (numbers-call c i k _))
+    calls-lent (Beating x i) p m = on-hub _ x _ _ (on-table (modes x) (l .hubs x) (g .hubs x) (plain.Refused BadTable) (localBeat i) (obeyed x _ m) (numbers-beat i _))
+    calls-lent (Offering x i h) p m = on-hub _ x _ _ (on-table (modes x) (l .hubs x) (g .hubs x) (offered.Refused BadTable) (offer i h) (obeyed x _ m) (numbers-offer i h _))
     calls-lent (Removing x removal) p m =
         on-hub _ x _ _
         (subst (Holds (modes x) _) (sym (lent-removal removal (l .hubs x)))
-        (on-table (modes x) (l .hubs x) (g .hubs x) (plain.Refused BadTable) (λ t. gives plain.Done (removedBy removal t)) (obeyed x _ _ m) (removed-numbers removal _)))
+        (on-table (modes x) (l .hubs x) (g .hubs x) (plain.Refused BadTable) (λ t. gives plain.Done (removedBy removal t)) (obeyed x _ m) (removed-numbers removal _)))
     calls-lent (Adding x i) p m = on-hub _ x _ _ (on-the-whole (modes x) (l .hubs x) (g .hubs x) (plain.Refused BadTable) (addWhole i) (add-keeps-whole _ (ok (modes x) (l .hubs x) (g .hubs x)) i (ltb-true _ _ p)) refl)
     calls-lent (Dropping x i) p m = on-hub _ x _ _ (on-the-whole (modes x) (l .hubs x) (g .hubs x) (plain.Refused BadTable) (removeWhole i) (remove-keeps-whole _ (ok (modes x) (l .hubs x) (g .hubs x)) i) refl)
     calls-lent (Computing x edition digest excluded order mtu place d) p m = (
@@ -169,7 +169,7 @@ module _ (owner : ℕ → ℕ) (modes : ℕ → Mode) where
       ap (λ (o : Given Computed (List ℕ)). record { hubs = net .hubs; given = l .given; sent = sentAfter place (o .lent) (o .answer) (l .sent); saved = net .saved })
           (computed-lent (modes x) (l .hubs x) (g .hubs x) edition digest excluded order mtu place d),
     )
-    calls-lent (Arriving x k now answers) p m = on-hub _ x _ _ (taken (modes x) (l .hubs x) (g .hubs x) now answers (nthSent k (l .sent)) (obeyed x _ _ m))
+    calls-lent (Arriving x k now answers) p m = on-hub _ x _ _ (taken (modes x) (l .hubs x) (g .hubs x) now answers (nthSent k (l .sent)) (obeyed x _ m))
     calls-lent (Saving x) p m =
         let a : (y : ℕ) → tablesOf (pick (eqb y x) (l .hubs x ∷ l .saved x) (l .saved y)) ≡ pick (eqb y x) (net .hubs x ∷ net .saved x) (net .saved y) = λ y. is y (eqb y x) in
         (record { hubs = g .hubs; saved = λ y. kept y (eqb y x) refl }, λ z. record { hubs = net .hubs; given = l .given; sent = l .sent; saved = λ y. a y z })
@@ -183,12 +183,12 @@ module _ (owner : ℕ → ℕ) (modes : ℕ → Mode) where
         kept y false q b n = g .saved y b n
     calls-lent (Restoring x k) p m = on-hub _ x _ _ (again (modes x) (l .hubs x) (g .hubs x) k (l .saved x) (g .saved x))
 
-    -- what happens, if the net of tables keeps what holds at every moment
-    pub happen-lent : (e : Event) → Moment owner (happen plan e net) → Same (happen plan e net) (lentHappen owner e l)
+    -- what happens, if the tables go on obeying the rules
+    pub happen-lent : (e : Event) → ((x : ℕ) → OkTable (happen plan e net .hubs x)) → Same (happen plan e net) (lentHappen owner e l)
     unfolding lentHappen happen
     happen-lent e = go (possible owner e net) refl
       where
-        go : (b : Bool) → possible owner e net ≡ b → Moment owner (pick b (calls plan e net) net) → Same (pick b (calls plan e net) net) (pick b (lentCalls e l) l)
+        go : (b : Bool) → possible owner e net ≡ b → ((x : ℕ) → OkTable (pick b (calls plan e net) net .hubs x)) → Same (pick b (calls plan e net) net) (pick b (lentCalls e l) l)
         go true q m = calls-lent e q m
         go false q m = (g, refl)
 
@@ -207,7 +207,7 @@ module _ (owner : ℕ → ℕ) (modes : ℕ → Mode) where
     after-lent [] l g ok = (g, refl)
     after-lent (e ∷ es) l g ok =
         let m = moment-event plan (tablesIn l) ok ready e in
-        let r = happen-lent l g e m in
+        let r = happen-lent l g e (λ x. m .tables x .obeyed) in
         let s = after-lent es (lentHappen owner e l) (r .0) (subst (Moment owner) (sym (r .1)) m) in
         (s .0, s .1 ∙ ap (after plan es) (r .1))
 

@@ -10,10 +10,12 @@ use Rattle.net.proofs.LentNet.{Good, after-lent, lent-run, ready}
 use Rattle.net.proofs.Moments.{Moment, moment-begin, moments}
 use Rattle.net.specs.LentNet.{LentNet, lentAfter, lentBegin, planIn, tablesIn}
 use Rattle.net.specs.Net.{Event, Net, Plan, after, begin}
+use Rattle.net_closing.proofs.Crossing.{crossing-closes}
 use Rattle.net_closing.proofs.Ends.{static-closes}
 use Rattle.net_closing.proofs.Owner.{owner-closes}
+use Rattle.net_closing.proofs.Paths.{fed-closes}
 use Rattle.net_closing.proofs.Rounds.{tables-close}
-use Rattle.net_closing.specs.Closing.{Closed, Heard, HeardWhole, Least, Local, LocalAll, Rounds, Steps, afterAll, calm, every, lentAfterAll, ownerRemoves, sendersIn, settled}
+use Rattle.net_closing.specs.Closing.{Closed, Fed, FedIn, Heard, HeardWhole, Least, Local, LocalAll, Piece, Pieces, Rounds, Steps, afterAll, calm, every, lentAfterAll, ownerRemoves, runsOf, sendersIn, settled}
 use Rattle.rules.proofs.Keeps.{guarded-least}
 use Rattle.rules.specs.Apply.{waysOf}
 use Rattle.rules.specs.Node.{Node}
@@ -58,6 +60,32 @@ module _ (owner : ℕ → ℕ) (modes : ℕ → Mode) (late : (x : ℕ) → ways
   lent-tables-close least es i hears ess rs k l x t =
       subst (Closed plan i x) (sym (rounds-are es ess))
       (tables-close plan (ready owner modes late) least es i hears ess (subst (Rounds plan (calm i) (HeardWhole plan i) hears ess) (run-is es) rs) k l x t)
+
+  -- twice, at any two moments, from a hub that was fed before, where every hub is guarded and the graph changes
+  pub lent-fed-closes : ((x : ℕ) → Least (waysOf (modes x))) → (es : List Event) (i : ℕ) (ps : List Piece)
+      → Pieces plan i ps (tablesIn (lentAfter owner es (lentBegin modes)))
+      → (x : ℕ)
+      → Fed (owner i) x ps
+      → Closed plan i x (tablesIn (lentAfterAll owner (runsOf ps) (lentAfter owner es (lentBegin modes))))
+  lent-fed-closes least es i ps a x f =
+      subst (Closed plan i x) (sym (rounds-are es (runsOf ps)))
+      (fed-closes plan (ready owner modes late) least es i ps (subst (Pieces plan i ps) (run-is es) a) x f)
+
+  -- by exchanges that may cross
+  pub lent-crossing-closes : ((x : ℕ) → Least (waysOf (modes x))) → (es : List Event) (i : ℕ) (fs : List Event)
+      → every (calm i) fs ≡ true
+      → (x : ℕ)
+      → FedIn plan i (owner i) (tablesIn (lentAfter owner es (lentBegin modes))) x fs
+      → Closed plan i x (tablesIn (lentAfter owner fs (lentAfter owner es (lentBegin modes))))
+  lent-crossing-closes least es i fs c x f =
+      subst (Closed plan i x) (sym again)
+      (crossing-closes plan (ready owner modes late) least es i fs c x (subst (λ (w : Net). FedIn plan i (owner i) w x fs) (run-is es) f))
+    where
+      l : LentNet
+      l = lentAfter owner es (lentBegin modes)
+
+      again : tablesIn (lentAfter owner fs l) ≡ after plan fs (after plan es begin)
+      again = after-lent owner modes late fs l (lent-run owner modes late es .0) (subst (Moment owner) (sym (run-is es)) (moment es)) .1 ∙ ap (after plan fs) (run-is es)
 
   -- as many rounds as the owner holds records and one, where only owners removed
   pub lent-owner-closes : (es : List Event) (i : ℕ)

@@ -4,8 +4,11 @@ pub mod Calm
 pub mod Chains
 pub mod Static
 pub mod Rounds
+pub mod Paths
+pub mod Crossing
 pub mod Wide
 pub mod Ends
 pub mod Owner
 pub mod Enough
+pub mod Planned
 pub mod LentClosing

@@ -92,12 +92,11 @@ module _ (y : Node) (within : (r : Rec) → r ∈ y .recs → r .kv .version ≤
 -- ---- the two exchanges
 
 module _ (ways : Ways) (least : Least ways) (h : List KeyValue) (ends : Ends h) (p y x : Node) (own : Publisher h p) (y-ok : HonestNode h y) (there : y .max ≡ p .max) (x-ok : HonestNode h x) (late : x .max < y .max)
-    (now count : ℕ) (fits : Bool) (d : NodeDelta) (is : d ≡ nodeDelta y (x .last-gc) (x .max) count fits) (all-come : length (d .recs) ≡ length (stale (d .from) (y .recs))) (some-come : 0 < d .max)
-    (roomy : applyNode ways now d x .answer ≡ node.Room → ⊥) where
-  abbrev from : ℕ
+    (now count : ℕ) (fits : Bool) (d : NodeDelta) (is : d ≡ nodeDelta y (x .last-gc) (x .max) count fits) (all-come : length (d .recs) ≡ length (stale (d .from) (y .recs))) (some-come : 0 < d .max) where
+  abbrev pub from : ℕ
   from = fromOf (y .last-gc) (x .last-gc) (x .max)
 
-  from-low : from ≤ x .max
+  pub from-low : from ≤ x .max
   from-low = go from (from-of y (x .last-gc) (x .max))
     where
       go : (z : ℕ) → FromOf y (x .last-gc) (x .max) z → z ≤ x .max
@@ -107,11 +106,11 @@ module _ (ways : Ways) (least : Least ways) (h : List KeyValue) (ends : Ends h) 
   within : (r : Rec) → r ∈ y .recs → r .kv .version ≤ y .max
   within r m = y-ok .honest .within (r .kv) (r, m, refl)
 
-  gc-is : d .last-gc ≡ y .last-gc
+  pub gc-is : d .last-gc ≡ y .last-gc
   unfolding nodeDelta
   gc-is = ap (λ (e : NodeDelta). e .last-gc) is
 
-  from-is : d .from ≡ from
+  pub from-is : d .from ≡ from
   unfolding nodeDelta
   from-is = ap (λ (e : NodeDelta). e .from) is
 
@@ -126,14 +125,14 @@ module _ (ways : Ways) (least : Least ways) (h : List KeyValue) (ends : Ends h) 
       (subst (λ (e : NodeDelta). length (e .recs) ≡ length (stale (e .from) (y .recs))) is all-come)
       (subst (λ (e : NodeDelta). 0 < e .max) is some-come)
 
-  above : (r : Rec) → r ∈ y .recs → r .kv .version ≤ d .max
+  pub above : (r : Rec) → r ∈ y .recs → r .kv .version ≤ d .max
   above r m = let a = got .above r m in let b = max-is in omega arith
 
   further : from < d .max
   further = let a = got .further in let b = max-is in omega arith
 
   -- it reaches y's max, or its last_gc does
-  reaches : y .max ≤ max (y .last-gc) (d .max)
+  pub reaches : y .max ≤ max (y .last-gc) (d .max)
   reaches = at (owner-top h y (owner-again h p y own y-ok there) ends)
     where
       at : Top y → y .max ≤ max (y .last-gc) (d .max)
@@ -146,50 +145,55 @@ module _ (ways : Ways) (least : Least ways) (h : List KeyValue) (ends : Ends h) 
   lets : ways .fence (x .last-gc) (x .max) (d .last-gc) (d .max) ≡ false
   lets = least (x .last-gc) (x .max) (d .last-gc) (d .max) (let a = low in let b = reaches in let c = gc-is in omega arith)
 
-  next-is : applyNode ways now d x .node ≡ outcome (deltaStatus (ways .fence) x d) now d x
-  next-is = taken-node ways now d x roomy
+  -- where x's numbers reach all that was given and its max every record of y, it has x's max as its from, and y's as its max
+  pub at-max : length h ≤ max (x .last-gc) (x .max) → from ≡ x .max
+  at-max near = from-no-reset y (x .last-gc) (x .max) (let b = y-ok .honest .gc-low in omega arith)
 
-  -- the first
-  pub first : (length h ≤ max (applyNode ways now d x .node .last-gc) (applyNode ways now d x .node .max)) × ((r : Rec) → r ∈ y .recs → r .kv .version ≤ applyNode ways now d x .node .max)
-  unfolding outcome
-  first = go from from-is (from-of y (x .last-gc) (x .max))
+  pub complete : length h ≤ max (x .last-gc) (x .max) → ((r : Rec) → r ∈ y .recs → r .kv .version ≤ x .max) → d .max ≡ y .max
+  complete near below =
+      max-is
+      ∙ ap (λ (all : List KeyValue). carried fits (y .max) all (take count all)) none-left
+      ∙ completed y within from count fits (let a = from-low in omega arith) fits (subst (λ (k : ℕ). 0 < k) (max-is ∙ ap (λ (all : List KeyValue). carried fits (y .max) all (take count all)) none-left) some-come)
     where
-      n : Node
-      n = applyNode ways now d x .node
-
-      done : n .max ≡ d .max → y .max ≤ max (n .last-gc) (n .max) → (length h ≤ max (n .last-gc) (n .max)) × ((r : Rec) → r ∈ y .recs → r .kv .version ≤ n .max)
-      done e l = (let a = own .top in omega arith, λ r m. let a = above r m in omega arith)
-
-      go : (z : ℕ) → d .from ≡ z → FromOf y (x .last-gc) (x .max) z → (length h ≤ max (n .last-gc) (n .max)) × ((r : Rec) → r ∈ y .recs → r .kv .version ≤ n .max)
-      go z f (reset-due a b) =
-          let g = gc-is in
-          let e : n ≡ outcome ApplyAfterReset now d x = next-is ∙ ap (λ (v : DeltaStatus). outcome v now d x) (status-reset (ways .fence) x d lets f (omega arith) (omega arith)) in
-          let m : n .max ≡ d .max = ap (λ (u : Node). u .max) e in
-          let l : n .last-gc ≡ d .last-gc = ap (λ (u : Node). u .last-gc) e in
-          let c = reaches in
-          done m (omega arith)
-      go z f (no-reset a) =
-          let g = gc-is in
-          let k : x .max < d .max = (let i = further in let j = from-is in omega arith) in
-          let e : n ≡ outcome Apply now d x = next-is ∙ ap (λ (v : DeltaStatus). outcome v now d x) (status-apply (ways .fence) x d lets (omega arith) (omega arith) k) in
-          let m : n .max ≡ d .max = ap (λ (u : Node). u .max) e in
-          let l : n .last-gc ≡ x .last-gc = ap (λ (u : Node). u .last-gc) e in
-          let c = reaches in
-          done m (omega arith)
-
-  -- and the second
-  pub second : length h ≤ max (x .last-gc) (x .max) → ((r : Rec) → r ∈ y .recs → r .kv .version ≤ x .max) → applyNode ways now d x .node .max ≡ y .max
-  unfolding outcome
-  second near below =
-      let f : d .from ≡ x .max = from-is ∙ at-max in
-      let e = next-is ∙ ap (λ (v : DeltaStatus). outcome v now d x) (status-apply (ways .fence) x d lets (omega arith) (let a = gc-is in let b = y-ok .honest .gc-low in omega arith) (let a = complete in omega arith)) in
-      ap (λ (u : Node). u .max) e ∙ complete
-    where
-      at-max : from ≡ x .max
-      at-max = from-no-reset y (x .last-gc) (x .max) (let b = y-ok .honest .gc-low in omega arith)
-
       none-left : stale from (y .recs) ≡ []
-      none-left = ap (λ (k : ℕ). stale k (y .recs)) at-max ∙ stale-none (x .max) (y .recs) below
+      none-left = ap (λ (k : ℕ). stale k (y .recs)) (at-max near) ∙ stale-none (x .max) (y .recs) below
 
-      complete : d .max ≡ y .max
-      complete = max-is ∙ ap (λ (all : List KeyValue). carried fits (y .max) all (take count all)) none-left ∙ completed y within from count fits (let a = from-low in omega arith) fits (subst (λ (k : ℕ). 0 < k) (max-is ∙ ap (λ (all : List KeyValue). carried fits (y .max) all (take count all)) none-left) some-come)
+  module _ (roomy : applyNode ways now d x .answer ≡ node.Room → ⊥) where
+    next-is : applyNode ways now d x .node ≡ outcome (deltaStatus (ways .fence) x d) now d x
+    next-is = taken-node ways now d x roomy
+
+    -- the first
+    pub first : (length h ≤ max (applyNode ways now d x .node .last-gc) (applyNode ways now d x .node .max)) × ((r : Rec) → r ∈ y .recs → r .kv .version ≤ applyNode ways now d x .node .max)
+    unfolding outcome
+    first = go from from-is (from-of y (x .last-gc) (x .max))
+      where
+        n : Node
+        n = applyNode ways now d x .node
+
+        done : n .max ≡ d .max → y .max ≤ max (n .last-gc) (n .max) → (length h ≤ max (n .last-gc) (n .max)) × ((r : Rec) → r ∈ y .recs → r .kv .version ≤ n .max)
+        done e l = (let a = own .top in omega arith, λ r m. let a = above r m in omega arith)
+
+        go : (z : ℕ) → d .from ≡ z → FromOf y (x .last-gc) (x .max) z → (length h ≤ max (n .last-gc) (n .max)) × ((r : Rec) → r ∈ y .recs → r .kv .version ≤ n .max)
+        go z f (reset-due a b) =
+            let g = gc-is in
+            let e : n ≡ outcome ApplyAfterReset now d x = next-is ∙ ap (λ (v : DeltaStatus). outcome v now d x) (status-reset (ways .fence) x d lets f (omega arith) (omega arith)) in
+            let m : n .max ≡ d .max = ap (λ (u : Node). u .max) e in
+            let l : n .last-gc ≡ d .last-gc = ap (λ (u : Node). u .last-gc) e in
+            let c = reaches in
+            done m (omega arith)
+        go z f (no-reset a) =
+            let g = gc-is in
+            let k : x .max < d .max = (let i = further in let j = from-is in omega arith) in
+            let e : n ≡ outcome Apply now d x = next-is ∙ ap (λ (v : DeltaStatus). outcome v now d x) (status-apply (ways .fence) x d lets (omega arith) (omega arith) k) in
+            let m : n .max ≡ d .max = ap (λ (u : Node). u .max) e in
+            let l : n .last-gc ≡ x .last-gc = ap (λ (u : Node). u .last-gc) e in
+            let c = reaches in
+            done m (omega arith)
+
+    -- and the second
+    pub second : length h ≤ max (x .last-gc) (x .max) → ((r : Rec) → r ∈ y .recs → r .kv .version ≤ x .max) → applyNode ways now d x .node .max ≡ y .max
+    unfolding outcome
+    second near below =
+        let f : d .from ≡ x .max = from-is ∙ at-max near in
+        let e = next-is ∙ ap (λ (v : DeltaStatus). outcome v now d x) (status-apply (ways .fence) x d lets (omega arith) (let a = gc-is in let b = y-ok .honest .gc-low in omega arith) (let a = complete near below in omega arith)) in
+        ap (λ (u : Node). u .max) e ∙ complete near below

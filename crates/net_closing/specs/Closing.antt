@@ -19,6 +19,7 @@ use Rattle.rules.specs.Compute.{stale}
 use Rattle.rules.specs.Apply.{Ways, apply}
 use Rattle.demand3.specs.Forms.{Order, computeBy, opsBy}
 use Rattle.demand3.specs.Demand3.{Claims, wroteDelta, noRoom}
+use Rattle.demand3.specs.World.{DeltaSent, nthSent}
 use Rattle.net.specs.Net.{Plan, Net, Event, Writing, Beating, Offering, Removing, Adding, Dropping, Computing, Arriving, Saving, Restoring, placed, happen, after}
 use Rattle.net.specs.LentNet.{LentNet, lentAfter}
 
@@ -188,6 +189,76 @@ sendersIn plan (e ∷ es) w s = sendersIn plan es (happen plan e w) (sendersAfte
 unfoldable pub LocalAll : (plan : Plan) (hears : (x y : ℕ) → Type 0) (node : ℕ) (rounds : List (List Event)) (net : Net) (senders : List ℕ) → Type 0
 LocalAll plan hears i [] w s = Unit {0}
 LocalAll plan hears i (es ∷ ess) w s = Local plan hears i es w s × LocalAll plan hears i ess (after plan es w) (sendersIn plan es w s)
+
+-- ---- graphs that change
+
+-- a piece of a run, in which one hub hears another: who hears, who is heard, what happens
+pub record Piece : Type 0 where
+  pub hub : ℕ
+  pub told : ℕ
+  pub events : List Event
+
+unfoldable pub runsOf : (pieces : List Piece) → List (List Event)
+runsOf [] = []
+runsOf (p ∷ ps) = p .events ∷ runsOf ps
+
+-- in each piece its hub hears whom it names, uncut, at some moment, and of all else only what is calm happens
+pub record Heeds (plan : Plan) (i : ℕ) (p : Piece) (w : Net) : Type 0 where
+  pub only : every (calm i) (p .events) ≡ true
+  pub hears : HearsIn plan (HeardWhole plan i (p .hub) (p .told)) (p .hub) (p .told) (p .events) w
+
+unfoldable pub Pieces : (plan : Plan) (node : ℕ) (pieces : List Piece) (net : Net) → Type 0
+Pieces plan i [] w = Unit {0}
+Pieces plan i (p ∷ ps) w = Heeds plan i p w × Pieces plan i ps (after plan (p .events) w)
+
+-- who is fed from this hub on: itself, and whoever hears twice, in any two pieces, a hub that was fed before
+pub data Fed (from : ℕ) : (hub : ℕ) (pieces : List Piece) → Type 0 where
+  itself : (ps : List Piece) → Fed from from ps
+  by-two : (p q : Piece) (ps qs rs : List Piece) → Fed from (p .told) ps → q .hub ≡ p .hub → q .told ≡ p .told → Fed from (p .hub) (ps ++ (p ∷ qs ++ (q ∷ rs)))
+
+-- ---- exchanges that cross
+
+-- what y sends at one moment for the digest that x wrote at another
+abbrev pub opsAcross : (asked : Asked) (x y : ℕ) (digested computed : Net) → List Op
+opsAcross q x y u v = opsBy [] (q .order) (q .mtu) (digestOf [] (u .hubs x)) (v .hubs y)
+
+-- Hub x wrote its digest at u, y computed for it at v, and of all deltas that were ever computed this one is now to arrive at x, in w. No call is refused and no node answers Room; if y was
+-- ahead of what x told, of node i something comes over, uncut; and x's max of node i is not below what it told: x was not reset since, or is past that again.
+pub record Across (plan : Plan) (i x y : ℕ) (u v w : Net) (q : Asked) (which : ℕ) : Type 0 where
+  pub told : Node
+  pub node : Node
+  pub had : nodeOf i (u .hubs x) ≡ some told
+  pub has : nodeOf i (w .hubs x) ≡ some node
+  pub not-below : told .max ≤ node .max
+  pub wrote : wroteDelta (computeBy (q .edition) [] (q .order) (q .mtu) (q .place) (digestBytes (q .edition) (digestOf [] (u .hubs x))) (v .hubs y) (q .datagram) .answer) ≡ true
+  pub comes : nthSent which (w .sent) ≡ DeltaSent (deltaBytes (opsAcross q x y u v))
+  pub clock : ltb (q .now) numbers ≡ true
+  pub roomy : noRoom (apply (plan .ways x) (deltaBytes (opsAcross q x y u v)) (q .now) (w .hubs x) (q .answers) .answer)
+      (apply (plan .ways x) (deltaBytes (opsAcross q x y u v)) (q .now) (w .hubs x) (q .answers) .list) ≡ true
+  pub brings : (m : Node) → nodeOf i (v .hubs y) ≡ some m → told .max < m .max → (d : NodeDelta) × PartIn (opsAcross q x y u v) i d × (0 < d .max)
+  pub uncut : (m : Node) → nodeOf i (v .hubs y) ≡ some m → (d : NodeDelta) → PartIn (opsAcross q x y u v) i d → length (d .recs) ≡ length (stale (d .from) (m .recs))
+
+-- in this run such an exchange begins and ends; anything may happen between
+pub record Crosses (plan : Plan) (i x y : ℕ) (es : List Event) (w : Net) : Type 0 where
+  pub asked : Asked
+  pub which : ℕ
+  pub before : List Event
+  pub waiting : List Event
+  pub coming : List Event
+  pub rest : List Event
+  pub is : es ≡ before ++ (waiting ++ (coming ++ (Arriving x which (asked .now) (asked .answers) ∷ rest)))
+  pub so-heard : Across plan i x y (after plan before w) (after plan waiting (after plan before w)) (after plan coming (after plan waiting (after plan before w))) asked which
+
+-- Who is fed by a run from this net on, hub `from` being so: itself; whoever was before; and who has two such exchanges, one behind the other, with a hub that was fed before the first.
+-- Exchanges with others may cross them.
+pub data FedIn (plan : Plan) (i from : ℕ) (w : Net) : (hub : ℕ) (events : List Event) → Type 0 where
+  from-here : (es : List Event) → FedIn plan i from w from es
+  before-this : (x : ℕ) (es fs : List Event) → FedIn plan i from w x es → FedIn plan i from w x (es ++ fs)
+  by-both : (x y : ℕ) (es fs gs : List Event)
+      → FedIn plan i from w y es
+      → Crosses plan i x y fs (after plan es w)
+      → Crosses plan i x y gs (after plan fs (after plan es w))
+      → FedIn plan i from w x (es ++ (fs ++ gs))
 
 -- ---- the MTU from which nothing is cut
 

@@ -37,7 +37,7 @@ module _ (owner : ℕ → ℕ) (modes : ℕ → Mode) (source : (hub node : ℕ)
   doing-lent (Ordinary e) w g ok = go (allowed c e (tablesIn (w .net))) ok
     where
       go : (b : Bool) → Fine c (pick b (record { net = happen plan e (tablesIn (w .net)); flights = flightsAfter e (w .flights) }) (mixedIn w)) → Same (pick b (record { net = happen plan e (tablesIn (w .net)); flights = flightsAfter e (w .flights) }) (mixedIn w)) (pick b (record { net = lentHappen owner e (w .net); flights = flightsAfter e (w .flights) }) w)
-      go true fine = with-flights (flightsAfter e (w .flights)) (lentHappen owner e (w .net)) _ (happen-lent owner modes (w .net) g e (fine .moment))
+      go true fine = with-flights (flightsAfter e (w .flights)) (lentHappen owner e (w .net)) _ (happen-lent owner modes (w .net) g e (λ x. fine .moment .tables x .obeyed))
       go false fine = (g, refl)
   doing-lent (Asking x y edition digest excluded order mtu place l) w g ok = go (mayAsk c x y excluded (tablesIn (w .net) .hubs y))
     where
@@ -76,7 +76,7 @@ module _ (owner : ℕ → ℕ) (modes : ℕ → Mode) (source : (hub node : ℕ)
       go : (b : Bool) → Fine c (pick b u (mixedIn w)) → Same (pick b u (mixedIn w)) (pick b (record { net = withBytes x (lentTaken now l (w .flights x) (w .net .hubs x)) (w .net); flights = w .flights }) w)
       go true fine =
           with-flights (w .flights) (withBytes x (lentTaken now l (w .flights x) (w .net .hubs x)) (w .net)) _
-          (on-hub owner modes (w .net) g _ x _ _ (taken (modes x) (w .net .hubs x) (g .hubs x) now l (w .flights x) (obeyed owner modes (w .net) g x _ _ (fine .moment))))
+          (on-hub owner modes (w .net) g _ x _ _ (taken (modes x) (w .net .hubs x) (g .hubs x) now l (w .flights x) (obeyed owner modes (w .net) g x _ (λ y. fine .moment .tables y .obeyed))))
       go false fine = (g, refl)
 
   run-lent : Right c → (es : List Doing) (w : LentMixed) → Good owner modes (w .net) → Fine c (mixedIn w) → Same (run c es (mixedIn w)) (lentRun c es w)

@@ -1,3 +1,5 @@
 pub mod Stories
 pub mod Runs
+pub mod Losses
+pub mod Locked
 pub mod Witnesses

@@ -39,7 +39,7 @@ fn begins(node: &[u8], j: usize, prefix: &[u8]) -> bool
 }
 
 // Whether record `j` of a node's bytes is not hidden.
-fn is_shown(node: &[u8], j: usize) -> bool
+pub fn is_shown(node: &[u8], j: usize) -> bool
     requires { ⌜ LaidNode (now node) × (j < countOf (now node)) ⌝ }
     ensures { λ r. ⌜ r ≡ not (hidden (decodeRec (part (recPlace j) recWidth (now (node .entry))) .kv .status)) ⌝ }
 {
@@ -53,7 +53,7 @@ fn is_shown(node: &[u8], j: usize) -> bool
 }
 
 // The first place whose key does not come before the prefix.
-fn run_start(node: &[u8], prefix: &[u8]) -> usize
+pub fn run_start(node: &[u8], prefix: &[u8]) -> usize
     requires { ⌜ LaidNode (now node) × (keysRise (recsIn (now node)) ≡ true) ⌝ }
     ensures { λ r. ⌜ FirstOf (now (prefix .entry)) (now (node .entry)) r ⌝ }
 {
@@ -64,7 +64,7 @@ fn run_start(node: &[u8], prefix: &[u8]) -> usize
 }
 
 // Where the keys that begin with the prefix end, `from` being where they would begin.
-fn run_end(node: &[u8], prefix: &[u8], from: usize) -> usize
+pub fn run_end(node: &[u8], prefix: &[u8], from: usize) -> usize
     requires { ⌜ LaidNode (now node) × (keysRise (recsIn (now node)) ≡ true) × FirstOf (now prefix) (now node) from ⌝ }
     ensures { λ r. ⌜ RunOf (now (prefix .entry)) (now (node .entry)) from r ⌝ }
 {

@@ -21,6 +21,43 @@ const DIGEST: usize = 258;
 
 const DELTA: usize = rules::sizes::LONGEST_DELTA;
 
+// The two calls that write a delta.
+fn plan_call(
+    desk: Desk,
+    table: &[u8],
+    delta: &mut [u8],
+    bytes: &[u8],
+    line: &[u8],
+    out: &mut [u8],
+) -> Desk {
+    let held = Kept {
+        at: desk.out,
+        len: desk.delta,
+    };
+    let kept = replay_peers::plan(table, bytes, line, delta, held, out);
+    let mut after = desk.with_out(kept.at);
+    after.delta = kept.len;
+    after
+}
+
+fn compute_call(
+    desk: Desk,
+    table: &[u8],
+    delta: &mut [u8],
+    bytes: &[u8],
+    line: &[u8],
+    out: &mut [u8],
+) -> Desk {
+    let held = Kept {
+        at: desk.out,
+        len: desk.delta,
+    };
+    let kept = replay_peers::compute(table, bytes, line, delta, held, out);
+    let mut after = desk.with_out(kept.at);
+    after.delta = kept.len;
+    after
+}
+
 // The calls of an exchange that take bytes.
 fn bytes_call(
     desk: Desk,
@@ -36,16 +73,9 @@ fn bytes_call(
         verbs::READ_DIGEST => desk.with_out(replay_peers::read_digest(bytes, line, out, at)),
         verbs::READ_DELTA => desk.with_out(replay_peers::read_delta(bytes, out, at)),
         verbs::APPLY => desk.with_out(replay_peers::apply(table, bytes, line, out, at)),
-        _ => {
-            let held = Kept {
-                at,
-                len: desk.delta,
-            };
-            let kept = replay_peers::compute(table, bytes, line, delta, held, out);
-            let mut after = desk.with_out(kept.at);
-            after.delta = kept.len;
-            after
-        }
+        verbs::PLAN_FAULT => desk.with_out(replay_peers::plan_fault(table, bytes, line, out, at)),
+        verbs::PLAN => plan_call(desk, table, delta, bytes, line, out),
+        _ => compute_call(desk, table, delta, bytes, line, out),
     }
 }
 
@@ -110,6 +140,11 @@ fn call(
             let table = read::front_mut(room, desk.lent());
             peer_call(desk, verb, table, digest, delta, line, out)
         }
+        verbs::OVERRIDES => replay_desk::new_overrides(desk, room, read::word(line, 1), out),
+        verbs::LABEL..=verbs::GC_LABELS => {
+            let table = read::front_mut(room, desk.lent());
+            desk.with_out(replay_over::label_call(table, verb, line, out, at))
+        }
         verbs::NEW..=verbs::DUMP => replay_desk::shelf_call(
             desk,
             verb,
@@ -119,6 +154,30 @@ fn call(
             line,
             out,
         ),
+        _ => desk,
+    }
+}
+
+// A reading over the overrides of the hub that stands in the line and the current table: what it answers is written, and nothing where the line asks for none.
+fn over_call(desk: Desk, tables: &[u8], line: &[u8], out: &mut [u8]) -> Desk {
+    let verb = verbs::asked(line);
+    match verb {
+        verbs::GET_OVER..=verbs::LIST_OVER => {
+            let word = read::word(line, 1);
+            if replay_desk::is_hub(word) {
+                let overrides = desk.beside(word).held(tables);
+                let table = desk.held(tables);
+                return desk.with_out(replay_over::over_call(
+                    overrides,
+                    table,
+                    verb,
+                    line,
+                    out,
+                    desk.out,
+                ));
+            }
+            desk
+        }
         _ => desk,
     }
 }
@@ -166,8 +225,9 @@ fn on_line(
     out: &mut [u8; OUT],
 ) -> Desk {
     let desk = replay_desk::turned(before, line);
+    let seen = over_call(desk, tables, line, out);
     let room = desk.room(tables);
-    let after = call(desk, room, digest, delta, line, out);
+    let after = call(seen, room, digest, delta, line, out);
     let told = closed(desk, after, room, out);
     flushed(told, out)
 }

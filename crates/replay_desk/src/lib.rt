@@ -79,6 +79,22 @@ impl Desk {
         read::front_mut(behind, TABLE)
     }
 
+    // The current table.
+    pub fn held(self, tables: &[u8]) -> &[u8] {
+        read::front(read::behind(tables, self.place()), self.lent())
+    }
+
+    // The same desk with another hub, which stands in a word; itself where there is no such hub.
+    pub fn beside(self, word: &[u8]) -> Self {
+        let mut desk = self;
+        if let Numeral::Is(n) = read::number(word) {
+            if n < HUBS {
+                desk.hub = n;
+            }
+        }
+        desk
+    }
+
     fn with_lent(mut self, n: usize) -> Self {
         if self.hub == 0 {
             self.first = n;
@@ -173,6 +189,24 @@ fn take_table(
 fn dump(desk: Desk, room: &[u8], out: &mut [u8]) -> Desk {
     let next = replay_tell::named(out, desk.out, b"table ", read::front(room, desk.lent()));
     desk.with_out(next)
+}
+
+// Whether the word names a hub.
+pub fn is_hub(word: &[u8]) -> bool {
+    match read::number(word) {
+        Numeral::Is(n) => n < HUBS,
+        Numeral::Not => false,
+    }
+}
+
+// Overrides without a record in the first bytes of the room, in place of a table.
+pub fn new_overrides(desk: Desk, room: &mut [u8], word: &[u8], out: &mut [u8]) -> Desk {
+    let Numeral::Is(n) = read::number(word) else {
+        return desk;
+    };
+    let answer = overrides::new_overrides(read::front_mut(room, layout::NODE), n);
+    let next = replay_tell::answer(out, desk.out, answer);
+    desk.with_lent(layout::NODE).with_out(next)
 }
 
 // The calls of the desk itself, on the room of the current hub's table.

@@ -354,3 +354,169 @@ pub fn compute(
         out,
     )
 }
+
+// ---- plans
+
+fn plan_into(
+    table: &[u8],
+    edition: u64,
+    digest: &[u8],
+    mtu: usize,
+    excluded: &[u64],
+    nodes: &[u64],
+    counts: &[u64],
+    place: usize,
+    datagram: &mut [u8],
+    kept: &mut [u8],
+    held: Kept,
+    out: &mut [u8],
+) -> Kept {
+    let computed = compute_plan::compute_plan(
+        table,
+        edition,
+        digest,
+        mtu,
+        excluded,
+        nodes,
+        counts,
+        datagram,
+        place,
+    );
+    match computed {
+        Computed::Delta { ops, bytes } => keep_delta(datagram, ops, place, bytes, kept, held, out),
+        Computed::Refused(refusal) => refuse(refusal, datagram, held, out),
+    }
+}
+
+// The MTU, the place, a datagram of as many bytes as the next word says, and the edition.
+fn plan_in(
+    table: &[u8],
+    digest: &[u8],
+    excluded: &[u64],
+    nodes: &[u64],
+    counts: &[u64],
+    line: &[u8],
+    kept: &mut [u8],
+    held: Kept,
+    out: &mut [u8],
+) -> Kept {
+    let Numeral::Is(mtu) = read::number(read::word(line, 2)) else {
+        return held;
+    };
+    let Numeral::Is(place) = read::number(read::word(line, 6)) else {
+        return held;
+    };
+    let Numeral::Is(len) = read::number(read::word(line, 7)) else {
+        return held;
+    };
+    let Numeral::Is(edition) = read::number(read::word(line, 8)) else {
+        return held;
+    };
+    let n = len as usize;
+    if DATAGRAM < n {
+        return held;
+    }
+    let mut room = [marks::MARK; DATAGRAM];
+    let datagram = read::front_mut(&mut room, n);
+    plan_into(
+        table,
+        edition,
+        digest,
+        mtu as usize,
+        excluded,
+        nodes,
+        counts,
+        place as usize,
+        datagram,
+        kept,
+        held,
+        out,
+    )
+}
+
+pub fn plan(
+    table: &[u8],
+    digest: &[u8],
+    line: &[u8],
+    kept: &mut [u8],
+    held: Kept,
+    out: &mut [u8],
+) -> Kept {
+    let mut excluded = [0u64; LIST];
+    let Count::Is(n) = read::numbers(read::word(line, 3), &mut excluded) else {
+        return held;
+    };
+    let mut nodes = [0u64; LIST];
+    let Count::Is(m) = read::numbers(read::word(line, 4), &mut nodes) else {
+        return held;
+    };
+    let mut counts = [0u64; LIST];
+    let Count::Is(k) = read::numbers(read::word(line, 5), &mut counts) else {
+        return held;
+    };
+    plan_in(
+        table,
+        digest,
+        read::front_numbers(&excluded, n),
+        read::front_numbers(&nodes, m),
+        read::front_numbers(&counts, k),
+        line,
+        kept,
+        held,
+        out,
+    )
+}
+
+// The MTU and the edition; no datagram is lent.
+fn fault_in(
+    table: &[u8],
+    digest: &[u8],
+    excluded: &[u64],
+    nodes: &[u64],
+    counts: &[u64],
+    line: &[u8],
+    out: &mut [u8],
+    at: usize,
+) -> usize {
+    let Numeral::Is(mtu) = read::number(read::word(line, 2)) else {
+        return at;
+    };
+    let Numeral::Is(edition) = read::number(read::word(line, 6)) else {
+        return at;
+    };
+    let judged = compute_plan::plan_fault(
+        table,
+        edition,
+        digest,
+        mtu as usize,
+        excluded,
+        nodes,
+        counts,
+    );
+    replay_tell::judged(out, at, judged)
+}
+
+pub fn plan_fault(table: &[u8], digest: &[u8], line: &[u8], out: &mut [u8], at: usize) -> usize {
+    let mut excluded = [0u64; LIST];
+    let Count::Is(n) = read::numbers(read::word(line, 3), &mut excluded) else {
+        return at;
+    };
+    let mut nodes = [0u64; LIST];
+    let Count::Is(m) = read::numbers(read::word(line, 4), &mut nodes) else {
+        return at;
+    };
+    let mut counts = [0u64; LIST];
+    let Count::Is(k) = read::numbers(read::word(line, 5), &mut counts) else {
+        return at;
+    };
+    fault_in(
+        table,
+        digest,
+        read::front_numbers(&excluded, n),
+        read::front_numbers(&nodes, m),
+        read::front_numbers(&counts, k),
+        line,
+        out,
+        at,
+    )
+}

@@ -3,6 +3,7 @@ pub mod checksum;
 pub mod marks;
 
 use digest_read::NodeDigest;
+use plan::Judged;
 use replay_words::print;
 use replay_words::read;
 use rules::Answer;
@@ -111,6 +112,32 @@ pub fn entries(out: &mut [u8], at: usize, nodes: [NodeDigest; 8], count: usize) 
         i += 1;
     }
     next
+}
+
+// Why a line of a plan is at fault, by its code; 0 is no code.
+fn fault(out: &mut [u8], at: usize, code: u64) -> usize {
+    print::text(
+        out,
+        at,
+        read::word(
+            b"none not-held excluded named-before up-to-date too-many too-few no-fit alone",
+            code as usize,
+        ),
+    )
+}
+
+// What is said of a plan: where a line is at fault, number 23 with the line and why.
+pub fn judged(out: &mut [u8], at: usize, judged: Judged) -> usize {
+    match judged {
+        Judged::Accepted => print::text(out, at, b"accepted"),
+        Judged::AtFault { line, why } => {
+            let code = coded(out, at, Refusal::BadPlan);
+            let next = numbered(out, code, b" line=", line);
+            let behind = print::text(out, next, b" why=");
+            fault(out, behind, why.code())
+        }
+        Judged::Refused(refusal) => refused(out, at, refusal),
+    }
 }
 
 // What was answered for one node delta, by its code.

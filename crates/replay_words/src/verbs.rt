@@ -1,4 +1,5 @@
-// Which call a line asks for, by number: those at a key of a node, those that take numbers alone, those of the desk itself, those of an exchange.
+// Which call a line asks for, by number: those at a key of a node, those that take numbers alone, those of the desk itself, those of an exchange, those of
+// overrides.
 use crate::read;
 
 pub const WRITE: usize = 0;
@@ -41,12 +42,30 @@ pub const READ_DELTA: usize = 18;
 
 pub const COMPUTE: usize = 19;
 
-pub const APPLY: usize = 20;
+pub const PLAN: usize = 20;
 
-pub const NOTHING: usize = 21;
+pub const PLAN_FAULT: usize = 21;
+
+pub const APPLY: usize = 22;
+
+pub const OVERRIDES: usize = 23;
+
+pub const LABEL: usize = 24;
+
+pub const UNLABEL: usize = 25;
+
+pub const UNLABEL_TTL: usize = 26;
+
+pub const GC_LABELS: usize = 27;
+
+pub const GET_OVER: usize = 28;
+
+pub const LIST_OVER: usize = 29;
+
+pub const NOTHING: usize = 30;
 
 // How many words a line of each call has.
-const WORDS: [usize; 21] = [
+const WORDS: [usize; 30] = [
     6,
     4,
     4,
@@ -67,13 +86,23 @@ const WORDS: [usize; 21] = [
     3,
     2,
     8,
+    9,
+    7,
     4,
+    2,
+    5,
+    3,
+    3,
+    3,
+    4,
+    5,
 ];
 
 // The call of the line. One with another count of words than its call has asks for none.
 pub fn asked(line: &[u8]) -> usize {
     let names =
-        b"write delete deletettl get list add remove removed beat offer gc new make hub table dump digest readdigest readdelta compute apply";
+        b"write delete deletettl get list add remove removed beat offer gc new make hub table dump digest readdigest readdelta compute plan planfault apply \
+        overrides label unlabel unlabelttl gclabels getover listover";
     let verb = read::place_of(names, read::word(line, 0));
     if NOTHING <= verb {
         return NOTHING;

@@ -59,7 +59,7 @@ fn keys_rise(node: &[u8], n: usize, max: u64) -> bool
 }
 
 // Whether the bytes are those of a node.
-fn check_node(node: &[u8]) -> bool
+pub fn check_node(node: &[u8]) -> bool
     requires { ⌜ length (now node) ≡ nodeWidth ⌝ }
     ensures { λ r. ⌜ r ≡ nodeGood (now (node .entry)) ⌝ }
 {

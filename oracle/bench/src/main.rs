@@ -452,6 +452,59 @@ fn computing(rows: &mut Rows, name: &'static str, table: &[u8], owned: bool, aim
     assert_eq!(&datagram[..delta.len()], delta);
 }
 
+/// The plan that names what a delta sends: each node with how many records. A Node that stands alone at the end, since its first record did not fit, is left out.
+fn plan_of(delta: &[u8]) -> (Vec<u64>, Vec<u64>) {
+    const NODE: usize = 25;
+    let (mut nodes, mut counts, mut at) = (Vec::new(), Vec::new(), 0);
+    while at < delta.len() {
+        match delta[at] {
+            0 => {
+                nodes.push(u64::from_le_bytes(delta[at + 1..at + 9].try_into().unwrap()));
+                counts.push(0);
+                at += NODE;
+            }
+            1 => {
+                let size = |at: usize| usize::from(u16::from_le_bytes([delta[at], delta[at + 1]]));
+                *counts.last_mut().unwrap() += 1;
+                let key = size(at + 1);
+                at += 1 + 2 + key + 2 + size(at + 3 + key) + 9;
+            }
+            _ => at += 9,
+        }
+    }
+    if delta.len() >= NODE && counts.last() == Some(&0) && delta[delta.len() - NODE] == 0 {
+        nodes.pop();
+        counts.pop();
+    }
+    (nodes, counts)
+}
+
+/// A plan that names what document 01 would send, beside computing it.
+fn planning(rows: &mut Rows, name: &'static str, table: &[u8]) {
+    const CALLS: usize = 4;
+    let (delta, _) = delta_of(table);
+    let (nodes, counts) = plan_of(&delta);
+    let port = Port::of(table, true);
+    let (mut computed, mut planned) = (vec![0; 16_384], vec![0; 16_384]);
+    let size = port.plan(&NO_DIGEST, &nodes, &counts, &mut planned);
+    assert!(size > 16_384 - 136 && planned[..size] == delta[..size], "{name}: the plan sends what is computed");
+    rows.measure(
+        name,
+        " (beside computing it)",
+        Aim::Times(1.0),
+        || {
+            repeat(CALLS, || {
+                black_box(black_box(&port).compute(&NO_DIGEST, &TIES, black_box(&mut computed)));
+            })
+        },
+        || {
+            repeat(CALLS, || {
+                black_box(black_box(&port).plan(&NO_DIGEST, black_box(&nodes), black_box(&counts), black_box(&mut planned)));
+            })
+        },
+    );
+}
+
 /// Computes for a peer that has all. The port reads the digest's bytes, the original has read them before.
 fn nothing_stale(rows: &mut Rows) {
     const CALLS: usize = 16;
@@ -580,6 +633,8 @@ fn main() {
     computing(&mut rows, "compute 16,384 bytes, owned table", &full, true, OWNED);
     computing(&mut rows, "compute 16,384 bytes, versions scattered", &scattered, false, Aim::None);
     computing(&mut rows, "compute 16,384 bytes, versions scattered, owned table", &scattered, true, OWNED);
+    planning(&mut rows, "a plan of 16,384 bytes, owned table", &full);
+    planning(&mut rows, "a plan of 16,384 bytes, versions scattered, owned table", &scattered);
     nothing_stale(&mut rows);
     let (delta, _) = delta_of(&full);
     applying(&mut rows, "apply 16,384 bytes to a fresh table", &fresh, &delta, APPLY, false, Aim::Times(0.2));

@@ -92,6 +92,16 @@ impl Port {
         sent.map_or(0, |sent| sent.bytes)
     }
 
+    /// The bytes of a plan's delta under an MTU of 16,384, from the datagram's beginning on.
+    #[inline]
+    pub fn plan(&self, digest: &[u8], nodes: &[u64], counts: &[u64], datagram: &mut [u8]) -> usize {
+        let sent = match self {
+            Lent(bytes) => TableView::over(bytes).compute_plan(EDITION, digest, 16_384, &[], nodes, counts, datagram),
+            Owned(table) => table.compute_plan(EDITION, digest, 16_384, &[], nodes, counts, datagram),
+        };
+        sent.map_or(0, |sent| sent.bytes)
+    }
+
     /// Whether all nodes answered so.
     #[inline]
     pub fn apply(&mut self, delta: &[u8], clock: u64, answer: kevdarosh::Answer) -> bool {

@@ -13,6 +13,7 @@ mod count;
 mod damage;
 mod maker;
 mod pieces;
+mod plans;
 mod random;
 mod scripts;
 mod shrink;

@@ -8,6 +8,7 @@ use script::table::{self, NODES, Node, RECORDS, Record};
 
 use crate::damage;
 use crate::pieces::{self, Op};
+use crate::plans::{self, Plan};
 use crate::random::Random;
 
 pub struct Maker {
@@ -227,6 +228,47 @@ impl Maker {
         let held = self.held[self.hub].len();
         let ties: Vec<u64> = (0..held).map(|_| self.random.below(3)).collect();
         self.line(format!("compute {digest} {mtu} - {} 0 {mtu} {}", list(&ties), self.told));
+    }
+
+    /// Both lines of a plan: what is at fault in it, and the delta.
+    fn planned(&mut self, digest: &str, plan: &Plan, place: u64, len: u64, edition: u64) {
+        let lists = format!("{} {} {}", list(&plan.excluded), list(&plan.nodes), list(&plan.counts));
+        self.line(format!("planfault {digest} {} {lists} {edition}", plan.mtu));
+        self.line(format!("plan {digest} {} {lists} {place} {len} {edition}", plan.mtu));
+    }
+
+    /// A plan of nodes that are mostly held, with small counts: what of them is stale is not known here.
+    pub fn loose_plan(&mut self, digest: &str, mtu: u64) {
+        let mut nodes: Vec<u64> = self.held[self.hub].iter().copied().filter(|_| !self.random.once_in(3)).collect();
+        if !nodes.is_empty() {
+            let first = self.random.place(nodes.len());
+            nodes.rotate_left(first);
+        }
+        if !self.random.once_in(4) {
+            nodes.truncate(self.random.within(0, 2) as usize);
+        }
+        if self.random.once_in(12) {
+            nodes.push(self.node());
+        }
+        let counts = nodes.iter().map(|_| *self.random.pick(&[0, 1, 1, 1, 1, 2, 3])).collect();
+        let excluded = if self.random.once_in(4) { self.excluded() } else { Vec::new() };
+        let (place, len) = if self.random.once_in(4) { self.room(mtu.min(20_000)) } else { (0, mtu.min(20_000)) };
+        let edition = self.told_edition();
+        self.planned(digest, &Plan { mtu, excluded, nodes, counts }, place, len, edition);
+    }
+
+    /// A plan for a table of these nodes, and a digest by hand that tells of them.
+    pub fn aimed_plan(&mut self, nodes: &[Node]) {
+        let entries = plans::told(&mut self.random, nodes);
+        let plan = plans::plan(&mut self.random, nodes, &entries);
+        self.told = self.random.below(2);
+        let mut bytes = pieces::digest(self.told, &entries);
+        if self.random.once_in(25) {
+            bytes = damage::digest(&mut self.random, &bytes);
+        }
+        let (place, len) = if self.random.once_in(8) { self.room(plan.mtu.min(20_000)) } else { (0, plan.mtu.min(20_000)) };
+        let edition = self.told_edition();
+        self.planned(&hex(&bytes), &plan, place, len, edition);
     }
 
     /// A digest of the nodes of the pool, by hand, in either edition: repeats, strangers, any order, now and then nine entries.

@@ -18,7 +18,7 @@ pub fn beyond(seed: u64, index: u64) -> Vec<String> {
 }
 
 fn any(mut random: Random) -> Vec<String> {
-    match random.below(21) {
+    match random.below(23) {
         0..=2 => local(random),
         3 => sizes(random),
         4 => full_node(random),
@@ -29,6 +29,7 @@ fn any(mut random: Random) -> Vec<String> {
         16 | 17 => given(random),
         18 => broken(random),
         19 => coming(random),
+        20 | 21 => planned(random),
         _ => brim(random),
     }
 }
@@ -73,7 +74,11 @@ pub fn peers(seed: u64, index: u64) -> Vec<String> {
             let digest = hex(&m.hand_digest());
             m.compute(&digest, mtu);
         }
-        m.plain_compute("@digest", mtu);
+        if m.random.once_in(3) {
+            m.loose_plan("@digest", mtu);
+        } else {
+            m.plain_compute("@digest", mtu);
+        }
         m.hub(1);
         m.apply("@delta");
     }
@@ -271,7 +276,9 @@ fn one_exchange(m: &mut Maker, wide: bool) {
     }
     m.other_hub();
     let mtu = if wide { m.random.within(100, 16_384) } else { m.random.within(100, 300) };
-    if m.random.once_in(3) {
+    if m.random.once_in(6) {
+        m.loose_plan("@digest", mtu);
+    } else if m.random.once_in(3) {
         m.compute("@digest", mtu);
     } else {
         m.plain_compute("@digest", mtu);
@@ -386,6 +393,25 @@ fn given(mut random: Random) -> Vec<String> {
     m.finish()
 }
 
+/// Plans for a table given whole, each for a digest of its own; a follower takes what they send.
+fn planned(mut random: Random) -> Vec<String> {
+    let (nodes, records, long) = (random.within(1, 8), *random.pick(&[0, 1, 2, 3, 8, 32]), random.once_in(4));
+    let mut m = Maker::new(random, nodes, 6);
+    let good = m.good_nodes(nodes, records, long);
+    m.give(&good);
+    m.hub(1);
+    for node in &good {
+        m.add(node.number);
+    }
+    for _ in 0..m.random.within(4, 16) {
+        m.hub(0);
+        m.aimed_plan(&good);
+        m.hub(1);
+        m.apply("@delta");
+    }
+    m.finish()
+}
+
 /// A table that breaks a rule: each call is refused and the bytes stay.
 fn broken(mut random: Random) -> Vec<String> {
     let nodes = random.within(1, 8);
@@ -401,6 +427,7 @@ fn broken(mut random: Random) -> Vec<String> {
         let bytes = pieces::delta(&m.hand_ops());
         m.apply(&hex(&bytes));
         m.line(format!("readdelta {}", hex(&bytes)));
+        m.aimed_plan(&good);
     }
     m.give(&good);
     for _ in 0..5 {

@@ -6,7 +6,7 @@ use script::table::{self, Node, RECORDS, Record, SET};
 use crate::damage::texts_are_utf8;
 use crate::pieces::{Op, delta, digest};
 
-const SWEEPS: [(&str, fn() -> Vec<String>); 16] = [
+const SWEEPS: [(&str, fn() -> Vec<String>); 20] = [
     ("bench", bench),
     ("writes", writes),
     ("wanted", wanted),
@@ -18,6 +18,10 @@ const SWEEPS: [(&str, fn() -> Vec<String>); 16] = [
     ("late", late),
     ("cuts", cuts),
     ("brim", brim),
+    ("plans", plans),
+    ("plan-numbers", plan_numbers),
+    ("plan-cuts", plan_cuts),
+    ("plan-brim", plan_brim),
     ("exchanges", exchanges),
     ("damaged-delta", damaged_delta),
     ("damaged-digest", damaged_digest),
@@ -253,8 +257,75 @@ fn late() -> Vec<String> {
     lines
 }
 
-/// Each MTU over a table of several nodes, with nodes that have nothing but a max.
-fn cuts() -> Vec<String> {
+/// A plan in both its lines, with a datagram of exactly an MTU.
+fn plan(digest: &str, mtu: u64, excluded: &str, nodes: &str, counts: &str, edition: u64) -> [String; 2] {
+    let asked = format!("{digest} {mtu} {excluded} {nodes} {counts}");
+    [format!("planfault {asked} {edition}"), format!("plan {asked} 0 {mtu} {edition}")]
+}
+
+/// All small own pairs against all small digest pairs, with none, one and two records and each count around the stale ones; and the node excluded, and
+/// named twice.
+fn plans() -> Vec<String> {
+    let mut lines = Vec::new();
+    for own in 0..16 {
+        lines.extend(node_at(own / 4, own % 4));
+        for written in 0..=own % 3 {
+            if written > 0 {
+                lines.push(format!("write 1 {} x31 0 9", hex(&[b'a' + written as u8])));
+            }
+            for pair in 0..36 {
+                let edition = (own + pair) % 2;
+                let digest = hex(&digest(edition, &[[1, 0, pair / 6, pair % 6]]));
+                for count in 0..=written + 1 {
+                    lines.extend(plan(&digest, 100, "-", "1", &count.to_string(), edition));
+                }
+                lines.extend(plan(&digest, 100, "1", "1", "1", edition));
+                lines.extend(plan(&digest, 100, "-", "1,1", if written > 0 { "1,1" } else { "0,0" }, edition));
+            }
+        }
+    }
+    lines.extend(plans_of_eight());
+    lines
+}
+
+/// A line for each of eight nodes, and one or two behind them in either list; and one line, with its node excluded, held or not.
+fn plans_of_eight() -> Vec<String> {
+    let mut lines = vec!["new".to_string()];
+    for number in 1..=8 {
+        lines.extend([format!("add {number}"), format!("write {number} x61 x31 0 9")]);
+    }
+    for nodes in ["", ",8", ",9", ",1,2"] {
+        for counts in ["", ",0", ",1", ",1,1"] {
+            lines.extend(plan("x0000", 328, "-", &format!("1,2,3,4,5,6,7,8{nodes}"), &format!("1,1,1,1,1,1,1,1{counts}"), 0));
+        }
+    }
+    lines.extend(["8", "9"].into_iter().flat_map(|number| plan("x0000", 100, "9,8", number, "1", 0)));
+    lines
+}
+
+/// Every choice of the things that a plan can be refused for: which one is told?
+fn plan_numbers() -> Vec<String> {
+    let mut lines = Vec::new();
+    for table in ["new", "table x"] {
+        lines.extend(["new", "add 1", "write 1 x61 x31 0 9"].map(String::from));
+        if table != "new" {
+            lines.push(table.to_string());
+        }
+        for (edition, mtu, len) in [0, 1, 2].into_iter().flat_map(|edition| [99, 100, 16_385].map(|mtu| (edition, mtu, mtu))) {
+            for digest in [digest(edition, &[]), digest(edition, &[[1, 0, 0, 1]])[..31].to_vec(), digest(edition, &[[1, 0, 0, 0]; 9])] {
+                for (counts, short) in ["1", "2", "-"].into_iter().flat_map(|counts| [0, 1].map(|short| (counts, short))) {
+                    let asked = format!("{} {mtu} - 1 {counts}", hex(&digest));
+                    lines.push(format!("planfault {asked} {edition}"));
+                    lines.push(format!("plan {asked} 0 {} {edition}", len - short));
+                }
+            }
+        }
+    }
+    lines
+}
+
+/// Several nodes, some of which have nothing but a max.
+fn some_nodes() -> Vec<String> {
     let mut lines = vec!["new".to_string()];
     for number in 1..=6u64 {
         lines.push(format!("add {number}"));
@@ -269,7 +340,18 @@ fn cuts() -> Vec<String> {
         ));
     }
     lines.push("delete 4 x61 1".to_string());
-    let partly = hex(&digest(1, &[[3, 0, 0, 2], [5, 0, 0, 22], [4, 0, 0, 1], [6, 0, 0, 1]]));
+    lines
+}
+
+/// A digest that is behind with some of them.
+fn partly_told() -> String {
+    hex(&digest(1, &[[3, 0, 0, 2], [5, 0, 0, 22], [4, 0, 0, 1], [6, 0, 0, 1]]))
+}
+
+/// Each MTU over a table of several nodes, with nodes that have nothing but a max.
+fn cuts() -> Vec<String> {
+    let mut lines = some_nodes();
+    let partly = partly_told();
     for mtu in 100..=620 {
         lines.push(format!("compute x0000 {mtu} - 0,0,0,0,0,0 0 {mtu} 0"));
         lines.push(format!("compute {partly} {mtu} - 1,0,1,0,1,0 0 {mtu} 1"));
@@ -277,9 +359,35 @@ fn cuts() -> Vec<String> {
     lines
 }
 
+/// The same by plans: which line is the first that does not fit?
+fn plan_cuts() -> Vec<String> {
+    let mut lines = some_nodes();
+    let partly = partly_told();
+    for mtu in 100..=620 {
+        lines.extend(plan("x0000", mtu, "-", "6,5,4,3,2,1", "5,4,3,2,1,0", 0));
+        lines.extend(plan("x0000", mtu, "-", "1,6,2,5", "0,3,1,2", 0));
+        lines.extend(plan(&partly, mtu, "2", "6,1,3,5", "4,0,0,0", 1));
+    }
+    lines
+}
+
 /// Each MTU from 16,270 on, where five full nodes end, a sixth begins, and the original needs a second block. The sixth has
 /// records, or nothing but a max.
 fn brim() -> Vec<String> {
+    brims(|mtu| vec![format!("compute x0000 {mtu} - 0,0,0,0,0,0 0 {mtu} 0")])
+}
+
+/// The same by plans: the five full nodes; one record fewer; the sixth node first, with its max alone.
+fn plan_brim() -> Vec<String> {
+    brims(|mtu| {
+        let five = plan("x0000", mtu, "-", "1,2,3,4,5", "32,32,32,32,32", 0);
+        let fewer = plan("x0000", mtu, "6", "5,4,3,2,1", "32,32,32,32,31", 0);
+        let first = plan("x0000", mtu, "-", "6,5,4,3,2,1", "0,32,32,32,32,32", 0);
+        [five, fewer, first].concat()
+    })
+}
+
+fn brims(ask: impl Fn(u64) -> Vec<String>) -> Vec<String> {
     const VALUE: usize = 55;
     let record = |place: usize, value: usize| Record {
         key: format!("{place:032}").into_bytes(),
@@ -299,7 +407,7 @@ fn brim() -> Vec<String> {
             })
             .collect();
         lines.push(format!("table {}", hex(&table::encode(&nodes, table::PLAIN))));
-        lines.extend((16_270..=16_384).map(|mtu| format!("compute x0000 {mtu} - 0,0,0,0,0,0 0 {mtu} 0")));
+        lines.extend((16_270..=16_384).flat_map(&ask));
     }
     lines
 }

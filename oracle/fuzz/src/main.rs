@@ -9,6 +9,8 @@
 //! - on a good table, the same call without the check tells and leaves the same,
 //! - where a delta was applied, its two parts do the same in either order, cut at a Node; cut elsewhere, the second is refused with 11,
 //! - now and then, the readings by place give the very table again.
+//!
+//! One script in sixteen is followed by a walk over overrides (`over.rs`).
 
 #[allow(dead_code)]
 #[path = "../../compare/src/damage.rs"]
@@ -19,9 +21,12 @@ mod ffi;
 #[allow(dead_code)]
 #[path = "../../compare/src/maker.rs"]
 mod maker;
+mod over;
 #[allow(dead_code)]
 #[path = "../../compare/src/pieces.rs"]
 mod pieces;
+#[path = "../../compare/src/plans.rs"]
+mod plans;
 mod port;
 #[allow(dead_code)]
 #[path = "../../compare/src/random.rs"]
@@ -41,6 +46,11 @@ use port::Port;
 
 /// Bytes of a table, for `ffi`.
 pub const TABLE: usize = script::table::TABLE_BYTES;
+/// Bytes of overrides, for `ffi`.
+pub const OVERRIDES: usize = script::table::NODE_BYTES;
+
+/// How many turns a walk over overrides has.
+const TURNS: u64 = 200;
 
 /// Readings by place are asked once in so many calls of a script.
 const READ_EVERY: u64 = 16;
@@ -76,9 +86,13 @@ impl Run {
         for line in lines {
             let mut call = Call::parse(line).ok_or_else(|| format!("not a call: {line}"))?;
             match &mut call {
-                Call::ReadDigest { bytes, .. } | Call::ReadDelta { bytes } | Call::Apply { bytes, .. } | Call::Table { bytes } | Call::Compute { digest: bytes, .. } => {
-                    write_out(bytes, &digest, &delta)
-                }
+                Call::ReadDigest { bytes, .. }
+                | Call::ReadDelta { bytes }
+                | Call::Apply { bytes, .. }
+                | Call::Table { bytes }
+                | Call::Compute { digest: bytes, .. }
+                | Call::Plan { digest: bytes, .. }
+                | Call::PlanFault { digest: bytes, .. } => write_out(bytes, &digest, &delta),
                 _ => {}
             }
             self.lines += 1;
@@ -124,6 +138,7 @@ fn kind(answer: &Answer) -> String {
     match answer {
         Answer::Refused(number) | Answer::RefusedAt(number, _) => format!("refused{number:02}"),
         Answer::Cut { .. } => "refused09".into(),
+        Answer::AtFault { .. } => "refused23".into(),
         Answer::Applied(_) => "applied".into(),
         Answer::DeltaWritten { .. } => "delta-written".into(),
         Answer::DeltaRead { .. } => "delta-read".into(),
@@ -149,6 +164,15 @@ fn main() -> ExitCode {
         if calls * 20 / most > told {
             told = calls * 20 / most;
             println!("seed={seed} calls={calls} of {most}, scripts={}", run.scripts);
+        }
+        if index % 16 == 7 {
+            match over::walk(seed, index, TURNS) {
+                Ok(calls) => port[0].calls += calls,
+                Err(what) => {
+                    println!("seed={seed}: {what}");
+                    return ExitCode::FAILURE;
+                }
+            }
         }
         let script = if index % 16 == 15 { scripts::peers(seed, index / 16) } else { scripts::beyond(seed, index) };
         if let Err(what) = run.script(&script, &mut port) {

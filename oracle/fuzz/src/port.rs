@@ -2,7 +2,7 @@
 
 use kevdarosh::{Status, TableView};
 use script::table::{AREA_BYTES, DELETE, KEY, NODE_BYTES, NODE_HEAD_BYTES, Node, RECORD_BYTES, REMOVED_BYTES, Record, VALUE, encode_with};
-use script::{Answer, Bytes, Call, DigestEntry, Verdict};
+use script::{Answer, Bytes, Call, DigestEntry, Fault, Verdict};
 
 use crate::ffi::{self, Kept};
 
@@ -38,6 +38,21 @@ fn verdict(code: u8) -> Verdict {
         3 => Verdict::Room,
         4 => Verdict::Unknown,
         _ => Verdict::Fenced,
+    }
+}
+
+/// Why a line of a plan is at fault, by the header's number.
+fn fault(why: u64) -> Fault {
+    match why {
+        1 => Fault::NotHeld,
+        2 => Fault::Excluded,
+        3 => Fault::NamedBefore,
+        4 => Fault::UpToDate,
+        5 => Fault::TooMany,
+        6 => Fault::TooFew,
+        7 => Fault::NoFit,
+        8 => Fault::Alone,
+        _ => panic!("{why} names no fault of a plan"),
     }
 }
 
@@ -108,6 +123,27 @@ fn ask<S: ffi::BytesMut>(table: &mut S, call: &Call) -> Told {
             assert!(marked(&list[..start]) && marked(&list[start + told.bytes.get()..]), "a byte outside the delta was written");
             assert_eq!(told.number == 9, told.need.get() > 0, "need");
             or_cut(told.number, told.need.get(), Answer::DeltaWritten { ops: told.ops.get(), bytes: list[start..start + told.bytes.get()].to_vec() })
+        }
+        Call::Plan { digest, mtu, excluded, nodes, counts, place, len, edition } => {
+            list = vec![MARK; *len];
+            let told = ffi::compute_plan(table, *edition, given(digest), *mtu as usize, excluded, nodes, counts, &mut list, *place as usize);
+            let start = (*place).min(*len as u64) as usize;
+            assert!(marked(&list[..start]) && marked(&list[start + told.bytes.get()..]), "a byte outside the delta was written");
+            assert_eq!(told.number == 9, told.need.get() > 0, "need");
+            let said = ffi::plan_fault(table, *edition, given(digest), *mtu as usize, excluded, nodes, counts);
+            assert!(told.number == 8 || said.number == told.number, "what is said of a plan has the number that computing by it gives");
+            or_cut(told.number, told.need.get(), Answer::DeltaWritten { ops: told.ops.get(), bytes: list[start..start + told.bytes.get()].to_vec() })
+        }
+        Call::PlanFault { digest, mtu, excluded, nodes, counts, edition } => {
+            let told = ffi::plan_fault(table, *edition, given(digest), *mtu as usize, excluded, nodes, counts);
+            assert_eq!(told.number == 9, told.need.get() > 0, "need");
+            match told.number {
+                23 => (23, Answer::AtFault { line: told.line.get(), why: fault(told.why) }),
+                number => {
+                    assert_eq!((told.line.get(), told.why), (0, 0), "a line and a fault without 23");
+                    or_cut(number, told.need.get(), Answer::Accepted)
+                }
+            }
         }
         Call::Apply { bytes, now, places } => {
             list = vec![MARK; (*places).min(PLACES) as usize];

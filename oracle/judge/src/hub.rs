@@ -9,7 +9,7 @@ use std::panic::{AssertUnwindSafe, catch_unwind};
 use std::time::Duration;
 
 use script::table::{self, KEY, NODES, RECORDS, REMOVED, VALUE};
-use script::{Answer, Bytes, Call, DigestEntry, Side, Verdict};
+use script::{Answer, Bytes, Call, DigestEntry, Fault as LineFault, Side, Verdict};
 use tokio::sync::watch;
 use tokio::time::{Instant, set_clock};
 
@@ -24,6 +24,8 @@ use crate::wire;
 const MTU_LEAST: u64 = 100;
 const MTU_MOST: u64 = 16_384;
 const DELTA_MOST: usize = 16_384;
+/// More than any delta has bytes.
+const NO_LIMIT: usize = 1 << 20;
 /// What an untouched byte of a lent datagram holds.
 const UNTOUCHED: u8 = 0xEE;
 
@@ -66,6 +68,11 @@ fn free(place: u64, len: usize, need: usize) -> Outcome<usize> {
         Ok(place) if place <= len && len - place >= need => Ok(place),
         _ => Err(Answer::Refused(8)),
     }
+}
+
+/// Layer: number 7.
+fn mtu_of(mtu: u64) -> Outcome<usize> {
+    if (MTU_LEAST..=MTU_MOST).contains(&mtu) { Ok(mtu as usize) } else { Err(Answer::Refused(7)) }
 }
 
 /// The original's reading errors by document 01's numbers. The words are the original's.
@@ -236,7 +243,7 @@ fn read_counted(bytes: &[u8]) -> Outcome<(Digest, usize)> {
 /// The original's MTU under which the last operation of a delta with `nodes` Nodes fits exactly where document 01
 /// lets it fit under `mtu`. The original counts 9 bytes more a Node, 3 bytes a block and 1 at the end; above
 /// 16,384 bytes it needs a second block.
-fn original_mtu(mtu: usize, nodes: usize) -> usize {
+pub(crate) fn original_mtu(mtu: usize, nodes: usize) -> usize {
     let bytes = mtu + wire::NAME_EXTRA * nodes;
     bytes + if bytes >= 16_384 { 7 } else { 4 }
 }
@@ -374,10 +381,7 @@ impl Hub {
         edition: u64,
     ) -> Outcome<Answer> {
         edition_of(edition)?;
-        if !(MTU_LEAST..=MTU_MOST).contains(&mtu) {
-            return Err(Answer::Refused(7));
-        }
-        let mtu = mtu as usize;
+        let mtu = mtu_of(mtu)?;
         free(place, len, mtu)?;
         if ties.len() != self.cluster.nodes().count() {
             return Err(Answer::Refused(15));
@@ -395,7 +399,6 @@ impl Hub {
     /// A delta under an MTU is the beginning of the one without. How many Nodes it has decides the original's MTU; at that
     /// MTU a next Node that fits could still be missed, so where one comes next the original is asked at one Node more.
     fn cut(&self, digest: &Digest, mtu: usize, excluded: &HashSet<&ChitchatId>) -> Outcome<Vec<Vec<u8>>> {
-        const NO_LIMIT: usize = 1 << 20;
         let under = |mtu| ask(|| operations(&self.cluster.compute_partial_delta_respecting_mtu(digest, mtu, excluded)));
         let whole = under(NO_LIMIT)?;
         let mut bytes = 0;
@@ -412,6 +415,113 @@ impl Hub {
             Ok(cut)
         } else {
             Err(Answer::Broken(format!("cut {}, wider {}, foreseen {foreseen}", cut.len(), wider.len())))
+        }
+    }
+
+    /// What the original sends of one node to this digest where nothing limits it and every other node is excluded; nothing where it does not count the node
+    /// as stale.
+    fn all_of(&self, number: u64, digest: &Digest) -> Outcome<Vec<Vec<u8>>> {
+        let others: Vec<ChitchatId> = self.cluster.nodes().filter(|id| id.generation_id != number).cloned().collect();
+        rand::set_ties(std::iter::once((number, 0)));
+        ask(|| operations(&self.cluster.compute_partial_delta_respecting_mtu(digest, NO_LIMIT, &others.iter().collect())))
+    }
+
+    /// The operations of one line of a plan, or why it cannot be sent. Layer: held, excluded, named before, and what the count says. Original: whether the node
+    /// is stale, and all operations that could be sent of it, in their order.
+    fn line(&self, digest: &Digest, excluded: &[u64], before: &[u64], number: u64, count: u64) -> Outcome<Result<Vec<Vec<u8>>, LineFault>> {
+        if self.cluster.node_state(&wire::chitchat_id(number)).is_none() {
+            return Ok(Err(LineFault::NotHeld));
+        }
+        if excluded.contains(&number) {
+            return Ok(Err(LineFault::Excluded));
+        }
+        if before.contains(&number) {
+            return Ok(Err(LineFault::NamedBefore));
+        }
+        let mut all = self.all_of(number, digest)?;
+        if all.is_empty() {
+            return Ok(Err(LineFault::UpToDate));
+        }
+        let records = all.iter().filter(|op| op[0] == wire::TAG_KEY_VALUE).count();
+        if count > records as u64 {
+            return Ok(Err(LineFault::TooMany));
+        }
+        if records > 0 {
+            if count == 0 {
+                return Ok(Err(LineFault::TooFew));
+            }
+            // Behind the Node.
+            all.truncate(1 + count as usize);
+        }
+        Ok(Ok(all))
+    }
+
+    /// The operations of a plan, or the first line at fault. Layer: the order of the lines, whether they fit, the two lists' lengths.
+    fn lines(
+        &self,
+        digest: &Digest,
+        mtu: usize,
+        excluded: &[u64],
+        nodes: &[u64],
+        counts: &[u64],
+    ) -> Outcome<Result<Vec<Vec<u8>>, (usize, LineFault)>> {
+        let (mut sent, mut bytes) = (Vec::new(), 0);
+        for (line, (&number, &count)) in nodes.iter().zip(counts).enumerate() {
+            match self.line(digest, excluded, &nodes[..line], number, count)? {
+                Ok(ops) => {
+                    bytes += ops.concat().len();
+                    sent.extend(ops);
+                }
+                Err(why) => return Ok(Err((line, why))),
+            }
+            if bytes > mtu {
+                return Ok(Err((line, LineFault::NoFit)));
+            }
+        }
+        Ok(if nodes.len() == counts.len() { Ok(sent) } else { Err((nodes.len().min(counts.len()), LineFault::Alone)) })
+    }
+
+    fn plan(
+        &mut self,
+        digest: &[u8],
+        mtu: u64,
+        excluded: &[u64],
+        nodes: &[u64],
+        counts: &[u64],
+        place: u64,
+        len: usize,
+        edition: u64,
+    ) -> Outcome<Answer> {
+        edition_of(edition)?;
+        let mtu = mtu_of(mtu)?;
+        free(place, len, mtu)?;
+        let (digest, _rest) = read_digest(digest, edition)?;
+        match self.lines(&digest, mtu, excluded, nodes, counts)? {
+            Ok(sent) => {
+                let bytes = sent.concat();
+                // The original reads what it never wrote in this order.
+                read_delta(&bytes)?;
+                Ok(Answer::DeltaWritten { ops: sent.len(), bytes })
+            }
+            Err(_) => Err(Answer::Refused(23)),
+        }
+    }
+
+    fn plan_fault(
+        &mut self,
+        digest: &[u8],
+        mtu: u64,
+        excluded: &[u64],
+        nodes: &[u64],
+        counts: &[u64],
+        edition: u64,
+    ) -> Outcome<Answer> {
+        edition_of(edition)?;
+        let mtu = mtu_of(mtu)?;
+        let (digest, _rest) = read_digest(digest, edition)?;
+        match self.lines(&digest, mtu, excluded, nodes, counts)? {
+            Ok(_) => Ok(Answer::Accepted),
+            Err((line, why)) => Err(Answer::AtFault { line, why }),
         }
     }
 
@@ -492,6 +602,12 @@ impl Hub {
             Call::Digest { excluded, place, len, edition } => self.write_digest(excluded, *place, *len, *edition),
             Call::Compute { digest, mtu, excluded, ties, place, len, edition } => {
                 self.compute(given(digest), *mtu, excluded, ties, *place, *len, *edition)
+            }
+            Call::Plan { digest, mtu, excluded, nodes, counts, place, len, edition } => {
+                self.plan(given(digest), *mtu, excluded, nodes, counts, *place, *len, *edition)
+            }
+            Call::PlanFault { digest, mtu, excluded, nodes, counts, edition } => {
+                self.plan_fault(given(digest), *mtu, excluded, nodes, counts, *edition)
             }
             Call::Apply { bytes, now, places } => self.apply(given(bytes), *now, *places),
             _ => unreachable!("answered without a table"),

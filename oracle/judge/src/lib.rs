@@ -3,7 +3,7 @@
 //! - `mount`: the original files as modules, each with a probe beside it that reaches its private items.
 //! - `wire`: document 01's bytes to the original's bytes and back.
 //! - `hub`: one table. It holds the layer of refusals that document 01 adds around the original.
-//! - `raw`: the original without that layer, for the findings; `timed`: the same for the measurement.
+//! - `raw`: the original without that layer, for the findings; `timed`: the same for the measurement; `fleet`: the same as one hub of many.
 
 // The original's own looks are not ours to mend.
 #![allow(dead_code, mismatched_lifetime_syntaxes, unused_imports, clippy::all)]
@@ -39,6 +39,7 @@ mod types {
     include!(concat!(env!("CHITCHAT"), "/types.rs"));
 }
 
+pub mod fleet;
 pub mod hub;
 pub mod raw;
 pub mod timed;

@@ -50,6 +50,17 @@ pub fn freshen(table: &mut [u8], place: usize) {
     table[1 + place * NODE_BYTES + 8..1 + (place + 1) * NODE_BYTES].fill(0);
 }
 
+/// The node in this slot becomes that of another table.
+pub fn copy_node(from: &[u8], table: &mut [u8], place: usize) {
+    let slot = 1 + place * NODE_BYTES..1 + (place + 1) * NODE_BYTES;
+    table[slot.clone()].copy_from_slice(&from[slot]);
+}
+
+/// A digest of the first edition tells the largest number as the max of the node in this place.
+pub fn tell_most(digest: &mut [u8], place: usize) {
+    digest[2 + 32 * place + 24..2 + 32 * (place + 1)].fill(0xFF);
+}
+
 /// A node delta's numbers.
 pub struct Part {
     pub number: u64,

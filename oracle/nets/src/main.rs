@@ -34,7 +34,7 @@ fn search(kind: Kind, look: Look, steps: u64, seed: u64, counts: &mut Counts) ->
 }
 
 fn number(word: Option<String>) -> u64 {
-    word.and_then(|word| word.parse().ok()).expect("usage: nets [rule|claims] N SEED")
+    word.and_then(|word| word.parse().ok()).expect("usage: nets [rule|claims|locks] N SEED")
 }
 
 /// The safe kinds keep what is claimed; each unsafe one is found out.
@@ -69,8 +69,34 @@ fn found(look: Look, steps: u64, seed: u64) -> Option<String> {
     Some(format!("{at} steps, {kind:?}: {claim}"))
 }
 
+/// How many of so many nets lock under a small MTU, and how many of these come out of it.
+fn locks(nets: u64, seed: u64) -> bool {
+    let (mut counts, mut locked, mut opened) = (Counts::default(), 0, 0);
+    for index in 0..nets {
+        let random = Random::new(seed, index * 16 + Kind::Narrow as u64);
+        let mut net = Net::new(Kind::Narrow, Look { rule: true, claims: true }, random, &mut counts);
+        match net.locks() {
+            Err(claim) => {
+                println!("FAILS: {claim} (net {index})");
+                return false;
+            }
+            Ok(None) => {}
+            Ok(Some(open)) => {
+                locked += 1;
+                opened += u64::from(open);
+            }
+        }
+    }
+    println!("{nets} nets: {locked} lock, {opened} of them come out of it");
+    locked > 0 && locked == opened
+}
+
 fn main() {
     let mut words = std::env::args().skip(1).peekable();
+    if words.peek().map(String::as_str) == Some("locks") {
+        words.next();
+        std::process::exit(i32::from(!locks(number(words.next()), number(words.next()))));
+    }
     let look = match words.peek().map(String::as_str) {
         Some("rule") => Some(Look { rule: true, claims: false }),
         Some("claims") => Some(Look { rule: false, claims: true }),

@@ -23,10 +23,39 @@ pub enum Kind {
     Relay,
     /// Guarded; an owner may be restored with writes lost.
     Lost,
+    /// Fenced and guarded hubs, each with one disk. They crash, and lose the disk too; a delta leaves only when all that its hub gave is on its disk, and an owner
+    /// that forgot writes only when it has caught up with what it let out.
+    Losing,
+    /// Guarded; an exchange's digest, delta and applying are steps of their own, and cross those of others; of two hubs one exchange each way at a time.
+    Overlapping,
+    /// As Losing, but deltas leave at once.
+    Unstored,
+    /// As Losing, but an owner that forgot writes at once.
+    Hasty,
+    /// Four guarded hubs and two nodes of hub 0: see `locks`.
+    Narrow,
 }
 
-pub const SAFE: [Kind; 4] = [Kind::Fenced, Kind::Guarded, Kind::Both, Kind::Leaf];
-pub const UNSAFE: [Kind; 3] = [Kind::Plain, Kind::Relay, Kind::Lost];
+pub const SAFE: [Kind; 6] = [Kind::Fenced, Kind::Guarded, Kind::Both, Kind::Leaf, Kind::Losing, Kind::Overlapping];
+pub const UNSAFE: [Kind; 5] = [Kind::Plain, Kind::Relay, Kind::Lost, Kind::Unstored, Kind::Hasty];
+
+/// What an owner gave to a node: how many versions, and the one that each key was given last.
+#[derive(Clone, Default)]
+struct History {
+    versions: u64,
+    last: BTreeMap<Vec<u8>, u64>,
+}
+
+/// An exchange that is under way: the hub that asks, the one that is asked, the digest, and the delta when it was computed. For each node: whether the hub that is asked
+/// had all when the digest was written, and whether the other was reset since.
+struct Open {
+    hub: usize,
+    other: usize,
+    digest: Vec<u8>,
+    delta: Option<Vec<u8>>,
+    from_fed: Vec<bool>,
+    reset: Vec<bool>,
+}
 
 /// What is looked at: that an answer is Fenced exactly where the mode's rule says so; what is promised of nets.
 #[derive(Clone, Copy)]
@@ -46,11 +75,19 @@ pub struct Counts {
     pub removals: u64,
     pub equal: u64,
     pub behind: u64,
+    pub crashed: u64,
+    pub undone: u64,
+    pub forgot: u64,
+    pub recalled: u64,
+    pub crossed: u64,
+    pub resets_between: u64,
 }
 
 const KEYS: [&[u8]; 4] = [b"a", b"b", b"c", b"d"];
+const RESET_CODE: u8 = 2;
 const FENCED_CODE: u8 = 5;
 const WHOLE: usize = 16_384;
+const NARROW: usize = 135;
 
 pub struct Net<'a> {
     random: Random,
@@ -63,8 +100,12 @@ pub struct Net<'a> {
     keys: usize,
     /// The owner of each node. Node number n stands in slot n - 1 of every table.
     owners: Vec<usize>,
-    /// The version that each key of a node was given last.
-    given: Vec<BTreeMap<Vec<u8>, u64>>,
+    /// What was given to each node and not lost; what of it is on its owner's disk; what of it was let out.
+    given: Vec<History>,
+    kept: Vec<History>,
+    out: Vec<History>,
+    disks: Vec<Vec<u8>>,
+    open: Vec<Open>,
     /// Everything ever computed.
     deltas: Vec<Vec<u8>>,
     digests: Vec<Vec<u8>>,
@@ -79,16 +120,18 @@ fn ensure(holds: bool, claim: impl Fn() -> String) -> Claim {
 
 impl<'a> Net<'a> {
     pub fn new(kind: Kind, look: Look, mut random: Random, counts: &'a mut Counts) -> Net<'a> {
-        let hubs = 3 + random.below(3);
-        let nodes = 1 + random.below(2);
+        let narrow = kind == Kind::Narrow;
+        let hubs = if narrow { 4 } else { 3 + random.below(3) };
+        let nodes = if narrow { 2 } else { 1 + random.below(2) };
         let keys = 2 + random.below(KEYS.len() - 1);
-        let owners = (0..nodes).map(|_| random.below(hubs)).collect();
+        let owners = (0..nodes).map(|_| if narrow { 0 } else { random.below(hubs) }).collect();
         let mut modes: Vec<u8> = (0..hubs)
             .map(|_| match kind {
                 Kind::Plain => PLAIN,
                 Kind::Fenced => FENCED,
-                Kind::Guarded | Kind::Lost => GUARDED,
+                Kind::Guarded | Kind::Lost | Kind::Overlapping | Kind::Narrow => GUARDED,
                 Kind::Both | Kind::Leaf | Kind::Relay => *random.pick(&[FENCED, GUARDED]),
+                Kind::Losing | Kind::Unstored | Kind::Hasty => *random.pick(&[FENCED, GUARDED]),
             })
             .collect();
         if matches!(kind, Kind::Leaf | Kind::Relay) {
@@ -97,16 +140,21 @@ impl<'a> Net<'a> {
         let fresh = |number| table::Node { number, heartbeat: 0, max: 0, last_gc: 0, records: vec![] };
         let fresh: Vec<_> = (1..=nodes as u64).map(fresh).collect();
         counts.nets += 1;
+        let tables: Vec<Vec<u8>> = modes.iter().map(|&mode| table::encode(&fresh, mode)).collect();
         Net {
             random,
             kind,
             look,
-            tables: modes.iter().map(|&mode| table::encode(&fresh, mode)).collect(),
+            disks: tables.clone(),
+            tables,
             saved: vec![Vec::new(); hubs],
             clocks: vec![10; hubs],
             keys,
             owners,
-            given: vec![BTreeMap::new(); nodes],
+            given: vec![History::default(); nodes],
+            kept: vec![History::default(); nodes],
+            out: vec![History::default(); nodes],
+            open: Vec::new(),
             deltas: Vec::new(),
             digests: Vec::new(),
             counts,
@@ -134,6 +182,25 @@ impl<'a> Net<'a> {
         self.pair(self.owners[place], place)
     }
 
+    fn loses(&self) -> bool {
+        matches!(self.kind, Kind::Losing | Kind::Unstored | Kind::Hasty)
+    }
+
+    fn owned(&self, hub: usize) -> Vec<usize> {
+        (0..self.owners.len()).filter(|&place| self.owners[place] == hub).collect()
+    }
+
+    /// The owner has caught up with what it let out; else it must not write.
+    fn may_write(&self, place: usize) -> bool {
+        self.kind == Kind::Hasty || self.owner_pair(place).max >= self.out[place].versions
+    }
+
+    fn gave(&mut self, place: usize, key: &[u8]) {
+        let versions = self.owner_pair(place).max;
+        self.given[place].versions = versions;
+        self.given[place].last.insert(key.to_vec(), versions);
+    }
+
     fn clock(&mut self, hub: usize) -> u64 {
         let clock = &mut self.clocks[hub];
         *clock = (*clock + self.random.below(9) as u64).saturating_sub(self.random.below(4) as u64);
@@ -153,6 +220,7 @@ impl<'a> Net<'a> {
             16 => self.compute(),
             17..=19 => self.arrive(hub),
             20 => self.save(hub),
+            21 if self.loses() => self.lose(hub),
             21 => self.restore(hub),
             22 if self.random.once_in(2) => self.wipe(hub),
             _ => self.hear_someone(hub),
@@ -162,6 +230,9 @@ impl<'a> Net<'a> {
 
     fn write(&mut self) -> Claim {
         let place = self.random.below(self.owners.len());
+        if !self.may_write(place) {
+            return Ok(());
+        }
         let hub = self.owners[place];
         let before = self.pair(hub, place);
         let key = KEYS[self.random.below(self.keys)];
@@ -177,7 +248,7 @@ impl<'a> Net<'a> {
         };
         let max = self.pair(hub, place).max;
         if max > before.max {
-            self.given[place].insert(key.to_vec(), max);
+            self.gave(place, key);
         }
         ensure(max <= before.max + 1, || "a write gives one version".into())
     }
@@ -185,6 +256,9 @@ impl<'a> Net<'a> {
     /// An owner deletes a key, and removes all that is scheduled: where that key was written last, its last_gc is its max.
     fn clear(&mut self) -> Claim {
         let place = self.random.below(self.owners.len());
+        if !self.may_write(place) {
+            return Ok(());
+        }
         let hub = self.owners[place];
         let key = KEYS[self.random.below(self.keys)];
         let before = self.pairs(hub);
@@ -192,8 +266,7 @@ impl<'a> Net<'a> {
         if port::delete(&mut self.tables[hub], place as u64 + 1, key, clock) == 0
             && self.pair(hub, place).max > before[place].max
         {
-            let max = self.pair(hub, place).max;
-            self.given[place].insert(key.to_vec(), max);
+            self.gave(place, key);
         }
         port::remove(&mut self.tables[hub], clock, 0);
         self.counts.removals += 1;
@@ -217,8 +290,16 @@ impl<'a> Net<'a> {
         if self.random.once_in(12) { vec![1 + self.random.below(self.owners.len()) as u64] } else { vec![] }
     }
 
-    /// A delta of one hub for a digest. It is kept.
+    /// A delta of one hub for a digest. It is kept. What the hub gave is stored first, and let out by it.
     fn computed(&mut self, hub: usize, digest: &[u8], mtu: usize, excluded: &[u64]) -> Vec<u8> {
+        if self.loses() {
+            if self.kind != Kind::Unstored && self.owned(hub).iter().any(|&place| !self.is_stored(hub, place)) {
+                self.store(hub);
+            }
+            for place in self.owned(hub) {
+                self.out[place] = self.given[place].clone();
+            }
+        }
         let ties: Vec<u64> = (0..self.owners.len()).map(|_| self.random.below(3) as u64).collect();
         let delta = port::compute(&self.tables[hub], digest, mtu, excluded, &ties);
         self.deltas.push(delta.clone());
@@ -250,6 +331,9 @@ impl<'a> Net<'a> {
     }
 
     fn hear_someone(&mut self, hub: usize) -> Claim {
+        if self.kind == Kind::Overlapping && !self.random.once_in(4) {
+            return self.cross(hub);
+        }
         let hubs = self.tables.len();
         let other = if self.is_leaf(hub) { 0 } else { (hub + 1 + self.random.below(hubs - 1)) % hubs };
         let (mtu, excluded) = (self.mtu(), self.excluded());
@@ -297,6 +381,55 @@ impl<'a> Net<'a> {
         Ok(())
     }
 
+    fn is_stored(&self, hub: usize, place: usize) -> bool {
+        bytes::pair(&self.disks[hub], place).max == self.pair(hub, place).max
+    }
+
+    fn store(&mut self, hub: usize) {
+        self.disks[hub] = self.tables[hub].clone();
+        for place in self.owned(hub) {
+            self.kept[place] = self.given[place].clone();
+        }
+    }
+
+    /// A hub stores its table, crashes, forgets all, or has a followed node of a table that was saved.
+    fn lose(&mut self, hub: usize) -> Claim {
+        match self.random.below(8) {
+            0..=2 => self.store(hub),
+            3..=5 => {
+                self.counts.crashed += 1;
+                self.tables[hub] = self.disks[hub].clone();
+                for place in self.owned(hub) {
+                    self.counts.undone += self.given[place].versions - self.kept[place].versions;
+                    self.given[place] = self.kept[place].clone();
+                }
+            }
+            6 => {
+                self.counts.forgot += 1;
+                for place in 0..self.owners.len() {
+                    bytes::freshen(&mut self.tables[hub], place);
+                }
+                self.disks[hub] = self.tables[hub].clone();
+                for place in self.owned(hub) {
+                    self.given[place] = self.out[place].clone();
+                    self.kept[place] = self.out[place].clone();
+                }
+            }
+            _ => self.recall(hub),
+        }
+        Ok(())
+    }
+
+    fn recall(&mut self, hub: usize) {
+        let (saver, place) = (self.random.below(self.tables.len()), self.random.below(self.owners.len()));
+        if self.saved[saver].is_empty() || [hub, saver].contains(&self.owners[place]) {
+            return;
+        }
+        self.counts.recalled += 1;
+        let table = self.random.pick(&self.saved[saver]).clone();
+        bytes::copy_node(&table, &mut self.tables[hub], place);
+    }
+
     /// A node is removed and added again, not by its owner.
     fn wipe(&mut self, hub: usize) -> Claim {
         let place = self.random.below(self.owners.len());
@@ -317,6 +450,11 @@ impl<'a> Net<'a> {
         ensure(answers.len() == parts.len(), || "a computed delta is taken".into())?;
         for (part, &answer) in parts.iter().zip(&answers) {
             self.counts.answers[usize::from(answer)] += 1;
+            if answer == RESET_CODE {
+                for exchange in self.open.iter_mut().filter(|exchange| exchange.hub == hub) {
+                    exchange.reset[part.number as usize - 1] = true;
+                }
+            }
             self.answered(hub, part, &before, answer)?;
         }
         self.no_fall(hub, &before)
@@ -338,7 +476,7 @@ impl<'a> Net<'a> {
         ensure(!self.look.rule || fenced == (answer == FENCED_CODE), || {
             "an answer is Fenced where the rule says so".into()
         })?;
-        let own = self.owners[place] == hub;
+        let own = self.owners[place] == hub && before[place].max >= self.given[place].versions;
         ensure(!self.look.claims || !own || answer == 0, || "an owner rejects".into())
     }
 
@@ -357,13 +495,16 @@ impl<'a> Net<'a> {
         }
         for place in 0..self.owners.len() {
             let owner = self.owners[place];
-            let most = self.owner_pair(place).max;
-            for hub in (0..self.tables.len()).filter(|&hub| hub != owner) {
+            let most = if self.loses() { self.given[place].versions } else { self.owner_pair(place).max };
+            // An owner that forgot may be behind: then any hub that has all stands for it.
+            let level = |hub: &usize| self.pair(*hub, place).max == most;
+            let one = Some(owner).filter(level).or_else(|| (0..self.tables.len()).find(level)).unwrap_or(owner);
+            for hub in (0..self.tables.len()).filter(|&hub| hub != one) {
                 let max = self.pair(hub, place).max;
                 ensure(max <= most, || "max never passes the owner's".into())?;
                 if max == most && max > 0 {
                     self.counts.equal += 1;
-                    self.same(hub, place)?;
+                    self.same(hub, one, place)?;
                 }
             }
         }
@@ -371,12 +512,98 @@ impl<'a> Net<'a> {
     }
 
     /// Where max is the owner's: the same Set records, and any other record has the last version that its key was given.
-    fn same(&self, hub: usize, place: usize) -> Claim {
+    fn same(&self, hub: usize, one: usize, place: usize) -> Claim {
         let set = |hub: usize| bytes::records(&self.tables[hub], place).filter(|record| record.set);
-        ensure(set(hub).eq(set(self.owners[place])), || "where max is equal, both hold the same Set records".into())?;
-        let last = |record: bytes::Record| self.given[place].get(record.key) == Some(&record.version);
+        ensure(set(hub).eq(set(one)), || "where max is equal, both hold the same Set records".into())?;
+        let last = |record: bytes::Record| self.given[place].last.get(record.key) == Some(&record.version);
         let others = bytes::records(&self.tables[hub], place).filter(|record| !record.set).all(last);
         ensure(others, || "any other record has the last version that its key was given".into())
+    }
+
+    // ---- exchanges that cross
+
+    /// A digest is written, or an exchange that is under way goes on: its delta is computed, or applied.
+    fn cross(&mut self, hub: usize) -> Claim {
+        let hubs = self.tables.len();
+        if self.open.is_empty() || self.open.len() < 6 && self.random.once_in(3) {
+            let other = (hub + 1 + self.random.below(hubs - 1)) % hubs;
+            self.ask(hub, other, vec![false; self.owners.len()]);
+            return Ok(());
+        }
+        let (at, mtu, excluded) = (self.random.below(self.open.len()), self.mtu(), self.excluded());
+        self.go_on(at, mtu, &excluded).map(|_| ())
+    }
+
+    /// A digest is written, unless an exchange with that hub is under way.
+    fn ask(&mut self, hub: usize, other: usize, from_fed: Vec<bool>) {
+        if self.open.iter().any(|exchange| (exchange.hub, exchange.other) == (hub, other)) {
+            return;
+        }
+        let digest = port::digest(&self.tables[hub], &[]);
+        self.digests.push(digest.clone());
+        self.open.push(Open { hub, other, digest, delta: None, from_fed, reset: vec![false; self.owners.len()] });
+    }
+
+    /// The exchange, if it is over.
+    fn go_on(&mut self, at: usize, mtu: usize, excluded: &[u64]) -> Result<Option<Open>, String> {
+        let Some(delta) = self.open[at].delta.clone() else {
+            let (other, digest) = (self.open[at].other, self.open[at].digest.clone());
+            self.open[at].delta = Some(self.computed(other, &digest, mtu, excluded));
+            return Ok(None);
+        };
+        let exchange = self.open.swap_remove(at);
+        self.apply(exchange.hub, &delta)?;
+        self.counts.crossed += 1;
+        Ok(Some(exchange))
+    }
+
+    /// Whole deltas along a tree of hubs, nobody writes; exchanges cross, records are removed and old deltas come. A hub has all when it has had two exchanges with one that had all at their
+    /// digest, in which it was not reset between its digest and the applying.
+    fn end_crossing(&mut self) -> Claim {
+        self.open.clear();
+        let (hubs, nodes) = (self.tables.len(), self.owners.len());
+        let edges: Vec<(usize, usize)> = (1..hubs).map(|hub| (hub, self.random.below(hub))).collect();
+        let mut fed: Vec<Vec<bool>> =
+            self.owners.iter().map(|&owner| (0..hubs).map(|hub| hub == owner).collect()).collect();
+        let mut good = vec![vec![vec![0; hubs]; hubs]; nodes];
+        for _ in 0..60 * hubs {
+            match self.random.below(12) {
+                0 => {
+                    let hub = self.random.below(hubs);
+                    self.remove(hub)?;
+                }
+                1 => {
+                    let hub = self.random.below(hubs);
+                    self.arrive(hub)?;
+                }
+                _ if self.open.is_empty() || self.open.len() < 6 && self.random.once_in(3) => {
+                    let (one, two) = *self.random.pick(&edges);
+                    let (hub, other) = if self.random.once_in(2) { (one, two) } else { (two, one) };
+                    self.ask(hub, other, (0..nodes).map(|place| fed[place][other]).collect());
+                }
+                _ => {
+                    let at = self.random.below(self.open.len());
+                    if let Some(exchange) = self.go_on(at, WHOLE, &[])? {
+                        for place in 0..nodes {
+                            self.counts.resets_between += u64::from(exchange.reset[place]);
+                            if exchange.from_fed[place] && !exchange.reset[place] {
+                                good[place][exchange.hub][exchange.other] += 1;
+                                fed[place][exchange.hub] |= good[place][exchange.hub][exchange.other] >= 2;
+                            }
+                        }
+                    }
+                }
+            }
+            self.claims()?;
+            for (place, fed) in fed.iter().enumerate() {
+                let all = (0..hubs).all(|hub| !fed[hub] || self.pair(hub, place).max == self.given[place].versions);
+                ensure(!self.look.claims || all, || {
+                    "two exchanges in which it was not reset between bring a hub up".into()
+                })?;
+            }
+        }
+        self.counts.behind += u64::from(!self.level());
+        Ok(())
     }
 
     // ---- how it ends
@@ -384,6 +611,9 @@ impl<'a> Net<'a> {
     /// Whole deltas along a tree of hubs, nobody writes. A guarded net is closed after two rounds for each step of the way; of others it is counted whether
     /// a round that changes nothing leaves a hub behind.
     pub fn end(&mut self) -> Claim {
+        if self.kind == Kind::Overlapping {
+            return self.end_crossing();
+        }
         if !matches!(self.kind, Kind::Fenced | Kind::Guarded | Kind::Both) {
             return Ok(());
         }
@@ -408,6 +638,59 @@ impl<'a> Net<'a> {
         Ok(())
     }
 
+    /// Hub 0 writes both nodes. Hub 1 hears the first, removes what has a TTL, and hears the rest; hub 2 the second. Hub 3 hears the first from hub 1 and the second from hub 2. Then all hear each other
+    /// under an MTU of 135 until a round changes nothing. None: the net agrees. Else whether it does when each hub tells a neighbour that sent it a node that was Fenced, in the next digest and
+    /// no other, the largest number as that node's max.
+    pub fn locks(&mut self) -> Result<Option<bool>, String> {
+        let hubs = self.tables.len();
+        for place in 0..2 {
+            for _ in 0..2 + self.random.below(4) {
+                let (key, value) = (KEYS[self.random.below(KEYS.len())], [b'1'; 64]);
+                let status = if self.random.once_in(3) { table::TTL } else { table::SET };
+                let length = 30 + self.random.below(35);
+                port::write(&mut self.tables[0], place as u64 + 1, key, &value[..length], status.into(), 10);
+                self.gave(place, key);
+            }
+        }
+        for (hub, other) in [(1, 2), (2, 1)] {
+            self.hear(hub, 0, WHOLE, &[other])?;
+            port::remove(&mut self.tables[hub], 1_000_000, 0);
+            self.hear(hub, 0, WHOLE, &[])?;
+            self.hear(3, hub, NARROW, &[other])?;
+        }
+        let pairs: Vec<(usize, usize)> = (0..hubs)
+            .flat_map(|hub| (0..hubs).map(move |other| (hub, other)))
+            .filter(|(hub, other)| hub != other)
+            .collect();
+        let mut before = Vec::new();
+        while before != self.tables {
+            before = self.tables.clone();
+            for &(hub, other) in &pairs {
+                self.hear(hub, other, NARROW, &[])?;
+            }
+        }
+        if self.level() {
+            return Ok(None);
+        }
+        let mut fenced: BTreeMap<(usize, usize), Vec<u64>> = BTreeMap::new();
+        for _ in 0..200 {
+            for &(hub, other) in &pairs {
+                let mut digest = port::digest(&self.tables[hub], &[]);
+                for number in fenced.remove(&(hub, other)).unwrap_or_default() {
+                    bytes::tell_most(&mut digest, number as usize - 1);
+                }
+                let delta = self.computed(other, &digest, NARROW, &[]);
+                let before = self.pairs(hub);
+                self.apply(hub, &delta)?;
+                let parts = bytes::parts(&delta);
+                let stopped = parts.iter().filter(|part| self.fences(hub, part, before[part.number as usize - 1]));
+                fenced.insert((hub, other), stopped.map(|part| part.number).collect());
+            }
+            self.claims()?;
+        }
+        Ok(Some(self.level()))
+    }
+
     fn level(&self) -> bool {
         (0..self.owners.len())
             .all(|place| (0..self.tables.len()).all(|hub| self.pair(hub, place).max == self.owner_pair(place).max))
@@ -422,5 +705,17 @@ impl Counts {
              equal {}; left behind {} nets",
             self.nets, self.steps, self.late, self.restored, self.wiped, self.removals, self.equal, self.behind
         );
+        if self.crashed > 0 {
+            println!(
+                "  crashed {}, versions undone {}, forgot {}, recalled {}",
+                self.crashed, self.undone, self.forgot, self.recalled
+            );
+        }
+        if self.crossed > 0 {
+            println!(
+                "  exchanges that crossed {}, nodes reset between digest and applying {}",
+                self.crossed, self.resets_between
+            );
+        }
     }
 }

@@ -7,16 +7,16 @@ use crate::delta::{Operation, Sent};
 use crate::digest::Entry;
 use crate::table::{Node, Table};
 
-struct Stale<'a> {
-    number: u64,
-    node: &'a Node,
-    from: u64,
+pub struct Stale<'a> {
+    pub number: u64,
+    pub node: &'a Node,
+    pub from: u64,
     tie: u64,
 }
 
 impl Stale<'_> {
     /// Records above from, by rising version.
-    fn records(&self) -> Vec<Sent> {
+    pub fn records(&self) -> Vec<Sent> {
         let mut records: Vec<Sent> = self
             .node
             .records
@@ -43,7 +43,8 @@ impl Stale<'_> {
     }
 }
 
-fn stale<'a>(table: &'a Table, digest: &BTreeMap<u64, Entry>, excluded: &[u64], ties: &[u64]) -> Vec<Stale<'a>> {
+/// The stale nodes in document 01's order; `ties` is one a node.
+pub fn stale<'a>(table: &'a Table, digest: &BTreeMap<u64, Entry>, excluded: &[u64], ties: &[u64]) -> Vec<Stale<'a>> {
     let mut found = Vec::new();
     for ((&number, node), &tie) in table.nodes.iter().zip(ties) {
         let (digest_gc, digest_max) = digest.get(&number).map_or((0, 0), |entry| (entry.last_gc, entry.max));
@@ -57,7 +58,7 @@ fn stale<'a>(table: &'a Table, digest: &BTreeMap<u64, Entry>, excluded: &[u64], 
     found
 }
 
-/// The bytes of the delta and how many operations they are. `ties` is one a node.
+/// The bytes of the delta and how many operations they are.
 pub fn delta(
     table: &Table,
     digest: &BTreeMap<u64, Entry>,

@@ -4,7 +4,7 @@ use script::{Answer, Bytes, Call, DigestEntry, Side};
 
 use crate::local::{Refused, Scheduled, Unread};
 use crate::table::Table;
-use crate::{apply, compute, delta, digest};
+use crate::{apply, compute, delta, digest, plan};
 
 /// The lent table: good, or bytes that break a rule.
 pub enum Lent {
@@ -63,6 +63,11 @@ fn write_digest(table: &Table, excluded: &[u64], place: u64, len: usize, edition
     Ok(Answer::DigestWritten { datagram, start, end })
 }
 
+/// Number 7.
+fn mtu_of(mtu: u64) -> Result<usize, Answer> {
+    if mtu < 100 || mtu > 16_384 { Err(Answer::Refused(7)) } else { Ok(mtu as usize) }
+}
+
 fn compute_delta(
     table: &Table,
     digest: &[u8],
@@ -74,10 +79,7 @@ fn compute_delta(
     edition: u64,
 ) -> Result<Answer, Answer> {
     let edition = edition_of(edition)?;
-    if mtu < 100 || mtu > 16_384 {
-        return Err(Answer::Refused(7));
-    }
-    let mtu = mtu as usize;
+    let mtu = mtu_of(mtu)?;
     room(place, len, mtu)?;
     if ties.len() != table.nodes.len() {
         return Err(Answer::Refused(15));
@@ -85,6 +87,45 @@ fn compute_delta(
     let (digest, _rest) = digest::read(digest, edition).map_err(unread)?;
     let (ops, bytes) = compute::delta(table, &digest, mtu, excluded, ties);
     Ok(Answer::DeltaWritten { ops, bytes })
+}
+
+fn compute_plan(
+    table: &Table,
+    digest: &[u8],
+    mtu: u64,
+    excluded: &[u64],
+    nodes: &[u64],
+    counts: &[u64],
+    place: u64,
+    len: usize,
+    edition: u64,
+) -> Result<Answer, Answer> {
+    let edition = edition_of(edition)?;
+    let mtu = mtu_of(mtu)?;
+    room(place, len, mtu)?;
+    let (digest, _rest) = digest::read(digest, edition).map_err(unread)?;
+    match plan::delta(table, &digest, mtu, excluded, nodes, counts) {
+        Some((ops, bytes)) => Ok(Answer::DeltaWritten { ops, bytes }),
+        None => Err(Answer::Refused(23)),
+    }
+}
+
+fn plan_fault(
+    table: &Table,
+    digest: &[u8],
+    mtu: u64,
+    excluded: &[u64],
+    nodes: &[u64],
+    counts: &[u64],
+    edition: u64,
+) -> Result<Answer, Answer> {
+    let edition = edition_of(edition)?;
+    let mtu = mtu_of(mtu)?;
+    let (digest, _rest) = digest::read(digest, edition).map_err(unread)?;
+    match plan::first_fault(table, &digest, mtu, excluded, nodes, counts) {
+        Some((line, why)) => Err(Answer::AtFault { line, why }),
+        None => Ok(Answer::Accepted),
+    }
 }
 
 fn apply_delta(table: &mut Table, bytes: &[u8], now: u64, places: u64) -> Result<Answer, Answer> {
@@ -128,6 +169,12 @@ fn answer_good(table: &mut Table, call: &Call) -> Result<Answer, Answer> {
         Call::Digest { excluded, place, len, edition } => write_digest(table, excluded, *place, *len, *edition),
         Call::Compute { digest, mtu, excluded, ties, place, len, edition } => {
             compute_delta(table, given(digest), *mtu, excluded, ties, *place, *len, *edition)
+        }
+        Call::Plan { digest, mtu, excluded, nodes, counts, place, len, edition } => {
+            compute_plan(table, given(digest), *mtu, excluded, nodes, counts, *place, *len, *edition)
+        }
+        Call::PlanFault { digest, mtu, excluded, nodes, counts, edition } => {
+            plan_fault(table, given(digest), *mtu, excluded, nodes, counts, *edition)
         }
         Call::Apply { bytes, now, places } => apply_delta(table, given(bytes), *now, *places),
         _ => unreachable!("answered without a table"),

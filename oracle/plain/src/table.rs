@@ -100,21 +100,20 @@ impl Table {
     }
 
     pub fn to_bytes(&self) -> Vec<u8> {
-        let record = |(key, record): (&Vec<u8>, &Record)| layout::Record {
-            key: key.clone(),
-            value: record.value.clone(),
-            version: record.version,
-            status: record.status.byte(),
-            start: record.start,
-        };
-        let node = |(&number, node): (&u64, &Node)| layout::Node {
-            number,
-            heartbeat: node.heartbeat,
-            max: node.max,
-            last_gc: node.last_gc,
-            records: node.records.iter().map(record).collect(),
-        };
-        layout::encode_with(&self.nodes.iter().map(node).collect::<Vec<_>>(), self.mode.byte(), &self.removed)
+        let nodes: Vec<_> = self.nodes.iter().map(|(&number, node)| laid_out(number, node)).collect();
+        layout::encode_with(&nodes, self.mode.byte(), &self.removed)
+    }
+
+    /// The bytes of a node alone: a slot of a table.
+    pub fn node_bytes(number: u64, node: &Node) -> Vec<u8> {
+        layout::encode(&[laid_out(number, node)], layout::PLAIN)[1..1 + layout::NODE_BYTES].to_vec()
+    }
+
+    /// None: number 14.
+    pub fn node_of(bytes: &[u8]) -> Option<(u64, Node)> {
+        let mut walk = Walk(bytes);
+        let read = walk.node()?;
+        walk.0.is_empty().then_some(read)
     }
 
     /// None: number 14.
@@ -142,6 +141,23 @@ impl Table {
         }
         walk.zeros((MOST_REMOVED - count) * layout::REMOVED_BYTES)?;
         walk.0.is_empty().then_some(table)
+    }
+}
+
+fn laid_out(number: u64, node: &Node) -> layout::Node {
+    let record = |(key, record): (&Vec<u8>, &Record)| layout::Record {
+        key: key.clone(),
+        value: record.value.clone(),
+        version: record.version,
+        status: record.status.byte(),
+        start: record.start,
+    };
+    layout::Node {
+        number,
+        heartbeat: node.heartbeat,
+        max: node.max,
+        last_gc: node.last_gc,
+        records: node.records.iter().map(record).collect(),
     }
 }
 

@@ -15,6 +15,20 @@ pub enum Verdict {
     Fenced,
 }
 
+/// Why a line of a plan cannot be sent.
+#[derive(Clone, Copy, Debug, PartialEq, Eq)]
+pub enum Fault {
+    NotHeld,
+    Excluded,
+    NamedBefore,
+    UpToDate,
+    TooMany,
+    TooFew,
+    NoFit,
+    /// A node without a count, or a count without a node.
+    Alone,
+}
+
 #[derive(Clone, Copy, Debug, PartialEq, Eq)]
 pub struct DigestEntry {
     pub node: u64,
@@ -39,6 +53,10 @@ pub enum Answer {
         need: usize,
     },
     Value(Vec<u8>),
+    /// A value of the overrides.
+    Label(Vec<u8>),
+    /// Number 14 of the overrides or of the table.
+    RefusedOf(&'static str),
     /// The last heartbeat of a removed node.
     Heartbeat(u64),
     /// Places of the hits among all records of the node in key order, hidden ones counted.
@@ -61,6 +79,13 @@ pub enum Answer {
         ops: usize,
         nodes: usize,
         bytes: usize,
+    },
+    /// No line of the plan is at fault.
+    Accepted,
+    /// Number 23 with the first line of the plan that is at fault, counted from 0, and why.
+    AtFault {
+        line: usize,
+        why: Fault,
     },
     Applied(Vec<Verdict>),
     Table(Vec<u8>),
@@ -96,6 +121,21 @@ impl Display for Verdict {
     }
 }
 
+impl Display for Fault {
+    fn fmt(&self, f: &mut Formatter) -> Result {
+        f.write_str(match self {
+            Fault::NotHeld => "not-held",
+            Fault::Excluded => "excluded",
+            Fault::NamedBefore => "named-before",
+            Fault::UpToDate => "up-to-date",
+            Fault::TooMany => "too-many",
+            Fault::TooFew => "too-few",
+            Fault::NoFit => "no-fit",
+            Fault::Alone => "alone",
+        })
+    }
+}
+
 impl Display for Answer {
     fn fmt(&self, f: &mut Formatter) -> Result {
         match self {
@@ -109,6 +149,8 @@ impl Display for Answer {
             Answer::Cut { at: None, need } => write!(f, "refused 9 need={need}"),
             Answer::Cut { at: Some(at), need } => write!(f, "refused 9 at={at} need={need}"),
             Answer::Value(value) => write!(f, "value {}", hex(value)),
+            Answer::Label(value) => write!(f, "label {}", hex(value)),
+            Answer::RefusedOf(which) => write!(f, "refused 14 of={which}"),
             Answer::Ranks(ranks) => {
                 f.write_str("ranks ")?;
                 list(f, ranks, |f, rank| write!(f, "{rank}"))
@@ -121,6 +163,8 @@ impl Display for Answer {
             Answer::DigestWritten { datagram, .. } => write!(f, "bytes {}", hex(datagram)),
             Answer::DeltaWritten { ops, bytes } => write!(f, "ops={ops} bytes={} {}", bytes.len(), hex(bytes)),
             Answer::DeltaRead { ops, nodes, bytes } => write!(f, "ops={ops} nodes={nodes} bytes={bytes}"),
+            Answer::Accepted => f.write_str("accepted"),
+            Answer::AtFault { line, why } => write!(f, "refused 23 line={line} why={why}"),
             Answer::Applied(verdicts) => {
                 f.write_str("answers ")?;
                 list(f, verdicts, |f, verdict| write!(f, "{verdict}"))

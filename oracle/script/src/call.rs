@@ -32,9 +32,22 @@ pub enum Call {
     ReadDigest { bytes: Bytes, edition: u64 },
     ReadDelta { bytes: Bytes },
     Compute { digest: Bytes, mtu: u64, excluded: Vec<u64>, ties: Vec<u64>, place: u64, len: usize, edition: u64 },
+    /// Computing by a plan: how many stale records of which nodes. The two lists may differ in length.
+    Plan { digest: Bytes, mtu: u64, excluded: Vec<u64>, nodes: Vec<u64>, counts: Vec<u64>, place: u64, len: usize, edition: u64 },
+    /// Asks for the first line of a plan that is at fault.
+    PlanFault { digest: Bytes, mtu: u64, excluded: Vec<u64>, nodes: Vec<u64>, counts: Vec<u64>, edition: u64 },
     Apply { bytes: Bytes, now: u64, places: u64 },
     Table { bytes: Bytes },
     Dump,
+    /// Overrides without a record in place of the current table. The calls on overrides are on what the current hub has.
+    Overrides { number: u64 },
+    Label { key: Vec<u8>, value: Vec<u8>, status: u64, now: u64 },
+    Unlabel { key: Vec<u8>, now: u64 },
+    UnlabelTtl { key: Vec<u8>, now: u64 },
+    GcLabels { now: u64, grace: u64 },
+    /// Readings over the overrides of a hub and the current table.
+    GetOver { hub: usize, node: u64, key: Vec<u8> },
+    ListOver { hub: usize, node: u64, prefix: Vec<u8>, places: u64 },
 }
 
 /// `x` and two lowercase digits a byte.
@@ -78,6 +91,10 @@ impl Words<'_> {
         self.number().filter(|&size| size <= 1 << 20).map(|size| size as usize)
     }
 
+    fn hub(&mut self) -> Option<usize> {
+        self.size().filter(|&hub| hub < HUBS)
+    }
+
     fn numbers(&mut self) -> Option<Vec<u64>> {
         match self.0.next()? {
             "-" => Some(Vec::new()),
@@ -107,7 +124,7 @@ impl Call {
         let call = match verb {
             "new" => Call::New { mode: 0 },
             "make" => Call::New { mode: w.number()? },
-            "hub" => Call::Hub(w.size().filter(|&hub| hub < HUBS)?),
+            "hub" => Call::Hub(w.hub()?),
             "add" => Call::Add { node: w.number()? },
             "remove" => Call::Remove { node: w.number()? },
             "removed" => Call::Removed { node: w.number()? },
@@ -142,9 +159,34 @@ impl Call {
                 len: w.size()?,
                 edition: w.number()?,
             },
+            "plan" => Call::Plan {
+                digest: w.bytes()?,
+                mtu: w.number()?,
+                excluded: w.numbers()?,
+                nodes: w.numbers()?,
+                counts: w.numbers()?,
+                place: w.number()?,
+                len: w.size()?,
+                edition: w.number()?,
+            },
+            "planfault" => Call::PlanFault {
+                digest: w.bytes()?,
+                mtu: w.number()?,
+                excluded: w.numbers()?,
+                nodes: w.numbers()?,
+                counts: w.numbers()?,
+                edition: w.number()?,
+            },
             "apply" => Call::Apply { bytes: w.bytes()?, now: w.number()?, places: w.number()? },
             "table" => Call::Table { bytes: w.bytes()? },
             "dump" => Call::Dump,
+            "overrides" => Call::Overrides { number: w.number()? },
+            "label" => Call::Label { key: w.text()?, value: w.text()?, status: w.number()?, now: w.number()? },
+            "unlabel" => Call::Unlabel { key: w.text()?, now: w.number()? },
+            "unlabelttl" => Call::UnlabelTtl { key: w.text()?, now: w.number()? },
+            "gclabels" => Call::GcLabels { now: w.number()?, grace: w.number()? },
+            "getover" => Call::GetOver { hub: w.hub()?, node: w.number()?, key: w.text()? },
+            "listover" => Call::ListOver { hub: w.hub()?, node: w.number()?, prefix: w.text()?, places: w.number()? },
             _ => return None,
         };
         words.0.next().is_none().then_some(call)
@@ -170,12 +212,37 @@ mod tests {
             })
         );
         assert_eq!(
+            Call::parse("plan x0000 100 9 7,8 1,18446744073709551615,0 3 200 0"),
+            Some(Call::Plan {
+                digest: Bytes::Given(vec![0, 0]),
+                mtu: 100,
+                excluded: vec![9],
+                nodes: vec![7, 8],
+                counts: vec![1, u64::MAX, 0],
+                place: 3,
+                len: 200,
+                edition: 0
+            })
+        );
+        assert_eq!(
+            Call::parse("planfault @digest 100 - - 4 1"),
+            Some(Call::PlanFault {
+                digest: Bytes::LastDigest,
+                mtu: 100,
+                excluded: vec![],
+                nodes: vec![],
+                counts: vec![4],
+                edition: 1
+            })
+        );
+        assert_eq!(
             Call::parse("write 18446744073709551615 x x00ff 3 7"),
             Some(Call::Write { node: u64::MAX, key: vec![], value: vec![0, 255], status: 3, now: 7 })
         );
         let calls = ["", "write 1 x x 0", "write 1 x x x 0 0", "write 1 x x -1 0", "get 1 xA0", "get 1 x0", "hub 4"];
         let numbers = ["add -1", "add +1", "add :", "add  1", "digest +1 0 2 0", "digest - 0 2"];
-        for wrong in calls.into_iter().chain(numbers) {
+        let plans = ["plan x0000 100 - 7 1 0 100", "plan x0000 100 - 7 -1 0 100 0", "planfault x0000 100 - 7 1", "planfault x0000 100 - 7 1 0 100 0"];
+        for wrong in calls.into_iter().chain(numbers).chain(plans) {
             assert_eq!(Call::parse(wrong), None, "{wrong:?}");
         }
     }

@@ -5,9 +5,10 @@
 
 mod answer;
 mod call;
+mod over;
 mod run;
 pub mod table;
 
-pub use answer::{Answer, DigestEntry, Verdict};
+pub use answer::{Answer, DigestEntry, Fault, Verdict};
 pub use call::{Bytes, Call, HUBS, hex, parse_hex};
 pub use run::{Side, answer_script};

@@ -4,10 +4,10 @@ use std::io::{BufRead, Write};
 
 use crate::call::HUBS;
 use crate::table::{GUARDED, PLAIN, checksum};
-use crate::{Answer, Bytes, Call};
+use crate::{Answer, Bytes, Call, over};
 
 /// One lent table and who answers for it. Calls come with their bytes written out; `new`, `hub`, `table` and
-/// `dump` are answered by the runner through `take_table` and `table_bytes`.
+/// `dump` are answered by the runner through `take_table` and `table_bytes`, and so are the calls on overrides (`over`).
 pub trait Side {
     /// An empty table in a mode.
     fn new(mode: u8) -> Self;
@@ -43,7 +43,9 @@ impl<S: Side> Desk<S> {
             | Call::ReadDelta { bytes }
             | Call::Apply { bytes, .. }
             | Call::Table { bytes }
-            | Call::Compute { digest: bytes, .. } => self.write_out(bytes),
+            | Call::Compute { digest: bytes, .. }
+            | Call::Plan { digest: bytes, .. }
+            | Call::PlanFault { digest: bytes, .. } => self.write_out(bytes),
             _ => {}
         }
         let answer = match &call {
@@ -58,6 +60,22 @@ impl<S: Side> Desk<S> {
             }
             Call::Table { bytes: Bytes::Given(bytes) } => self.hubs[self.current].take_table(bytes),
             Call::Dump => Answer::Table(self.hubs[self.current].table_bytes()),
+            Call::Overrides { number } => self.hubs[self.current].take_table(&over::fresh(*number)),
+            Call::Label { .. } | Call::Unlabel { .. } | Call::UnlabelTtl { .. } | Call::GcLabels { .. } => {
+                let (answer, after) = over::change::<S>(&self.hubs[self.current].table_bytes(), &call);
+                if let Some(bytes) = after {
+                    self.hubs[self.current].take_table(&bytes);
+                }
+                answer
+            }
+            Call::GetOver { hub, node, key } => {
+                let overrides = self.hubs[*hub].table_bytes();
+                over::get(&overrides, &mut self.hubs[self.current], *node, key).unwrap_or_else(|refused| refused)
+            }
+            Call::ListOver { hub, node, prefix, places } => {
+                let overrides = self.hubs[*hub].table_bytes();
+                over::list(&overrides, &mut self.hubs[self.current], *node, prefix, *places).unwrap_or_else(|refused| refused)
+            }
             call => self.hubs[self.current].answer(call),
         };
         match &answer {

@@ -9,6 +9,8 @@
 //! - A `kev_good_..` function asks for a table that `kev_check` accepts. It is called for [`Kept`] alone, whose bytes are private to this module: they come
 //!   from `kev_new_table`, or `kev_check` accepted them, and after that only these functions write to them. Each leaves a table that the check
 //!   accepts again: that is proved of every call (docs/PROMISES.md, demand 1).
+//! - `kev_good_find_over` and `kev_good_list_over` ask for good overrides too. They are called for [`Labels`] alone, which are kept in the same way: they come from `kev_new_overrides`, or
+//!   `kev_check_overrides` accepted them, and only calls on overrides write to them, each of which leaves good ones (`overrides: Keeps`).
 //! - The structs are declared again in C's layout, field by field as in the header: its `uint64_t` is `u64`, its `kev_size` is [`Size`].
 //! - An answer's `start` and `len` lie inside the table (`lookup`, `inspect_text`: `Within`), and so do a record's texts, which are told by the same places
 //!   (`inspect_text`: `Same`). They are used by indexing, which checks once more.
@@ -17,7 +19,7 @@
 // Every function of the header stands here; tables need not all of them.
 #![allow(dead_code)]
 
-use crate::TABLE;
+use crate::{OVERRIDES, TABLE};
 
 /// A length, a count or a place, in 64 bits on every processor: `kev_size` of the header.
 #[repr(transparent)]
@@ -81,6 +83,48 @@ pub struct Found {
 
 #[repr(C)]
 #[derive(Clone, Copy)]
+pub struct Told {
+    pub number: u64,
+    pub need: Size,
+}
+
+#[repr(C)]
+#[derive(Clone, Copy)]
+pub struct Least {
+    pub number: u64,
+    pub max: u64,
+}
+
+#[repr(C)]
+#[derive(Clone, Copy)]
+pub struct Seen {
+    pub number: u64,
+    pub found: Size,
+    pub last_gc: u64,
+    pub max: u64,
+}
+
+#[repr(C)]
+#[derive(Clone, Copy)]
+pub struct FoundOver {
+    pub number: u64,
+    pub found: Size,
+    pub over: Size,
+    pub start: Size,
+    pub len: Size,
+    pub which: u64,
+}
+
+#[repr(C)]
+#[derive(Clone, Copy)]
+pub struct ListedOver {
+    pub number: u64,
+    pub count: Size,
+    pub which: u64,
+}
+
+#[repr(C)]
+#[derive(Clone, Copy)]
 pub struct Header {
     pub number: u64,
     pub heartbeat: u64,
@@ -136,6 +180,15 @@ pub struct Computed {
     pub number: u64,
     pub ops: Size,
     pub bytes: Size,
+    pub need: Size,
+}
+
+#[repr(C)]
+#[derive(Clone, Copy)]
+pub struct Judged {
+    pub number: u64,
+    pub line: Size,
+    pub why: u64,
     pub need: Size,
 }
 
@@ -231,6 +284,38 @@ impl Bytes for Kept {
 }
 impl BytesMut for Kept {}
 
+/// The bytes of overrides that every call kept. There is no way to them but by these calls.
+#[derive(Clone)]
+pub struct Labels([u8; OVERRIDES]);
+
+impl Labels {
+    /// Overrides without a record, or 14, which does not come.
+    pub fn new(node: u64) -> Result<Labels, u64> {
+        let mut bytes = [0; OVERRIDES];
+        match new_overrides(&mut bytes, node) {
+            0 => Ok(Labels(bytes)),
+            number => Err(number),
+        }
+    }
+
+    /// These bytes, where the check accepts them.
+    pub fn checked(bytes: &[u8]) -> Result<Labels, u64> {
+        match (check_overrides(bytes), bytes.try_into()) {
+            (0, Ok(bytes)) => Ok(Labels(bytes)),
+            (number, _) => Err(number),
+        }
+    }
+
+    pub fn bytes(&self) -> &[u8] {
+        &self.0
+    }
+
+    /// For the calls on overrides alone, each of which keeps them.
+    pub(crate) fn lend(&mut self) -> &mut [u8] {
+        &mut self.0
+    }
+}
+
 impl sealed::Sealed for &[u8] {}
 impl Bytes for &[u8] {
     const GOOD: bool = false;
@@ -278,6 +363,24 @@ unsafe extern "C" {
     fn kev_good_find(table: *const u8, table_len: Size, node: u64, key: *const u8, key_len: Size) -> Found;
     fn kev_list_prefix(table: *const u8, table_len: Size, node: u64, prefix: *const u8, prefix_len: Size, out: *mut u8, out_len: Size) -> Count;
     fn kev_good_list_prefix(table: *const u8, table_len: Size, node: u64, prefix: *const u8, prefix_len: Size, out: *mut u8, out_len: Size) -> Count;
+    fn kev_new_grid(grid: *mut u8, grid_len: Size, table: *const u8, table_len: Size) -> u64;
+    fn kev_grid_add_node(grid: *mut u8, grid_len: Size, table: *mut u8, table_len: Size, node: u64) -> u64;
+    fn kev_grid_remove_node(grid: *mut u8, grid_len: Size, table: *mut u8, table_len: Size, node: u64) -> u64;
+    fn kev_tell(grid: *mut u8, grid_len: Size, peer: u64, edition: u64, digest: *const u8, digest_len: Size) -> Told;
+    fn kev_take_out(grid: *mut u8, grid_len: Size, peer: u64) -> u64;
+    fn kev_least_max(grid: *const u8, grid_len: Size, node: u64) -> Least;
+    fn kev_seen_by(grid: *const u8, grid_len: Size, peer: u64, node: u64) -> Seen;
+    fn kev_remove_carefully(grid: *const u8, grid_len: Size, table: *mut u8, table_len: Size, clock: u64, grace: u64) -> u64;
+    fn kev_check_overrides(overrides: *const u8, overrides_len: Size) -> u64;
+    fn kev_new_overrides(overrides: *mut u8, overrides_len: Size, node: u64) -> u64;
+    fn kev_write_override(overrides: *mut u8, overrides_len: Size, key: *const u8, key_len: Size, value: *const u8, value_len: Size, wanted: u64, clock: u64) -> u64;
+    fn kev_delete_override(overrides: *mut u8, overrides_len: Size, key: *const u8, key_len: Size, clock: u64) -> u64;
+    fn kev_delete_override_after_ttl(overrides: *mut u8, overrides_len: Size, key: *const u8, key_len: Size, clock: u64) -> u64;
+    fn kev_remove_overrides(overrides: *mut u8, overrides_len: Size, clock: u64, grace: u64) -> u64;
+    fn kev_find_over(overrides: *const u8, overrides_len: Size, table: *const u8, table_len: Size, node: u64, key: *const u8, key_len: Size) -> FoundOver;
+    fn kev_good_find_over(overrides: *const u8, overrides_len: Size, table: *const u8, table_len: Size, node: u64, key: *const u8, key_len: Size) -> FoundOver;
+    fn kev_list_over(overrides: *const u8, overrides_len: Size, table: *const u8, table_len: Size, node: u64, prefix: *const u8, prefix_len: Size, out: *mut u8, out_len: Size) -> ListedOver;
+    fn kev_good_list_over(overrides: *const u8, overrides_len: Size, table: *const u8, table_len: Size, node: u64, prefix: *const u8, prefix_len: Size, out: *mut u8, out_len: Size) -> ListedOver;
     fn kev_node_count(table: *const u8, table_len: Size) -> Count;
     fn kev_good_node_count(table: *const u8, table_len: Size) -> Count;
     fn kev_node_number(table: *const u8, table_len: Size, i: Size) -> NodeNumber;
@@ -306,6 +409,10 @@ unsafe extern "C" {
     fn kev_digest_entry(edition: u64, digest: *const u8, digest_len: Size, i: Size) -> Entry;
     fn kev_compute(table: *const u8, table_len: Size, edition: u64, digest: *const u8, digest_len: Size, mtu: Size, excluded: *const u64, excluded_len: Size, ties: *const u64, ties_len: Size, datagram: *mut u8, datagram_len: Size, place: Size) -> Computed;
     fn kev_good_compute(table: *const u8, table_len: Size, edition: u64, digest: *const u8, digest_len: Size, mtu: Size, excluded: *const u64, excluded_len: Size, ties: *const u64, ties_len: Size, datagram: *mut u8, datagram_len: Size, place: Size) -> Computed;
+    fn kev_compute_plan(table: *const u8, table_len: Size, edition: u64, digest: *const u8, digest_len: Size, mtu: Size, excluded: *const u64, excluded_len: Size, nodes: *const u64, nodes_len: Size, counts: *const u64, counts_len: Size, datagram: *mut u8, datagram_len: Size, place: Size) -> Computed;
+    fn kev_good_compute_plan(table: *const u8, table_len: Size, edition: u64, digest: *const u8, digest_len: Size, mtu: Size, excluded: *const u64, excluded_len: Size, nodes: *const u64, nodes_len: Size, counts: *const u64, counts_len: Size, datagram: *mut u8, datagram_len: Size, place: Size) -> Computed;
+    fn kev_plan_fault(table: *const u8, table_len: Size, edition: u64, digest: *const u8, digest_len: Size, mtu: Size, excluded: *const u64, excluded_len: Size, nodes: *const u64, nodes_len: Size, counts: *const u64, counts_len: Size) -> Judged;
+    fn kev_good_plan_fault(table: *const u8, table_len: Size, edition: u64, digest: *const u8, digest_len: Size, mtu: Size, excluded: *const u64, excluded_len: Size, nodes: *const u64, nodes_len: Size, counts: *const u64, counts_len: Size) -> Judged;
     fn kev_read_delta(delta: *const u8, delta_len: Size) -> Delta;
     fn kev_apply(table: *mut u8, table_len: Size, delta: *const u8, delta_len: Size, clock: u64, answers: *mut u8, answers_len: Size) -> Applied;
     fn kev_good_apply(table: *mut u8, table_len: Size, delta: *const u8, delta_len: Size, clock: u64, answers: *mut u8, answers_len: Size) -> Applied;
@@ -388,6 +495,52 @@ pub fn list_prefix<S: Bytes>(store: &S, node: u64, prefix: &[u8], out: &mut [u8]
     let call = if S::GOOD { kev_good_list_prefix } else { kev_list_prefix };
     let table = store.bytes();
     unsafe { call(table.as_ptr(), len(table), node, prefix.as_ptr(), len(prefix), out.as_mut_ptr(), len(out)) }
+}
+
+pub fn check_overrides(overrides: &[u8]) -> u64 {
+    unsafe { kev_check_overrides(overrides.as_ptr(), len(overrides)) }
+}
+
+pub fn new_overrides(overrides: &mut [u8], node: u64) -> u64 {
+    unsafe { kev_new_overrides(overrides.as_mut_ptr(), len(overrides), node) }
+}
+
+pub fn write_override(overrides: &mut [u8], key: &[u8], value: &[u8], wanted: u64, clock: u64) -> u64 {
+    unsafe { kev_write_override(overrides.as_mut_ptr(), len(overrides), key.as_ptr(), len(key), value.as_ptr(), len(value), wanted, clock) }
+}
+
+pub fn delete_override(overrides: &mut [u8], key: &[u8], clock: u64) -> u64 {
+    unsafe { kev_delete_override(overrides.as_mut_ptr(), len(overrides), key.as_ptr(), len(key), clock) }
+}
+
+pub fn delete_override_after_ttl(overrides: &mut [u8], key: &[u8], clock: u64) -> u64 {
+    unsafe { kev_delete_override_after_ttl(overrides.as_mut_ptr(), len(overrides), key.as_ptr(), len(key), clock) }
+}
+
+pub fn remove_overrides(overrides: &mut [u8], clock: u64, grace: u64) -> u64 {
+    unsafe { kev_remove_overrides(overrides.as_mut_ptr(), len(overrides), clock, grace) }
+}
+
+/// Without the checks where both are known to be good.
+pub fn find_over<S: Bytes>(overrides: &Labels, store: &S, node: u64, key: &[u8]) -> FoundOver {
+    let call = if S::GOOD { kev_good_find_over } else { kev_find_over };
+    let (overrides, table) = (overrides.bytes(), store.bytes());
+    unsafe { call(overrides.as_ptr(), len(overrides), table.as_ptr(), len(table), node, key.as_ptr(), len(key)) }
+}
+
+pub fn list_over<S: Bytes>(overrides: &Labels, store: &S, node: u64, prefix: &[u8], out: &mut [u8]) -> ListedOver {
+    let call = if S::GOOD { kev_good_list_over } else { kev_list_over };
+    let (overrides, table) = (overrides.bytes(), store.bytes());
+    unsafe { call(overrides.as_ptr(), len(overrides), table.as_ptr(), len(table), node, prefix.as_ptr(), len(prefix), out.as_mut_ptr(), len(out)) }
+}
+
+/// The same over bytes that may be no overrides.
+pub fn find_over_any(overrides: &[u8], table: &[u8], node: u64, key: &[u8]) -> FoundOver {
+    unsafe { kev_find_over(overrides.as_ptr(), len(overrides), table.as_ptr(), len(table), node, key.as_ptr(), len(key)) }
+}
+
+pub fn list_over_any(overrides: &[u8], table: &[u8], node: u64, prefix: &[u8], out: &mut [u8]) -> ListedOver {
+    unsafe { kev_list_over(overrides.as_ptr(), len(overrides), table.as_ptr(), len(table), node, prefix.as_ptr(), len(prefix), out.as_mut_ptr(), len(out)) }
 }
 
 pub fn node_count<S: Bytes>(store: &S) -> Count {
@@ -476,6 +629,18 @@ pub fn compute<S: Bytes>(store: &S, edition: u64, digest: &[u8], mtu: usize, exc
     unsafe { call(table.as_ptr(), len(table), edition, digest.as_ptr(), len(digest), Size::of(mtu), excluded.as_ptr(), len(excluded), ties.as_ptr(), len(ties), datagram.as_mut_ptr(), len(datagram), Size::of(place)) }
 }
 
+pub fn compute_plan<S: Bytes>(store: &S, edition: u64, digest: &[u8], mtu: usize, excluded: &[u64], nodes: &[u64], counts: &[u64], datagram: &mut [u8], place: usize) -> Computed {
+    let call = if S::GOOD { kev_good_compute_plan } else { kev_compute_plan };
+    let table = store.bytes();
+    unsafe { call(table.as_ptr(), len(table), edition, digest.as_ptr(), len(digest), Size::of(mtu), excluded.as_ptr(), len(excluded), nodes.as_ptr(), len(nodes), counts.as_ptr(), len(counts), datagram.as_mut_ptr(), len(datagram), Size::of(place)) }
+}
+
+pub fn plan_fault<S: Bytes>(store: &S, edition: u64, digest: &[u8], mtu: usize, excluded: &[u64], nodes: &[u64], counts: &[u64]) -> Judged {
+    let call = if S::GOOD { kev_good_plan_fault } else { kev_plan_fault };
+    let table = store.bytes();
+    unsafe { call(table.as_ptr(), len(table), edition, digest.as_ptr(), len(digest), Size::of(mtu), excluded.as_ptr(), len(excluded), nodes.as_ptr(), len(nodes), counts.as_ptr(), len(counts)) }
+}
+
 pub fn read_delta(delta: &[u8]) -> Delta {
     unsafe { kev_read_delta(delta.as_ptr(), len(delta)) }
 }
@@ -496,4 +661,40 @@ pub fn make_delta(text: &[u8], out: &mut [u8]) -> Made {
 
 pub fn exchange(publisher: &[u8], follower: &mut [u8], edition: u64, mtu: usize, unasked: &[u64], unsent: &[u64], ties: &[u64], clock: u64, digest: &mut [u8], delta: &mut [u8], answers: &mut [u8]) -> Exchanged {
     unsafe { kev_exchange(publisher.as_ptr(), len(publisher), follower.as_mut_ptr(), len(follower), edition, Size::of(mtu), unasked.as_ptr(), len(unasked), unsent.as_ptr(), len(unsent), ties.as_ptr(), len(ties), clock, digest.as_mut_ptr(), len(digest), delta.as_mut_ptr(), len(delta), answers.as_mut_ptr(), len(answers)) }
+}
+
+pub fn new_grid<S: Bytes>(grid: &mut [u8], store: &S) -> u64 {
+    let table = store.bytes();
+    unsafe { kev_new_grid(grid.as_mut_ptr(), len(grid), table.as_ptr(), len(table)) }
+}
+
+pub fn grid_add_node<S: BytesMut>(grid: &mut [u8], store: &mut S, node: u64) -> u64 {
+    let table = store.lend();
+    unsafe { kev_grid_add_node(grid.as_mut_ptr(), len(grid), table.as_mut_ptr(), len(table), node) }
+}
+
+pub fn grid_remove_node<S: BytesMut>(grid: &mut [u8], store: &mut S, node: u64) -> u64 {
+    let table = store.lend();
+    unsafe { kev_grid_remove_node(grid.as_mut_ptr(), len(grid), table.as_mut_ptr(), len(table), node) }
+}
+
+pub fn tell(grid: &mut [u8], peer: u64, edition: u64, digest: &[u8]) -> Told {
+    unsafe { kev_tell(grid.as_mut_ptr(), len(grid), peer, edition, digest.as_ptr(), len(digest)) }
+}
+
+pub fn take_out(grid: &mut [u8], peer: u64) -> u64 {
+    unsafe { kev_take_out(grid.as_mut_ptr(), len(grid), peer) }
+}
+
+pub fn least_max(grid: &[u8], node: u64) -> Least {
+    unsafe { kev_least_max(grid.as_ptr(), len(grid), node) }
+}
+
+pub fn seen_by(grid: &[u8], peer: u64, node: u64) -> Seen {
+    unsafe { kev_seen_by(grid.as_ptr(), len(grid), peer, node) }
+}
+
+pub fn remove_carefully<S: BytesMut>(grid: &[u8], store: &mut S, clock: u64, grace: u64) -> u64 {
+    let table = store.lend();
+    unsafe { kev_remove_carefully(grid.as_ptr(), len(grid), table.as_mut_ptr(), len(table), clock, grace) }
 }

@@ -60,6 +60,9 @@ refusals! {
     14 BadTable "the bytes are not a table that obeys the rules";
     15 BadTies "not one tie for each node of the table";
     20 BadEdition "no such edition of a digest";
+    21 BadPeer "a peer's number above 7";
+    22 NobodyPresent "no peer is present";
+    23 BadPlan "the plan is not accepted, or its two lists are not as long as each other";
 }
 
 impl core::error::Error for Refusal {}
@@ -124,6 +127,76 @@ impl Display for ListingRefused {
 }
 
 impl core::error::Error for ListingRefused {}
+
+/// The first line of a plan that is at fault.
+#[derive(Clone, Copy, Debug, PartialEq, Eq)]
+pub struct PlanFault {
+    /// Which line, counted from 0.
+    pub line: usize,
+    /// What is wrong with it.
+    pub why: LineFault,
+}
+
+/// What is wrong with a line of a plan. They are asked in this order.
+#[derive(Clone, Copy, Debug, PartialEq, Eq, Hash)]
+pub enum LineFault {
+    /// The table has no such node.
+    NotHeld,
+    /// The node is excluded.
+    Excluded,
+    /// A line before it names the same node.
+    NamedBefore,
+    /// The digest is not behind with the node.
+    UpToDate,
+    /// The count is above the node's stale records.
+    CountAbove,
+    /// The count is 0, though the node has stale records.
+    CountZero,
+    /// It does not fit into what the lines before it leave of the MTU.
+    NoFit,
+    /// A node without a count, or a count without a node: the two lists are not as long as each other.
+    Alone,
+}
+
+impl LineFault {
+    /// The fault of a number.
+    pub(crate) fn of(number: u64) -> LineFault {
+        match number {
+            1 => LineFault::NotHeld,
+            2 => LineFault::Excluded,
+            3 => LineFault::NamedBefore,
+            4 => LineFault::UpToDate,
+            5 => LineFault::CountAbove,
+            6 => LineFault::CountZero,
+            7 => LineFault::NoFit,
+            // The library's contract gives no other number.
+            _ => LineFault::Alone,
+        }
+    }
+}
+
+impl Display for LineFault {
+    fn fmt(&self, f: &mut Formatter<'_>) -> Result {
+        f.write_str(match self {
+            LineFault::NotHeld => "no such node",
+            LineFault::Excluded => "the node is excluded",
+            LineFault::NamedBefore => "a line before it names the node",
+            LineFault::UpToDate => "the digest is not behind with the node",
+            LineFault::CountAbove => "more records than are stale",
+            LineFault::CountZero => "no record, though some are stale",
+            LineFault::NoFit => "it does not fit any more",
+            LineFault::Alone => "a node without a count, or a count without a node",
+        })
+    }
+}
+
+impl Display for PlanFault {
+    fn fmt(&self, f: &mut Formatter<'_>) -> Result {
+        write!(f, "line {}: {}", self.line, self.why)
+    }
+}
+
+impl core::error::Error for PlanFault {}
 
 /// An exchange that was refused: by which of its steps, and why.
 #[derive(Clone, Copy, Debug, PartialEq, Eq)]

@@ -51,6 +51,29 @@ impl<'a> Records<'a> {
     }
 }
 
+impl<'a> Records<'a> {
+    /// All records of overrides, which are a node slot.
+    #[inline]
+    pub(crate) fn of_overrides(overrides: &'a [u8]) -> Records<'a> {
+        let count = usize::from(overrides[HEAD - 1]);
+        Records { rows: &overrides[HEAD..HEAD + count * ROW] }
+    }
+
+    /// Those whose keys begin with the prefix. Keys ascend, so they stand together.
+    pub(crate) fn beginning(self, prefix: &[u8]) -> Records<'a> {
+        let before = self.clone().take_while(|record| record.key < prefix).count();
+        let rows = &self.rows[before * ROW..];
+        let count = Records { rows }.take_while(|record| record.key.starts_with(prefix)).count();
+        Records { rows: &rows[..count * ROW] }
+    }
+
+    /// The next record, which stays.
+    #[inline]
+    pub(crate) fn peek(&self) -> Option<Record<'a>> {
+        self.clone().next()
+    }
+}
+
 impl<'a> Iterator for Records<'a> {
     type Item = Record<'a>;
 

@@ -3,7 +3,7 @@
 use core::cell::OnceCell;
 
 use crate::ffi::{self, Bytes, BytesMut, Kept, Size};
-use crate::refusal::{Fault, Refusal, accepted, refusal};
+use crate::refusal::{Fault, LineFault, PlanFault, Refusal, accepted, refusal};
 use crate::row::{self, Records};
 use crate::wire::Edition;
 use crate::{NODES, TABLE};
@@ -63,7 +63,7 @@ pub enum Wanted {
 
 impl Wanted {
     /// The status by its number, and the time of the call, which counts under TTL alone.
-    fn numbers(self) -> (u64, u64) {
+    pub(crate) fn numbers(self) -> (u64, u64) {
         match self {
             Wanted::Set => (0, 0),
             Wanted::Ttl(clock) => (2, clock),
@@ -284,6 +284,79 @@ impl<S: Bytes> Table<S> {
         Ok(Computed { ops: answer.ops.get(), bytes: answer.bytes.get() })
     }
 
+    /// The delta of a plan for a peer's digest of this edition, at the front of the datagram: these nodes in this order, and of each so many of its stale records,
+    /// the lowest versions first; where a node has none, its max. The plan is accepted exactly if every node is held, not excluded, named once, and stale; each
+    /// count is at most the node's stale records, and not 0 unless there are none; and the bytes fit the MTU. Else it is [`Refusal::BadPlan`], and
+    /// [`Table::plan_fault`] tells which line is at fault. Nothing of an accepted plan is cut or dropped.
+    ///
+    /// ```
+    /// use kevdarosh::{DIGEST, Edition, LineFault, Mode, OwnedTable, PlanFault, Refusal, Wanted};
+    ///
+    /// # fn main() -> Result<(), Box<dyn std::error::Error>> {
+    /// // Flat 12 has waited longest, so the planner wants its total first, and then one reading of flat 7.
+    /// let (mut hub, mut peer) = (OwnedTable::new(Mode::Guarded), OwnedTable::new(Mode::Guarded));
+    /// for flat in [7, 12] {
+    ///     hub.add_node(flat)?;
+    ///     peer.add_node(flat)?;
+    /// }
+    /// hub.write(7, b"flow", b"3", Wanted::Set)?;
+    /// hub.write(7, b"total", b"41", Wanted::Set)?;
+    /// hub.write(12, b"total", b"88", Wanted::Set)?;
+    /// let (mut digest, mut delta) = ([0; DIGEST], [0; 200]);
+    /// let n = peer.compute_digest(Edition::V0, &[], &mut digest)?;
+    ///
+    /// // Two records of flat 12 are more than it has: nothing is sent, and the first line is told.
+    /// let asked = hub.compute_plan(Edition::V0, &digest[..n], 200, &[], &[12, 7], &[2, 1], &mut delta);
+    /// assert_eq!(asked.map_err(|fault| fault.refusal), Err(Refusal::BadPlan));
+    /// assert_eq!(hub.plan_fault(Edition::V0, &digest[..n], 200, &[], &[12, 7], &[2, 1])?, Some(PlanFault { line: 0, why: LineFault::CountAbove }));
+    ///
+    /// let sent = hub.compute_plan(Edition::V0, &digest[..n], 200, &[], &[12, 7], &[1, 1], &mut delta)?;
+    /// peer.apply_delta(&delta[..sent.bytes], 1_000)?;
+    /// assert_eq!(peer.get(12, b"total")?, Some(&b"88"[..]));
+    /// assert_eq!((peer.get(7, b"flow")?, peer.get(7, b"total")?), (Some(&b"3"[..]), None));
+    /// # Ok(())
+    /// # }
+    /// ```
+    #[allow(clippy::too_many_arguments)]
+    pub fn compute_plan(
+        &self,
+        edition: Edition,
+        digest: &[u8],
+        mtu: usize,
+        excluded: &[u64],
+        nodes: &[u64],
+        counts: &[u64],
+        datagram: &mut [u8],
+    ) -> Result<Computed, Fault> {
+        let answer = ffi::compute_plan(&self.store, edition.number(), digest, mtu, excluded, nodes, counts, datagram, 0);
+        Fault::unless(answer.number, Size(0), answer.need)?;
+        Ok(Computed { ops: answer.ops.get(), bytes: answer.bytes.get() })
+    }
+
+    /// The first line of a plan that is at fault; none exactly where [`Table::compute_plan`] accepts it.
+    pub fn plan_fault(
+        &self,
+        edition: Edition,
+        digest: &[u8],
+        mtu: usize,
+        excluded: &[u64],
+        nodes: &[u64],
+        counts: &[u64],
+    ) -> Result<Option<PlanFault>, Fault> {
+        let answer = ffi::plan_fault(&self.store, edition.number(), digest, mtu, excluded, nodes, counts);
+        if answer.number == Refusal::BadPlan.number() {
+            return Ok(Some(PlanFault { line: answer.line.get(), why: LineFault::of(answer.why) }));
+        }
+        Fault::unless(answer.number, Size(0), answer.need)?;
+        Ok(None)
+    }
+
+    /// Where its bytes are, for a call.
+    #[inline]
+    pub(crate) fn store(&self) -> &S {
+        &self.store
+    }
+
     /// The bytes of the table that an answer names.
     #[inline]
     fn text(&self, start: Size, len: Size) -> &[u8] {
@@ -306,6 +379,12 @@ impl<S: Bytes> Table<S> {
 
 /// Calls that change the table. A refused one changes nothing.
 impl<S: BytesMut> Table<S> {
+    /// Its bytes, for a call that keeps them.
+    #[inline]
+    pub(crate) fn store_mut(&mut self) -> &mut S {
+        &mut self.store
+    }
+
     /// Adds a fresh node, and forgets that it was removed; one that is held already stays as it is: [`Refusal::NinthNode`].
     pub fn add_node(&mut self, node: u64) -> Result<(), Refusal> {
         accepted(ffi::add_node(&mut self.store, node))
@@ -371,6 +450,12 @@ impl<'a, S: Bytes> NodeState<'a, S> {
     /// Its number.
     pub fn number(&self) -> u64 {
         self.node
+    }
+
+    /// The table that it is a node of.
+    #[inline]
+    pub(crate) fn table(&self) -> &'a Table<S> {
+        self.table
     }
 
     /// Heartbeat, max and last_gc.

@@ -15,7 +15,7 @@ fn of_c(c: &str) -> String {
         "struct kev_node" => "NodeNumber".into(),
         _ => {
             let name = c.strip_prefix("struct kev_").unwrap_or_else(|| panic!("a type that is not known: {c}"));
-            name[..1].to_uppercase() + &name[1..]
+            name.split('_').map(|word| word[..1].to_uppercase() + &word[1..]).collect()
         }
     }
 }

@@ -1,0 +1,2 @@
+pub mod GridBytes
+pub mod Cases

@@ -1,0 +1,4 @@
+pub mod Merged
+pub mod Turns
+pub mod Told
+pub mod Stated

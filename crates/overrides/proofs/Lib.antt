@@ -1,0 +1,4 @@
+pub mod Valid
+pub mod Both
+pub mod Calls
+pub mod Keeps

@@ -1,0 +1,2 @@
+pub mod Overrides
+pub mod Both

@@ -1,0 +1,10 @@
+pub mod Held
+pub mod Judging
+pub mod Few
+pub mod Lines
+pub mod Comes
+pub mod Sent
+pub mod Can
+pub mod Said
+pub mod Refusing
+pub mod Cases

@@ -1,0 +1,4 @@
+pub mod First
+pub mod Placed
+pub mod Sums
+pub mod Turns

@@ -1,0 +1,188 @@
+//! Site overrides: labels of a site, laid over those of a node when they are read, and never gossiped.
+
+use core::cmp::Ordering;
+use core::iter::FusedIterator;
+
+use crate::OVERRIDES;
+use crate::ffi::{self, Bytes, Labels};
+use crate::refusal::{Refusal, accepted, refusal};
+use crate::row::Records;
+use crate::table::{NodeState, Record, Table, Wanted};
+
+/// Overrides that keep their own bytes: one node in form, 32 records, 3,713 bytes.
+///
+/// They are no table, and no call that writes a digest or a delta takes them. [`Table::get_over`] and [`NodeState::iter_prefix_over`] read them together with a node.
+#[derive(Clone)]
+pub struct Overrides {
+    labels: Labels,
+}
+
+impl Overrides {
+    /// Overrides without a record. The number is kept in their bytes, and no call looks at it.
+    pub fn new(node: u64) -> Overrides {
+        match Labels::new(node) {
+            Ok(labels) => Overrides { labels },
+            Err(_) => unreachable!("the bytes are as many as overrides have"),
+        }
+    }
+
+    /// The overrides of these bytes, as they were stored: [`Refusal::BadTable`] where they are none that obey the rules.
+    pub fn from_bytes(bytes: &[u8]) -> Result<Overrides, Refusal> {
+        Labels::checked(bytes).map(|labels| Overrides { labels }).map_err(refusal)
+    }
+
+    /// The bytes, to be stored beside the table's.
+    pub fn as_bytes(&self) -> &[u8] {
+        self.labels.bytes()
+    }
+
+    /// The key's override takes this value under the wanted status. Where it has both already, nothing changes.
+    pub fn write(&mut self, key: &[u8], value: &[u8], wanted: Wanted) -> Result<(), Refusal> {
+        let (status, clock) = wanted.numbers();
+        accepted(ffi::write_override(self.labels.lend(), key, value, status, clock))
+    }
+
+    /// The key's override is taken back: the node's record shows again. It is removed after the grace: [`Refusal::NoKey`].
+    pub fn delete(&mut self, key: &[u8], clock: u64) -> Result<(), Refusal> {
+        accepted(ffi::delete_override(self.labels.lend(), key, clock))
+    }
+
+    /// The key's override keeps its value, shows, and is removed after the grace: [`Refusal::NoKey`].
+    pub fn delete_after_ttl(&mut self, key: &[u8], clock: u64) -> Result<(), Refusal> {
+        accepted(ffi::delete_override_after_ttl(self.labels.lend(), key, clock))
+    }
+
+    /// Removes what was scheduled a grace ago, so that its place is free again.
+    pub fn gc_keys_marked_for_deletion(&mut self, clock: u64, grace: u64) -> Result<(), Refusal> {
+        accepted(ffi::remove_overrides(self.labels.lend(), clock, grace))
+    }
+
+    /// All records, deleted ones too, in key order.
+    pub fn key_values_including_deleted(&self) -> Records<'_> {
+        Records::of_overrides(self.labels.bytes())
+    }
+}
+
+impl<S: Bytes> Table<S> {
+    /// The value of a key: the override's if its record is there and not deleted, else the node's; those very bytes of the one or of the other.
+    #[inline]
+    pub fn get_over<'a>(&'a self, overrides: &'a Overrides, node: u64, key: &[u8]) -> Result<Option<&'a [u8]>, Refusal> {
+        let answer = ffi::find_over(&overrides.labels, self.store(), node, key);
+        accepted(answer.number)?;
+        let bytes = if answer.over.0 != 0 { overrides.labels.bytes() } else { self.as_bytes() };
+        Ok((answer.found.0 != 0).then(|| &bytes[answer.start.get()..answer.start.get() + answer.len.get()]))
+    }
+}
+
+impl<'a, S: Bytes> NodeState<'a, S> {
+    /// The value of a key, as [`Table::get_over`] has it.
+    pub fn get_over(&self, overrides: &'a Overrides, key: &[u8]) -> Result<Option<&'a [u8]>, Refusal> {
+        self.table().get_over(overrides, self.number(), key)
+    }
+
+    /// The records of the overrides and of the node that are not deleted and whose keys begin with the prefix, each key once, in key order: the override's where both have
+    /// one. It is what `kev_list_over` lists, record by record, and is held to it by the tests and the fuzz.
+    pub fn iter_prefix_over(&self, overrides: &'a Overrides, prefix: &[u8]) -> Result<Merged<'a>, Refusal> {
+        let rows = ffi::prefix_rows(self.table().store(), self.number(), prefix);
+        accepted(rows.number)?;
+        let over = overrides.key_values_including_deleted().beginning(prefix);
+        Ok(Merged { over, node: Records::of(self.table().as_bytes(), rows) })
+    }
+}
+
+/// Records of overrides and of a node, merged.
+#[derive(Clone, Debug)]
+pub struct Merged<'a> {
+    over: Records<'a>,
+    node: Records<'a>,
+}
+
+impl<'a> Iterator for Merged<'a> {
+    type Item = Record<'a>;
+
+    fn next(&mut self) -> Option<Record<'a>> {
+        loop {
+            let order = match (self.over.peek(), self.node.peek()) {
+                (None, None) => return None,
+                (Some(_), None) => Ordering::Less,
+                (None, Some(_)) => Ordering::Greater,
+                (Some(over), Some(node)) => over.key.cmp(node.key),
+            };
+            let over = if order.is_le() { self.over.next() } else { None };
+            let node = if order.is_ge() { self.node.next() } else { None };
+            let shown = |record: &Record| !record.is_hidden();
+            if let Some(record) = over.filter(shown).or(node.filter(shown)) {
+                return Some(record);
+            }
+        }
+    }
+}
+
+impl FusedIterator for Merged<'_> {}
+
+const _: () = assert!(size_of::<Overrides>() == OVERRIDES);
+
+#[cfg(test)]
+mod tests {
+    extern crate std;
+
+    use std::vec::Vec;
+
+    use super::*;
+    use crate::table::{Mode, OwnedTable};
+
+    /// Numbers from a seed.
+    struct Random(u64);
+
+    impl Random {
+        fn below(&mut self, n: u64) -> u64 {
+            self.0 ^= self.0 << 13;
+            self.0 ^= self.0 >> 7;
+            self.0 ^= self.0 << 17;
+            self.0 % n
+        }
+    }
+
+    /// A key of a few letters, so that both sides have many in common.
+    fn key(random: &mut Random) -> Vec<u8> {
+        (0..random.below(4)).map(|_| b"ab"[random.below(2) as usize]).collect()
+    }
+
+    #[test]
+    fn the_merging_iterator_lists_what_the_library_lists() {
+        let mut random = Random(7);
+        let (mut table, mut labels) = (OwnedTable::new(Mode::Plain), Overrides::new(7));
+        table.add_node(7).unwrap();
+        let mut shown = 0;
+        for turn in 0..4_000 {
+            let (text, value) = (key(&mut random), [turn as u8]);
+            match random.below(6) {
+                0 | 1 => table.write(7, &text, &value, Wanted::Set).unwrap(),
+                2 => drop(table.delete(7, &text, turn)),
+                3 | 4 => labels.write(&text, &value, Wanted::Ttl(turn)).unwrap(),
+                _ => drop(labels.delete(&text, turn)),
+            }
+            if turn % 97 == 0 {
+                labels.gc_keys_marked_for_deletion(turn, 50).unwrap();
+            }
+            let (prefix, mut places) = (key(&mut random), [0; 64]);
+            let listed = ffi::list_over(&labels.labels, table.store(), 7, &prefix, &mut places);
+            assert_eq!(listed.number, 0);
+            let node = table.node_state(7).unwrap();
+            let record = |place: u8| match place.checked_sub(128) {
+                Some(place) => labels.key_values_including_deleted().nth(place.into()).unwrap(),
+                None => node.key_values_including_deleted().nth(place.into()).unwrap(),
+            };
+            let told: Vec<Record> = places[..listed.count.get()].iter().map(|&place| record(place)).collect();
+            let merged: Vec<Record> = node.iter_prefix_over(&labels, &prefix).unwrap().collect();
+            assert_eq!(merged, told);
+            assert!(merged.is_sorted_by(|a, b| a.key < b.key));
+            for record in &merged {
+                let found = table.get_over(&labels, 7, record.key).unwrap().unwrap();
+                assert_eq!(found.as_ptr(), record.value.as_ptr());
+            }
+            shown += merged.len();
+        }
+        assert!(shown > 10_000, "{shown}");
+    }
+}
