@@ -15,6 +15,7 @@ mod maker;
 mod pieces;
 mod plans;
 mod random;
+mod readings;
 mod scripts;
 mod shrink;
 mod sides;

@@ -5,8 +5,9 @@ use script::table::{self, Node, RECORDS, Record, SET};
 
 use crate::damage::texts_are_utf8;
 use crate::pieces::{Op, delta, digest};
+use crate::readings;
 
-const SWEEPS: [(&str, fn() -> Vec<String>); 20] = [
+const SWEEPS: [(&str, fn() -> Vec<String>); 27] = [
     ("bench", bench),
     ("writes", writes),
     ("wanted", wanted),
@@ -27,6 +28,13 @@ const SWEEPS: [(&str, fn() -> Vec<String>); 20] = [
     ("damaged-digest", damaged_digest),
     ("two-faults", two_faults),
     ("many-nodes", many_nodes),
+    ("meter-kinds", readings::kinds),
+    ("meter-keys", readings::keys),
+    ("meter-values", readings::values),
+    ("meter-totals", readings::totals),
+    ("meter-writes", readings::writes),
+    ("meter-streams", readings::streams),
+    ("meter-exchanges", readings::exchanges),
 ];
 
 pub fn names() -> Vec<String> {

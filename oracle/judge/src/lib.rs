@@ -41,6 +41,7 @@ mod types {
 
 pub mod fleet;
 pub mod hub;
+mod meter;
 pub mod raw;
 pub mod timed;
 mod wire;

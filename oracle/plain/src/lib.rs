@@ -6,6 +6,7 @@ mod compute;
 mod delta;
 mod digest;
 pub mod local;
+mod meter;
 pub mod over;
 mod plan;
 pub mod side;

@@ -3,14 +3,14 @@
 use std::io::{BufRead, Write};
 
 use crate::call::HUBS;
-use crate::table::{GUARDED, PLAIN, checksum};
+use crate::table::{FREE, GUARDED, METER, PLAIN, checksum};
 use crate::{Answer, Bytes, Call, over};
 
 /// One lent table and who answers for it. Calls come with their bytes written out; `new`, `hub`, `table` and
 /// `dump` are answered by the runner through `take_table` and `table_bytes`, and so are the calls on overrides (`over`).
 pub trait Side {
-    /// An empty table in a mode.
-    fn new(mode: u8) -> Self;
+    /// An empty table in a mode, of a profile.
+    fn new(mode: u8, profile: u8) -> Self;
     fn answer(&mut self, call: &Call) -> Answer;
     /// From now on the lent table is these bytes, good or not.
     fn take_table(&mut self, bytes: &[u8]) -> Answer;
@@ -26,7 +26,7 @@ struct Desk<S> {
 
 impl<S: Side> Desk<S> {
     fn new() -> Self {
-        Desk { hubs: [(); HUBS].map(|()| S::new(PLAIN)), current: 0, last_digest: Vec::new(), last_delta: Vec::new() }
+        Desk { hubs: [(); HUBS].map(|()| S::new(PLAIN, FREE)), current: 0, last_digest: Vec::new(), last_delta: Vec::new() }
     }
 
     fn write_out(&self, bytes: &mut Bytes) {
@@ -49,9 +49,9 @@ impl<S: Side> Desk<S> {
             _ => {}
         }
         let answer = match &call {
-            Call::New { mode } if *mode > u64::from(GUARDED) => Answer::Refused(14),
-            Call::New { mode } => {
-                self.hubs[self.current] = S::new(*mode as u8);
+            Call::New { mode, profile } if *mode > u64::from(GUARDED) || *profile > u64::from(METER) => Answer::Refused(14),
+            Call::New { mode, profile } => {
+                self.hubs[self.current] = S::new(*mode as u8, *profile as u8);
                 Answer::Done
             }
             Call::Hub(hub) => {
