@@ -43,7 +43,7 @@ static void make(void) { number = kev_make_delta(listing, text, delta, KEV_DELTA
 
 static void fresh(uint8_t *at) {
     uint64_t node;
-    if (kev_new_table(at, KEV_TABLE, KEV_GUARDED)) abort();
+    if (kev_new_table(at, KEV_TABLE, KEV_GUARDED, KEV_PROFILE_FREE)) abort();
     for (node = 0; node < KEV_NODES; node++)
         if (kev_add_node(at, KEV_TABLE, node)) abort();
 }
