@@ -6,11 +6,11 @@ use Rattle.replay.proofs.main.Statement.{statement}
 use Rattle.replay.proofs.main.Tie as tie
 
 abbrev Inv-loop : tie.InvT-loop
-Inv-loop tables₀ digest₀ delta₀ chunk₀ room₀ out₀ desk₀ source₀ left₀ tables digest delta chunk room out desk source left =
-    length tables ≡ length tables₀
+Inv-loop tables₀ grids₀ digest₀ delta₀ chunk₀ room₀ out₀ desk₀ source₀ left₀ tables grids digest delta chunk room out desk source left =
+    (length tables ≡ length tables₀) × (length grids ≡ length grids₀)
 
 abbrev μ-loop : tie.MeasureT-loop
-μ-loop tables₀ digest₀ delta₀ chunk₀ room₀ out₀ desk₀ source₀ left₀ tables digest delta chunk room out desk source left =
+μ-loop tables₀ grids₀ digest₀ delta₀ chunk₀ room₀ out₀ desk₀ source₀ left₀ tables grids digest delta chunk room out desk source left =
     left
 
 new-requires : tie.Need-new-requires Inv-loop μ-loop
@@ -30,6 +30,9 @@ taken-requires c κs = search needs
 
 slice-aggregate-on-line : tie.Need-slice-aggregate-on-line Inv-loop μ-loop
 slice-aggregate-on-line c = search needs
+
+slice-aggregate-on-line-2 : tie.Need-slice-aggregate-on-line-2 Inv-loop μ-loop
+slice-aggregate-on-line-2 c = search needs
 
 on-line-requires : tie.Need-on-line-requires Inv-loop μ-loop
 on-line-requires c κs = search needs
@@ -64,6 +67,7 @@ main-spec =
     next-requires
     taken-requires
     slice-aggregate-on-line
+    slice-aggregate-on-line-2
     on-line-requires
     returns
     sub-left
