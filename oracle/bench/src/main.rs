@@ -11,6 +11,7 @@
 
 mod inputs;
 mod local;
+mod meter;
 mod port;
 mod stack;
 
@@ -679,6 +680,7 @@ fn main() {
     let (newer, _) = delta_of(&inputs::table(&inputs::all(), |record| 100 + inputs::in_order(record)));
     applying(&mut rows, "apply 16,384 bytes to a half full table", &half, &newer, APPLY, false, Aim::None);
     applying(&mut rows, "apply 16,384 bytes to a half full table, owned table", &half, &newer, APPLY, true, OWNED);
+    meter::rows(&mut rows);
     println!("An owned table:\n");
     rows.print(|aim| matches!(aim, Aim::Owned));
     println!("\nNodes that come and go in an owned table:\n");
