@@ -53,7 +53,7 @@ fn everywhere(turn: usize, key: &[u8], value: &[u8]) -> Vec<String> {
 /// Each character as a whole key and at both ends of one; keys of each length.
 pub fn keys() -> Vec<String> {
     let mut lines = Vec::new();
-    for letter in (0..=0x17f).chain([0x6f3, 0x2024, 0xff10, 0xff41, 0x10ffff]) {
+    for letter in (0..=0x80).chain([0xaa, 0xe9, 0xff, 0x6f3, 0x2024, 0xff10, 0xff41, 0x10ffff]) {
         let letter = char::from_u32(letter).expect("a character");
         for (turn, key) in [format!("{letter}"), format!("a{letter}"), format!("{letter}0")].iter().enumerate() {
             lines.extend(everywhere(turn, key.as_bytes(), b"7"));
@@ -70,7 +70,7 @@ pub fn keys() -> Vec<String> {
 /// Each character as a whole value and at both ends of one; digits in each number.
 pub fn values() -> Vec<String> {
     let mut lines = Vec::new();
-    for digit in (0..=0x17f).chain([0x663, 0xff11, 0x10ffff]) {
+    for digit in (0..=0x80).chain([0xb2, 0xbd, 0x663, 0xff11, 0x10ffff]) {
         let digit = char::from_u32(digit).expect("a character");
         for (turn, value) in [format!("{digit}"), format!("1{digit}"), format!("{digit}2")].iter().enumerate() {
             lines.extend(everywhere(turn, b"k", value.as_bytes()));
@@ -198,7 +198,7 @@ fn untaken(odd: &Op) -> Vec<String> {
     lines
 }
 
-/// All runs of four steps of a free publisher and a meter follower with one node: a record that the follower does not take, its tombstone, its removal; and a
+/// All runs of three steps of a free publisher and a meter follower with one node: a record that the follower does not take, its tombstone, its removal; and a
 /// total that falls at a reset.
 pub fn exchanges() -> Vec<String> {
     const STEPS: [&[&str]; 6] = [
@@ -210,12 +210,12 @@ pub fn exchanges() -> Vec<String> {
         &["hub 1", "digest - 0 34 0", "hub 0", "compute @digest 100 - 0 0 100 0", "hub 1", "apply @delta 4 1", "write 1 x746f74616c x37 0 9", "hub 0"],
     ];
     let mut lines = Vec::new();
-    for run in 0..STEPS.len().pow(4) {
+    for run in 0..STEPS.len().pow(3) {
         for (hub, profile) in [(1, METER), (0, table::FREE)] {
             lines.extend([format!("hub {hub}"), format!("kind {} {profile}", run % 3), "add 1".into()]);
         }
         let mut rest = run;
-        for _ in 0..4 {
+        for _ in 0..3 {
             lines.extend(STEPS[rest % STEPS.len()].iter().map(|line| line.to_string()));
             rest /= STEPS.len();
         }
