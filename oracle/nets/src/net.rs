@@ -2,6 +2,7 @@
 
 use std::collections::BTreeMap;
 
+use script::grid::PRESENT;
 use script::table::{self, AREA_BYTES, FENCED, FREE, GUARDED, METER, PLAIN};
 
 use crate::bytes::{self, Pair, Part};
@@ -34,10 +35,52 @@ pub enum Kind {
     Hasty,
     /// Four guarded hubs and two nodes of hub 0: see `locks`.
     Narrow,
+    /// All plain. Every hub has a grid, which peers tell by digests that they wrote, old ones too; it removes only carefully and while every other hub is present.
+    /// Nobody is restored, and no node is removed.
+    Careful,
+    /// The same in any modes.
+    CarefulAny,
+    /// As Careful, but a hub that owns no node removes by the clock alone.
+    OwnerAlone,
+    /// As Careful, but some never tell, and whoever is present is enough.
+    Whoever,
+    /// As Careful, but a peer that was present may be taken out, and is not waited for then.
+    TakenOut,
+    /// As Careful, but hubs are restored.
+    Restored,
+    /// As Careful, but nodes are removed and added again.
+    Renewed,
+    /// As Careful, but a row may be told by a digest that its peer did not write.
+    Forged,
 }
 
-pub const SAFE: [Kind; 6] = [Kind::Fenced, Kind::Guarded, Kind::Both, Kind::Leaf, Kind::Losing, Kind::Overlapping];
-pub const UNSAFE: [Kind; 5] = [Kind::Plain, Kind::Relay, Kind::Lost, Kind::Unstored, Kind::Hasty];
+pub const SAFE: [Kind; 8] =
+    [Kind::Fenced, Kind::Guarded, Kind::Both, Kind::Leaf, Kind::Losing, Kind::Overlapping, Kind::Careful, Kind::CarefulAny];
+pub const UNSAFE: [Kind; 11] = [
+    Kind::Plain,
+    Kind::Relay,
+    Kind::Lost,
+    Kind::Unstored,
+    Kind::Hasty,
+    Kind::OwnerAlone,
+    Kind::Whoever,
+    Kind::TakenOut,
+    Kind::Restored,
+    Kind::Renewed,
+    Kind::Forged,
+];
+
+impl Kind {
+    /// Every hub has a grid.
+    fn has_grids(self) -> bool {
+        self.is_careful() || matches!(self, Kind::OwnerAlone | Kind::Whoever | Kind::TakenOut | Kind::Restored | Kind::Renewed | Kind::Forged)
+    }
+
+    /// A careful net with all its conditions.
+    fn is_careful(self) -> bool {
+        matches!(self, Kind::Careful | Kind::CarefulAny)
+    }
+}
 
 /// What an owner gave to a node: how many versions, and the one that each key was given last.
 #[derive(Clone, Default)]
@@ -81,6 +124,10 @@ pub struct Counts {
     pub recalled: u64,
     pub crossed: u64,
     pub resets_between: u64,
+    pub told: u64,
+    pub taken_out: u64,
+    pub waited: u64,
+    pub gone: u64,
     pub meters: u64,
     pub unformed: u64,
     pub smaller: u64,
@@ -117,6 +164,13 @@ pub struct Net<'a> {
     /// Everything ever computed.
     deltas: Vec<Vec<u8>>,
     digests: Vec<Vec<u8>>,
+    /// Each hub's grid, where another has the row of its number; who never tells it; who is out of it; and the digests that each hub wrote.
+    grids: Vec<Vec<u8>>,
+    mute: Vec<Vec<bool>>,
+    /// Who hears, tells and removes for a while.
+    awake: Vec<usize>,
+    outs: Vec<Vec<bool>>,
+    written: Vec<Vec<Vec<u8>>>,
     counts: &'a mut Counts,
 }
 
@@ -130,8 +184,9 @@ impl<'a> Net<'a> {
     pub fn new(kind: Kind, look: Look, mut random: Random, counts: &'a mut Counts) -> Net<'a> {
         let narrow = kind == Kind::Narrow;
         let hubs = if narrow { 4 } else { 3 + random.below(3) };
-        let nodes = if narrow { 2 } else { 1 + random.below(2) };
-        let keys = 2 + random.below(KEYS.len() - 1);
+        let small = kind.has_grids() && random.once_in(2);
+        let nodes = if narrow { 2 } else { 1 + if small { 0 } else { random.below(2) } };
+        let keys = 2 + if small { 0 } else { random.below(KEYS.len() - 1) };
         let owners = (0..nodes).map(|_| if narrow { 0 } else { random.below(hubs) }).collect();
         let mut modes: Vec<u8> = (0..hubs)
             .map(|_| match kind {
@@ -140,6 +195,9 @@ impl<'a> Net<'a> {
                 Kind::Guarded | Kind::Lost | Kind::Overlapping | Kind::Narrow => GUARDED,
                 Kind::Both | Kind::Leaf | Kind::Relay => *random.pick(&[FENCED, GUARDED]),
                 Kind::Losing | Kind::Unstored | Kind::Hasty => *random.pick(&[FENCED, GUARDED]),
+                Kind::CarefulAny => *random.pick(&[PLAIN, FENCED, GUARDED]),
+                Kind::Careful | Kind::OwnerAlone | Kind::Whoever | Kind::TakenOut => PLAIN,
+                Kind::Restored | Kind::Renewed | Kind::Forged => PLAIN,
             })
             .collect();
         if matches!(kind, Kind::Leaf | Kind::Relay) {
@@ -148,16 +206,19 @@ impl<'a> Net<'a> {
         let fresh = |number| table::Node { number, heartbeat: 0, max: 0, last_gc: 0, records: vec![] };
         let fresh: Vec<_> = (1..=nodes as u64).map(fresh).collect();
         counts.nets += 1;
+        // Where a kind must be found out, and where grids are told, all hubs are of one profile.
         let profiles: Vec<u8> = match random.below(5) {
-            _ if narrow => vec![FREE; hubs],
+            _ if !SAFE.contains(&kind) => vec![FREE; hubs],
             0 | 1 => vec![METER; hubs],
-            2 => (0..hubs).map(|_| *random.pick(&[FREE, METER])).collect(),
+            2 if !kind.has_grids() => (0..hubs).map(|_| *random.pick(&[FREE, METER])).collect(),
             _ => vec![FREE; hubs],
         };
         counts.meters += u64::from(profiles.contains(&METER));
         let mixed = profiles.iter().any(|&profile| profile != profiles[0]);
         let kinds = modes.iter().zip(&profiles);
         let tables: Vec<Vec<u8>> = kinds.map(|(&mode, &profile)| table::encode_as(&fresh, mode, profile, &[])).collect();
+        let grids = tables.iter().map(|table| if kind.has_grids() { port::grid(table) } else { Vec::new() }).collect();
+        let mute = (0..hubs).map(|_| (0..hubs).map(|_| kind == Kind::Whoever && random.once_in(2)).collect()).collect();
         Net {
             random,
             kind,
@@ -175,6 +236,11 @@ impl<'a> Net<'a> {
             open: Vec::new(),
             deltas: Vec::new(),
             digests: Vec::new(),
+            grids,
+            mute,
+            awake: (0..hubs).collect(),
+            outs: vec![vec![false; hubs]; hubs],
+            written: vec![Vec::new(); hubs],
             counts,
         }
     }
@@ -229,6 +295,9 @@ impl<'a> Net<'a> {
 
     pub fn step(&mut self) -> Claim {
         self.counts.steps += 1;
+        if self.kind.has_grids() {
+            return self.watched_step().and_then(|()| self.claims());
+        }
         let hub = self.random.below(self.tables.len());
         match self.random.below(24) {
             0..=3 => self.write(),
@@ -244,6 +313,62 @@ impl<'a> Net<'a> {
             _ => self.hear_someone(hub),
         }
         .and_then(|()| self.claims())
+    }
+
+    /// Where hubs have grids: some sleep for a while; more is told and removed, less is written.
+    fn watched_step(&mut self) -> Claim {
+        let hubs = self.tables.len();
+        if self.random.once_in(6) || self.awake.len() < 2 {
+            self.awake = (0..hubs).filter(|_| self.random.once_in(2)).collect();
+            return Ok(());
+        }
+        let hub = *self.random.pick(&self.awake);
+        match self.random.below(24) {
+            0..=2 => self.write(),
+            3..=5 => self.watch(hub),
+            6 => {
+                self.all_tell(hub);
+                self.remove(hub)
+            }
+            7..=9 => self.spread(),
+            10 => self.compute(),
+            11..=13 => self.arrive(hub),
+            _ => {
+                let other = *self.random.pick(&self.awake);
+                let (mtu, excluded) = (self.mtu(), self.excluded());
+                if other == hub { Ok(()) } else { self.hear(hub, other, mtu, &excluded) }
+            }
+        }
+    }
+
+    /// An owner deletes a key; those awake hear it and tell, and the owner removes.
+    fn spread(&mut self) -> Claim {
+        let place = self.random.below(self.owners.len());
+        let owner = self.owners[place];
+        let key = KEYS[self.random.below(self.keys)];
+        let (before, clock) = (self.pair(owner, place), self.clock(owner));
+        port::delete(&mut self.tables[owner], place as u64 + 1, key, clock);
+        if self.pair(owner, place).max > before.max {
+            self.gave(place, key);
+        }
+        for hub in self.awake.clone() {
+            if hub != owner {
+                self.hear(hub, owner, WHOLE, &[])?;
+            }
+        }
+        self.all_tell(owner);
+        let before = self.pairs(owner);
+        self.remove_at(owner, clock, 0);
+        self.no_fall(owner, &before)
+    }
+
+    /// Those awake tell a hub what they hold.
+    fn all_tell(&mut self, hub: usize) {
+        for peer in self.awake.clone() {
+            if peer != hub {
+                self.tell_now(hub, peer);
+            }
+        }
     }
 
     fn write(&mut self) -> Claim {
@@ -308,17 +433,96 @@ impl<'a> Net<'a> {
         {
             self.gave(place, key);
         }
-        port::remove(&mut self.tables[hub], clock, 0);
-        self.counts.removals += 1;
+        self.remove_at(hub, clock, 0);
         self.no_fall(hub, &before)
     }
 
     fn remove(&mut self, hub: usize) -> Claim {
         let before = self.pairs(hub);
-        let (clock, grace) = (self.clock(hub), *self.random.pick(&[0, 0, 4, 12]));
-        port::remove(&mut self.tables[hub], clock, grace);
-        self.counts.removals += 1;
+        let (clock, grace) = (self.clock(hub), if self.kind.has_grids() { 0 } else { *self.random.pick(&[0, 0, 4, 12]) });
+        self.remove_at(hub, clock, grace);
         self.no_fall(hub, &before)
+    }
+
+    fn remove_at(&mut self, hub: usize, clock: u64, grace: u64) {
+        if !self.kind.has_grids() || self.kind == Kind::OwnerAlone && self.owned(hub).is_empty() {
+            port::remove(&mut self.tables[hub], clock, grace);
+            self.counts.removals += 1;
+            return;
+        }
+        if !self.may_remove(hub) {
+            self.counts.waited += 1;
+            return;
+        }
+        let held = |table: &[u8]| (0..self.owners.len()).map(|place| bytes::records(table, place).count()).sum::<usize>();
+        let before = held(&self.tables[hub]);
+        if port::remove_carefully(&self.grids[hub], &mut self.tables[hub], clock, grace) == 0 {
+            self.counts.removals += 1;
+            self.counts.gone += (before - held(&self.tables[hub])) as u64;
+        }
+    }
+
+    // ---- who has seen what
+
+    /// Every other hub is present in this one's grid, or need not be.
+    fn may_remove(&self, hub: usize) -> bool {
+        let present = |peer: usize| self.grids[hub][PRESENT + peer] == 1;
+        (0..self.tables.len()).all(|peer| peer == hub || present(peer) || self.kind == Kind::Whoever || self.outs[hub][peer])
+    }
+
+    /// A digest is told to a hub's grid as that of a peer.
+    fn tell(&mut self, hub: usize, peer: usize, digest: &[u8]) {
+        if self.mute[hub][peer] {
+            return;
+        }
+        assert_eq!(port::tell(&mut self.grids[hub], peer as u64, digest), 0);
+        self.outs[hub][peer] = false;
+        self.counts.told += 1;
+    }
+
+    /// A peer tells what it holds.
+    fn tell_now(&mut self, hub: usize, peer: usize) {
+        let digest = port::digest(&self.tables[peer], &[]);
+        self.written[peer].push(digest.clone());
+        self.tell(hub, peer, &digest);
+    }
+
+    /// Something happens to the hub's grid: mostly a peer tells a digest that it wrote, now or before. Where the kind has it, something happens that may not.
+    fn watch(&mut self, hub: usize) -> Claim {
+        let hubs = self.tables.len();
+        let peer = (hub + 1 + self.random.below(hubs - 1)) % hubs;
+        match (self.kind, self.random.below(4)) {
+            (Kind::TakenOut, 0) if self.grids[hub][PRESENT + peer] == 1 && !self.awake.contains(&peer) => {
+                assert_eq!(port::take_out(&mut self.grids[hub], peer as u64), 0);
+                self.outs[hub][peer] = true;
+                self.counts.taken_out += 1;
+                return Ok(());
+            }
+            (Kind::Restored, 0) => return self.save(hub),
+            (Kind::Restored, 1) => return self.restore(hub),
+            (Kind::Renewed, 0) => {
+                let place = self.random.below(self.owners.len());
+                if self.owners[place] != hub {
+                    let number = place as u64 + 1;
+                    assert_eq!(port::renew(&mut self.grids[hub], &mut self.tables[hub], number), 0);
+                    self.counts.wiped += 1;
+                }
+                return Ok(());
+            }
+            (Kind::Forged, 0) => {
+                let digest = self.digest();
+                self.tell(hub, peer, &digest);
+                return Ok(());
+            }
+            _ => {}
+        }
+        if !self.written[peer].is_empty() && self.random.once_in(4) {
+            let digest = self.random.pick(&self.written[peer]).clone();
+            self.tell(hub, peer, &digest);
+        } else if self.awake.contains(&peer) || self.random.once_in(8) {
+            self.tell_now(hub, peer);
+        }
+        Ok(())
     }
 
     fn mtu(&mut self) -> usize {
@@ -384,6 +588,10 @@ impl<'a> Net<'a> {
     fn hear(&mut self, hub: usize, other: usize, mtu: usize, excluded: &[u64]) -> Claim {
         let digest = port::digest(&self.tables[hub], &[]);
         self.digests.push(digest.clone());
+        if self.kind.has_grids() {
+            self.written[hub].push(digest.clone());
+            self.tell(other, hub, &digest);
+        }
         let delta = self.computed(other, &digest, mtu, excluded);
         self.apply(hub, &delta)
     }
@@ -529,6 +737,7 @@ impl<'a> Net<'a> {
         ensure(!self.look.rule || fenced == (answer == FENCED_CODE), || {
             "an answer is Fenced where the rule says so".into()
         })?;
+        ensure(!self.look.claims || !self.kind.is_careful() || answer != RESET_CODE, || "no hub of a careful net is reset".into())?;
         let own = self.owners[place] == hub && before[place].max >= self.given[place].versions;
         ensure(!self.look.claims || !own || answer == 0, || "an owner rejects".into())
     }
@@ -550,6 +759,11 @@ impl<'a> Net<'a> {
             let meters = self.tables.iter().filter(|table| bytes::is_meter(table));
             let readings = meters.flat_map(|table| bytes::records(table, place)).all(|record| record.is_reading());
             ensure(readings, || "a meter table has readings alone".into())?;
+            if self.kind.is_careful() {
+                let pairs: Vec<Pair> = (0..self.tables.len()).map(|hub| self.pair(hub, place)).collect();
+                let least = pairs.iter().map(|pair| pair.max).min().unwrap_or(0);
+                ensure(pairs.iter().all(|pair| pair.last_gc <= least), || "every last_gc is within every hub's max".into())?;
+            }
             let owner = self.owners[place];
             let most = if self.loses() { self.given[place].versions } else { self.owner_pair(place).max };
             // An owner that forgot may be behind: then any hub that has all stands for it.
@@ -664,13 +878,13 @@ impl<'a> Net<'a> {
 
     // ---- how it ends
 
-    /// Whole deltas along a tree of hubs, nobody writes. A guarded net is closed after two rounds for each step of the way; of others it is counted whether
-    /// a round that changes nothing leaves a hub behind.
+    /// Whole deltas along a tree of hubs, nobody writes. A guarded net is closed after two rounds for each step of the way, a careful one after one; of others it is
+    /// counted whether a round that changes nothing leaves a hub behind.
     pub fn end(&mut self) -> Claim {
         if self.kind == Kind::Overlapping {
             return self.end_crossing();
         }
-        if !matches!(self.kind, Kind::Fenced | Kind::Guarded | Kind::Both) {
+        if !matches!(self.kind, Kind::Fenced | Kind::Guarded | Kind::Both) && !self.kind.is_careful() {
             return Ok(());
         }
         let hubs = self.tables.len();
@@ -685,6 +899,9 @@ impl<'a> Net<'a> {
             let quiet = self.tables == before;
             if self.kind == Kind::Guarded && (quiet || round == 2 * (hubs - 1)) {
                 ensure(!self.look.claims || self.mixed || self.level(), || "a guarded net agrees after two rounds a step".into())?;
+            }
+            if self.kind.is_careful() && (quiet || round == hubs - 1) {
+                ensure(!self.look.claims || self.level(), || "a careful net agrees after one round a step".into())?;
             }
             if quiet || round == 40 {
                 break;
@@ -770,6 +987,9 @@ impl Counts {
                 "  crashed {}, versions undone {}, forgot {}, recalled {}",
                 self.crashed, self.undone, self.forgot, self.recalled
             );
+        }
+        if self.told > 0 {
+            println!("  told {}, removals that waited {}, records removed {}", self.told, self.waited, self.gone);
         }
         if self.crossed > 0 {
             println!(
