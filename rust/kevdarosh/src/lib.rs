@@ -76,7 +76,7 @@
 //! # }
 //! ```
 //!
-//! A table with its grid: who has seen what, and a removal that waits for all:
+//! A table with its grid of what each peer told last: a removal that waits for the peer that was switched off ([`Watched`]):
 //!
 //! ```
 //! # use kevdarosh::{DIGEST, Edition, Mode, OwnedTable, Refusal, Wanted, Watched};
@@ -160,13 +160,13 @@ pub const DELTA: usize = 16_384;
 /// Bytes of a delta's listing, at most.
 pub const LISTING: usize = 81_979;
 
+/// Bytes of overrides.
+pub const OVERRIDES: usize = 3_713;
+
 /// Bytes of a grid.
 pub const GRID: usize = 1_097;
 /// Peers of a grid, numbered from 0.
 pub const PEERS: usize = 8;
-
-/// Bytes of overrides.
-pub const OVERRIDES: usize = 3_713;
 
 /// The byte of a table that says its mode.
 const MODE_AT: usize = 29_705;

@@ -57,7 +57,7 @@ refusals! {
     11 OutOfOrder "an operation before its Node, or versions that do not rise";
     12 NodeTwice "a node twice in one delta";
     13 TooMany "over eight nodes, or a delta over 16,384 bytes";
-    14 BadTable "the bytes are not a table that obeys the rules";
+    14 BadTable "the bytes are not a table, overrides or a grid that obey the rules, or the grid is not the table's";
     15 BadTies "not one tie for each node of the table";
     17 BadForm "a key or a value that a meter table does not take";
     18 SmallerTotal "a smaller total than the one there";
