@@ -1286,6 +1286,7 @@ def meter_streams():
                 yield from meter(mode)
                 yield "add 2"
                 yield apply(node(1, gc), top(last))
+                yield apply(delta, odd)
                 yield apply(node(2), kv(b"b", b"1", 4), delta, odd, kv(b"c", b"1", 7))
     yield from meter()
     yield apply(node(1), *(kv(b"k%02d" % place, b"1", 1 + place) for place in range(32)))
