@@ -72,7 +72,7 @@ pub const UNSAFE: [Kind; 11] = [
 
 impl Kind {
     /// Every hub has a grid.
-    fn has_grids(self) -> bool {
+    pub fn has_grids(self) -> bool {
         self.is_careful() || matches!(self, Kind::OwnerAlone | Kind::Whoever | Kind::TakenOut | Kind::Restored | Kind::Renewed | Kind::Forged)
     }
 
@@ -125,7 +125,6 @@ pub struct Counts {
     pub crossed: u64,
     pub resets_between: u64,
     pub told: u64,
-    pub taken_out: u64,
     pub waited: u64,
     pub gone: u64,
     pub meters: u64,
@@ -183,8 +182,8 @@ fn ensure(holds: bool, claim: impl Fn() -> String) -> Claim {
 impl<'a> Net<'a> {
     pub fn new(kind: Kind, look: Look, mut random: Random, counts: &'a mut Counts) -> Net<'a> {
         let narrow = kind == Kind::Narrow;
-        let hubs = if narrow { 4 } else { 3 + random.below(3) };
-        let small = kind.has_grids() && random.once_in(2);
+        let small = kind.has_grids() && !random.once_in(4);
+        let hubs = if narrow || small { 4 } else { 3 + random.below(3) };
         let nodes = if narrow { 2 } else { 1 + if small { 0 } else { random.below(2) } };
         let keys = 2 + if small { 0 } else { random.below(KEYS.len() - 1) };
         let owners = (0..nodes).map(|_| if narrow { 0 } else { random.below(hubs) }).collect();
@@ -315,24 +314,27 @@ impl<'a> Net<'a> {
         .and_then(|()| self.claims())
     }
 
-    /// Where hubs have grids: some sleep for a while; more is told and removed, less is written.
+    /// Where hubs have grids: some sleep for a while. What an owner writes is heard at once by those awake, or by nobody; more is told and removed.
     fn watched_step(&mut self) -> Claim {
         let hubs = self.tables.len();
-        if self.random.once_in(6) || self.awake.len() < 2 {
+        if self.random.once_in(4) || self.awake.len() < 2 {
             self.awake = (0..hubs).filter(|_| self.random.once_in(2)).collect();
             return Ok(());
         }
         let hub = *self.random.pick(&self.awake);
-        match self.random.below(24) {
-            0..=2 => self.write(),
-            3..=5 => self.watch(hub),
-            6 => {
+        match self.random.below(20) {
+            0 | 1 => {
+                self.write()?;
+                if self.random.once_in(2) { self.all_hear() } else { Ok(()) }
+            }
+            2..=4 => self.spread(),
+            5 | 6 => self.watch(hub),
+            7 => {
                 self.all_tell(hub);
                 self.remove(hub)
             }
-            7..=9 => self.spread(),
-            10 => self.compute(),
-            11..=13 => self.arrive(hub),
+            8 if self.random.once_in(2) => self.compute(),
+            8 | 9 => self.arrive(hub),
             _ => {
                 let other = *self.random.pick(&self.awake);
                 let (mtu, excluded) = (self.mtu(), self.excluded());
@@ -341,10 +343,22 @@ impl<'a> Net<'a> {
         }
     }
 
-    /// An owner deletes a key; those awake hear it and tell, and the owner removes.
+    /// Those awake hear an owner.
+    fn all_hear(&mut self) -> Claim {
+        let owner = *self.random.pick(&self.owners);
+        for hub in self.awake.clone() {
+            if hub != owner {
+                self.hear(hub, owner, WHOLE, &[])?;
+            }
+        }
+        Ok(())
+    }
+
+    /// An owner deletes a key; those awake hear it and tell, and one of them removes, mostly the owner. Where the kind lacks a condition, that is missed here.
     fn spread(&mut self) -> Claim {
         let place = self.random.below(self.owners.len());
         let owner = self.owners[place];
+        self.lapse_before();
         let key = KEYS[self.random.below(self.keys)];
         let (before, clock) = (self.pair(owner, place), self.clock(owner));
         port::delete(&mut self.tables[owner], place as u64 + 1, key, clock);
@@ -356,10 +370,60 @@ impl<'a> Net<'a> {
                 self.hear(hub, owner, WHOLE, &[])?;
             }
         }
-        self.all_tell(owner);
-        let before = self.pairs(owner);
-        self.remove_at(owner, clock, 0);
-        self.no_fall(owner, &before)
+        let follower = self.kind == Kind::OwnerAlone || self.random.once_in(3);
+        let hub = if follower { *self.random.pick(&self.awake) } else { owner };
+        self.all_tell(hub);
+        self.lapse_at(hub);
+        self.remove(hub)?;
+        self.lapse_after()
+    }
+
+    fn asleep(&self) -> Vec<usize> {
+        (0..self.tables.len()).filter(|hub| !self.awake.contains(hub)).collect()
+    }
+
+    /// Hubs are saved.
+    fn lapse_before(&mut self) {
+        if self.kind == Kind::Restored {
+            for hub in 0..self.tables.len() {
+                if self.random.once_in(2) {
+                    self.saved[hub].truncate(1);
+                    self.saved[hub].insert(0, self.tables[hub].clone());
+                }
+            }
+        }
+    }
+
+    /// Who sleeps is taken out of a hub's grid, or has its row told by another.
+    fn lapse_at(&mut self, hub: usize) {
+        for peer in self.asleep() {
+            if peer == hub || self.random.once_in(3) {
+                continue;
+            }
+            if self.kind == Kind::TakenOut && self.grids[hub][PRESENT + peer] == 1 {
+                assert_eq!(port::take_out(&mut self.grids[hub], peer as u64), 0);
+                self.outs[hub][peer] = true;
+            }
+            if self.kind == Kind::Forged {
+                let digest = port::digest(&self.tables[hub], &[]);
+                self.tell(hub, peer, &digest);
+            }
+        }
+    }
+
+    /// Hubs are restored, or have a node removed and added again.
+    fn lapse_after(&mut self) -> Claim {
+        for hub in 0..self.tables.len() {
+            if self.kind == Kind::Restored && self.random.once_in(3) {
+                self.restore(hub)?;
+            }
+            let place = self.random.below(self.owners.len());
+            if self.kind == Kind::Renewed && self.random.once_in(3) && self.owners[place] != hub {
+                assert_eq!(port::renew(&mut self.grids[hub], &mut self.tables[hub], place as u64 + 1), 0);
+                self.counts.wiped += 1;
+            }
+        }
+        Ok(())
     }
 
     /// Those awake tell a hub what they hold.
@@ -383,7 +447,8 @@ impl<'a> Net<'a> {
         let value = [b"12345678"[self.random.below(8)]; 40];
         let value = if self.random.once_in(4) { &value[..long] } else { &value[..1] };
         let (number, clock) = (place as u64 + 1, self.clock(hub));
-        let wanted = match self.random.below(6) {
+        // Where hubs have grids, `spread` deletes.
+        let wanted = match if self.kind.has_grids() { self.random.below(4) } else { self.random.below(6) } {
             0..=2 => Some(table::SET),
             3 => Some(table::TTL),
             _ => None,
@@ -487,35 +552,10 @@ impl<'a> Net<'a> {
         self.tell(hub, peer, &digest);
     }
 
-    /// Something happens to the hub's grid: mostly a peer tells a digest that it wrote, now or before. Where the kind has it, something happens that may not.
+    /// A peer tells a hub a digest that it wrote, now or before.
     fn watch(&mut self, hub: usize) -> Claim {
         let hubs = self.tables.len();
         let peer = (hub + 1 + self.random.below(hubs - 1)) % hubs;
-        match (self.kind, self.random.below(4)) {
-            (Kind::TakenOut, 0) if self.grids[hub][PRESENT + peer] == 1 && !self.awake.contains(&peer) => {
-                assert_eq!(port::take_out(&mut self.grids[hub], peer as u64), 0);
-                self.outs[hub][peer] = true;
-                self.counts.taken_out += 1;
-                return Ok(());
-            }
-            (Kind::Restored, 0) => return self.save(hub),
-            (Kind::Restored, 1) => return self.restore(hub),
-            (Kind::Renewed, 0) => {
-                let place = self.random.below(self.owners.len());
-                if self.owners[place] != hub {
-                    let number = place as u64 + 1;
-                    assert_eq!(port::renew(&mut self.grids[hub], &mut self.tables[hub], number), 0);
-                    self.counts.wiped += 1;
-                }
-                return Ok(());
-            }
-            (Kind::Forged, 0) => {
-                let digest = self.digest();
-                self.tell(hub, peer, &digest);
-                return Ok(());
-            }
-            _ => {}
-        }
         if !self.written[peer].is_empty() && self.random.once_in(4) {
             let digest = self.random.pick(&self.written[peer]).clone();
             self.tell(hub, peer, &digest);
@@ -526,7 +566,8 @@ impl<'a> Net<'a> {
     }
 
     fn mtu(&mut self) -> usize {
-        if self.random.once_in(2) { WHOLE } else { 100 + self.random.below(80) }
+        let whole = if self.kind.has_grids() { !self.random.once_in(6) } else { self.random.once_in(2) };
+        if whole { WHOLE } else { 100 + self.random.below(80) }
     }
 
     /// Seldom a node is left out.
