@@ -544,16 +544,16 @@ struct kev_exchanged kev_exchange(
  *
  * A grid keeps, for KEV_PEERS peers and KEV_NODES nodes, the pair of last_gc and max that each peer's digest told last. Its columns are the nodes of one table, which
  * come and go through the grid. A peer is present from the first digest that it told until it is taken out. With what the peers present have told, a careful removal
- * keeps a tombstone until all of them have seen it. The caller numbers its peers, and says whose digest it is; a net is safe by it only under the conditions of
- * docs/NET.md, "Careful nets".
+ * keeps a tombstone until all of them have seen it. The caller numbers its peers, and says whose digest it is; plain hubs are safe by it only under the conditions
+ * of docs/NET.md, "Careful nets".
  *
  * 14 is given where the grid breaks a rule of grids and, by the calls that take a table too, where that breaks a rule or its nodes are not the columns; the number does
  * not tell which. kev_tell, kev_take_out, kev_least_max and kev_seen_by take no table, and so find nothing of the last.
  *
  * What is seen and what is not. A node that was added or removed past the grid, by kev_add_node or kev_remove_node, is 14 at the next call with both. A node that was
  * removed and added past the grid is not seen: the number is the same, and the old pairs stand for the new node. Nor is a table that was put back to an older state with
- * the same nodes, or the table of another hub with the same nodes. Where any of these may have happened, make the grid anew: nobody is present then, and nothing goes
- * before the peers have told again. */
+ * the same nodes, or the table of another hub with the same nodes. Where any of these may have happened, make the grid anew: nobody is present then, and the
+ * next removal should wait until all peers have told again. */
 
 /* The bytes become the grid of the table's nodes, with nobody present, whatever stood there. 14 where grid_len is not KEV_GRID, or the table is none.
  * Numbers: 14. */
