@@ -1,6 +1,8 @@
 // The local calls that give a version, on a lent table: the write, delete, delete after TTL. The write takes the wanted status, Set or TTL. The entry points
 // take any bytes and refuse in document 01's order: 14, for the write then 10, then 2, then what the node's rules say (crate `local_node`): 1, 3, nothing
-// to change, 5, 6. A refused call changes no byte. A name with `good` in it is for a table known to be good, so that a caller need not pay for the check again.
+// to change, 5, 6. In a table of the meter profile (crate `local_guard`) a write is refused with 17 straight behind 1, and with 18 before 5. A refused call
+// changes no byte. A name with `known` in it is for a table known to be good, so that a caller need not pay for the check again.
+use local_guard::Guarded;
 use local_node::Kind;
 use rules::Answer;
 use rules::Refusal;
@@ -16,11 +18,12 @@ ghost use Rattle.rules.specs.Local as rule;
 ghost use Rattle.rules.specs.Delta.{statusByte};
 ghost use Rattle.rules.specs.Lent.{stored, lentCall, lentWrite};
 ghost use Rattle.rules.specs.Layout.{decode, valid};
+ghost use Rattle.rules.specs.Whole.{validWhole};
 ghost use Rattle.local_node.specs.Writes.{callOf};
 ghost use Rattle.local.specs.Wanted.{askedBy, wantedOf};
 
 // One of document 01's four calls at a key of a node of a good table: 2, then what the node's rules say.
-pub fn call_good(
+fn call_good(
     table: &mut [u8],
     number: u64,
     kind: Kind,
@@ -40,13 +43,32 @@ pub fn call_good(
     }
 }
 
+// The same in the table's profile: what this refuses, then the call.
+pub fn call_known(
+    table: &mut [u8],
+    number: u64,
+    kind: Kind,
+    key: &[u8],
+    value: &[u8],
+    clock: u64,
+) -> Answer
+    requires { ⌜ validWhole (now table) ≡ true ⌝ }
+    ensures { λ r. ⌜ Gives (lentCall (callOf kind (now (value .entry)) clock) number (now (key .entry)) (now (table .entry))) r (now (table .exit)) ⌝ }
+{
+    let profile = profile_check::profile_of(table);
+    match local_guard::guard(&table[..layout::AREA], profile, number, kind, key, value) {
+        Guarded::Passed => call_good(&mut table[..layout::AREA], number, kind, key, value, clock),
+        Guarded::Refused(why) => Answer::Refused(why),
+    }
+}
+
 // One of the four calls on any bytes.
 fn call(table: &mut [u8], number: u64, kind: Kind, key: &[u8], value: &[u8], clock: u64) -> Answer
     ensures { λ r. ⌜ Tells answerTold (lentCall (callOf kind (now (value .entry)) clock) number (now (key .entry)) (now (table .entry)))
         r (now (table .exit)) ⌝ }
 {
     if table_check::check_table(table) {
-        return call_good(&mut table[..layout::AREA], number, kind, key, value, clock);
+        return call_known(table, number, kind, key, value, clock);
     }
     Answer::Refused(Refusal::BadTable)
 }
@@ -83,7 +105,7 @@ pub fn wanted(n: u64) -> Status
 }
 
 // The write on a good table: 10, then as the call that it asks for.
-pub fn write_good(
+pub fn write_known(
     table: &mut [u8],
     number: u64,
     key: &[u8],
@@ -91,13 +113,12 @@ pub fn write_good(
     wanted: Status,
     clock: u64,
 ) -> Answer
-    requires { ⌜ valid (now table) ≡ true ⌝ }
-    ensures { λ r. ⌜ Gives
-        (stored (rule.write (statusByte wanted) (now (value .entry)) clock number (now (key .entry)) (decode (now (table .entry)))))
+    requires { ⌜ validWhole (now table) ≡ true ⌝ }
+    ensures { λ r. ⌜ Gives (lentWrite (statusByte wanted) (now (value .entry)) clock number (now (key .entry)) (now (table .entry)))
         r (now (table .exit)) ⌝ }
 {
     match asked_call(wanted) {
-        Asked::Call(kind) => call_good(table, number, kind, key, value, clock),
+        Asked::Call(kind) => call_known(table, number, kind, key, value, clock),
         Asked::Nothing => Answer::Refused(Refusal::BadTag),
     }
 }
@@ -117,14 +138,7 @@ pub fn write(
         r (now (table .exit)) ⌝ }
 {
     if table_check::check_table(table) {
-        return write_good(
-            &mut table[..layout::AREA],
-            number,
-            key,
-            value,
-            wanted,
-            clock,
-        );
+        return write_known(table, number, key, value, wanted, clock);
     }
     Answer::Refused(Refusal::BadTable)
 }
