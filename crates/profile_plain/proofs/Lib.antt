@@ -1,1 +1,6 @@
 pub mod Freed
+pub mod Guarded
+pub mod Applying
+pub mod Exchanging
+pub mod Demand2
+pub mod Differs
