@@ -90,7 +90,6 @@ module _ (publisher follower : List ℕ) (pv : validWhole publisher ≡ true) (f
       on u w = readyOn edition unasked k (profileObeys (w .kind .profile) (u .table)) (u .table) (w .table)
 
       here : readyFor edition unasked k publisher follower ≡ readyOn edition unasked k (formsFit publisher follower) p f
-      unfolding readyFor
       here = ap₂ (λ (a b : Bool). pick a (pick b (readyOn edition unasked k (formsFit publisher follower) p f) (ready.No Delta BadTable)) (ready.No Digest BadTable)) fv pv
 
   -- ---- the three calls
