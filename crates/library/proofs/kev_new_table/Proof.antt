@@ -1,4 +1,4 @@
--- `library::kev_new_table` meets its contract: the mode of the number, where it stands for one. Assumes nothing.
+-- `library::kev_new_table` meets its contract: the mode and the profile of the numbers, where each stands for one. Assumes nothing.
 use Prim.Native.Nat.{ℕ}
 use mathlib.Core.Path.{ap, subst, _∙_}
 use mathlib.Core.List.{List}
@@ -6,7 +6,7 @@ use Rattle.rules.specs.Answers.{answerTold}
 use Rattle.rules.specs.Given.{Given, Tells}
 use Rattle.rules.specs.declared.Answer.{Answer}
 use Rattle.answers.specs.Shown.{numberShown}
-use Rattle.library.proofs.Numbers.{no-mode, made-in}
+use Rattle.library.proofs.Numbers.{no-mode, no-profile, made-in}
 use borrow.Author.Needs.{needs}
 use Rattle.library.proofs.kev_new_table.Statement.{statement}
 use Rattle.library.proofs.kev_new_table.Tie as tie
