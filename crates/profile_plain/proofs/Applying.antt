@@ -11,9 +11,10 @@ use Rattle.fields.specs.Choice.{pick}
 use Rattle.rules.specs.Sizes.{maxDelta}
 use Rattle.rules.specs.Answers.{appliedTold}
 use Rattle.rules.specs.Apply.{ApplyOutcome, Taking, apply, applyNode, applyOps, waysIn}
-use Rattle.rules.specs.Delta.{Bad, Fault, Faulty, Followed, Got, Next, Op, OpRead, Ops, Reading, andThen, follow, nothingRead, onFollowed, onRead, readDelta, readOp, readOps}
+use Rattle.rules.specs.Delta.{Bad, Fault, Faulty, Followed, Got, Next, NodeDelta, Op, OpRead, Ops, Reading, andThen, follow, nothingRead, onFollowed, onRead, readDelta, readOp, readOps}
 use Rattle.rules.specs.Given.{Given, given}
 use Rattle.rules.specs.Lent.{TableAndList, both, lentApply, storedApply}
+use Rattle.rules.specs.Node.{Node}
 use Rattle.rules.specs.Profile.{Kind, andForm, kind, onReadAs, opInForm, readDeltaAs, readOpsAs}
 use Rattle.rules.specs.Table.{Table}
 use Rattle.rules.specs.Whole.{Whole, decodeWhole, obeysWhole, validWhole, withTable}
@@ -23,10 +24,10 @@ use Rattle.rules.specs.declared.Profile.{Profile}
 use Rattle.rules.specs.declared.Profile.the-variants.{Free}
 use Rattle.rules.specs.declared.Refusal.the-variants.{BadForm, TooMany}
 use Rattle.rules.proofs.Refusing.{whole-bytes}
+use Rattle.profiles.proofs.Lawful.{taken-as}
 use Rattle.profiles.proofs.Reading.{free-reads}
 use Rattle.table.proofs.Encoded.{apply-whole}
 use Rattle.table.proofs.Wholes.{whole-obeys}
-use Rattle.apply.proofs.Applied.{taking-is}
 use Rattle.profile_plain.specs.Plain.{freed}
 use Rattle.profile_plain.proofs.Freed.{free, free-obeys, freed-bytes, freed-is}
 
@@ -71,9 +72,12 @@ module _ (p : Profile) where
 
 -- ---- a table
 
--- of any mode
+-- its nodes take as those of its mode
 taken-free : (k : Kind) (now : ℕ) → applyNode (waysIn (kind (k .mode) Free)) now ≡ applyNode (waysIn k) now
-taken-free k now = taking-is (kind (k .mode) Free) now ∙ sym (taking-is k now)
+taken-free k now = λ z d n. one d n z
+  where
+    one : (d : NodeDelta) (n : Node) → applyNode (waysIn (kind (k .mode) Free)) now d n ≡ applyNode (waysIn k) now d n
+    one d n = taken-as (kind (k .mode) Free) now d n ∙ sym (taken-as k now d n)
 
 applied-free : (k : Kind) (delta : List ℕ) (now : ℕ) (t : Table) (list : List ℕ) → (appliedTold (apply (waysIn k) delta now t list .answer) .number ≡ 17 → ⊥)
     → apply (waysIn (kind (k .mode) Free)) delta now t list ≡ apply (waysIn k) delta now t list
