@@ -19,7 +19,7 @@ use Rattle.rules.specs.Sizes.{numbers, top}
 use Rattle.rules.specs.Answers.{Told, answerTold, appliedTold, computedTold, listedTold, offeredTold, readTold, rememberedTold, writtenTold}
 use Rattle.rules.specs.Apply.{apply, waysIn}
 use Rattle.rules.specs.Compute as computing
-use Rattle.rules.specs.Delta.{Good, KeyValueOp, NodeOp, Op, SetMaxVersionOp, deltaBytes, deltaRead, follow, opBytes, partsOf, readDelta, readKeyValue, readNode, readOp, readOps, readSetMaxVersion, sizeOf}
+use Rattle.rules.specs.Delta.{Good, KeyValueOp, NodeOp, Op, SetMaxVersionOp, deltaBytes, deltaRead, follow, opBytes, partsOf, readDelta, readKeyValue, readNode, readOp, readOps, readSetMaxVersion, sizeOf, textBytes}
 use Rattle.rules.specs.Digest.{digestBytes, digestOf, headWidth, readDigest, readEntries, tell, tellAll, writeDigest}
 use Rattle.rules.specs.Given.{Given, given}
 use Rattle.rules.specs.Layout.{nodeWidth, encodeNode, decodeNode, decode, encode}
@@ -701,7 +701,7 @@ unfolding lentApplyAs appliedTold
 not-applied = ap (λ (b : Bool). appliedTold (pick b (storedApply (decodeWhole []) (apply (waysIn (decodeWhole [] .kind)) [] 7 (decodeWhole [] .table) [])) (given (applied.Refused BadTable 0) (both [] [])) .answer) .number) none-valid
 
 applies : AllShown calls.Apply (0 ∷ 14 ∷ 13 ∷ 9 ∷ 1 ∷ 10 ∷ 11 ∷ 17 ∷ 12 ∷ 8 ∷ [])
-unfolding calls.leaves received appliedTold apply all readDeltaAs readOpsAs meterKey readOp readNode readKeyValue readSetMaxVersion follow natOf among zeros deltaBytes opBytes flat bytesOf ninth partsOf
+unfolding calls.leaves received appliedTold apply all readDeltaAs readOpsAs meterKey readOp readNode readKeyValue readSetMaxVersion follow natOf among zeros deltaBytes opBytes textBytes flat bytesOf ninth partsOf
 applies =
     (calls.apply (lent []) (received [] refl) [] seven, applying (received [] refl) [] 0 refl)
     and (calls.apply [] (received [] refl) [] seven, not-applied)

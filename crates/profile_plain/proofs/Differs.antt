@@ -12,7 +12,7 @@ use Rattle.fields.proofs.Choice.{all-from}
 use Rattle.rules.specs.Sizes.{numbers}
 use Rattle.rules.specs.Answers.{appliedTold}
 use Rattle.rules.specs.Apply.{apply, waysIn}
-use Rattle.rules.specs.Delta.{KeyValueOp, NodeOp, Op, deltaBytes, follow, opBytes, readKeyValue, readNode, readOp}
+use Rattle.rules.specs.Delta.{KeyValueOp, NodeOp, Op, deltaBytes, follow, opBytes, readKeyValue, readNode, readOp, textBytes}
 use Rattle.rules.specs.Given.{Given}
 use Rattle.rules.specs.Layout.{decode, encode}
 use Rattle.rules.specs.Lent.{TableAndList, fromTable, lentApply}
@@ -65,7 +65,7 @@ applying : (w : Whole) → obeysWhole w ≡ true → (delta : Bytes) (n : ℕ) �
 applying w o delta n e = ap (λ (x : Given Applied TableAndList). appliedTold (x .answer) .number) (apply-whole w o delta 7 []) ∙ e
 
 pub cut-behind : (delta : calls.Received) × Answers (calls.apply (encodeWhole (metered [])) delta [] late) 17 9
-unfolding leaves freedCall received appliedTold apply all readDeltaAs readOpsAs meterKey readOp readNode readKeyValue follow natOf among deltaBytes opBytes flat bytesOf
+unfolding leaves freedCall received appliedTold apply all readDeltaAs readOpsAs meterKey readOp readNode readKeyValue follow natOf among deltaBytes opBytes textBytes flat bytesOf
 cut-behind = (
   received odd refl,
   applying (metered []) (without-memory (kind mode.Plain Meter) [] none-obeys (empty-formed Meter)) odd 17 refl,
