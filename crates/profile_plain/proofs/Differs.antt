@@ -68,9 +68,11 @@ pub cut-behind : (delta : calls.Received) × Answers (calls.apply (encodeWhole (
 unfolding leaves freedCall received appliedTold apply all readDeltaAs readOpsAs meterKey readOp readNode readKeyValue follow natOf among deltaBytes opBytes textBytes flat bytesOf
 cut-behind = (
   received odd refl,
-  applying (metered []) (without-memory (kind mode.Plain Meter) [] none-obeys (empty-formed Meter)) odd 17 refl,
-  ap (λ (l : Bytes). appliedTold (lentApply odd 7 [] l .answer) .number) (freed-bytes (metered []))
-      ∙ applying (free (metered [])) (without-memory (kind mode.Plain Free) [] none-obeys (empty-formed Free)) odd 9 refl,
+  (
+    applying (metered []) (without-memory (kind mode.Plain Meter) [] none-obeys (empty-formed Meter)) odd 17 refl,
+    ap (λ (l : Bytes). appliedTold (lentApply odd 7 [] l .answer) .number) (freed-bytes (metered []))
+        ∙ applying (free (metered [])) (without-memory (kind mode.Plain Free) [] none-obeys (empty-formed Free)) odd 9 refl,
+  ),
 )
 
 -- ---- a table that is not valid: a Set record with an empty value is 14 here, and a record there

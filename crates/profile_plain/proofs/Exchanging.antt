@@ -119,7 +119,10 @@ module _ (publisher follower : List ℕ) (pv : validWhole publisher ≡ true) (f
     answer-freed told h =
         ap (λ (o : Given Computed (List ℕ)). afterComputing (g .clock) (g .answers) (freed follower) (o .lent) (o .answer))
         (from-freed publisher pv (given (computed.Refused BadTable) (g .delta)) (λ t. compute (g .edition) (g .unsent) (g .ties) (g .mtu) 0 told t (g .delta)))
-        ∙ computed-freed (g .clock) (g .answers) _ _ h
+        ∙ computed-freed (g .clock) (g .answers) (c .lent) (c .answer) h
+      where
+        c : Given Computed (List ℕ)
+        c = lentCompute (g .edition) (g .unsent) (g .ties) (g .mtu) 0 told (g .delta) publisher
 
     digested-freed : (digest : List ℕ) (w : Written) → Not17 (afterDigesting g publisher follower digest w .answer)
         → afterDigesting g (freed publisher) (freed follower) digest w ≡ freedFour (afterDigesting g publisher follower digest w)
@@ -131,7 +134,10 @@ module _ (publisher follower : List ℕ) (pv : validWhole publisher ≡ true) (f
     three-freed h =
         ap (λ (o : Given Written (List ℕ)). afterDigesting g (freed publisher) (freed follower) (o .lent) (o .answer))
         (from-freed follower fv (given (written.Refused BadTable) (g .digest)) (λ t. writeDigest (g .edition) (g .unasked) 0 t (g .digest)))
-        ∙ digested-freed _ _ h
+        ∙ digested-freed (d .lent) (d .answer) h
+      where
+        d : Given Written (List ℕ)
+        d = lentDigest (g .edition) (g .unasked) 0 (g .digest) follower
 
     pub exchange-freed : Not17 (lentExchange g publisher follower .answer) → lentExchange g (freed publisher) (freed follower) ≡ freedFour (lentExchange g publisher follower)
     unfolding lentExchange exchangedTold
