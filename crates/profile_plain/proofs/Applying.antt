@@ -1,7 +1,7 @@
 -- Applying, which looks at the profile where it reads the delta: it reads as document 01 does, or refuses with 17. So what it does where it does not answer 17 it
 -- does in the freed table. Assumes nothing.
 use Prim.Native.Nat.{ℕ, zero, suc, _+_, _-_}
-use mathlib.Core.Path.{_≡_, refl, ap, sym, subst, _∙_}
+use mathlib.Core.Path.{_≡_, refl, ap, sym, _∙_}
 use mathlib.Core.Bool.{Bool, true, false}
 use mathlib.Core.List.{List, [], _∷_}
 use mathlib.Core.Logic.{_⊎_, inl, inr}
@@ -19,7 +19,6 @@ use Rattle.rules.specs.Profile.{Kind, andForm, kind, onReadAs, opInForm, readDe
 use Rattle.rules.specs.Table.{Table}
 use Rattle.rules.specs.Whole.{Whole, decodeWhole, obeysWhole, validWhole, withTable}
 use Rattle.rules.specs.declared.Applied.{Applied}
-use Rattle.rules.specs.declared.Applied.the-variants as applied
 use Rattle.rules.specs.declared.Profile.{Profile}
 use Rattle.rules.specs.declared.Profile.the-variants.{Free}
 use Rattle.rules.specs.declared.Refusal.the-variants.{BadForm, TooMany}

@@ -2,7 +2,7 @@
 -- exchange look at the profile (Guarded, Applying, Exchanging); of the others there is one law for each way in which a table is lent. Assumes nothing.
 use Prim.Native.Nat.{ℕ}
 use mathlib.Core.Path.{_≡_, refl, ap, ap₂, sym, _∙_}
-use mathlib.Core.Bool.{Bool, true, _&&_}
+use mathlib.Core.Bool.{Bool, true}
 use mathlib.Core.List.{List, [], _∷_}
 use lib.ListN.{take}
 use Rattle.fields.specs.Choice.{pick, all}
@@ -18,7 +18,7 @@ use Rattle.rules.specs.Local.{Outcome, gc, localBeat, offer, prefixed}
 use Rattle.rules.specs.Memory.{heartbeatOf}
 use Rattle.rules.specs.Node.{Deleting, DeletingAfterTtl, Node, beats}
 use Rattle.rules.specs.Table.{Table}
-use Rattle.rules.specs.Whole.{Whole, decodeWhole, validWhole}
+use Rattle.rules.specs.Whole.{Whole, validWhole}
 use Rattle.rules.specs.declared.Answer.{Answer}
 use Rattle.rules.specs.declared.Answer.the-variants as plain
 use Rattle.rules.specs.declared.Applied.{Applied}

@@ -1,8 +1,8 @@
 -- What is false of a meter table beside the freed one, each with a call that shows it. Assumes nothing.
 use Prim.Native.Nat.{ℕ}
-use mathlib.Core.Path.{_≡_, refl, ap, ap₂, subst, sym, _∙_}
+use mathlib.Core.Path.{_≡_, refl, ap, ap₂, sym, _∙_}
 use mathlib.Core.Bool.{Bool, true, false, false≢true}
-use mathlib.Core.List.{List, [], _∷_, _++_}
+use mathlib.Core.List.{[], _∷_, _++_}
 use lib.Dec.{ltb}
 use borrow.Author.Tests.{ltb-true}
 use Rattle.fields.specs.Blocks.{flat}
@@ -12,11 +12,11 @@ use Rattle.fields.proofs.Choice.{all-from}
 use Rattle.rules.specs.Sizes.{numbers}
 use Rattle.rules.specs.Answers.{appliedTold}
 use Rattle.rules.specs.Apply.{apply, waysIn}
-use Rattle.rules.specs.Delta.{KeyValueOp, NodeOp, Op, deltaBytes, follow, opBytes, readKeyValue, readNode, readOp, textBytes}
+use Rattle.rules.specs.Delta.{KeyValueOp, NodeOp, deltaBytes, follow, opBytes, readKeyValue, readNode, readOp, textBytes}
 use Rattle.rules.specs.Given.{Given}
-use Rattle.rules.specs.Layout.{decode, encode}
+use Rattle.rules.specs.Layout.{decode}
 use Rattle.rules.specs.Lent.{TableAndList, fromTable, lentApply}
-use Rattle.rules.specs.Node.{Rec, beats}
+use Rattle.rules.specs.Node.{beats}
 use Rattle.rules.specs.Profile.{kind, meterKey, meterValue, profileObeys, readDeltaAs, readOpsAs}
 use Rattle.rules.specs.Table.{Table, among, differ, entryObeys, keysRise, nodeObeys, numbersOf, obeys, recObeys, rising, versions}
 use Rattle.rules.specs.Whole.{Whole, decodeTail, decodeWhole, encodeWhole, obeysWhole, validWhole}
@@ -38,7 +38,7 @@ use Rattle.inspect.specs.declared.Count.{Count}
 use Rattle.inspect.specs.declared.Count.the-variants as count
 use Rattle.demand1.specs.Calls as calls
 use Rattle.demand1.specs.Calls.{leaves}
-use Rattle.profile_plain.specs.Plain.{freed, freedCall}
+use Rattle.profile_plain.specs.Plain.{freedCall}
 use Rattle.profile_plain.proofs.Freed.{free, freed-bytes}
 
 -- what a call is answered here, and what on the freed table

@@ -12,7 +12,7 @@ use Rattle.rules.specs.Answers.{appliedTold}
 use Rattle.rules.specs.Compute.{compute}
 use Rattle.rules.specs.Digest.{digestBytes, digestOf, isEdition, writeDigest}
 use Rattle.rules.specs.Given.{Given, given}
-use Rattle.rules.specs.Lent.{TableAndList, lentApply, lentCompute, lentDigest}
+use Rattle.rules.specs.Lent.{lentApply, lentCompute, lentDigest}
 use Rattle.rules.specs.Profile.{profileObeys}
 use Rattle.rules.specs.Table.{Table}
 use Rattle.rules.specs.Whole.{Whole, decodeWhole, validWhole}
@@ -34,7 +34,7 @@ use Rattle.exchange_ask.specs.declared.Ready.{Ready}
 use Rattle.exchange_ask.specs.declared.Ready.the-variants as ready
 use Rattle.exchange_ask.specs.declared.Step.the-variants.{Applying, Delta, Digest}
 use Rattle.profile_plain.specs.Plain.{freed}
-use Rattle.profile_plain.proofs.Applying.{apply-freed, freedBoth}
+use Rattle.profile_plain.proofs.Applying.{apply-freed}
 use Rattle.profile_plain.proofs.Freed.{freed-back, freed-valid, from-freed}
 
 abbrev Not17 : Exchanged → Type 0
