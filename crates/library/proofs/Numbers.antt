@@ -14,7 +14,6 @@ use Rattle.rules.specs.Delta.{statusByte}
 use Rattle.rules.specs.Layout.{decodeNode}
 use Rattle.rules.specs.Profile.{kind}
 use Rattle.rules.specs.Whole.{modeOfByte, profileOfByte, decodeWhole, validWhole}
-use Rattle.rules.specs.declared.Answer.{Answer}
 use Rattle.rules.specs.declared.Answer.the-variants.{Refused}
 use Rattle.rules.specs.declared.Mode.{Mode}
 use Rattle.rules.specs.declared.Profile.{Profile}
