@@ -44,6 +44,7 @@ use Rattle.over_list.specs.Merged.{listOver}
 use Rattle.over_list.specs.Told.{listedOverTold}
 use Rattle.over_list.specs.declared.ListedOver.{ListedOver}
 use Rattle.over_list.specs.declared.ListedOver.the-variants as merged
+use Rattle.grid.specs.LentGrid.{GridAndTable}
 use Rattle.inspect.specs.Look.{nodeCount, nodeHeader, nodeNumber, nodeRows, readRecord, recordByKey, recordCount, recordOfPlaces}
 use Rattle.inspect.specs.Told.{countTold, nodeHeaderTold, nodeNumberTold, recordReadTold, rowsTold}
 use Rattle.inspect.specs.declared.Count.the-variants as count
@@ -64,6 +65,7 @@ use Rattle.profile_plain.specs.Plain.{AsPlain, Demand2, freed, freedCall
 use Rattle.profile_plain.proofs.Applying.{apply-freed}
 use Rattle.profile_plain.proofs.Exchanging.{exchange-freed}
 use Rattle.profile_plain.proofs.Freed.{freed-back, freed-valid, from-freed, on-freed, whole-freed}
+use Rattle.profile_plain.proofs.Grids.{careful-freed, in-freed, made-freed, out-freed}
 use Rattle.profile_plain.proofs.Guarded.{call-freed, write-freed}
 
 -- ---- one table
@@ -144,6 +146,17 @@ plainly (calls.find-over t o k i) n v f s =
     ap (λ (a : FoundOver). given (foundOverTold a) (freed t ∷ o ∷ k ∷ [])) (laid t v (λ w. over.Refused w BadTable) (foundOver (i .value) k) o)
 plainly (calls.list-over t o k out i) n v f s =
     ap (λ (a : Given ListedOver Bytes). asTold listedOverTold (λ u. freed t ∷ o ∷ k ∷ u ∷ []) a) (laid t v (λ w. given (merged.Refused w BadTable) out) (listOver (i .value) k out) o)
+plainly (calls.new-grid t g) n v f s = ap (λ (o : Given Answer Bytes). asTold answerTold (λ u. freed t ∷ u ∷ []) o) (made-freed t (first t [] v) g)
+plainly (calls.grid-add-node t g i) n v f s =
+    ap (λ (o : Given Answer GridAndTable). asTold answerTold (λ u. u .table ∷ u .grid ∷ []) o) (in-freed t (first t [] v) g (i .value))
+plainly (calls.grid-remove-node t g i) n v f s =
+    ap (λ (o : Given Answer GridAndTable). asTold answerTold (λ u. u .table ∷ u .grid ∷ []) o) (out-freed t (first t [] v) g (i .value))
+plainly (calls.tell g digest p edition) n v f s = refl
+plainly (calls.take-out g p) n v f s = refl
+plainly (calls.least-max g i) n v f s = refl
+plainly (calls.seen-by g p i) n v f s = refl
+plainly (calls.remove-carefully t g now grace) n v f s =
+    ap (λ (o : Given Answer Bytes). asTold answerTold (λ u. u ∷ g ∷ []) o) (careful-freed t (first t [] v) g (now .value) (grace .value))
 plainly (calls.node-count t) n v f s = reading t v countTold (count.Refused BadTable) nodeCount []
 plainly (calls.node-number t i) n v f s = reading t v nodeNumberTold (number.Refused BadTable) (nodeNumber i) []
 plainly (calls.node-header t i) n v f s = reading t v nodeHeaderTold (header.Refused BadTable) (nodeHeader (i .value)) []

@@ -1,5 +1,6 @@
 pub mod Freed
 pub mod Guarded
+pub mod Grids
 pub mod Applying
 pub mod Exchanging
 pub mod Demand2
