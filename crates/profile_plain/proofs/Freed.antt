@@ -1,16 +1,12 @@
 -- A valid table with its profile taken away: valid again, with the same area, mode, memory and nodes. So a rule that does not look at the profile does the same.
 -- Assumes nothing.
-use Prim.Native.Nat.{ℕ, _+_}
-use mathlib.Core.Path.{_≡_, refl, ap, sym, subst, _∙_}
-use mathlib.Core.Bool.{Bool, true, _&&_}
-use mathlib.Core.List.{List, [], _∷_}
-use Rattle.fields.specs.Choice.{pick}
+use Prim.Native.Nat.{ℕ}
+use mathlib.Core.Path.{_≡_, ap, sym, _∙_}
+use mathlib.Core.Bool.{true, _&&_}
+use mathlib.Core.List.{List}
 use Rattle.fields.specs.Numbers.{bytesOf}
-use Rattle.fields.specs.Parts.{put}
 use Rattle.fields.proofs.Choice.{and-intro}
-use Rattle.rules.specs.Answers.{profileOf}
 use Rattle.rules.specs.Given.{Given, given}
-use Rattle.rules.specs.Layout.{tableWidth}
 use Rattle.rules.specs.Table.{Table, numbersOf, obeys}
 use Rattle.rules.specs.Memory.{memoryObeys}
 use Rattle.rules.specs.Profile.{kind, profileObeys}

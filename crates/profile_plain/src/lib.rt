@@ -1,1 +1,2 @@
-// Demand 2 for the meter profile: a call that is answered neither 17 nor 18 does on a valid meter table what it does on the plain one (specs/Plain). There is no code here.
+// No code: ticket 8's demand 2 as one statement of all calls. A table of the meter profile does what the plain table does, but for the calls that it answers
+// with 17 or 18 (specs/Plain, proofs/Demand2).
