@@ -27,7 +27,8 @@ pub enum Ready {
     No { step: Step, why: Refusal },
 }
 
-// Whether the records of a good publisher are in the form of a good follower's profile. They are looked at only where the profiles differ and the follower's is not free.
+// Whether the records of a good publisher are in the form of a good follower's profile. They are looked at only where the profiles differ and the follower's is
+// not free.
 fn forms_fit(publisher: &[u8], follower: &[u8]) -> bool
     requires { ⌜ (validWhole (now publisher) ≡ true) × (validWhole (now follower) ≡ true) ⌝ }
     ensures { λ r. ⌜ r ≡ formsFit (now (publisher .entry)) (now (follower .entry)) ⌝ }

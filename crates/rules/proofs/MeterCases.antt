@@ -3,21 +3,24 @@
 use Prim.Native.Nat.{ℕ}
 use mathlib.Core.Bool.{Bool, true}
 use mathlib.Core.List.{List, [], _∷_, _++_}
+use mathlib.Core.Option.{Option, none, some}
 use mathlib.Core.Path.{_≡_, refl}
 use lib.ListN.{length, replicate}
 use Rattle.fields.specs.Blocks.{flat}
 use Rattle.fields.specs.Choice.{all}
 use Rattle.fields.specs.Numbers.{bytesOf, natOf}
 use Rattle.fields.specs.Order.{lessBytes, sameBytes}
-use Rattle.rules.specs.Answers.{answerTold, readTold}
-use Rattle.rules.specs.Delta.{NodeOp, KeyValueOp, Op, deltaBytes, follow, opBytes, partsOf, readAnswer, readKeyValue, readNode, readOp, readSetMaxVersion, textBytes}
+use Rattle.rules.specs.Answers.{answerTold, appliedTold, readTold}
+use Rattle.rules.specs.Apply.{ApplyOutcome, apply, applyEach, applyNode, codes, deltaStatus, newerOf, outcome, statusOf, takeAll, takes, waysIn}
+use Rattle.rules.specs.Delta.{NodeOp, KeyValueOp, Op, deltaBytes, follow, maxOf, opBytes, partsOf, readAnswer, readKeyValue, readNode, readOp, readSetMaxVersion, recsOf, textBytes}
 use Rattle.rules.specs.Local.{Outcome, call, callAs}
 use Rattle.rules.specs.Node.{Call, Setting, SettingTtl, Deleting, DeletingAfterTtl, KeyValue, Rec, Node, act, beats, decide, find, store, wish}
 use Rattle.rules.specs.Node as one
-use Rattle.rules.specs.Profile.{inForm, meterKey, meterValue, numeral, readDeltaAs, readOpsAs, smaller, totalKey}
+use Rattle.rules.specs.Profile.{inForm, kind, meterKey, meterValue, numeral, readDeltaAs, readOpsAs, smaller, totalKey}
 use Rattle.rules.specs.Sizes.{top}
 use Rattle.rules.specs.Table.{Table, among, nodeOf, setNode, versions}
 use Rattle.rules.specs.declared.Answer.{Answer}
+use Rattle.rules.specs.declared.Mode.the-variants.{Plain}
 use Rattle.rules.specs.declared.Profile.the-variants.{Meter}
 use Rattle.rules.specs.declared.Status.{Status}
 use Rattle.rules.specs.declared.Status.the-variants.{Set, Delete, Ttl}
@@ -64,6 +67,22 @@ sent k v n st = KeyValueOp (record { key = k; value = v; version = n; status = s
 
 abbrev node : Op
 node = NodeOp 7 0 0
+
+-- ---- applying them to node 7, in the plain mode
+
+abbrev valueOf : Option Rec → List ℕ
+valueOf none = []
+valueOf (some r) = r .kv .value
+
+abbrev totalIn : Option Node → List ℕ
+totalIn none = []
+totalIn (some n) = valueOf (find totalKey (n .recs))
+
+-- the answer's number, and the value at `total` afterwards
+abbrev taken : Table → List Op → List ℕ
+taken t ops =
+    let o : ApplyOutcome = apply (waysIn (kind Plain Meter)) (deltaBytes ops) 0 t (0 ∷ []) in
+    appliedTold (o .answer) .number ∷ totalIn (nodeOf 7 (o .table))
 
 unfoldable pub rows : List Row
 rows =
@@ -125,8 +144,13 @@ rows =
     ∷ row (heard (node ∷ sent totalKey [] 1 Delete ∷ sent totalKey [] 2 Ttl ∷ sent totalKey (55 ∷ []) 3 Delete ∷ [])) (0 ∷ 4 ∷ 1 ∷ [])
     ∷ row (heard (node ∷ sent totalKey [] 1 Set ∷ [])) (17 ∷ 25 ∷ [])
     ∷ row (heard (node ∷ sent totalKey (55 ∷ []) 1 Set ∷ sent totalKey (54 ∷ []) 2 Set ∷ [])) (0 ∷ 3 ∷ 1 ∷ [])
+    -- so a smaller total is taken from a peer
+    ∷ row (taken (holding 1 (rec totalKey (55 ∷ []) Set ∷ [])) (node ∷ sent totalKey (54 ∷ []) 2 Set ∷ [])) (0 ∷ 54 ∷ [])
+    -- the form is asked of a record that would be skipped too, and of a node that the table does not have
+    ∷ row (taken (holding 1 (rec totalKey (55 ∷ []) Set ∷ [])) (node ∷ sent totalKey [] 1 Set ∷ sent totalKey (56 ∷ []) 2 Set ∷ [])) (17 ∷ 55 ∷ [])
+    ∷ row (taken [] (node ∷ sent (47 ∷ []) [] 1 Set ∷ [])) (17 ∷ [])
     ∷ []
 
 pub all-agree : all agrees rows ≡ true
-unfolding all agrees rows sameBytes lessBytes answerTold readTold callAs call decide wish find act store one.write nodeOf setNode among meterKey meterValue numeral smaller readDeltaAs readOpsAs readOp readNode readKeyValue readSetMaxVersion follow deltaBytes opBytes textBytes bytesOf natOf flat partsOf
+unfolding all agrees rows sameBytes lessBytes answerTold readTold appliedTold apply applyEach applyNode codes deltaStatus statusOf newerOf outcome takeAll takes callAs call decide wish find act store one.write nodeOf setNode among meterKey meterValue numeral smaller readDeltaAs readOpsAs readOp readNode readKeyValue readSetMaxVersion follow deltaBytes opBytes textBytes bytesOf natOf flat partsOf maxOf recsOf
 all-agree = refl
