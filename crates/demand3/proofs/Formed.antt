@@ -1,26 +1,31 @@
 -- Profiles in worlds and nets. A call in a profile is document 01's, or it changes nothing and gives nothing; removals of every kind keep the forms; and what is computed in any order from
 -- a table whose records are in form is read in that form, so that no table of the profile refuses it with 17. Assumes nothing.
 use Prim.Native.Nat.{ℕ}
-use mathlib.Core.Bool.{true}
+use mathlib.Core.Bool.{Bool, false, true}
 use mathlib.Core.List.{List, [], _++_, _∷_}
 use mathlib.Core.Logic.{_⊎_, inl, inr}
 use mathlib.Core.Option.{Option, none, some}
-use mathlib.Core.Path.{_∙_, _≡_, refl, subst, sym}
+use mathlib.Core.Path.{_∙_, _≡_, ap, refl, subst, sym}
+use native.Mathlib.Omega.{arith}
+use lib.Dec.{leb}
 use lib.ListN.{length, take}
 use Rattle.fields.proofs.Choice.{all-from, in-cons, in-take}
-use Rattle.fields.specs.Choice.{_∈_, all}
+use Rattle.fields.specs.Choice.{_∈_, all, pick}
 use Rattle.fields.specs.Parts.{part, put}
+use Rattle.rules.specs.Apply.{ApplyOutcome, applyEach, applyNode, applyOps, apply, codes, waysIn}
 use Rattle.rules.specs.Compute.{StaleNode, staleNodes, staleOf}
-use Rattle.rules.specs.Delta.{Good, Op, deltaBytes}
+use Rattle.rules.specs.Delta.{Good, Op, Ops, Part, deltaBytes, partsOf}
 use Rattle.rules.specs.Digest.{NodeDigest}
 use Rattle.rules.specs.Given.{Given}
 use Rattle.rules.specs.Local.{call, callAs, unlessGuarded}
 use Rattle.rules.specs.Node.{Call, KeyValue, Node}
-use Rattle.rules.specs.Profile.{guardIn, opInForm, profileObeys, readDeltaAs, recsFormed}
+use Rattle.rules.specs.Profile.{Kind, guardIn, opInForm, profileObeys, readDeltaAs, recsFormed}
 use Rattle.rules.specs.Table.{Entry, Table, nodeOf}
+use Rattle.rules.specs.declared.Applied.the-variants as applied
 use Rattle.rules.specs.declared.Computed.{Computed}
 use Rattle.rules.specs.declared.Profile.{Profile}
 use Rattle.rules.specs.declared.Refusal.{Refusal}
+use Rattle.rules.specs.declared.Refusal.the-variants.{NoPlace}
 use Rattle.rules.proofs.Formed.{removed-formed}
 use Rattle.rules.proofs.Tables.{behind-from}
 use Rattle.profiles.proofs.Reading.{delta-formed}
@@ -101,3 +106,21 @@ module _ (p : Profile) where
       at : (b ≡ part place (length (deltaBytes ops)) (put place (deltaBytes ops) l)) ⊎ (b ∈ ss) → (b ∈ ss) ⊎ IsRead b
       at (inl q) = inr (subst IsRead (sym (q ∙ there)) its)
       at (inr n) = inl n
+
+-- ---- applying
+
+-- what a table's profile reads is refused for answer places alone
+pub only-places : (k : Kind) (b : List ℕ) → IsRead (k .profile) b → (now : ℕ) (t : Table) (l : List ℕ) (why : Refusal) (at : ℕ) → apply (waysIn k) b now t l .answer ≡ applied.Refused why at → why ≡ NoPlace
+unfolding apply
+only-places k b read now t l why at e = go (leb (length parts) (length l)) (ap (λ (o : Ops). applyOps (applyNode (waysIn k) now) o t l .answer) (sym (read .1)) ∙ e)
+  where
+    parts : List Part
+    parts = partsOf (read .0)
+
+    go : (c : Bool)
+        → pick {X = ApplyOutcome} c
+        (record { answer = applied.Nodes (length parts); table = applyEach (applyNode (waysIn k) now) parts t .table; list = put 0 (codes (applyEach (applyNode (waysIn k) now) parts t .answers)) l })
+        (record { answer = applied.Refused NoPlace 0; table = t; list = l }) .answer ≡ applied.Refused why at
+        → why ≡ NoPlace
+    go true q = let z : _≡_ {A = ℕ} 0 1 = cc in absurd (omega arith)
+    go false q = cc

@@ -1,19 +1,15 @@
 -- Between tables of one profile nothing that was ever computed is refused with 17. Assumes nothing but that the fresh tables obey document 01's rules.
 use Prim.Native.Nat.{ℕ}
-use mathlib.Core.Bool.{Bool, false, true}
+use mathlib.Core.Bool.{Bool, true}
 use mathlib.Core.List.{List}
 use mathlib.Core.Path.{_∙_, _≡_, ap, refl, subst, sym}
-use native.Mathlib.Omega.{arith}
-use lib.Dec.{leb}
-use lib.ListN.{length}
 use Rattle.fields.specs.Choice.{_∈_, pick}
-use Rattle.fields.specs.Parts.{put}
-use Rattle.rules.specs.Apply.{ApplyOutcome, Taking, Ways, apply, applyEach, applyNode, applyOps, applyParts, codes, waysIn, waysOf}
-use Rattle.rules.specs.Delta.{Good, NodeDelta, Op, Ops, Part, partsOf, readDelta}
+use Rattle.rules.specs.Apply.{Taking, Ways, apply, applyNode, applyOps, applyParts, waysIn, waysOf}
+use Rattle.rules.specs.Delta.{NodeDelta, Ops, Part, partsOf, readDelta}
 use Rattle.rules.specs.Given.{Given, given}
 use Rattle.rules.specs.Lent.{TableAndList, both, lentApply, lentApplyAs, storedApply}
 use Rattle.rules.specs.Node.{Node}
-use Rattle.rules.specs.Profile.{Kind, profileObeys, readDeltaAs}
+use Rattle.rules.specs.Profile.{Kind, profileObeys}
 use Rattle.rules.specs.Table.{Table, obeys}
 use Rattle.rules.specs.Whole.{Whole, decodeWhole, encodeWhole, obeysWhole}
 use Rattle.rules.specs.declared.Applied.{Applied}
@@ -27,23 +23,14 @@ use Rattle.rules.proofs.Obeys.{facts-table}
 use Rattle.profiles.proofs.Lawful.{taken-as}
 use Rattle.profiles.proofs.Reading.{delta-plain}
 use Rattle.table.proofs.Wholes.{decode-encode-whole, valid-encode-whole}
-use Rattle.demand3.proofs.Formed.{IsRead}
+use Rattle.exchange_ask.specs.Asking.{formsFit}
+use Rattle.demand3.proofs.Formed.{IsRead, only-places}
 use Rattle.demand3.specs.World.{Event, World, after, freshTable, start}
-use Rattle.demand3_bytes.proofs.LentWorld.{apply-encoded, from-start, lent, lent-run, ways, whole, whole-is}
+use Rattle.demand3_bytes.proofs.LentWorld.{apply-encoded, from-start, lent, lent-run, stands, ways, whole, whole-is}
 use Rattle.demand3_bytes.specs.LentDemand3.{LentOneProfile}
 use Rattle.demand3_bytes.specs.LentWorld.{LentWorld, lentAfter, lentStart, ofKind}
 
 -- ---- a delta that the table's profile reads
-
--- answer places are all that may be missing
-only-places : (take : Taking) (xs : List Part) (t : Table) (l : List ℕ) (why : Refusal) (at : ℕ) → applyParts take xs t l .answer ≡ applied.Refused why at → why ≡ NoPlace
-only-places take xs t l why at = go (leb (length xs) (length l))
-  where
-    go : (b : Bool)
-        → pick {X = ApplyOutcome} b (record { answer = applied.Nodes (length xs); table = applyEach take xs t .table; list = put 0 (codes (applyEach take xs t .answers)) l }) (record { answer = applied.Refused NoPlace 0; table = t; list = l }) .answer ≡ applied.Refused why at
-        → why ≡ NoPlace
-    go true e = let z : _≡_ {A = ℕ} 0 1 = cc in absurd (omega arith)
-    go false e = cc
 
 -- every mode reads as document 01 does
 mode-reads : (m : Mode) (b : List ℕ) → waysOf m .reads b ≡ readDelta b
@@ -85,9 +72,7 @@ apply-as w o its b now l =
 
 module _ (k : Kind) (t : Table) (o : obeys t ≡ true) (f : profileObeys (k .profile) t ≡ true) (b : List ℕ) (read : IsRead (k .profile) b) (now : ℕ) (answers : List ℕ) where
   bytes-places : (why : Refusal) (at : ℕ) → lentApply b now answers (ofKind k t) .answer ≡ applied.Refused why at → why ≡ NoPlace
-  bytes-places why at e =
-      only-places (applyNode (waysIn k) now) (partsOf (read .0)) t answers why at
-      (ap (λ (a : ApplyOutcome). a .answer) (sym (it-is k b read now t answers)) ∙ ap (λ (g : Given Applied TableAndList). g .answer) (sym (apply-encoded k t o f b now answers)) ∙ e)
+  bytes-places why at e = only-places k b read now t answers why at (ap (λ (g : Given Applied TableAndList). g .answer) (sym (apply-encoded k t o f b now answers)) ∙ e)
 
   bytes-free : lentApply b now answers (ofKind k t) ≡ lentApplyAs (waysOf (k .mode)) b now answers (ofKind k t)
   bytes-free =
@@ -114,6 +99,14 @@ module _ (pk fk : Kind) (is : List ℕ) (ok : obeys (freshTable is) ≡ true) wh
     formed : profileObeys (fk .profile) (w .follower) ≡ true
     formed = from-start pk fk is ok es .forms .follower
 
+    -- every record of the publisher is in the follower's form
+    fits : formsFit (lent pk fk w .publisher) (lent pk fk w .follower) ≡ true
+    fits =
+        let sender = from-start pk fk is ok es .forms .publisher in
+        ap (λ (u : Whole). profileObeys (u .kind .profile) (decodeWhole (ofKind pk (w .publisher)) .table)) (stands fk (w .follower) obeyed formed)
+        ∙ ap (λ (u : Whole). profileObeys (fk .profile) (u .table)) (stands pk (w .publisher) (facts-table (w .publisher) (from-start pk fk is ok es .order .publisher-ok)) sender)
+        ∙ subst (λ (p : Profile). profileObeys p (w .publisher) ≡ true) alike sender
+
   pub lent-one-profile : LentOneProfile pk fk is
   lent-one-profile =
       record {
@@ -125,4 +118,5 @@ module _ (pk fk : Kind) (is : List ℕ) (ok : obeys (freshTable is) ≡ true) wh
             λ alike es b.
             here alike es (λ v. b ∈ v .sent → (now : ℕ) (answers : List ℕ) → lentApply b now answers (v .follower) ≡ lentApplyAs (waysOf (fk .mode)) b now answers (v .follower))
             (λ m now answers. bytes-free fk (w alike es .follower) (obeyed alike es) (formed alike es) b (reads alike es b m) now answers);
+        exchange-fits = λ alike es. here alike es (λ v. formsFit (v .publisher) (v .follower) ≡ true) (fits alike es);
       }

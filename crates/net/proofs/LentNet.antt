@@ -4,6 +4,7 @@
 use Prim.Native.Nat.{ℕ, suc, zero}
 use mathlib.Core.Bool.{Bool, false, true}
 use mathlib.Core.List.{List, [], _∷_}
+use mathlib.Core.Logic.{_⊎_, inl, inr}
 use mathlib.Core.Path.{_∙_, _≡_, ap, refl, subst, sym}
 use lib.Dec.{eqb}
 use borrow.Author.Tests.{eq-eqb, eqb-true, ltb-true}
@@ -11,7 +12,7 @@ use Rattle.fields.proofs.Choice.{in-none}
 use Rattle.fields.specs.Choice.{_∈_, here, later, pick}
 use Rattle.rules.proofs.Calls.{none-obeys, numbers-beat, numbers-call, numbers-offer}
 use Rattle.rules.proofs.Formed.{empty-formed}
-use Rattle.rules.proofs.Memories.{add-keeps-whole, remove-keeps-whole, same-nodes, whole-profile}
+use Rattle.rules.proofs.Memories.{add-keeps-whole, remove-keeps-whole, same-nodes, whole-profile, whole-table}
 use Rattle.rules.proofs.Obeys.{OkTable, facts-table}
 use Rattle.rules.proofs.Refusing.{whole-bytes}
 use Rattle.rules.proofs.Tables.{numbers-apply}
@@ -24,16 +25,18 @@ use Rattle.rules.specs.Profile.{Kind, profileObeys}
 use Rattle.rules.specs.Table.{Table, nodeOf, numbersOf, obeys}
 use Rattle.rules.specs.Whole.{Whole, decodeWhole, encodeWhole, obeysWhole, validWhole, withTable}
 use Rattle.rules.specs.declared.Answer.the-variants as plain
+use Rattle.rules.specs.declared.Applied.the-variants as applied
 use Rattle.rules.specs.declared.Computed.{Computed}
 use Rattle.rules.specs.declared.Computed.the-variants as computed
 use Rattle.rules.specs.declared.Offered.the-variants as offered
 use Rattle.rules.specs.declared.Profile.{Profile}
-use Rattle.rules.specs.declared.Refusal.the-variants.{BadTable}
+use Rattle.rules.specs.declared.Refusal.{Refusal}
+use Rattle.rules.specs.declared.Refusal.the-variants.{BadTable, NoPlace}
 use Rattle.profiles.proofs.Kept.{apply-formed, beat-formed, call-formed, offer-formed}
 use Rattle.profiles.proofs.Lawful.{kind-lawful}
 use Rattle.demand3.specs.Demand3.{AllRise}
-use Rattle.demand3.proofs.Formed.{by-guard, removal-formed}
-use Rattle.demand3.proofs.Forms.{lent-computing, lent-removal, removed-numbers}
+use Rattle.demand3.proofs.Formed.{IsRead, by-guard, only-places, removal-formed, sent-read}
+use Rattle.demand3.proofs.Forms.{comes, lent-computing, lent-removal, removed-numbers}
 use Rattle.demand3.specs.Forms.{Order, computeBy, lentComputeBy, removedBy}
 use Rattle.demand3.specs.World.{DeltaSent, DigestSent, Exchange, Idle, appliedTo, givenAs, nthSent, sentAfter}
 use Rattle.table.proofs.Encoded.{apply-whole, from-whole, on-whole, whole-whole}
@@ -41,7 +44,7 @@ use Rattle.table.proofs.Wholes.{decode-encode-whole, valid-encode-whole, whole-
 use Rattle.net.proofs.Moments.{Moment, moment-begin, moment-event, moments, one-more}
 use Rattle.net.proofs.Pairs.{pairs-rise}
 use Rattle.net.proofs.Safe.{net-sound}
-use Rattle.net.specs.LentNet.{LentNet, LentSafe, lentAfter, lentBegin, lentCalls, lentHappen, lentRestored, lentTaken, planIn, tablesIn, tablesOf}
+use Rattle.net.specs.LentNet.{LentNet, LentSafe, OneProfile, lentAfter, lentBegin, lentCalls, lentHappen, lentRestored, lentTaken, planIn, tablesIn, tablesOf}
 use Rattle.net.specs.Net.{Adding, Arriving, Beating, Computing, Dropping, Event, Net, NetSound, Offering, Plan, Ready, Removing, Restoring, Saving, Writing, after, allGoOn, begin, calls, happen, placed, possible, restored}
 
 -- ---- bytes of a table of a kind
@@ -119,6 +122,13 @@ module _ (m : Kind) (b : List ℕ) (i : In m b) where
   taken now answers (DigestSent d) o = (i, refl)
   taken now answers (DeltaSent d) o = on-apply d now answers o
 
+  -- a delta that its profile reads is refused for answer places alone
+  places-alone : (d : List ℕ) → IsRead (m .profile) d → (now : ℕ) (answers : List ℕ) (why : Refusal) (at : ℕ) → lentApply d now answers b .answer ≡ applied.Refused why at → why ≡ NoPlace
+  places-alone d read now answers why at e =
+      let a : lentApply d now answers b .answer ≡ apply (waysIn m) d now t answers .answer =
+      these (lentApply d now answers) _ (λ g. g .answer ≡ apply (waysIn m) d now t answers .answer) (apply-whole w ok d now answers) (ap (λ (k : Kind). apply (waysIn k) d now t answers .answer) (i .kind-is)) in
+      only-places m d read now t answers why at (sym a ∙ e)
+
   again : (k : ℕ) (ls : List (List ℕ)) → ((l : List ℕ) → l ∈ ls → In m l) → Holds m (restored (placed k (tablesOf ls)) t) (lentRestored (placed k ls) b)
   unfolding placed tablesOf
   again k [] f = (i, refl)
@@ -131,10 +141,15 @@ module _ (owner : ℕ → ℕ) (kinds : ℕ → Kind) where
   abbrev plan : Plan
   plan = planIn owner kinds
 
-  -- every hub's bytes, and those that it saved, are of tables of its kind
+  -- some hub's profile reads it
+  abbrev Read : List ℕ → Type 0
+  Read b = (y : ℕ) × IsRead (kinds y .profile) b
+
+  -- every hub's bytes, and those that it saved, are of tables of its kind; and what was ever computed is in the form of a hub's profile
   pub record Good (l : LentNet) : Type 0 where
     pub hubs : (x : ℕ) → In (kinds x) (l .hubs x)
     pub saved : (x : ℕ) (b : List ℕ) → b ∈ l .saved x → In (kinds x) b
+    pub sent : (b : List ℕ) → b ∈ l .sent → Read b
 
   -- they are, and the tables are those of this net
   abbrev pub Same : Net → LentNet → Type 0
@@ -152,7 +167,7 @@ module _ (owner : ℕ → ℕ) (kinds : ℕ → Kind) where
     pub on-hub : (h : ℕ → List KeyValue) (x : ℕ) (u : Table) (b : List ℕ) → Holds (kinds x) u b → Same (record { hubs = λ y. pick (eqb y x) u (net .hubs y); given = h; sent = l .sent; saved = net .saved }) (record { hubs = λ y. pick (eqb y x) b (l .hubs y); given = h; sent = l .sent; saved = l .saved })
     on-hub h x u b i =
         let a : (y : ℕ) → decodeWhole (pick (eqb y x) b (l .hubs y)) .table ≡ pick (eqb y x) u (net .hubs y) = λ y. is y (eqb y x) in
-        (record { hubs = λ y. of-kind y (eqb y x) refl; saved = g .saved }, λ z. record { hubs = λ y. a y z; given = h; sent = l .sent; saved = net .saved })
+        (record { hubs = λ y. of-kind y (eqb y x) refl; saved = g .saved; sent = g .sent }, λ z. record { hubs = λ y. a y z; given = h; sent = l .sent; saved = net .saved })
       where
         is : (y : ℕ) (c : Bool) → decodeWhole (pick c b (l .hubs y)) .table ≡ pick c u (net .hubs y)
         is y true = i .1
@@ -164,6 +179,28 @@ module _ (owner : ℕ → ℕ) (kinds : ℕ → Kind) where
 
     formed : (x : ℕ) → profileObeys (kinds x .profile) (net .hubs x) ≡ true
     formed x = in-form (kinds x) (l .hubs x) (g .hubs x)
+
+    -- what a hub computes is in the form of its profile
+    pub computed-good : (x edition : ℕ) (digest excluded : List ℕ) (order : Order) (mtu place : ℕ) (d : List ℕ) → Good (lentCalls (Computing x edition digest excluded order mtu place d) l)
+    computed-good x edition digest excluded order mtu place d =
+        record {
+          hubs = g .hubs;
+          saved = g .saved;
+          sent =
+              subst (λ (o : Given Computed (List ℕ)). (b : List ℕ) → b ∈ sentAfter place (o .lent) (o .answer) (l .sent) → Read b) (sym (computed-lent (kinds x) (l .hubs x) (g .hubs x) edition digest excluded order mtu place d))
+              (λ b m.
+              by b
+              (sent-read (kinds x .profile) edition excluded order mtu place digest (net .hubs x) d (l .sent) _ (formed x)
+              (comes edition excluded order mtu place digest (net .hubs x) d (whole-table (decodeWhole (l .hubs x)) (ok (kinds x) (l .hubs x) (g .hubs x)))) b m));
+        }
+      where
+        by : (b : List ℕ) → (b ∈ l .sent) ⊎ IsRead (kinds x .profile) b → Read b
+        by b (inl m) = g .sent b m
+        by b (inr r) = (x, r)
+
+    -- so where all have one profile, no hub refuses it for its form
+    pub one-profile : OneProfile kinds l
+    one-profile p all b m x = let r = g .sent b m in places-alone (kinds x) (l .hubs x) (g .hubs x) b (subst (λ (q : Profile). IsRead q b) (all (r .0) ∙ sym (all x)) (r .1))
 
     -- a write goes by the profile that stands in the bytes, and that is the hub's
     module _ (x i : ℕ) (k : List ℕ) (c : Call) where
@@ -197,14 +234,14 @@ module _ (owner : ℕ → ℕ) (kinds : ℕ → Kind) where
     calls-lent (Adding x i) p m = on-hub _ x _ _ (on-the-whole (kinds x) (l .hubs x) (g .hubs x) (plain.Refused BadTable) (addWhole i) (add-keeps-whole _ (ok (kinds x) (l .hubs x) (g .hubs x)) i (ltb-true _ _ p)) refl)
     calls-lent (Dropping x i) p m = on-hub _ x _ _ (on-the-whole (kinds x) (l .hubs x) (g .hubs x) (plain.Refused BadTable) (removeWhole i) (remove-keeps-whole _ (ok (kinds x) (l .hubs x) (g .hubs x)) i) refl)
     calls-lent (Computing x edition digest excluded order mtu place d) p m = (
-      record { hubs = g .hubs; saved = g .saved },
+      computed-good x edition digest excluded order mtu place d,
       ap (λ (o : Given Computed (List ℕ)). record { hubs = net .hubs; given = l .given; sent = sentAfter place (o .lent) (o .answer) (l .sent); saved = net .saved })
           (computed-lent (kinds x) (l .hubs x) (g .hubs x) edition digest excluded order mtu place d),
     )
     calls-lent (Arriving x k now answers) p m = on-hub _ x _ _ (taken (kinds x) (l .hubs x) (g .hubs x) now answers (nthSent k (l .sent)) (obeyed x _ m))
     calls-lent (Saving x) p m =
         let a : (y : ℕ) → tablesOf (pick (eqb y x) (l .hubs x ∷ l .saved x) (l .saved y)) ≡ pick (eqb y x) (net .hubs x ∷ net .saved x) (net .saved y) = λ y. is y (eqb y x) in
-        (record { hubs = g .hubs; saved = λ y. kept y (eqb y x) refl }, λ z. record { hubs = net .hubs; given = l .given; sent = l .sent; saved = λ y. a y z })
+        (record { hubs = g .hubs; saved = λ y. kept y (eqb y x) refl; sent = g .sent }, λ z. record { hubs = net .hubs; given = l .given; sent = l .sent; saved = λ y. a y z })
       where
         is : (y : ℕ) (c : Bool) → tablesOf (pick c (l .hubs x ∷ l .saved x) (l .saved y)) ≡ pick c (net .hubs x ∷ net .saved x) (net .saved y)
         is y true = refl
@@ -228,7 +265,7 @@ module _ (owner : ℕ → ℕ) (kinds : ℕ → Kind) where
   unfolding tablesOf
   begin-lent =
       let a : (x : ℕ) → decodeWhole (lentNew (kinds x)) .table ≡ [] = λ x. new-in (kinds x) .1 in
-      (record { hubs = λ x. new-in (kinds x) .0; saved = λ x b n. absurd (in-none n) }, λ z. record { hubs = λ x. a x z; given = λ i. []; sent = []; saved = λ x. [] })
+      (record { hubs = λ x. new-in (kinds x) .0; saved = λ x b n. absurd (in-none n); sent = λ b n. absurd (in-none n) }, λ z. record { hubs = λ x. a x z; given = λ i. []; sent = []; saved = λ x. [] })
 
   module _ (late : (x : ℕ) → waysIn (kinds x) .late ≡ true) where
     pub ready : Ready plan
@@ -256,7 +293,7 @@ module _ (owner : ℕ → ℕ) (kinds : ℕ → Kind) where
           at-every-moment =
               λ es.
               let r = lent-run es in
-              record { valid = λ x. r .0 .hubs x .valid; kind-stays = λ x. r .0 .hubs x .kind-is; sound = subst (NetSound plan) (sym (r .1)) (net-sound plan ready es) };
+              record { valid = λ x. r .0 .hubs x .valid; kind-stays = λ x. r .0 .hubs x .kind-is; sound = subst (NetSound plan) (sym (r .1)) (net-sound plan ready es); one-profile = one-profile (lentAfter owner es (lentBegin kinds)) (r .0) };
           between-moments = λ es fs g x. rise es fs g x;
         }
       where

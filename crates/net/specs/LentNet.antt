@@ -8,13 +8,17 @@ use mathlib.Core.List.{List, [], _∷_}
 use mathlib.Core.Option.{Option, none, some}
 use lib.Dec.{eqb}
 use Rattle.fields.specs.Numbers.{Bytes}
-use Rattle.fields.specs.Choice.{pick}
+use Rattle.fields.specs.Choice.{_∈_, pick}
 use Rattle.rules.specs.Node.{KeyValue}
 use Rattle.rules.specs.Table.{Table, nodeOf}
 use Rattle.rules.specs.Apply.{waysIn}
 use Rattle.rules.specs.Whole.{decodeWhole, validWhole}
 use Rattle.rules.specs.Lent.{lentAdd, lentRemoveNode, lentCall, lentOffer, lentBeat, lentApply, lentNew}
 use Rattle.rules.specs.Profile.{Kind}
+use Rattle.rules.specs.declared.Applied.the-variants as applied
+use Rattle.rules.specs.declared.Profile.{Profile}
+use Rattle.rules.specs.declared.Refusal.{Refusal}
+use Rattle.rules.specs.declared.Refusal.the-variants.{NoPlace}
 use Rattle.demand3.specs.Forms.{lentComputeBy, lentRemovedBy}
 use Rattle.demand3.specs.World.{Exchange, Idle, DigestSent, DeltaSent, givenAs, sentAfter, nthSent}
 use Rattle.demand3.specs.Demand3.{AllRise}
@@ -96,11 +100,22 @@ lentAfter owner (e ∷ es) w = lentAfter owner es (lentHappen owner e w)
 abbrev pub planIn : (owner : ℕ → ℕ) (kinds : ℕ → Kind) → Plan
 planIn owner kinds = record { owner = owner; ways = λ x. waysIn (kinds x); profiles = λ x. kinds x .profile }
 
+-- Where all hubs have one profile, no delta that was ever computed, in document 01's order or by a plan, is refused by any of them with 17: answer places (8) are all that it may lack.
+abbrev pub OneProfile : (kinds : ℕ → Kind) (net : LentNet) → Type 0
+OneProfile kinds w = (p : Profile)
+    → ((x : ℕ) → kinds x .profile ≡ p)
+    → (b : Bytes)
+    → b ∈ w .sent
+    → (x now : ℕ) (answers : Bytes) (why : Refusal) (at : ℕ)
+    → lentApply b now answers (w .hubs x) .answer ≡ applied.Refused why at
+    → why ≡ NoPlace
+
 -- every hub's bytes are a valid table (no call is answered 14) of the kind that it began with, and the tables are as claimed of a net
 pub record LentSound (owner : ℕ → ℕ) (kinds : ℕ → Kind) (w : LentNet) : Type 0 where
   pub valid : (x : ℕ) → validWhole (w .hubs x) ≡ true
   pub kind-stays : (x : ℕ) → decodeWhole (w .hubs x) .kind ≡ kinds x
   pub sound : NetSound (planIn owner kinds) (tablesIn w)
+  pub one-profile : OneProfile kinds w
 
 pub record LentSafe (owner : ℕ → ℕ) (kinds : ℕ → Kind) : Type 0 where
   pub at-every-moment : (es : List Event) → LentSound owner kinds (lentAfter owner es (lentBegin kinds))

@@ -4,7 +4,7 @@ use mathlib.Core.List.{List, [], _∷_}
 use mathlib.Core.Path.{_∙_, _≡_, ap, refl, subst, sym}
 use Rattle.rules.specs.Profile.{Kind}
 use Rattle.profiles.proofs.Lawful.{kind-lawful}
-use Rattle.net.proofs.LentNet.{Good, Same, begin-lent, happen-lent}
+use Rattle.net.proofs.LentNet.{Good, Same, begin-lent, happen-lent, one-profile}
 use Rattle.net.proofs.Moments.{Moment, moment-begin}
 use Rattle.net.specs.LentNet.{LentNet, lentAfter, lentBegin, lentHappen, planIn, tablesIn}
 use Rattle.net.specs.Net.{Event, Net, NetSound, Plan, after, begin, happen}
@@ -36,6 +36,7 @@ module _ (owner : ℕ → ℕ) (kinds : ℕ → Kind) (ms : List ℕ) where
               valid = λ x. r .0 .hubs x .valid;
               kind-stays = λ x. r .0 .hubs x .kind-is;
               sound = subst (NetSound plan) (sym (r .1)) (careful-safe plan (λ x. kind-lawful (kinds x)) ms .at-every-moment es c);
+              one-profile = one-profile owner kinds (lentAfter owner es (lentBegin kinds)) (r .0);
             };
         lent-same = λ es c x. ap (λ (w : Net). w .hubs x) (lent-run es c .1);
       }

@@ -12,7 +12,7 @@ use Rattle.rules.specs.Lent.{lentNew}
 use Rattle.rules.specs.Table.{Table}
 use Rattle.rules.specs.Whole.{decodeWhole}
 use Rattle.rules.specs.Profile.{Kind}
-use Rattle.net.proofs.LentNet.{Good, In, begin-lent, happen-lent, ready}
+use Rattle.net.proofs.LentNet.{Good, In, begin-lent, happen-lent, one-profile, ready}
 use Rattle.net.specs.LentNet.{lentHappen, planIn}
 use Rattle.net.specs.Net.{Event, Net, Plan}
 use Rattle.net_losing.proofs.Firm.{Firm, firm-crashing, firm-forgetting, firm-start, firm-storing}
@@ -85,7 +85,7 @@ module _ (owner : ℕ → ℕ) (kinds : ℕ → Kind) (late : (x : ℕ) → ways
       let p : losingIn (lentCrashed owner x w) ≡ v =
       λ z. record { net = record { hubs = λ y. h y z; given = v .net .given; sent = v .net .sent; saved = v .net .saved }; disk = v .disk; kept = v .kept; out = v .out; forgot = v .forgot } in
       record {
-        good = record { hubs = in-hub x (w .disk x) (w .net .hubs) (s .disks x) (s .good .hubs); saved = s .good .saved };
+        good = record { hubs = in-hub x (w .disk x) (w .net .hubs) (s .disks x) (s .good .hubs); saved = s .good .saved; sent = s .good .sent };
         disks = s .disks;
         firm = subst (Firm owner) (sym p) (firm-crashing owner (losingIn w) (s .firm) x);
       }
@@ -99,7 +99,7 @@ module _ (owner : ℕ → ℕ) (kinds : ℕ → Kind) (late : (x : ℕ) → ways
       let p : losingIn (lentForgotten owner kinds x w) ≡ v =
       λ z. record { net = record { hubs = λ y. h y z; given = v .net .given; sent = v .net .sent; saved = v .net .saved }; disk = λ y. d y z; kept = v .kept; out = v .out; forgot = v .forgot } in
       record {
-        good = record { hubs = in-hub x b (w .net .hubs) (new-bytes x) (s .good .hubs); saved = s .good .saved };
+        good = record { hubs = in-hub x b (w .net .hubs) (new-bytes x) (s .good .hubs); saved = s .good .saved; sent = s .good .sent };
         disks = in-hub x b (w .disk) (new-bytes x) (s .disks);
         firm = subst (Firm owner) (sym p) (firm-forgetting owner (losingIn w) (s .firm) x);
       }
@@ -129,4 +129,5 @@ module _ (owner : ℕ → ℕ) (kinds : ℕ → Kind) (late : (x : ℕ) → ways
         valid = λ x. s .good .hubs x .valid;
         kind-stays = λ x. s .good .hubs x .kind-is;
         sound = firm-sound plan (ready owner kinds late) (losingIn w) (s .firm);
+        one-profile = one-profile owner kinds (w .net) (s .good);
       }

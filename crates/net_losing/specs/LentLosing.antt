@@ -13,7 +13,7 @@ use Rattle.rules.specs.Whole.{decodeWhole, validWhole}
 use Rattle.rules.specs.Lent.{lentNew}
 use Rattle.rules.specs.Profile.{Kind}
 use Rattle.net.specs.Net.{Event}
-use Rattle.net.specs.LentNet.{LentNet, lentBegin, lentHappen, planIn, tablesIn}
+use Rattle.net.specs.LentNet.{LentNet, OneProfile, lentBegin, lentHappen, planIn, tablesIn}
 use Rattle.net_losing.specs.Losing.{Losing, LosingSound, allowed, ofOwner, outAfter}
 
 -- as in Losing: what was kept and let out, and who ever forgot, no call looks at
@@ -89,3 +89,4 @@ pub record LentLosingSound (owner : ℕ → ℕ) (kinds : ℕ → Kind) (w : Len
   pub valid : (x : ℕ) → validWhole (w .net .hubs x) ≡ true
   pub kind-stays : (x : ℕ) → decodeWhole (w .net .hubs x) .kind ≡ kinds x
   pub sound : LosingSound (planIn owner kinds) (losingIn w)
+  pub one-profile : OneProfile kinds (w .net)

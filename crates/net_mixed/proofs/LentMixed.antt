@@ -11,7 +11,7 @@ use Rattle.rules.specs.Profile.{Kind}
 use Rattle.rules.specs.declared.Computed.{Computed}
 use Rattle.demand3.specs.Forms.{computeBy, lentComputeBy}
 use Rattle.demand3.specs.World.{Exchange, afterDelta, appliedTo, sentAfter}
-use Rattle.net.proofs.LentNet.{Good, begin-lent, computed-lent, happen-lent, obeyed, on-hub, taken}
+use Rattle.net.proofs.LentNet.{Good, begin-lent, computed-good, computed-lent, happen-lent, obeyed, on-hub, one-profile, taken}
 use Rattle.net.specs.LentNet.{LentNet, LentSound, lentCalls, lentHappen, lentTaken, planIn, tablesIn, withBytes}
 use Rattle.net.specs.Net.{Computing, Net, NetSound, Plan, happen, withTable}
 use Rattle.net_mixed.proofs.Mixed.{Fine, fine-doing, fine-start, mixed-sound}
@@ -66,7 +66,7 @@ module _ (owner : ℕ → ℕ) (kinds : ℕ → Kind) (source : (hub node : ℕ)
           }
 
       go : (b : Bool) → Same (pick b (next (computeBy edition excluded order mtu place digest (tablesIn (w .net) .hubs y) l)) (mixedIn w)) (pick b lentNext w)
-      go true = (record { hubs = g .hubs; saved = g .saved }, ap next made)
+      go true = (computed-good owner kinds (w .net) g y edition digest excluded order mtu place l, ap next made)
       go false = (g, refl)
   doing-lent (Hearing x now l) w g ok = go (not (plan .ways x .late) && ltb now numbers) ok
     where
@@ -94,4 +94,4 @@ module _ (owner : ℕ → ℕ) (kinds : ℕ → Kind) (source : (hub node : ℕ)
       let b = with-flights (lentStart kinds .flights) (lentStart kinds .net) _ (begin-lent owner kinds) in
       let r = run-lent right es (lentStart kinds) (b .0) (subst (Fine c) (sym (b .1)) (fine-start c)) in
       let is : mixedIn (lentRun c es (lentStart kinds)) ≡ run c es start = r .1 ∙ ap (run c es) (b .1) in
-      record { valid = λ x. r .0 .hubs x .valid; kind-stays = λ x. r .0 .hubs x .kind-is; sound = subst (λ (m : Mixed). NetSound plan (m .net)) (sym is) (mixed-sound c right es) }
+      record { valid = λ x. r .0 .hubs x .valid; kind-stays = λ x. r .0 .hubs x .kind-is; sound = subst (λ (m : Mixed). NetSound plan (m .net)) (sym is) (mixed-sound c right es); one-profile = one-profile owner kinds (lentRun c es (lentStart kinds) .net) (r .0) }
