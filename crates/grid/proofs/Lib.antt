@@ -1,2 +1,3 @@
 pub mod GridBytes
 pub mod Cases
+pub mod Places

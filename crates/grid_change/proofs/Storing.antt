@@ -1,15 +1,12 @@
 -- Values in the bytes of a grid: what was written is the grid of these values, and what was read are the values of the grid. Assumes nothing.
 use Prim.Native.Nat.{ℕ, zero, suc, _+_, _-_, _≤_, _<_}
 use mathlib.Core.Path.{_≡_, _∙_, ap, ap₂, refl, sym}
-use mathlib.Core.Bool.{Bool, true, false}
+use mathlib.Core.Bool.{true, false}
 use mathlib.Core.List.{List, [], _∷_, _++_, map}
 use native.Mathlib.Omega.{arith}
 use native.Mathlib.Numerals.{add-one}
-use lib.Dec.{eqb, ltb}
 use lib.ListN.{length, take, drop, getD, set, length-map, replicate}
 use lib.Seq.{drop-set-add, getD-take, length-take-le, set-at, take-all, take-set-lt, take-suc}
-use borrow.Author.Tests.{eqb-true, ne-eqb, eq-eqb}
-use Rattle.fields.specs.Choice.{pick}
 use Rattle.fields.specs.Numbers.{bytesOf, natOf}
 use Rattle.fields.specs.Parts.{part, put}
 use Rattle.fields.specs.Blocks.{fit, zeros}
@@ -24,6 +21,7 @@ use Rattle.rules.specs.Table.{among}
 use Rattle.grid.specs.Grid.{Grid, addColumn, columnIn, columnOut, columns, dropColumn, maxPeers, placeFor, placeIn, placeOf, placeOut}
 use Rattle.grid.specs.GridLayout.{decodeGrid, encodeGrid, gridWidth, gridWidths, rowBytes, rowIn, rowWidth, rowsBytes, rowsIn, rowsWidth, validGrid}
 use Rattle.grid.proofs.GridBytes.{fit-whole, good-grid, length-row, length-rows, row-long}
+use Rattle.grid.proofs.Places.{place-missing, place-there}
 use Rattle.grid_change.specs.Stored.{gridOf, withRows}
 
 -- ---- what was written
@@ -98,44 +96,6 @@ pub map-at : (f : ℕ → ℕ) (l : List ℕ) (j : ℕ) → j < length l → get
 map-at f [] j h = absurd (omega arith)
 map-at f (x ∷ l) zero h = refl
 map-at f (x ∷ l) (suc j) h = map-at f l j (omega arith)
-
--- ---- a column that is there, and one that is not
-
-place-least : (i : ℕ) (ns : List ℕ) → placeOf i ns ≤ length ns
-unfolding placeOf
-place-least i [] = omega arith
-place-least i (n ∷ ns) = by (eqb i n) (place-least i ns)
-  where
-    by : (t : Bool) → placeOf i ns ≤ length ns → pick t 0 (suc (placeOf i ns)) ≤ suc (length ns)
-    by true h = omega arith
-    by false h = omega arith
-
-pub place-fits : (i : ℕ) (ns : List ℕ) → placeFor i ns ≤ length ns
-unfolding placeFor
-place-fits i [] = omega arith
-place-fits i (n ∷ ns) = by (ltb n i) (place-fits i ns)
-  where
-    by : (t : Bool) → placeFor i ns ≤ length ns → pick t (suc (placeFor i ns)) 0 ≤ suc (length ns)
-    by true h = omega arith
-    by false h = omega arith
-
-pub place-there : (i : ℕ) (ns : List ℕ) → placeOf i ns < length ns → among i ns ≡ true
-unfolding placeOf among
-place-there i [] h = absurd (omega arith)
-place-there i (n ∷ ns) h = by (eqb i n) h (place-there i ns)
-  where
-    by : (t : Bool) → pick t 0 (suc (placeOf i ns)) < suc (length ns) → (placeOf i ns < length ns → among i ns ≡ true) → pick t true (among i ns) ≡ true
-    by true g f = refl
-    by false g f = f (omega arith)
-
-pub place-missing : (i : ℕ) (ns : List ℕ) → length ns ≤ placeOf i ns → among i ns ≡ false
-unfolding placeOf among
-place-missing i [] h = refl
-place-missing i (n ∷ ns) h = by (eqb i n) h (place-missing i ns)
-  where
-    by : (t : Bool) → suc (length ns) ≤ pick t 0 (suc (placeOf i ns)) → (length ns ≤ placeOf i ns → among i ns ≡ false) → pick t true (among i ns) ≡ false
-    by true g f = absurd (omega arith)
-    by false g f = f (omega arith)
 
 -- ---- what was read of a good grid
 

@@ -32,7 +32,8 @@ use Rattle.removal.specs.Removals.{dueWithin, removeWithin}
 use Rattle.removal.proofs.Within.{within-as}
 use Rattle.grid.specs.Grid.{Grid, columnAt, columns, leastOf, maxPeers, maxesAt, maxesTold, ofPresent, placeOf, somebody, tellRow}
 use Rattle.grid.specs.GridLayout.{decodeGrid, encodeGrid, gridWidths, rowIn, rowWidth, rowsIn, rowsWidth, validGrid}
-use Rattle.grid_change.proofs.Storing.{columns-are, many, place-missing, place-there}
+use Rattle.grid.proofs.Places.{place-missing, place-there}
+use Rattle.grid_change.proofs.Storing.{columns-are, many}
 use Rattle.grid.specs.Careful.{carefulDue, seenBy}
 use Rattle.grid.specs.LentGrid.{GridAndTable, both, carefullyRemoved, fitsTable, gridOn, leastIn, pairSeen, seenIn, tellOn, validBoth}
 use Rattle.grid.specs.declared.Least.the-variants as least

@@ -7,7 +7,8 @@ use lib.ListN.{take}
 use Rattle.fields.proofs.Lent.{seen}
 use Rattle.grid.specs.GridLayout.{rowIn, rowWidth, rowsIn, rowsWidth}
 use Rattle.grid.proofs.GridBytes.{good-grid}
-use Rattle.grid_change.proofs.Storing.{add-none, add-one-more, few, many, place-fits}
+use Rattle.grid.proofs.Places.{place-fits}
+use Rattle.grid_change.proofs.Storing.{add-none, add-one-more, few, many}
 use borrow.Author.Needs.{needs}
 use Rattle.grid_change.proofs.add_column.Statement.{statement}
 use Rattle.grid_change.proofs.add_column.Tie as tie
