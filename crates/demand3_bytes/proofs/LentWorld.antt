@@ -37,8 +37,8 @@ use Rattle.demand3.specs.Demand3.{allQuiet, quiet}
 use Rattle.demand3.specs.Forms.{Order, Removal, computeBy, lentComputeBy, lentRemovedBy, removedBy}
 use Rattle.demand3.specs.World.{Applying, Arriving, Beating, Computing, DeltaSent, DigestSent, Digesting, Event, Exchange, Followers, Idle, Offering, Publishers, Removing, Sending, Side, World, Writing, after, afterDelta, afterDigest, calls, computedFor, appliedTo, freshTable, givenAs, givenIn, happen, nthSent, onExchange, onSent, onSide, possible, sentAfter, sentOn, start, unlessRefused}
 use Rattle.demand3.proofs.Formed.{IsRead, removal-formed, sent-read}
-use Rattle.demand3.proofs.Forms.{Comes, comes, lent-computing, lent-removal}
-use Rattle.demand3.proofs.Moments.{InOrder, moment-start, next-event, nth-sent}
+use Rattle.demand3.proofs.Forms.{comes, lent-computing, lent-removal}
+use Rattle.demand3.proofs.Moments.{InOrder, moment-start, next-event}
 use Rattle.table.proofs.Encoded.{apply-whole, from-whole, on-whole, whole-whole}
 use Rattle.table.proofs.Wholes.{decode-encode-whole, without-memory}
 use Rattle.demand3_bytes.specs.LentWorld.{LentWorld, kindIn, lentAfter, lentApplied, lentCalls, lentComputed, lentHappen, lentSentOn, lentStart, ofKind, onLent, onWay}

@@ -10,7 +10,7 @@ use Rattle.fields.specs.Numbers.{Bytes}
 use Rattle.fields.specs.Choice.{pick}
 use Rattle.rules.specs.Node.{KeyValue}
 use Rattle.rules.specs.Table.{Table, nodeOf}
-use Rattle.rules.specs.Apply.{Ways, waysIn}
+use Rattle.rules.specs.Apply.{waysIn}
 use Rattle.rules.specs.Profile.{Kind}
 use Rattle.rules.specs.Whole.{encodeWhole, decodeWhole}
 use Rattle.rules.specs.Lent.{lentAdd, lentCall, lentOffer, lentBeat, lentDigest, lentApply}
