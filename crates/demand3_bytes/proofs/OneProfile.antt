@@ -1,29 +1,44 @@
 -- Between tables of one profile nothing that was ever computed is refused with 17. Assumes nothing but that the fresh tables obey document 01's rules.
 use Prim.Native.Nat.{ℕ}
-use mathlib.Core.Bool.{Bool, true}
+use mathlib.Core.Bool.{Bool, false, false≢true, true}
 use mathlib.Core.List.{List}
 use mathlib.Core.Path.{_∙_, _≡_, ap, refl, subst, sym}
+use native.Mathlib.Omega.{arith}
+use lib.Dec.{leb}
+use lib.ListN.{length}
 use Rattle.fields.specs.Choice.{_∈_, pick}
 use Rattle.rules.specs.Apply.{Taking, Ways, apply, applyNode, applyOps, applyParts, waysIn, waysOf}
 use Rattle.rules.specs.Delta.{NodeDelta, Ops, Part, partsOf, readDelta}
+use Rattle.rules.specs.Digest.{digestBytes, digestOf, isEdition}
 use Rattle.rules.specs.Given.{Given, given}
 use Rattle.rules.specs.Lent.{TableAndList, both, lentApply, lentApplyAs, storedApply}
 use Rattle.rules.specs.Node.{Node}
 use Rattle.rules.specs.Profile.{Kind, profileObeys}
 use Rattle.rules.specs.Table.{Table, obeys}
-use Rattle.rules.specs.Whole.{Whole, decodeWhole, encodeWhole, obeysWhole}
+use Rattle.rules.specs.Whole.{Whole, decodeWhole, encodeWhole, obeysWhole, validWhole}
 use Rattle.rules.specs.declared.Applied.{Applied}
 use Rattle.rules.specs.declared.Applied.the-variants as applied
 use Rattle.rules.specs.declared.Mode.{Mode}
 use Rattle.rules.specs.declared.Mode.the-variants.{Fenced, Guarded, Plain}
 use Rattle.rules.specs.declared.Profile.{Profile}
 use Rattle.rules.specs.declared.Refusal.{Refusal}
-use Rattle.rules.specs.declared.Refusal.the-variants.{BadTable, NoPlace}
+use Rattle.rules.specs.declared.Refusal.the-variants.{BadEdition, BadForm, BadTable, NoPlace}
 use Rattle.rules.proofs.Obeys.{facts-table}
 use Rattle.profiles.proofs.Lawful.{taken-as}
 use Rattle.profiles.proofs.Reading.{delta-plain}
 use Rattle.table.proofs.Wholes.{decode-encode-whole, valid-encode-whole}
-use Rattle.exchange_ask.specs.Asking.{formsFit}
+use Rattle.compute.specs.Asking.{askedOf}
+use Rattle.compute.specs.declared.Asked.{Asked}
+use Rattle.compute.specs.declared.Asked.the-variants as asked
+use Rattle.exchange_ask.specs.Asking.{Rooms, formsFit, readyFor, readyOn, roomsFor, takingFor, unlessRefused}
+use Rattle.exchange_ask.specs.declared.Ready.{Ready}
+use Rattle.exchange_ask.specs.declared.Ready.the-variants as ready
+use Rattle.exchange_ask.specs.declared.Step.{Step}
+use Rattle.exchange_ask.specs.declared.Step.the-variants.{Applying, Delta, Digest}
+use Rattle.exchange.specs.Exchanging.{ExchangeLent, Lending, afterAsking, lentExchange, roomsOf}
+use Rattle.exchange.specs.declared.Exchanged.{Exchanged}
+use Rattle.exchange.specs.declared.Exchanged.the-variants as exchanged
+use Rattle.exchange.proofs.Refusing.{is-ready, ready-done}
 use Rattle.demand3.proofs.Formed.{IsRead, only-places}
 use Rattle.demand3.specs.World.{Event, World, after, freshTable, start}
 use Rattle.demand3_bytes.proofs.LentWorld.{apply-encoded, from-start, lent, lent-run, stands, ways, whole, whole-is}
@@ -67,6 +82,38 @@ apply-as w o its b now l =
     ap (λ (c : Bool). pick c (storedApply (decodeWhole (encodeWhole w)) (apply its b now (decodeWhole (encodeWhole w) .table) l)) (given (applied.Refused BadTable 0) (both (encodeWhole w) l)))
     (valid-encode-whole w o)
     ∙ ap (λ (u : Whole). storedApply u (apply its b now (u .table) l)) (decode-encode-whole w o)
+
+-- ---- an exchange in one call, of a publisher whose records are in the follower's form
+
+module _ (edition : ℕ) (unasked : List ℕ) (k : Rooms) (publisher follower : List ℕ) (fit : formsFit publisher follower ≡ true) where
+  asks-places : (why : Refusal) → readyFor edition unasked k publisher follower ≡ ready.No Applying why → why ≡ NoPlace
+  unfolding readyFor readyOn roomsFor takingFor
+  asks-places why =
+      go (validWhole follower) (validWhole publisher) (isEdition edition) (leb (length (digestBytes edition (digestOf unasked (decodeWhole follower .table)))) (k .digest))
+      (askedOf (k .mtu) 0 (k .delta) (k .ties) (length (decodeWhole publisher .table))) (formsFit publisher follower) fit (leb (length (decodeWhole publisher .table)) (k .answers))
+    where
+      go : (u v e d : Bool) (n : Asked) (x : Bool) → x ≡ true → (p : Bool)
+          → pick u (pick v (pick e (pick d (unlessRefused n (pick x (pick p ready.Yes (ready.No Applying NoPlace)) (ready.No Applying BadForm))) (ready.No Digest NoPlace)) (ready.No Digest BadEdition)) (ready.No Delta BadTable)) (ready.No Digest BadTable) ≡ ready.No Applying why
+          → why ≡ NoPlace
+      go true true true true asked.Good true f true q = let z : _≡_ {A = ℕ} 0 1 = cc in absurd (omega arith)
+      go true true true true asked.Good true f false q = cc
+      go true true true true asked.Good false f p q = absurd (false≢true f)
+      go true true true true (asked.Refused r) x f p q = let z : _≡_ {A = ℕ} 0 1 = cc in absurd (omega arith)
+      go true true true false n x f p q = let z : _≡_ {A = ℕ} 0 1 = cc in absurd (omega arith)
+      go true true false d n x f p q = let z : _≡_ {A = ℕ} 0 1 = cc in absurd (omega arith)
+      go true false e d n x f p q = let z : _≡_ {A = ℕ} 0 1 = cc in absurd (omega arith)
+      go false v e d n x f p q = let z : _≡_ {A = ℕ} 0 1 = cc in absurd (omega arith)
+
+exchange-asks : (g : Lending) (publisher follower : List ℕ) → formsFit publisher follower ≡ true → (why : Refusal) → lentExchange g publisher follower .answer ≡ exchanged.Refused Applying why → why ≡ NoPlace
+unfolding lentExchange
+exchange-asks g publisher follower fit why e = go (readyFor (g .edition) (g .unasked) (roomsOf g) publisher follower) refl e
+  where
+    same : (s : Step) (r : Refusal) → exchanged.Refused s r ≡ exchanged.Refused Applying why → (s ≡ Applying) × (r ≡ why)
+    same s r q = (cc, cc)
+
+    go : (a : Ready) → readyFor (g .edition) (g .unasked) (roomsOf g) publisher follower ≡ a → afterAsking g publisher follower a .answer ≡ exchanged.Refused Applying why → why ≡ NoPlace
+    go ready.Yes q r = let done = sym (ready-done g publisher follower (is-ready g publisher follower q)) ∙ r in let z : _≡_ {A = ℕ} 0 1 = cc in absurd (omega arith)
+    go (ready.No s r) q t = let x = same s r t in asks-places (g .edition) (g .unasked) (roomsOf g) publisher follower fit why (q ∙ ap (λ (y : Step). ready.No y r) (x .0) ∙ ap (ready.No Applying) (x .1))
 
 -- ---- a table of the publisher's profile
 
@@ -118,5 +165,5 @@ module _ (pk fk : Kind) (is : List ℕ) (ok : obeys (freshTable is) ≡ true) wh
             λ alike es b.
             here alike es (λ v. b ∈ v .sent → (now : ℕ) (answers : List ℕ) → lentApply b now answers (v .follower) ≡ lentApplyAs (waysOf (fk .mode)) b now answers (v .follower))
             (λ m now answers. bytes-free fk (w alike es .follower) (obeyed alike es) (formed alike es) b (reads alike es b m) now answers);
-        exchange-fits = λ alike es. here alike es (λ v. formsFit (v .publisher) (v .follower) ≡ true) (fits alike es);
+        exchange-places = λ alike es g. here alike es (λ v. (why : Refusal) → lentExchange g (v .publisher) (v .follower) .answer ≡ exchanged.Refused Applying why → why ≡ NoPlace) (exchange-asks g _ _ (fits alike es));
       }

@@ -20,7 +20,9 @@ use Rattle.rules.specs.declared.Refusal.the-variants.{NoPlace}
 use Rattle.demand3.specs.Forms.{Order, lentComputeBy}
 use Rattle.demand3.specs.World.{Exchange, Idle, DigestSent, DeltaSent, Event, Writing, Beating, Offering, Removing, Digesting, Computing, Applying, Sending, Arriving, possible}
 use Rattle.demand3.specs.Demand3.{Claims, AllRise, Stage, NotBegun, allQuiet, unlimited, onward, ending, wroteDigest, wroteDelta, noRoom, holdings, SameMax}
-use Rattle.exchange_ask.specs.Asking.{formsFit}
+use Rattle.exchange_ask.specs.declared.Step.the-variants as step
+use Rattle.exchange.specs.Exchanging.{Lending, lentExchange}
+use Rattle.exchange.specs.declared.Exchanged.the-variants as exchanged
 use Rattle.demand3_bytes.specs.LentWorld.{LentWorld, tableIn, kindIn, lentStart, lentHappen, lentAfter}
 
 -- ---- the claims at a moment
@@ -85,8 +87,8 @@ pub record LentDemand3 (p f : Kind) (is : List ℕ) : Type 0 where
 -- ---- tables of one profile
 
 -- Where publisher and follower have the same profile, no delta that was ever computed, in document 01's order or by a plan, is refused with 17, whenever it is applied: answer places
--- (8) are all that it may lack, and applying it is what applying is in the follower's mode alone. So whether an exchange counts does not hang on profiles. Nor does an exchange in one
--- call: what it asks beforehand of the publisher's records, it is told. A meter follower of a free publisher is promised no such thing: there the count asks that nothing be refused.
+-- (8) are all that it may lack, and applying it is what applying is in the follower's mode alone. So whether an exchange counts does not hang on profiles. An exchange in
+-- one call is refused at its applying for answer places alone. A meter follower of a free publisher is promised no such thing: there the count asks that nothing be refused.
 pub record LentOneProfile (p f : Kind) (is : List ℕ) : Type 0 where
   pub only-places : p .profile ≡ f .profile
       → (es : List Event) (b : Bytes)
@@ -99,6 +101,7 @@ pub record LentOneProfile (p f : Kind) (is : List ℕ) : Type 0 where
       → b ∈ lentAfter es (lentStart p f is) .sent
       → (now : ℕ) (answers : Bytes)
       → lentApply b now answers (lentAfter es (lentStart p f is) .follower) ≡ lentApplyAs (waysOf (f .mode)) b now answers (lentAfter es (lentStart p f is) .follower)
-  pub exchange-fits : p .profile ≡ f .profile
-      → (es : List Event)
-      → formsFit (lentAfter es (lentStart p f is) .publisher) (lentAfter es (lentStart p f is) .follower) ≡ true
+  pub exchange-places : p .profile ≡ f .profile
+      → (es : List Event) (g : Lending) (why : Refusal)
+      → lentExchange g (lentAfter es (lentStart p f is) .publisher) (lentAfter es (lentStart p f is) .follower) .answer ≡ exchanged.Refused step.Applying why
+      → why ≡ NoPlace
