@@ -35,8 +35,7 @@ use Rattle.exchange_ask.specs.declared.Ready.{Ready}
 use Rattle.exchange_ask.specs.declared.Ready.the-variants as ready
 use Rattle.exchange_ask.specs.declared.Step.{Step}
 use Rattle.exchange_ask.specs.declared.Step.the-variants.{Applying, Delta, Digest}
-use Rattle.exchange.specs.Exchanging.{ExchangeLent, Lending, afterAsking, lentExchange, roomsOf}
-use Rattle.exchange.specs.declared.Exchanged.{Exchanged}
+use Rattle.exchange.specs.Exchanging.{Lending, afterAsking, lentExchange, roomsOf}
 use Rattle.exchange.specs.declared.Exchanged.the-variants as exchanged
 use Rattle.exchange.proofs.Refusing.{is-ready, ready-done}
 use Rattle.demand3.proofs.Formed.{IsRead, only-places}
