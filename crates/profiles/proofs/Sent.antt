@@ -23,7 +23,7 @@ module _ (p : Profile) where
   abbrev formed : List Op → Bool
   formed ops = all (opInForm p) ops
 
-  append-formed : (xs ys : List Op) → formed xs ≡ true → formed ys ≡ true → formed (xs ++ ys) ≡ true
+  pub append-formed : (xs ys : List Op) → formed xs ≡ true → formed ys ≡ true → formed (xs ++ ys) ≡ true
   unfolding all
   append-formed [] ys f g = g
   append-formed (o ∷ xs) ys f g = and-intro (opInForm p o) (formed (xs ++ ys)) (and-left (opInForm p o) (formed xs) f) (append-formed xs ys (and-right (opInForm p o) (formed xs) f) g)
@@ -48,12 +48,12 @@ module _ (p : Profile) where
   records-formed [] f = refl
   records-formed (r ∷ rs) f = and-intro (inForm p r) (formed (keyValueOps rs)) (f r (here refl)) (records-formed rs (λ x m. f x (later m)))
 
-  body-formed : (max : ℕ) (rs : List KeyValue) → ((r : KeyValue) → r ∈ rs → inForm p r ≡ true) → formed (bodyOps max rs) ≡ true
+  pub body-formed : (max : ℕ) (rs : List KeyValue) → ((r : KeyValue) → r ∈ rs → inForm p r ≡ true) → formed (bodyOps max rs) ≡ true
   unfolding all
   body-formed max [] f = refl
   body-formed max (r ∷ rs) f = records-formed (r ∷ rs) f
 
-  stale-formed : (s : StaleNode) → recsFormed p (s .node .recs) ≡ true → (r : KeyValue) → r ∈ staleOf s → inForm p r ≡ true
+  pub stale-formed : (s : StaleNode) → recsFormed p (s .node .recs) ≡ true → (r : KeyValue) → r ∈ staleOf s → inForm p r ≡ true
   stale-formed s h r m =
       let x = stale-from (fromFor s) (s .node .recs) m in
       subst (λ (y : KeyValue). inForm p y ≡ true) (x .2) (all-from (λ (y : Rec). inForm p (y .kv)) (s .node .recs) h (x .0) (x .1))
