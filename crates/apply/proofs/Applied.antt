@@ -17,7 +17,6 @@ use Rattle.rules.specs.Whole.{withTable, areaOf, encodeWhole, decodeWhole, vali
 use Rattle.rules.specs.Given.{Gives}
 use Rattle.rules.specs.Lent.{TableAndList, both, lentApply, lentApplyAs}
 use Rattle.rules.specs.declared.Mode.{Mode}
-use Rattle.rules.specs.declared.Mode.the-variants as modes
 use Rattle.rules.specs.declared.Profile.{Profile}
 use Rattle.rules.specs.declared.Refusal.{Refusal}
 use Rattle.rules.specs.declared.Refusal.the-variants.{NoPlace, BadTable}
@@ -35,22 +34,11 @@ use Rattle.delta_read.specs.NodeDeltas.{partsFrom, AllHeads}
 use Rattle.apply_parts.proofs.Applying as parts
 use Rattle.apply_parts.specs.Applying.{partsApplied, Accepted, HeadsFound}
 
--- every mode has document 01's reading
-pub reads-is : (m : Mode) (s : List ℕ) → waysOf m .reads s ≡ rule.readDelta s
-reads-is modes.Plain s = refl
-reads-is modes.Fenced s = refl
-reads-is modes.Guarded s = refl
-
 -- ---- an accepted delta
 
 module _ (s : List ℕ) (a : Accepted s) where
   pub accepted-parts : partsFrom s 0 ≡ rule.partsOf (a .0)
   accepted-parts = parts.accepted-parts s a
-
-  -- it is not read as one that is refused
-  pub not-refused : {X : Type 0} (why : Refusal) (at : ℕ) → rule.deltaRead s ≡ read.Refused why at → X
-  unfolding rule.deltaRead
-  not-refused why at e = let z : read.Good (length (a .0)) (length (rule.partsOf (a .0))) ≡ read.Refused why at = ap rule.readAnswer (sym (a .1)) ∙ e in let y : _≡_ {A = ℕ} 0 1 = cc in absurd (omega arith)
 
 module _ (delta : List ℕ) (ops nodes : ℕ) (e : rule.deltaRead delta ≡ read.Good ops nodes) where
   pub accepted : (a : Accepted delta) × (nodes ≡ length (rule.partsOf (a .0)))
