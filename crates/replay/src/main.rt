@@ -253,23 +253,25 @@ fn taken(line: &[u8; lines::LINE], n: usize) -> &[u8] {
     read::front(line, 0)
 }
 
-// One line, on the table and the grid of the hub that is current after it.
+// One line, the first bytes of its room, on the table and the grid of the hub that is current after it.
 fn on_line(
     before: Desk,
     tables: &mut [u8],
     grids: &mut [u8],
     digest: &mut [u8; DIGEST],
     delta: &mut [u8; DELTA],
-    line: &[u8],
+    room: &[u8; lines::LINE],
+    n: usize,
     out: &mut [u8; OUT],
 ) -> Desk {
+    let line = taken(room, n);
     let desk = replay_desk::turned(before, line);
     let verb = verbs::asked(line);
     let seen = over_call(desk, verb, tables, line, out);
-    let room = desk.room(tables);
+    let table = desk.room(tables);
     let grid = desk.grid_room(grids);
-    let after = answered(seen, verb, room, grid, digest, delta, line, out);
-    let told = closed(desk, after, verb, room, grid, out);
+    let after = answered(seen, verb, table, grid, digest, delta, line, out);
+    let told = closed(desk, after, verb, table, grid, out);
     flushed(told, out)
 }
 
@@ -289,14 +291,14 @@ fn main() {
         if source.len == 0 && !source.closed {
             break;
         }
-        let line = taken(&room, source.len);
         desk = on_line(
             desk,
             &mut tables,
             &mut grids,
             &mut digest,
             &mut delta,
-            line,
+            &room,
+            source.len,
             &mut out,
         );
         if ENOUGH <= desk.out {

@@ -25,9 +25,6 @@ loop-holds c = search needs
 next-requires : tie.Need-next-requires Inv-loop μ-loop
 next-requires c κs = search needs
 
-taken-requires : tie.Need-taken-requires Inv-loop μ-loop
-taken-requires c κs = search needs
-
 slice-aggregate-on-line : tie.Need-slice-aggregate-on-line Inv-loop μ-loop
 slice-aggregate-on-line c = search needs
 
@@ -65,7 +62,6 @@ main-spec =
     new-requires-2
     loop-holds
     next-requires
-    taken-requires
     slice-aggregate-on-line
     slice-aggregate-on-line-2
     on-line-requires
