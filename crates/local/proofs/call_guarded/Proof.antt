@@ -1,4 +1,4 @@
--- `local::call_known` meets its contract: what the table's profile refuses, or the call on its area. Assumes nothing.
+-- `local::call_guarded` meets its contract: what the table's profile refuses, or the call on its area. Assumes nothing.
 use Prim.Native.Nat.{ℕ}
 use mathlib.Core.Bool.{true}
 use mathlib.Core.Path.{_≡_, ap, sym, subst, _∙_}
@@ -16,8 +16,8 @@ use Rattle.local_node.specs.Writes.{callOf}
 use Rattle.local_guard.specs.Guarding.{guardedBy}
 use Rattle.local_guard.proofs.Guarding.{any-time}
 use Rattle.local.proofs.Called.{guard-passed, guard-refused, passed, refused}
-use Rattle.local.proofs.call_known.Statement.{statement}
-use Rattle.local.proofs.call_known.Tie as tie
+use Rattle.local.proofs.call_guarded.Statement.{statement}
+use Rattle.local.proofs.call_guarded.Tie as tie
 
 abbrev entry : tie.After-profile-of → tie.Start
 entry c = c .before .before .before .before .before
@@ -92,8 +92,8 @@ returns-2 c =
     let a = st .args in
     refused (asked st) (a .number) (a .key .now) (a .table .now) (st .pre) _ (guard-refused _ _ (sym (y .why .given .1) ∙ guarded g))
 
-pub call-known-spec : {M : Type 1} → statement M
-call-known-spec =
+pub call-guarded-spec : {M : Type 1} → statement M
+call-guarded-spec =
     tie.close
     (tie.spec
     profile-of-requires
