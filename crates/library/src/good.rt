@@ -13,7 +13,6 @@ use answers::KevNode;
 use answers::KevRecord;
 use answers::KevRows;
 use inspect_text::Text;
-use local_node::Kind;
 use rules::Heartbeat;
 use table::layout;
 ghost use mathlib.Core.Bool.{true};
@@ -97,7 +96,7 @@ pub extern "C" fn kev_good_delete(table: &mut [u8], number: u64, key: &[u8], clo
     ensures { λ r. ⌜ Gives (shownAs answerTold numberShown (lentCall (Deleting clock) number (now (key .entry)) (now (table .entry))))
         r (now (table .exit)) ⌝ }
 {
-    answers::number(local::call_known(table, number, Kind::Deleting, key, b"", clock))
+    answers::number(local::delete_known(table, number, key, clock))
 }
 
 // The key's record keeps its value and is scheduled: 2, 1, 3, 6.
@@ -112,7 +111,7 @@ pub extern "C" fn kev_good_delete_after_ttl(
     ensures { λ r. ⌜ Gives (shownAs answerTold numberShown (lentCall (DeletingAfterTtl clock) number (now (key .entry)) (now (table .entry))))
         r (now (table .exit)) ⌝ }
 {
-    answers::number(local::call_known(table, number, Kind::DeletingAfterTtl, key, b"", clock))
+    answers::number(local::delete_after_ttl_known(table, number, key, clock))
 }
 
 // The scheduled records whose grace is over go, of all nodes.

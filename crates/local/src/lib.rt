@@ -5,12 +5,14 @@
 use local_guard::Guarded;
 use local_node::Kind;
 use rules::Answer;
+use rules::Profile;
 use rules::Refusal;
 use rules::Status;
 use table::layout;
 use table_read::Span;
 ghost use mathlib.Core.Path.{_≡_};
 ghost use mathlib.Core.Bool.{true};
+ghost use mathlib.Core.Option.{none};
 ghost use Rattle.rules.specs.Answers.{answerTold};
 ghost use Rattle.rules.specs.Given.{Gives, Tells};
 ghost use Rattle.rules.specs.Node.{Deleting, DeletingAfterTtl};
@@ -18,7 +20,9 @@ ghost use Rattle.rules.specs.Local as rule;
 ghost use Rattle.rules.specs.Delta.{statusByte};
 ghost use Rattle.rules.specs.Lent.{stored, lentCall, lentWrite};
 ghost use Rattle.rules.specs.Layout.{decode, valid};
-ghost use Rattle.rules.specs.Whole.{validWhole};
+ghost use Rattle.rules.specs.Whole.{areaOf, decodeWhole, validWhole};
+ghost use Rattle.rules.specs.Profile.{guardIn};
+ghost use Rattle.rules.specs.Table.{nodeOf};
 ghost use Rattle.local_node.specs.Writes.{callOf};
 ghost use Rattle.local.specs.Wanted.{askedBy, wantedOf};
 
@@ -43,8 +47,24 @@ fn call_good(
     }
 }
 
+// The same on a whole table whose profile lets the call through.
+fn call_let(
+    table: &mut [u8],
+    number: u64,
+    kind: Kind,
+    key: &[u8],
+    value: &[u8],
+    clock: u64,
+) -> Answer
+    requires { ⌜ (validWhole (now table) ≡ true)
+        × (guardIn (decodeWhole (now table) .kind .profile) (callOf kind (now value) clock) (now key) (nodeOf number (decode (areaOf (now table)))) ≡ none) ⌝ }
+    ensures { λ r. ⌜ Gives (lentCall (callOf kind (now (value .entry)) clock) number (now (key .entry)) (now (table .entry))) r (now (table .exit)) ⌝ }
+{
+    call_good(&mut table[..layout::AREA], number, kind, key, value, clock)
+}
+
 // The same in the table's profile: what this refuses, then the call.
-pub fn call_known(
+fn call_guarded(
     table: &mut [u8],
     number: u64,
     kind: Kind,
@@ -62,13 +82,31 @@ pub fn call_known(
     }
 }
 
+// The same. A free table lets all through, and pays one compare.
+fn call_known(
+    table: &mut [u8],
+    number: u64,
+    kind: Kind,
+    key: &[u8],
+    value: &[u8],
+    clock: u64,
+) -> Answer
+    requires { ⌜ validWhole (now table) ≡ true ⌝ }
+    ensures { λ r. ⌜ Gives (lentCall (callOf kind (now (value .entry)) clock) number (now (key .entry)) (now (table .entry))) r (now (table .exit)) ⌝ }
+{
+    match profile_check::profile_of(table) {
+        Profile::Free => call_let(table, number, kind, key, value, clock),
+        Profile::Meter => call_guarded(table, number, kind, key, value, clock),
+    }
+}
+
 // One of the four calls on any bytes.
 fn call(table: &mut [u8], number: u64, kind: Kind, key: &[u8], value: &[u8], clock: u64) -> Answer
     ensures { λ r. ⌜ Tells answerTold (lentCall (callOf kind (now (value .entry)) clock) number (now (key .entry)) (now (table .entry)))
         r (now (table .exit)) ⌝ }
 {
     if table_check::check_table(table) {
-        return call_known(table, number, kind, key, value, clock);
+        return call_guarded(table, number, kind, key, value, clock);
     }
     Answer::Refused(Refusal::BadTable)
 }
@@ -105,6 +143,25 @@ pub fn wanted(n: u64) -> Status
 }
 
 // The write on a good table: 10, then as the call that it asks for.
+fn write_guarded(
+    table: &mut [u8],
+    number: u64,
+    key: &[u8],
+    value: &[u8],
+    wanted: Status,
+    clock: u64,
+) -> Answer
+    requires { ⌜ validWhole (now table) ≡ true ⌝ }
+    ensures { λ r. ⌜ Gives (lentWrite (statusByte wanted) (now (value .entry)) clock number (now (key .entry)) (now (table .entry)))
+        r (now (table .exit)) ⌝ }
+{
+    match asked_call(wanted) {
+        Asked::Call(kind) => call_guarded(table, number, kind, key, value, clock),
+        Asked::Nothing => Answer::Refused(Refusal::BadTag),
+    }
+}
+
+// The same, without a step aside where the table is free.
 pub fn write_known(
     table: &mut [u8],
     number: u64,
@@ -138,12 +195,27 @@ pub fn write(
         r (now (table .exit)) ⌝ }
 {
     if table_check::check_table(table) {
-        return write_known(table, number, key, value, wanted, clock);
+        return write_guarded(table, number, key, value, wanted, clock);
     }
     Answer::Refused(Refusal::BadTable)
 }
 
 // ---- the deletes
+
+// The two on a good table. Every profile lets them through.
+pub fn delete_known(table: &mut [u8], number: u64, key: &[u8], clock: u64) -> Answer
+    requires { ⌜ validWhole (now table) ≡ true ⌝ }
+    ensures { λ r. ⌜ Gives (lentCall (Deleting clock) number (now (key .entry)) (now (table .entry))) r (now (table .exit)) ⌝ }
+{
+    call_let(table, number, Kind::Deleting, key, b"", clock)
+}
+
+pub fn delete_after_ttl_known(table: &mut [u8], number: u64, key: &[u8], clock: u64) -> Answer
+    requires { ⌜ validWhole (now table) ≡ true ⌝ }
+    ensures { λ r. ⌜ Gives (lentCall (DeletingAfterTtl clock) number (now (key .entry)) (now (table .entry))) r (now (table .exit)) ⌝ }
+{
+    call_let(table, number, Kind::DeletingAfterTtl, key, b"", clock)
+}
 
 // Delete: the key's record is emptied and hidden, and scheduled from this time on.
 pub fn delete(table: &mut [u8], number: u64, key: &[u8], clock: u64) -> Answer

@@ -15,14 +15,14 @@ use Rattle.local.proofs.call.Tie as tie
 check-table-requires : tie.Need-check-table-requires
 check-table-requires c κs = search needs
 
-call-known-requires : tie.Need-call-known-requires
-call-known-requires c κs = sym (c .before .before .check-table .ensures) ∙ c .before .if1 .taken
+call-guarded-requires : tie.Need-call-guarded-requires
+call-guarded-requires c κs = sym (c .before .before .check-table .ensures) ∙ c .before .if1 .taken
 
 same-length : tie.Need-same-length
 same-length c = search needs
 
 returns : tie.Need-returns
-returns c = tells answerTold (c .before .before .call-known .ensures)
+returns c = tells answerTold (c .before .before .call-guarded .ensures)
 
 same-length-2 : tie.Need-same-length-2
 same-length-2 c = search needs
@@ -35,4 +35,4 @@ returns-2 c =
 pub call-spec : {M : Type 1} → statement M
 call-spec =
     tie.close
-    (tie.spec check-table-requires call-known-requires same-length returns same-length-2 returns-2)
+    (tie.spec check-table-requires call-guarded-requires same-length returns same-length-2 returns-2)

@@ -15,14 +15,14 @@ use Rattle.local.proofs.write.Tie as tie
 check-table-requires : tie.Need-check-table-requires
 check-table-requires c κs = search needs
 
-write-known-requires : tie.Need-write-known-requires
-write-known-requires c κs = sym (c .before .before .check-table .ensures) ∙ c .before .if1 .taken
+write-guarded-requires : tie.Need-write-guarded-requires
+write-guarded-requires c κs = sym (c .before .before .check-table .ensures) ∙ c .before .if1 .taken
 
 same-length : tie.Need-same-length
 same-length c = search needs
 
 returns : tie.Need-returns
-returns c = tells answerTold (c .before .before .write-known .ensures)
+returns c = tells answerTold (c .before .before .write-guarded .ensures)
 
 same-length-2 : tie.Need-same-length-2
 same-length-2 c = search needs
@@ -35,4 +35,4 @@ returns-2 c =
 pub write-spec : {M : Type 1} → statement M
 write-spec =
     tie.close
-    (tie.spec check-table-requires write-known-requires same-length returns same-length-2 returns-2)
+    (tie.spec check-table-requires write-guarded-requires same-length returns same-length-2 returns-2)

@@ -7,11 +7,8 @@ use borrow.Author.Needs.{needs}
 use Rattle.library.proofs.good.kev_good_delete.Statement.{statement}
 use Rattle.library.proofs.good.kev_good_delete.Tie as tie
 
-slice-aggregate-call-known : tie.Need-slice-aggregate-call-known
-slice-aggregate-call-known c = search needs
-
-call-known-requires : tie.Need-call-known-requires
-call-known-requires c κs = search needs
+delete-known-requires : tie.Need-delete-known-requires
+delete-known-requires c κs = search needs
 
 number-requires : tie.Need-number-requires
 number-requires c κs = search needs
@@ -21,8 +18,8 @@ same-length c = search needs
 
 returns : tie.Need-returns
 returns c =
-    let g = c .before .before .before .call-known .ensures in
+    let g = c .before .before .before .delete-known .ensures in
     (c .number .ensures ∙ ap (λ (a : Answer). numberShown (answerTold a)) (g .0), g .1)
 
 pub kev-good-delete-spec : {M : Type 1} → statement M
-kev-good-delete-spec = tie.close (tie.spec slice-aggregate-call-known call-known-requires number-requires same-length returns)
+kev-good-delete-spec = tie.close (tie.spec delete-known-requires number-requires same-length returns)

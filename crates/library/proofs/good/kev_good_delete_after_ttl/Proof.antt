@@ -7,11 +7,8 @@ use borrow.Author.Needs.{needs}
 use Rattle.library.proofs.good.kev_good_delete_after_ttl.Statement.{statement}
 use Rattle.library.proofs.good.kev_good_delete_after_ttl.Tie as tie
 
-slice-aggregate-call-known : tie.Need-slice-aggregate-call-known
-slice-aggregate-call-known c = search needs
-
-call-known-requires : tie.Need-call-known-requires
-call-known-requires c κs = search needs
+delete-after-ttl-known-requires : tie.Need-delete-after-ttl-known-requires
+delete-after-ttl-known-requires c κs = search needs
 
 number-requires : tie.Need-number-requires
 number-requires c κs = search needs
@@ -21,8 +18,8 @@ same-length c = search needs
 
 returns : tie.Need-returns
 returns c =
-    let g = c .before .before .before .call-known .ensures in
+    let g = c .before .before .before .delete-after-ttl-known .ensures in
     (c .number .ensures ∙ ap (λ (a : Answer). numberShown (answerTold a)) (g .0), g .1)
 
 pub kev-good-delete-after-ttl-spec : {M : Type 1} → statement M
-kev-good-delete-after-ttl-spec = tie.close (tie.spec slice-aggregate-call-known call-known-requires number-requires same-length returns)
+kev-good-delete-after-ttl-spec = tie.close (tie.spec delete-after-ttl-known-requires number-requires same-length returns)
