@@ -1,18 +1,6 @@
-<<<<<<< HEAD
--- `local::call_known` meets its contract: what the table's profile refuses, or the call on its area. Assumes nothing.
-use mathlib.Core.Bool.{true}
-use mathlib.Core.Path.{_≡_, ap, sym, subst, _∙_}
-use native.Mathlib.Omega.{arith}
-use lib.Seq.{length-take-le}
-use borrow.Author.Needs.{needs}
-use Rattle.rules.specs.Layout.{decode, tableWidth}
-use Rattle.rules.specs.Node.{Call}
-use Rattle.rules.specs.Profile.{guardIn, profileObeys}
-=======
 -- `local::call_known` meets its contract: a free table lets the call through. Assumes nothing.
 use mathlib.Core.Path.{sym, _∙_}
 use Rattle.rules.specs.Layout.{decode}
->>>>>>> 667a727eb229d233a258627add74990b74b04bee
 use Rattle.rules.specs.Table.{nodeOf}
 use Rattle.rules.specs.Whole.{areaOf, decodeWhole}
 use Rattle.table.proofs.Wholes.{whole-long}
