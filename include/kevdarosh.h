@@ -6,6 +6,8 @@
  *
  * Overrides are KEV_OVERRIDES bytes of the caller's: one node in form, for labels of a site that are never gossiped. No call that takes a table takes them: they are shorter.
  *
+ * A grid is KEV_GRID bytes of the caller's, beside the table whose nodes are its columns: what each peer's digest told last ("who has seen what", below).
+ *
  * What is proved. Every function that is declared here and stands in the archive is proved to meet a contract that says this. The inline
  * functions, kev_text, kev_text_over and kev_row, are C that the hub's compiler takes in, and are tested, not proved.
  *
@@ -48,6 +50,8 @@ typedef uint64_t kev_size;
 #define KEV_OVERRIDES 3713 /* bytes of overrides */
 #define KEV_OVER 128      /* what a hit in the overrides has before its place */
 #define KEV_PLACES 64     /* hits of a merged listing, at most */
+#define KEV_GRID 1097     /* bytes of a grid */
+#define KEV_PEERS 8       /* peers of a grid, numbered from 0 */
 
 /* ---- modes of a table */
 
@@ -101,10 +105,12 @@ typedef uint64_t kev_size;
 #define KEV_OUT_OF_ORDER 11    /* an operation before its Node, or versions that do not rise */
 #define KEV_NODE_TWICE 12      /* a node twice in a delta */
 #define KEV_TOO_MANY 13        /* over eight nodes, or a delta over 16,384 bytes */
-#define KEV_BAD_TABLE 14       /* the table breaks a rule */
+#define KEV_BAD_TABLE 14       /* the table, the overrides or the grid break a rule, or the grid's columns are not the table's nodes */
 #define KEV_BAD_TIES 15        /* not one tie for each node */
 #define KEV_BAD_LINE 16        /* a line of a listing is not as it is printed */
 #define KEV_BAD_EDITION 20     /* no such edition of a digest */
+#define KEV_BAD_PEER 21        /* a peer's number above 7 */
+#define KEV_NOBODY_PRESENT 22  /* no peer is present */
 #define KEV_BAD_PLAN 23        /* a plan is not accepted, or its two lists are not as long as each other */
 
 /* ---- answers */
@@ -237,6 +243,25 @@ struct kev_exchanged {
     kev_size bytes;
     kev_size nodes;
     kev_size step; /* refused by: 1 the digest, 2 the delta, 3 applying */
+};
+
+/* The answer to a digest that a peer told. */
+struct kev_told {
+    uint64_t number;
+    kev_size need; /* with 9, how many bytes the field lacks in which the digest ends */
+};
+
+struct kev_least {
+    uint64_t number;
+    uint64_t max;
+};
+
+/* What a peer told of a node. Found is 1 where the peer is present; else the pair is (0,0). */
+struct kev_seen {
+    uint64_t number;
+    kev_size found;
+    uint64_t last_gc;
+    uint64_t max;
 };
 
 /* The first byte of a text that was found in this table. */
@@ -501,6 +526,57 @@ struct kev_exchanged kev_exchange(
     kev_size mtu, const uint64_t *unasked, kev_size unasked_len, const uint64_t *unsent, kev_size unsent_len,
     const uint64_t *ties, kev_size ties_len, uint64_t clock, uint8_t *digest, kev_size digest_len, uint8_t *delta,
     kev_size delta_len, uint8_t *answers, kev_size answers_len);
+
+/* ---- who has seen what
+ *
+ * A grid keeps, for KEV_PEERS peers and KEV_NODES nodes, the pair of last_gc and max that each peer's digest told last. Its columns are the nodes of one table, which
+ * come and go through the grid. A peer is present from the first digest that it told until it is taken out. With what the peers present have told, a careful removal
+ * keeps a tombstone until all of them have seen it. The caller numbers its peers, and says whose digest it is; plain hubs are safe by it only under the conditions
+ * of docs/NET.md, "Careful nets".
+ *
+ * 14 is given where the grid breaks a rule of grids and, by the calls that take a table too, where that breaks a rule or its nodes are not the columns; the number does
+ * not tell which. kev_tell, kev_take_out, kev_least_max and kev_seen_by take no table, and so find nothing of the last.
+ *
+ * What is seen and what is not. A node that was added or removed past the grid, by kev_add_node or kev_remove_node, is 14 at the next call with both. A node that was
+ * removed and added past the grid is not seen: the number is the same, and the old pairs stand for the new node. Nor is a table that was put back to an older state with
+ * the same nodes, or the table of another hub with the same nodes. Where any of these may have happened, make the grid anew: nobody is present then, and the
+ * next removal should wait until all peers have told again. */
+
+/* The bytes become the grid of the table's nodes, with nobody present, whatever stood there. 14 where grid_len is not KEV_GRID, or the table is none.
+ * Numbers: 14. */
+uint64_t kev_new_grid(uint8_t *grid, kev_size grid_len, const uint8_t *table, kev_size table_len);
+
+/* Adds a fresh node to the table, and its column at (0,0) for every peer. A node held already stays as it is, and so does its column.
+ * Numbers: 14, 4. */
+uint64_t kev_grid_add_node(uint8_t *grid, kev_size grid_len, uint8_t *table, kev_size table_len, uint64_t node);
+
+/* Removes a node and its records from the table, which remembers it as with kev_remove_node, and its column.
+ * Numbers: 14, 2. */
+uint64_t kev_grid_remove_node(uint8_t *grid, kev_size grid_len, uint8_t *table, kev_size table_len, uint64_t node);
+
+/* What a peer's digest of this edition (KEV_V0, KEV_V1) tells takes the place of all that the peer told before, also where a number falls. A node that the digest omits
+ * counts as (0,0); one that is no column is ignored, and not kept for later; of a repeated node the last entry counts. From then on the peer is present. A refused digest
+ * makes nobody present. The bytes do not say their edition: told in the wrong one they are refused, or tell other numbers, and a careful removal is then not careful.
+ * Numbers: 14, 21, 20, 9, 13. */
+struct kev_told kev_tell(
+    uint8_t *grid, kev_size grid_len, uint64_t peer, uint64_t edition, const uint8_t *digest, kev_size digest_len);
+
+/* A peer is taken out, and what it told with it: from then on it is absent, and no removal waits for it. Taking out an absent peer changes nothing.
+ * Numbers: 14, 21. */
+uint64_t kev_take_out(uint8_t *grid, kev_size grid_len, uint64_t peer);
+
+/* The least max that the peers present told of a node. An absent peer is not one that told 0: it is not counted.
+ * Numbers: 14, 22, 2. */
+struct kev_least kev_least_max(const uint8_t *grid, kev_size grid_len, uint64_t node);
+
+/* The pair that a peer told last of a node; found is 0 where the peer is absent. No other call uses last_gc.
+ * Numbers: 14, 21, 2. */
+struct kev_seen kev_seen_by(const uint8_t *grid, kev_size grid_len, uint64_t peer, uint64_t node);
+
+/* As kev_remove_scheduled, of every node of the table, but a record goes only if every peer present has told a max of its node that is not below the record's version.
+ * Numbers: 14, 22. */
+uint64_t kev_remove_carefully(
+    const uint8_t *grid, kev_size grid_len, uint8_t *table, kev_size table_len, uint64_t clock, uint64_t grace);
 
 /* ---- the same calls on a table that every call kept: no check, and so no 14 */
 

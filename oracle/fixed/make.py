@@ -12,6 +12,7 @@ from pathlib import Path
 HERE = Path(__file__).resolve().parent
 TOP = 2**64 - 1
 NODE, AREA, TABLE = 3713, 29705, 29964
+NUMBERS, PRESENT, GCS, MAXES, GRID = 1, 65, 73, 585, 1097
 CALLS = ("add 7", "remove 7", "removed 7", "write 7 x61 x31 0 9", "write 7 x61 x31 2 5", "write 7 x61 x31 1 5", "delete 7 x61 5", "deletettl 7 x61 5",
          "offer 7 3", "beat 7", "get 7 x61", "list 7 x 32", "gc 9 1", "digest - 0 258 0", "compute x0000 100 - 0 0 100 0", "plan x0000 100 - 7 1 0 100 0",
          "planfault x0000 100 - 7 1 0", "apply x 5 8")
@@ -64,6 +65,13 @@ def table(*slots, mode=0, removed=()):
     """The removed nodes with their heartbeats, the longest remembered first."""
     tail = bytes([mode, 0, len(removed)]) + b"".join(u64(*pair) for pair in removed)
     return ((bytes([len(slots)]) + b"".join(slots)).ljust(AREA, b"\0") + tail).ljust(TABLE, b"\0")
+
+
+def grid(*numbers, told={}):
+    """A grid's bytes: the columns' numbers, and of each peer present a pair of last_gc and max for each column."""
+    arrays = [b"".join(u64(*(pair[which] for pair in told.get(peer, ()))).ljust(64, b"\0") for peer in range(8)) for which in (0, 1)]
+    present = bytes(peer in told for peer in range(8))
+    return bytes([len(numbers)]) + u64(*numbers).ljust(64, b"\0") + present + b"".join(arrays)
 
 
 def put(data, place, byte):
@@ -1164,6 +1172,399 @@ def over_refusals():
     yield from ("new", "add 7", "getover 1 7 x61")
 
 
+def tell(peer, *entries, edition=0):
+    """A digest of nodes, last_gcs and maxes, told by a peer."""
+    told = (digest if edition == 0 else bare)(*((number, 3, last_gc, top) for number, last_gc, top in entries))
+    return f"tell {peer} {x(told)} {edition}"
+
+
+def asked(peers, numbers):
+    """All that a grid answers."""
+    for number in numbers:
+        yield f"least {number}"
+        yield from (f"told {peer} {number}" for peer in peers)
+
+
+def grid_columns():
+    """The columns are the table's nodes: they come at (0,0) and go, in front, between and behind, and what was told of the others goes with them."""
+    numbers = (5, 0, TOP, 3, 2**63, 256, 255, 1)
+    yield "dumpgrid"
+    yield "gridremove 0"
+    for place, number in enumerate(numbers):
+        yield f"gridadd {number}"
+        # What a peer told before of a number that is no column is not kept.
+        yield tell(place, *((told, 100 * place + rank, 200 * place + rank + 1) for rank, told in enumerate(numbers)))
+        yield f"told {place} {number}"
+    yield "dumpgrid"
+    yield from asked(range(8), numbers)
+    for number in (4, 5, 0, TOP):
+        yield f"gridadd {number}"
+    yield "dumpgrid"
+    yield "write 256 x61 x31 0 9"
+    for number in (4, 0, 0, 255, TOP, 3):
+        yield f"gridremove {number}"
+        yield "dumpgrid"
+    for number in (9, 255, 0, 3, 10):
+        yield f"gridadd {number}"
+        yield from asked((0, 3, 7), (number, 256))
+    yield "dumpgrid"
+    yield "removed 0"
+    yield "removed 5"
+    for number in (5, 3, 10, 256, 9, 255, 1, 0, 2**63):
+        yield f"gridremove {number}"
+    yield "dumpgrid"
+    # A grid is made for whatever table there is, from whatever stood there.
+    yield "add 7"
+    yield "add 2"
+    yield "gridadd 3"
+    yield f"grid {x(bytes([255]) * GRID)}"
+    yield "newgrid"
+    yield "dumpgrid"
+    yield "newgrid"
+    # Past the grid: a node that came or went is found by its number, one that went and came is not.
+    yield tell(0, (7, 1, 9), (2, 3, 8))
+    yield "remove 7"
+    yield from ("gridadd 7", "gridremove 2", "careful 9 1", "least 7", "told 0 7", "add 7", "gridadd 7", "careful 9 1", "told 0 7")
+    for mode in (0, 1, 2, 3):
+        yield f"make {mode}"
+        yield "dumpgrid"
+        yield "gridadd 1"
+        yield tell(3, (1, 1, 1))
+    yield "new"
+    yield "dumpgrid"
+
+
+def grid_told():
+    """What peers tell: the last digest counts, whatever it says; a refused one changes nothing; a peer is present from its first one until it is taken out."""
+    def looks():
+        yield from asked((0, 1, 7), (7, 9))
+    for number in (7, 9):
+        yield f"gridadd {number}"
+    yield from looks()
+    entries = (((7, 0, 5),), ((7, 4, 6), (9, 1, 2)), ((9, 0, 1), (7, 0, 1)), ((7, 2, 3),), (), ((9, 9, 9),), ((7, 0, 5), (7, 1, 3)), ((7, 1, 3), (7, 0, 5), (9, 1, 1), (7, 2, 4)),
+               ((8, 1, 2), (10, 3, 4)), ((8, 1, 2), (9, 3, 4)), ((7, TOP, TOP), (9, 0, TOP)), tuple((k, k, k + 1) for k in range(2, 10)))
+    for edition in (0, 1):
+        for told in entries:
+            yield tell(edition, *told, edition=edition)
+            yield from looks()
+    # Behind the entries of the first edition anything may stand; the second has nothing behind them.
+    yield f"tell 0 {x(digest((7, 3, 1, 6)) + b'rest')} 0"
+    yield f"tell 0 {x(digest((7, 3, 1, 8), (9, 3, 1, 8), count=1))} 0"
+    yield from looks()
+    # 20, 9, 13, in the order of reading; and nobody comes by it.
+    for peer in (0, 7):
+        whole, ends = digest((7, 3, 1, 2)), bare((7, 3, 1, 2))
+        for data in (b"", b"\1", b"\1\0", whole[:-1], whole[:9], whole[:10], whole[:26], digest(count=8), digest(count=9), digest(*[(k, 0, 0, 1) for k in range(9)])):
+            yield f"tell {peer} {x(data)} 0"
+        for data in (ends[:1], ends[:-1], ends[:8], ends[:24], ends + b"\0", ends * 9, ends * 9 + b"\0"):
+            yield f"tell {peer} {x(data)} 1"
+        for edition in (2, 3, 256, 2**32, TOP):
+            yield f"tell {peer} x {edition}"
+            yield f"tell {peer} {x(whole)} {edition}"
+        yield from looks()
+    # 21 before them all.
+    for peer in (7, 8, 9, 255, 256, 2**32, TOP):
+        yield f"tell {peer} {x(ends)} 1"
+        yield f"tell {peer} x 0"
+        yield f"tell {peer} x 2"
+        yield f"told {peer} 7"
+        yield f"told {peer} 8"
+        yield f"takeout {peer}"
+        yield f"takeout {peer}"
+    yield from looks()
+    # Taken out, and back.
+    for peer in (0, 1, 1):
+        yield f"takeout {peer}"
+        yield from looks()
+        yield "dumpgrid"
+    yield tell(1)
+    yield from looks()
+    yield "dumpgrid"
+    # A hub's own digest, told to another's grid, in both editions.
+    yield "hub 1"
+    for number in (7, 8, 9):
+        yield f"add {number}"
+    for call in ("write 7 x61 x31 0 9", "write 7 x62 x31 0 9", "delete 7 x61 9", "gc 9 0", "write 8 x61 x31 0 9", "beat 9"):
+        yield call
+    for edition in (0, 1):
+        yield "hub 1"
+        yield f"digest - 3 300 {edition}"
+        yield "digest 7 3 300 1"
+        yield "hub 0"
+        yield f"tell {2 + edition} @digest 1"
+        yield f"tell {2 + edition} @digest {edition}"
+        yield from asked((2, 3), (7, 8, 9))
+
+
+def grid_least():
+    """The least max over the peers present: an absent one does not count, one that told nothing of the node counts as 0."""
+    for number in (7, 9):
+        yield f"gridadd {number}"
+    calls = ("least 7", "least 9", "least 8")
+    yield from calls
+    for maxes in ((5,), (5, 6), (6, 5), (5, 5), (3, 4, 5), (4, 3, 5), (4, 5, 3), (TOP,), (TOP, TOP - 1), (2**32, 2**32 - 1), (256, 255, 2**63), (0, 1), (1, 0)):
+        for peer in range(8):
+            yield f"takeout {peer}"
+        yield from calls
+        for rank, most in enumerate(maxes):
+            yield tell((7, 0, 3)[rank], (7, 1, most), (9, TOP - most, 10 + rank))
+            yield from calls
+    for peer in range(8):
+        yield tell(peer, (7, 0, 20 - peer), (9, 0, 10 + peer))
+    yield from calls
+    for peer in (7, 0, 3, 6, 1, 2, 5, 4):
+        yield f"takeout {peer}"
+        yield from calls
+    yield tell(4, (8, 1, 1))
+    yield from calls
+
+
+def careful():
+    """A scheduled record goes exactly if the clock says so and every peer present told a max not below its version; last_gc moves by what goes."""
+    records = [record(b"a", b"1", 1), record(b"b", b"", 2, 1, 10), record(b"c", b"3", 4, 2, 10), record(b"d", b"", 5, 1, 30), record(b"e", b"", 7, 1, 10)]
+    def given(told, last_gc=0, mode=0):
+        yield f"table {x(table(slot(7, records, 8, 1, last_gc), slot(9, records, 8, 2, last_gc), mode=mode))}"
+        yield f"grid {x(grid(7, 9, told=told))}"
+    # One peer, each max; the time at the grace's end and before it.
+    for most in range(9):
+        for now in (19, 20, 40):
+            yield from given({0: [(0, most), (0, 8 - most)]})
+            yield f"careful {now} 10"
+            yield "digest - 0 66 0"
+    # Two and three peers: all of them must have seen it, whoever they are.
+    for maxes in ((3, 8), (8, 3), (5, 4), (8, 8), (0, 8), (2, 2), (4, 7, 5), (7, 7, 7), (8, 8, 1)):
+        yield from given({peer: [(0, most), (0, 8)] for peer, most in zip((0, 7, 3), maxes)})
+        yield "careful 40 10"
+        for peer in (0, 3, 7):
+            yield f"takeout {peer}"
+            yield "careful 40 10"
+    # last_gc: it grows by what goes, and does not fall; what the peers told as last_gc is nothing to it.
+    for last_gc in (0, 1, 2, 3, 4, 5, 6, 7, TOP):
+        yield from given({2: [(TOP, 4), (0, 2)]}, last_gc)
+        yield "careful 40 10"
+        yield "digest - 0 66 0"
+    # Then the plain one takes the rest.
+    yield "gc 20 10"
+    yield "gc 40 10"
+    yield "digest - 0 66 0"
+    for now, grace in ((0, 0), (9, 0), (10, 0), (0, TOP), (TOP, 0), (TOP, TOP), (TOP, TOP - 10), (TOP, TOP - 9), (TOP - 1, TOP - 10)):
+        yield from given({5: [(0, TOP), (0, 4)]})
+        yield f"careful {now} {grace}"
+    for mode in (1, 2):
+        yield from given({1: [(0, 5), (0, 5)]}, mode=mode)
+        yield "careful 40 10"
+        yield "dump"
+    # The largest version, and a max one below it.
+    for most in (TOP - 1, TOP):
+        yield f"table {x(table(slot(7, [record(b'a', b'', TOP, 1, 10), record(b'b', b'', TOP - 1, 1, 10)], TOP)))}"
+        yield f"grid {x(grid(7, told={6: [(0, most)]}))}"
+        yield "careful 40 10"
+    # Nobody present, no node, and no record to go.
+    yield from given({})
+    yield "careful 40 10"
+    for call in ("new", "careful 9 1", tell(0), "careful 9 1", "gridadd 7", "careful 9 1", "least 7"):
+        yield call
+    # A full node goes, record by record, as the peer sees more of it.
+    yield f"table {x(table(slot(7, [record(b'%02d' % k, b'', 1 + k * 7 % 32, 1, 9) for k in range(32)], 40)))}"
+    yield "newgrid"
+    for most in (0, 1, 16, 31, 32, 5):
+        yield tell(4, (7, 0, most))
+        yield "careful 9 0"
+        yield "digest - 0 34 0"
+
+
+GRID_CALLS = ("gridadd 7", "gridremove 7", "gridadd 8", "gridremove 8", "tell 0 x0000 0", "tell 8 x 2", "tell 0 x 2", "takeout 0", "takeout 8", "least 7", "least 8", "told 0 7", "told 8 8", "told 0 8",
+              "careful 99 1")
+
+
+def grid_refusals():
+    """14 before all else: grids that break one rule, tables that do, and grids of other nodes; then 21, 22 and the others in their order."""
+    records = [record(b"a", b"", 1, 1, 9), record(b"b", b"2", 2)]
+    good = table(slot(7, records, 2), slot(9, records, 2))
+    told = {0: [(1, 2), (3, 4)], 5: [(5, 6), (7, 8)]}
+    fits = grid(7, 9, told=told)
+    yield f"table {x(good)}"
+    behind = NUMBERS + 16
+    broken = [fits[:-1], fits + b"\0", b"", fits[:1], put(fits, 0, 9), put(fits, 0, 255), put(fits, 0, 1), put(fits, 0, 3), put(fits, 0, 0),
+              grid(9, 7, told=told), grid(7, 7, told=told), put(fits, behind, 1), put(fits, PRESENT - 1, 1), put(fits, PRESENT, 2), put(fits, PRESENT + 1, 2), put(fits, PRESENT + 7, 255),
+              put(fits, PRESENT, 0), put(fits, PRESENT + 5, 0)]
+    for array in (GCS, MAXES):
+        # An absent peer's first and last byte, and the places behind the columns, of a peer present.
+        broken += [put(fits, array + place, 1) for place in (64, 64 + 63, 7 * 64 + 63, 16, 63, 5 * 64 + 16)]
+    broken.append(fits[:-1] + b"\1")
+    for data in broken:
+        yield f"grid {x(data)}"
+        yield from GRID_CALLS
+    yield "dumpgrid"
+    # Good grids that are not the table's: the calls that take the table refuse them, the others do not.
+    for data in (grid(7, told={0: [(1, 2)]}), grid(9), grid(7, 8, told=told), grid(6, 7, 9), grid(), grid(7, 9 + 2**56, told=told)):
+        yield f"grid {x(data)}"
+        yield from GRID_CALLS
+    # The grid is good, and the table is not.
+    for data in (b"", good[:-1], put(good, 0, 1), put(good, 34 + 2, 1), good[:AREA] + b"\3" + good[AREA + 1:], slot(7, records, 2), good[:AREA + 2] + b"\1" + u64(7, 0) + good[AREA + 19:]):
+        yield f"table {x(data)}"
+        yield f"grid {x(fits)}"
+        yield from GRID_CALLS
+        yield "newgrid"
+        yield "dumpgrid"
+    # Both are good and belong together; nobody is present; then a ninth node.
+    yield f"table {x(good)}"
+    for data in (fits, grid(7, 9)):
+        yield f"grid {x(data)}"
+        yield from GRID_CALLS
+    yield "new"
+    for number in range(10, 18):
+        yield f"gridadd {number}"
+    for call in ("gridadd 7", "gridremove 7", "gridadd 17", tell(2, (17, 1, 2)), "gridadd 7", "gridadd 17", "told 2 17", "dumpgrid"):
+        yield call
+    # The grid may be what was last written, too; a new one wants the length alone.
+    for call in ("digest - 0 34 0", "grid @digest", "dumpgrid", "newgrid", "compute x0000 16384 - 0,0,0,0,0,0,0,0 0 16384 0", "grid @delta", "newgrid", f"grid {x(b'k' * (GRID - 1))}", "newgrid",
+                 f"grid {x(b'k' * (GRID + 1))}", "newgrid", f"grid {x(b'k' * GRID)}", "newgrid", "gridadd 17"):
+        yield call
+
+
+def grids(*hubs):
+    """Each of the hubs has a grid of its table."""
+    for hub in hubs:
+        yield f"hub {hub}"
+        yield "newgrid"
+
+
+def tells(hub, *others):
+    """The digests of others, told to the hub's grid; a peer has its hub's number."""
+    for other in others:
+        yield f"hub {other}"
+        yield "digest - 0 34 0"
+        yield f"hub {hub}"
+        yield f"tell {other} @digest 0"
+
+
+def deleted(key):
+    yield f"hub {P}"
+    yield f"delete 1 {key} 9"
+
+
+def carefully(hub):
+    yield f"hub {hub}"
+    yield "least 1"
+    yield "careful 9 0"
+    yield "digest - 0 34 0"
+
+
+def owner_alone():
+    """Careful at the owner alone is not enough: F removes by the clock, G hears F and is reset, then H, who has b, then P. A plain G ends at P's own max and shows b."""
+    for mode in (0, 1, 2):
+        yield from net(mode, mode, mode, mode)
+        yield from grids(P)
+        yield from sets(A)
+        yield from hears(G, P)
+        yield from sets(B)
+        yield from hears(H, P)
+        yield from deleted(B)
+        yield from hears(F, P)
+        yield from tells(P, F, G, H)
+        yield from carefully(P)
+        yield f"hub {F}"
+        yield "gc 9 0"
+        yield from hears(G, F, H, P)
+        yield from shown(B, G, P)
+
+
+def whoever_present():
+    """Careful over whoever is present is not enough: F alone told P that it knows of the deletion. G hears P, then H, who does not, then P."""
+    for mode in (0, 1, 2):
+        yield from net(mode, mode, mode, mode)
+        yield from grids(P)
+        yield from sets(A, B)
+        yield from hears(H, P)
+        yield from deleted(B)
+        yield from hears(F, P)
+        yield from tells(P, F)
+        yield from carefully(P)
+        yield from hears(G, P, H, P)
+        yield from shown(B, G, P)
+
+
+def restored():
+    """Restored hubs do harm: G and H told that they know of the deletion, and are restored to what they held before it. G hears P, then H, then P."""
+    for mode in (0, 1, 2):
+        yield from net(mode, mode, mode, mode)
+        yield from grids(P)
+        yield from sets(A, B)
+        yield from hears(G, P)
+        yield from hears(H, P)
+        yield from deleted(B)
+        yield from hears(G, P)
+        yield from hears(H, P)
+        yield from tells(P, G, H)
+        yield from carefully(P)
+        # As both were when they had heard a and b.
+        saved = table(slot(1, [record(b"a", b"1", 1), record(b"b", b"1", 2)], 2), mode=mode)
+        for hub in (G, H):
+            yield f"hub {hub}"
+            yield f"table {x(saved)}"
+        yield from hears(G, P, H, P)
+        yield from shown(B, G, P)
+
+
+def taken_out():
+    """The follower taken out: a delta for G is late. P removes with F alone present, and G is reset by a small MTU; the late delta comes, and b with it. With G present the removal waits."""
+    def computes(edition, mtu):
+        yield f"hub {G}"
+        yield f"digest - 0 34 {edition}"
+        yield f"hub {P}"
+        yield f"compute @digest {mtu} - 0 0 {mtu} {edition}"
+    long = x(b"1" * 40)
+    late = x(node(1, 0, 1) + kv(b"b", b"1", 2))
+    for mode in (0, 1, 2):
+        for out in (True, False):
+            yield from net(mode, mode, mode)
+            yield from grids(P)
+            yield f"hub {P}"
+            yield f"write 1 {A} {long} 0 9"
+            yield from hears(G, P)
+            yield from sets(B)
+            # The very delta that is late.
+            yield from computes(0, 300)
+            yield from tells(P, G)
+            yield from deleted(B)
+            yield from hears(F, P)
+            yield from tells(P, F)
+            yield f"hub {P}"
+            yield f"takeout {G if out else H}"
+            yield from carefully(P)
+            yield f"write 1 x63 {long} 0 9"
+            yield from computes(0, 100)
+            yield f"hub {G}"
+            yield "apply @delta 9 1"
+            yield f"apply {late} 9 1"
+            yield from hears(G, P)
+            yield from shown(B, G, P)
+
+
+def careful_net():
+    """Four plain hubs, each of which removes only carefully and while all the others are present. What P sent first comes again to all, late and twice. b goes everywhere, and stays gone."""
+    everyone = (P, F, G, H)
+    yield from net(0, 0, 0, 0)
+    yield from grids(*everyone)
+    yield from sets(A, B)
+    yield from hears(F, P)
+    yield from hears(G, F)
+    yield from deleted(B)
+    for hub in (F, G, H):
+        yield from hears(hub, *(other for other in everyone if other != hub))
+        for each in everyone:
+            yield from tells(each, *(other for other in everyone if other != each))
+            yield from carefully(each)
+        for each in everyone:
+            yield f"hub {each}"
+            yield apply(node(1), kv(b"a", b"1", 1), kv(b"b", b"1", 2), now=9, places=1)
+            yield apply(node(1), kv(b"a", b"1", 1), kv(b"b", b"1", 2), now=9, places=1)
+    for hub in (F, G, H):
+        yield from hears(hub, P)
+    yield from shown(B, *everyone)
+
+
 def malformed():
     """Lines that are not of the language, each beside one that is. The tables and the hub stay."""
     yield "add 1"
@@ -1183,6 +1584,9 @@ def malformed():
     yield from ("overrides", "overrides :", "overrides 1 2", "label x61 x31 0", "label x61 x31 0 9 9", "label 61 x31 0 9", "label x61 x31 -1 9", "unlabel x61", "unlabel x61 9 9", "unlabelttl x61", "gclabels 9",
                 "gclabels 9 1 1", "labels x61 x31 0 9", "dump", "hub 0", "getover 4 1 x61", "getover 3 1", "getover 3 1 61", "getover : 1 x61", "getover 3 1 x61 0", "listover 4 1 x 64", "listover 3 1 x",
                 "listover 3 1 x 64 0", "listover 3 1 @digest 64", "getover 3 1 x61", "listover 3 1 x 64")
+    yield from ("newgrid 1", "newgrid", "grid", "grid 00", "grid x0", "grid x00 0", "grid @grid", "dumpgrid 0", "dumpgrids", "gridadd", "gridadd x01", "gridadd 3 4", "gridremove", "gridremove -1", "tell 0 x0000",
+                "tell 0 x0000 0 0", "tell x0000 0 0", "tell 0 0 x0000", "tell 0 0000 0", "tell : x0000 0", "tell 0 @ 0", f"tell {TOP + 1} x0000 0", "takeout", "takeout 0 1", "takeout +0", "least", "least 1 2",
+                "least x01", "told 0", "told 0 1 2", "told 0 :", "told - 1", "careful 9", "careful 9 1 1", "careful 9 -1", "careful : 1", "least 1", "dumpgrid")
     yield "add 2"
 
 
@@ -1194,6 +1598,8 @@ SCRIPTS = {
     "cuts": cuts, "longest-record": longest_record, "verdicts": verdicts, "taking": taking, "room-counts": room, "fence": fence, "guard": guard, "two-datagrams": two_datagrams, "exchange": exchange,
     "net-triangle": triangle, "net-line": line, "net-relay": relay, "net-owner": owner, "net-behind": behind,
     "over-writes": over_writes, "over-reads": over_reads, "over-refusals": over_refusals,
+    "grid-columns": grid_columns, "grid-told": grid_told, "grid-least": grid_least, "grid-refusals": grid_refusals, "careful": careful,
+    "careful-owner-alone": owner_alone, "careful-whoever-present": whoever_present, "careful-restored": restored, "careful-taken-out": taken_out, "careful-net": careful_net,
     "bad-tables": bad_tables, "malformed": malformed,
 }
 

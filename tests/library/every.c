@@ -8,7 +8,7 @@
 #include <string.h>
 
 static unsigned long held = 0, failed = 0;
-static bool seen[21];
+static bool seen[24];
 
 static void check_at(bool ok, const char *what, int line) {
     if (ok) { held++; return; }
@@ -18,7 +18,7 @@ static void check_at(bool ok, const char *what, int line) {
 #define CHECK(condition) check_at((condition), #condition, __LINE__)
 
 static uint64_t given(uint64_t number) {
-    if (number < 21) seen[number] = true;
+    if (number < 24) seen[number] = true;
     return number;
 }
 #define GIVES(number, call) CHECK(given(call) == (number))
@@ -542,11 +542,238 @@ static void peers(void) {
     give_back(a), give_back(b), give_back(digest), give_back(delta), give_back(answers), give_back(listing), give_back(brief), give_back(bad), give_back(c2);
 }
 
+/* A grid as docs/FORMAT.md has its bytes: count of columns, numbers, who is present, the rows of last_gc, the rows of max. */
+enum { NUMBERS_AT = 1, PRESENT_AT = 65, GCS_AT = 73, MAXES_AT = 585 };
+
+static void put_pair(uint8_t *grid, size_t peer, size_t column, uint64_t gc, uint64_t max) {
+    put64(grid + GCS_AT + 64 * peer + 8 * column, gc);
+    put64(grid + MAXES_AT + 64 * peer + 8 * column, max);
+}
+
+/* An entry of a digest: its heartbeat is no version, and is told nowhere. */
+static void put_entry(uint8_t *at, uint64_t node, uint64_t gc, uint64_t max) {
+    put64(at, node);
+    put64(at + 8, 77);
+    put64(at + 16, gc);
+    put64(at + 24, max);
+}
+
+/* 14 of every call that takes this grid, though the peer, the edition, the digest and the node are no good either; nothing changes. */
+static void no_grid(struct lent grid, struct lent table) {
+    mark(grid), mark(table);
+    GIVES(KEV_BAD_TABLE, kev_grid_add_node(T(grid), T(table), 8));
+    GIVES(KEV_BAD_TABLE, kev_grid_remove_node(T(grid), T(table), 99));
+    struct kev_told told = kev_tell(T(grid), KEV_PEERS, 2, NO_BYTES);
+    CHECK(given(told.number) == KEV_BAD_TABLE && told.need == 0);
+    GIVES(KEV_BAD_TABLE, kev_take_out(T(grid), KEV_PEERS));
+    struct kev_least least = kev_least_max(T(grid), 99);
+    CHECK(given(least.number) == KEV_BAD_TABLE && least.max == 0);
+    struct kev_seen pair = kev_seen_by(T(grid), KEV_PEERS, 99);
+    CHECK(given(pair.number) == KEV_BAD_TABLE && pair.found == 0 && pair.last_gc == 0 && pair.max == 0);
+    GIVES(KEV_BAD_TABLE, kev_remove_carefully(T(grid), T(table), 1000, 0));
+    CHECK(same(grid) && same(table));
+}
+
+/* 14 of every call that takes both; those that take the grid alone find nothing wrong. */
+static void not_both(struct lent grid, struct lent table) {
+    mark(grid), mark(table);
+    GIVES(KEV_BAD_TABLE, kev_grid_add_node(T(grid), T(table), 8));
+    GIVES(KEV_BAD_TABLE, kev_grid_remove_node(T(grid), T(table), 99));
+    GIVES(KEV_BAD_TABLE, kev_remove_carefully(T(grid), T(table), 1000, 0));
+    GIVES(0, kev_seen_by(T(grid), 0, 9).number);
+    CHECK(same(grid) && same(table));
+}
+
+static void grids(void) {
+    struct lent grid = lend(KEV_GRID), shorter = lend(KEV_GRID - 1), longer = lend(KEV_GRID + 1), table = lend(KEV_TABLE), digest = lend(2 + 3 * 32);
+    uint8_t want[KEV_GRID] = {0};
+    /* made for a table, whatever stood there; the length is asked, and the table */
+    GIVES(KEV_BAD_TABLE, kev_new_grid(T(grid), T(table)));
+    GIVES(KEV_BAD_TABLE, kev_check(T(grid)));
+    CHECK(same(grid));
+    no_grid(grid, table);
+    GIVES(0, kev_new_table(T(table), KEV_PLAIN));
+    GIVES(0, kev_add_node(T(table), 7));
+    GIVES(0, kev_add_node(T(table), 9));
+    no_grid(grid, table);
+    GIVES(KEV_BAD_TABLE, kev_new_grid(T(shorter), T(table)));
+    GIVES(KEV_BAD_TABLE, kev_new_grid(T(longer), T(table)));
+    CHECK(same(shorter) && same(longer));
+    mark(table);
+    GIVES(0, kev_new_grid(T(grid), T(table)));
+    want[0] = 2, want[NUMBERS_AT] = 7, want[NUMBERS_AT + 8] = 9;
+    CHECK(memcmp(grid.at, want, KEV_GRID) == 0 && same(table));
+    memcpy(shorter.at, grid.at, KEV_GRID - 1), memcpy(longer.at, grid.at, KEV_GRID), longer.at[KEV_GRID] = 0;
+    no_grid(shorter, table), no_grid(longer, table);
+
+    /* nobody is present: 22 before 2, and no record goes */
+    GIVES(0, kev_write(T(table), 7, TEXT("lamp"), TEXT("on"), KEV_SET, 0));
+    GIVES(0, kev_write(T(table), 7, TEXT("door"), TEXT("shut"), KEV_SET, 0));
+    GIVES(0, kev_delete(T(table), 7, TEXT("lamp"), 100));
+    mark(table), mark(grid);
+    struct kev_least least = kev_least_max(T(grid), 99);
+    CHECK(given(least.number) == KEV_NOBODY_PRESENT && least.max == 0);
+    GIVES(KEV_NOBODY_PRESENT, kev_least_max(T(grid), 7).number);
+    GIVES(KEV_NOBODY_PRESENT, kev_remove_carefully(T(grid), T(table), 1000, 0));
+    struct kev_seen pair = kev_seen_by(T(grid), 7, 9);
+    CHECK(pair.number == 0 && pair.found == 0 && pair.last_gc == 0 && pair.max == 0);
+    CHECK(same(table));
+
+    /* a digest that is refused: 21, 20, then its own; it makes nobody present */
+    digest.at[0] = 3, digest.at[1] = 0;
+    put_entry(digest.at + 2, 9, 1, 5);
+    put_entry(digest.at + 34, 8, 6, 6);
+    put_entry(digest.at + 66, 7, 0, 2);
+    static const uint8_t nine[2] = {9, 0};
+    struct kev_told told = kev_tell(T(grid), KEV_PEERS, 2, digest.at, 1);
+    CHECK(given(told.number) == KEV_BAD_PEER && told.need == 0);
+    GIVES(KEV_BAD_PEER, kev_tell(T(grid), UINT64_MAX, KEV_V0, T(digest)).number);
+    told = kev_tell(T(grid), 3, 2, digest.at, 1);
+    CHECK(given(told.number) == KEV_BAD_EDITION && told.need == 0);
+    told = kev_tell(T(grid), 3, KEV_V0, digest.at, 1);
+    CHECK(given(told.number) == KEV_CUT && told.need == 1);
+    told = kev_tell(T(grid), 3, KEV_V0, digest.at, digest.len - 5);
+    CHECK(given(told.number) == KEV_CUT && told.need == 5);
+    told = kev_tell(T(grid), 3, KEV_V1, digest.at, 33);
+    CHECK(given(told.number) == KEV_CUT && told.need == 7);
+    told = kev_tell(T(grid), 3, KEV_V0, nine, 2);
+    CHECK(given(told.number) == KEV_TOO_MANY && told.need == 0);
+    CHECK(same(grid));
+
+    /* one that is accepted: each column by its number, a stranger ignored, the peer present; in either edition */
+    told = kev_tell(T(grid), 3, KEV_V0, T(digest));
+    CHECK(given(told.number) == 0 && told.need == 0);
+    want[PRESENT_AT + 3] = 1;
+    put_pair(want, 3, 0, 0, 2), put_pair(want, 3, 1, 1, 5);
+    CHECK(memcmp(grid.at, want, KEV_GRID) == 0);
+    GIVES(0, kev_tell(T(grid), 7, KEV_V1, digest.at + 2, digest.len - 2).number);
+    want[PRESENT_AT + 7] = 1;
+    put_pair(want, 7, 0, 0, 2), put_pair(want, 7, 1, 1, 5);
+    CHECK(memcmp(grid.at, want, KEV_GRID) == 0);
+    /* another takes its place, also where a number falls; a node that it omits is (0,0); of a repeated node the last entry counts */
+    put_entry(digest.at + 2, 9, 3, 9);
+    put_entry(digest.at + 34, 9, 0, 4);
+    digest.at[0] = 2;
+    GIVES(0, kev_tell(T(grid), 7, KEV_V0, T(digest)).number);
+    put_pair(want, 7, 0, 0, 0), put_pair(want, 7, 1, 0, 4);
+    CHECK(memcmp(grid.at, want, KEV_GRID) == 0);
+    mark(grid);
+    pair = kev_seen_by(T(grid), 3, 9);
+    CHECK(pair.number == 0 && pair.found == 1 && pair.last_gc == 1 && pair.max == 5);
+    pair = kev_seen_by(T(grid), 4, 9);
+    CHECK(pair.number == 0 && pair.found == 0 && pair.last_gc == 0 && pair.max == 0);
+    GIVES(KEV_BAD_PEER, kev_seen_by(T(grid), KEV_PEERS, 99).number);
+    GIVES(KEV_NO_NODE, kev_seen_by(T(grid), 3, 99).number);
+    GIVES(KEV_NO_NODE, kev_seen_by(T(grid), 4, 8).number);
+    least = kev_least_max(T(grid), 9);
+    CHECK(least.number == 0 && least.max == 4);
+    CHECK(kev_least_max(T(grid), 7).number == 0 && kev_least_max(T(grid), 7).max == 0);
+    least = kev_least_max(T(grid), 8);
+    CHECK(given(least.number) == KEV_NO_NODE && least.max == 0);
+
+    /* a careful removal waits for the peer that told 0, then for the one that told 2: the tombstone has version 3 */
+    GIVES(0, kev_remove_carefully(T(grid), T(table), 1000, 0));
+    CHECK(same(table) && same(grid));
+    GIVES(KEV_BAD_PEER, kev_take_out(T(grid), KEV_PEERS));
+    GIVES(0, kev_take_out(T(grid), 4));
+    CHECK(same(grid));
+    GIVES(0, kev_take_out(T(grid), 7));
+    want[PRESENT_AT + 7] = 0;
+    put_pair(want, 7, 0, 0, 0), put_pair(want, 7, 1, 0, 0);
+    CHECK(memcmp(grid.at, want, KEV_GRID) == 0);
+    CHECK(kev_least_max(T(grid), 7).max == 2 && kev_least_max(T(grid), 9).max == 5);
+    GIVES(0, kev_remove_carefully(T(grid), T(table), 1000, 0));
+    CHECK(same(table));
+    put_entry(digest.at + 2, 7, 0, 3);
+    GIVES(0, kev_tell(T(grid), 3, KEV_V0, T(digest)).number);
+    CHECK(kev_least_max(T(grid), 7).max == 3);
+    GIVES(0, kev_remove_carefully(T(grid), T(table), 149, 50));
+    CHECK(same(table));
+    GIVES(0, kev_remove_carefully(T(grid), T(table), 150, 50));
+    CHECK(kev_check(T(table)) == 0 && kev_record_count(T(table), 7).count == 1 && kev_node_header(T(table), 7).last_gc == 3);
+    put_pair(want, 3, 0, 0, 3), put_pair(want, 3, 1, 0, 4);
+    CHECK(memcmp(grid.at, want, KEV_GRID) == 0);
+
+    /* nodes come and go, each with its column; by the plain calls alone the table would be the same */
+    struct lent plain = lend(KEV_TABLE);
+    memcpy(plain.at, table.at, KEV_TABLE);
+    GIVES(0, kev_grid_add_node(T(grid), T(table), 8));
+    GIVES(0, kev_add_node(T(plain), 8));
+    want[0] = 3, want[NUMBERS_AT + 8] = 8, want[NUMBERS_AT + 16] = 9;
+    put_pair(want, 3, 1, 0, 0), put_pair(want, 3, 2, 0, 4);
+    CHECK(memcmp(grid.at, want, KEV_GRID) == 0 && memcmp(table.at, plain.at, KEV_TABLE) == 0);
+    mark(grid), mark(table);
+    GIVES(0, kev_grid_add_node(T(grid), T(table), 9));
+    GIVES(KEV_NO_NODE, kev_grid_remove_node(T(grid), T(table), 10));
+    CHECK(same(grid) && same(table));
+    GIVES(0, kev_offer_heartbeat(T(table), 7, 33).number);
+    GIVES(0, kev_offer_heartbeat(T(plain), 7, 33).number);
+    GIVES(0, kev_grid_remove_node(T(grid), T(table), 7));
+    GIVES(0, kev_remove_node(T(plain), 7));
+    want[0] = 2, want[NUMBERS_AT] = 8, want[NUMBERS_AT + 8] = 9, want[NUMBERS_AT + 16] = 0;
+    put_pair(want, 3, 0, 0, 0), put_pair(want, 3, 1, 0, 4), put_pair(want, 3, 2, 0, 0);
+    CHECK(memcmp(grid.at, want, KEV_GRID) == 0 && memcmp(table.at, plain.at, KEV_TABLE) == 0);
+    CHECK(kev_last_heartbeat(T(table), 7).heartbeat == 33);
+    for (uint64_t node = 10; node < 16; node++) GIVES(0, kev_grid_add_node(T(grid), T(table), node));
+    mark(grid), mark(table);
+    GIVES(KEV_NINTH_NODE, kev_grid_add_node(T(grid), T(table), 99));
+    GIVES(0, kev_grid_add_node(T(grid), T(table), 15));
+    CHECK(same(grid) && same(table) && grid.at[0] == KEV_NODES);
+    for (uint64_t node = 10; node < 16; node++) GIVES(0, kev_grid_remove_node(T(grid), T(table), node));
+    CHECK(memcmp(grid.at, want, KEV_GRID) == 0 && kev_check(T(table)) == 0);
+
+    /* a node that came or went past the grid is 14 for the calls with both; one that went and came again is not seen */
+    GIVES(0, kev_add_node(T(table), 1));
+    not_both(grid, table);
+    GIVES(0, kev_remove_node(T(table), 1));
+    GIVES(0, kev_remove_node(T(table), 8));
+    not_both(grid, table);
+    GIVES(0, kev_add_node(T(table), 8));
+    GIVES(0, kev_remove_node(T(table), 9));
+    GIVES(0, kev_add_node(T(table), 9));
+    GIVES(0, kev_remove_carefully(T(grid), T(table), 1000, 0));
+    CHECK(kev_seen_by(T(grid), 3, 9).max == 4);
+    /* and so with a table that is none */
+    table.at[KEV_MODE_AT] = 3;
+    not_both(grid, table);
+    table.at[KEV_MODE_AT] = KEV_PLAIN;
+
+    /* each rule of a grid, broken at one byte */
+    static const struct { size_t at; uint8_t byte; } broken[] = {
+        {0, 9},                            /* nine columns */
+        {0, 1},                            /* a number and a pair behind the last column */
+        {NUMBERS_AT, 9},                   /* the same number twice */
+        {NUMBERS_AT, 10},                  /* numbers that fall */
+        {NUMBERS_AT + 16, 1},              /* a number behind the last column */
+        {PRESENT_AT + 1, 2},               /* neither present nor absent */
+        {GCS_AT, 1}, {MAXES_AT + 8, 1},    /* a pair of an absent peer */
+        {GCS_AT + 64 * 3 + 8 * 2, 1},      /* a pair behind the last column */
+        {MAXES_AT + 64 * 3 + 8 * 7 + 7, 1},
+    };
+    for (size_t i = 0; i < sizeof broken / sizeof *broken; i++) {
+        const uint8_t was = grid.at[broken[i].at];
+        grid.at[broken[i].at] = broken[i].byte;
+        no_grid(grid, table);
+        grid.at[broken[i].at] = was;
+    }
+    GIVES(0, kev_take_out(T(grid), 3));
+    /* a grid is no table, and a table is no grid */
+    mark(grid), mark(table);
+    mark(longer);
+    GIVES(KEV_BAD_TABLE, kev_new_grid(longer.at, KEV_GRID, T(grid)));
+    CHECK(same(longer));
+    GIVES(KEV_BAD_TABLE, kev_tell(T(table), 0, KEV_V0, T(digest)).number);
+    GIVES(KEV_BAD_TABLE, kev_remove_carefully(T(table), T(grid), 1000, 0));
+    CHECK(same(grid) && same(table));
+    give_back(grid), give_back(shorter), give_back(longer), give_back(table), give_back(digest), give_back(plain);
+}
+
 int main(void) {
     local_calls();
     peers();
+    grids();
     for (int number = 0; number < 17; number++) CHECK(seen[number]);
-    CHECK(seen[KEV_BAD_EDITION]);
+    for (int number = 20; number < 24; number++) CHECK(seen[number]);
     printf("every.c: %lu checks held, %lu failed\n", held, failed);
     return failed ? 1 : 0;
 }

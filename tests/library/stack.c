@@ -11,7 +11,7 @@
 #define NEAR 64     /* left alone, for this file's own calls */
 #define MARK 0xA5
 
-static uint8_t table[KEV_TABLE], follower[KEV_TABLE], digest[KEV_DIGEST], delta[KEV_DELTA], listing[KEV_LISTING], answers[KEV_NODES];
+static uint8_t table[KEV_TABLE], follower[KEV_TABLE], digest[KEV_DIGEST], delta[KEV_DELTA], listing[KEV_LISTING], answers[KEV_NODES], grid[KEV_GRID];
 static const uint64_t none[1] = {0}, ties[KEV_NODES] = {0};
 static const uint8_t no_nodes[2] = {0, 0};
 static uint64_t number;
@@ -40,6 +40,13 @@ static void list(void) {
     text = told.count;
 }
 static void make(void) { number = kev_make_delta(listing, text, delta, KEV_DELTA).number; }
+static void new_grid(void) { number = kev_new_grid(grid, KEV_GRID, table, KEV_TABLE); }
+static void told(void) { number = kev_tell(grid, KEV_GRID, 7, KEV_V0, digest, KEV_DIGEST).number; }
+static void least(void) { number = kev_least_max(grid, KEV_GRID, 7).number; }
+static void careful(void) { number = kev_remove_carefully(grid, KEV_GRID, table, KEV_TABLE, 0, 1); }
+static void goes(void) { number = kev_grid_remove_node(grid, KEV_GRID, table, KEV_TABLE, 0); }
+static void comes(void) { number = kev_grid_add_node(grid, KEV_GRID, table, KEV_TABLE, 0); }
+static void taken_out(void) { number = kev_take_out(grid, KEV_GRID, 7); }
 
 static void fresh(uint8_t *at) {
     uint64_t node;
@@ -87,5 +94,13 @@ int main(void) {
     deepest("a delta from that", make, 0);
     fresh(follower);
     deepest("an exchange with an MTU of 1,400", exchange, 0);
+    deepest("a grid made", new_grid, 0);
+    tell();
+    deepest("a digest told to it", told, 0);
+    deepest("the least max of a node", least, 0);
+    deepest("a careful removal", careful, 0);
+    deepest("a node removed with its column", goes, 0);
+    deepest("a node added with its column", comes, 0);
+    deepest("a peer taken out", taken_out, 0);
     return failed;
 }

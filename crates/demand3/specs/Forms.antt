@@ -2,7 +2,9 @@
 -- order a computing takes the nodes, is told by an argument. A request that brings another form adds a constructor and a clause to the definitions here, and a
 -- case to the laws about them (proofs/Forms). No definition of a world or net and no other proof looks into it.
 use Prim.Native.Nat.{ℕ}
+use mathlib.Core.Bool.{_&&_}
 use mathlib.Core.List.{List}
+use Rattle.fields.specs.Choice.{pick}
 use Rattle.fields.specs.Numbers.{Bytes}
 use Rattle.rules.specs.Given.{Given}
 use Rattle.rules.specs.Table.{Table}
@@ -12,6 +14,9 @@ use Rattle.rules.specs.Delta.{Op}
 use Rattle.rules.specs.Compute.{compute, deltaFor}
 use Rattle.rules.specs.Lent.{lentGc, lentCompute}
 use Rattle.rules.specs.declared.Computed.{Computed}
+use Rattle.grid.specs.Grid.{somebody}
+use Rattle.grid.specs.GridLayout.{decodeGrid, validGrid}
+use Rattle.grid.specs.LentGrid.{carefullyRemoved, fitsTable, lentCareful}
 use Rattle.plan.specs.Plan.{computePlan, deltaBy, lentComputePlan}
 
 -- ---- removals
@@ -19,14 +24,25 @@ use Rattle.plan.specs.Plan.{computePlan, deltaBy, lentComputePlan}
 pub data Removal : Type 0 where
   -- document 01's, by the clock: now, grace
   ByClock : ℕ → ℕ → Removal
+  -- the careful one (ticket 12), by the clock and by what peers told: the bytes of a grid, whatever they are; now, grace
+  Carefully : List ℕ → ℕ → ℕ → Removal
+
+-- a careful removal on a table; where it is refused (the grid is none, or another table's, or nobody is present), the table stays
+abbrev pub carefully : (grid : Bytes) (now grace : ℕ) (table : Table) → Table
+carefully grid now grace t =
+    pick (validGrid grid && fitsTable (decodeGrid grid) t)
+    (pick (somebody (decodeGrid grid)) (carefullyRemoved (decodeGrid grid) now grace t) t)
+    t
 
 -- what it leaves of a table
 abbrev pub removedBy : (removal : Removal) (table : Table) → Table
 removedBy (ByClock now grace) t = gc now grace t .table
+removedBy (Carefully grid now grace) t = carefully grid now grace t
 
 -- and of a table's bytes
 abbrev pub lentRemovedBy : (removal : Removal) (table : Bytes) → Bytes
 lentRemovedBy (ByClock now grace) l = lentGc now grace l .lent
+lentRemovedBy (Carefully grid now grace) l = lentCareful now grace grid l .lent
 
 -- ---- computing
 

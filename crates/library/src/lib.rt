@@ -56,6 +56,7 @@ ghost use Rattle.answers.specs.Shown.{foundOverShown, listedOverShown};
 ghost use Rattle.library.specs.Numbers.{checkNumber, overridesNumber, madeBy};
 
 pub mod good;
+pub mod watch;
 
 // ---- the check
 

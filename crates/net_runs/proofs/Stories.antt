@@ -17,27 +17,27 @@ abbrev pub alike : Ways → Plan
 alike ways = record { owner = λ i. 0; ways = λ x. ways }
 
 -- keys of one letter, and a value
-abbrev a : List ℕ
+abbrev pub a : List ℕ
 a = 97 ∷ []
 
-abbrev b : List ℕ
+abbrev pub b : List ℕ
 b = 98 ∷ []
 
-abbrev c : List ℕ
+abbrev pub c : List ℕ
 c = 99 ∷ []
 
-abbrev one : List ℕ
+abbrev pub one : List ℕ
 one = 49 ∷ []
 
 -- what b was given at 2
 abbrev pub dead : KeyValue
 dead = record { key = b; value = one; version = 2; status = Set }
 
-abbrev set : List ℕ → Event
+abbrev pub set : List ℕ → Event
 set k = Writing 0 7 k (Setting one)
 
 -- hub x, which is at (g, m), hears hub y: its digest, y's delta for it, applied at once
-abbrev told : ℕ → ℕ → List NodeDigest
+abbrev pub told : ℕ → ℕ → List NodeDigest
 told g m = record { number = 7; heartbeat = beats 0; last-gc = g; max = m } ∷ []
 
 abbrev hearsWithin : ℕ → ℕ → ℕ → ℕ → ℕ → List Event
@@ -47,7 +47,7 @@ abbrev pub hears : ℕ → ℕ → ℕ → ℕ → List Event
 hears x y g m = hearsWithin 300 x y g m
 
 -- four hubs have node 7, and its owner sets a and b
-abbrev began : List Event
+abbrev pub began : List Event
 began = Adding 0 7 ∷ Adding 1 7 ∷ Adding 2 7 ∷ Adding 3 7 ∷ set a ∷ set b ∷ []
 
 -- b is deleted, and its tombstone removed

@@ -25,7 +25,7 @@ use Rattle.fields.proofs.Blocks.{length-zeros, zeros-add, length-flat, length-f
 use Rattle.fields.proofs.Widths.{field-set, field-put, widths-set}
 use Rattle.rules.specs.Sizes.{maxRecords, numbers, top}
 use Rattle.rules.specs.Node.{Rec, goes, lastGc, remove, due}
-use Rattle.rules.specs.Table.{Entry, Table, removeAll}
+use Rattle.rules.specs.Table.{Entry, Table}
 use Rattle.rules.specs.Layout.{recPlace, nodePlace, recWidth, nodeWidths, nodeFields, encodeRec, encodeNode, decodeNode, encode, decode}
 use Rattle.rules.proofs.Records.{gc-below}
 use Rattle.rules.proofs.Keeps.{length-keep}
@@ -40,7 +40,7 @@ use Rattle.table.proofs.Areas.{part-in}
 use Rattle.table.proofs.Changed.{table-set}
 use Rattle.table.proofs.Laid.{laid-rec, laid-at}
 use Rattle.table_write.proofs.Steps.{put-steps}
-use Rattle.removal.specs.Removals.{firstGoing, withGone, withFirst, removed}
+use Rattle.removal.specs.Removals.{dueWithin, firstGoing, withGone, withFirst, removed, removeWithin}
 
 -- ---- the clock
 
@@ -347,51 +347,58 @@ module _ (b : List ℕ) (o : LaidNode b) where
 -- ---- the nodes of a table
 
 -- what is in front of node i is done, and the rest is done by the rule
-abbrev pub nodesFrom : (due : Rec → Bool) (i : ℕ) (table : Table) → Table
-nodesFrom due i t = take i t ++ removeAll (λ n. due) (drop i t)
+abbrev pub nodesFrom : (now grace : ℕ) (bounds : List ℕ) (i : ℕ) (table : Table) → Table
+nodesFrom now grace bs i t = take i t ++ removeWithin now grace (drop i bs) (drop i t)
 
-nodes-step : (due : Rec → Bool) (t : Table) (i : ℕ) (e : Entry) → i < length t → getD t i e ≡ e → nodesFrom due (i + 1) (set t i (removed due e)) ≡ nodesFrom due i t
-unfolding removeAll
-nodes-step due t i e h q =
-    let x : Entry = removed due e in
-    let f : Table → Table = removeAll (λ n. due) in
-    ap (λ (k : ℕ). nodesFrom due k (set t i x)) (add-one i)
-    ∙ ap₂ (λ (y z : Table). y ++ f z) (take-suc-set t i x h) (drop-set-lt (suc i) t i x (omega arith))
-    ∙ append-assoc (take i t) (x ∷ []) (f (drop (suc i) t))
-    ∙ ap (λ (z : Table). take i t ++ f z) (sym (drop-cons t i e h ∙ ap (λ (y : Entry). y ∷ drop (suc i) t) q))
+module _ (now grace : ℕ) (bs : List ℕ) where
+  -- the test of node i
+  abbrev pub dueAt : (i : ℕ) (rec : Rec) → Bool
+  dueAt i = dueWithin (getD bs i 0) now grace
 
-nodes-done : (due : Rec → Bool) (t : Table) (i : ℕ) → length t ≤ i → nodesFrom due i t ≡ t
-unfolding removeAll
-nodes-done due t i h =
-    ap₂ (λ (y z : Table). y ++ removeAll (λ n. due) z) (take-all i t h) (drop-of-length-le t {i = i} h) ∙ append-nil t
+  nodes-step : (t : Table) (i : ℕ) (e : Entry) → i < length t → i < length bs → getD t i e ≡ e
+      → nodesFrom now grace bs (i + 1) (set t i (removed (dueAt i) e)) ≡ nodesFrom now grace bs i t
+  unfolding removeWithin
+  nodes-step t i e h g q =
+      let x : Entry = removed (dueAt i) e in
+      let f : Table → Table = removeWithin now grace (drop (suc i) bs) in
+      ap (λ (k : ℕ). nodesFrom now grace bs k (set t i x)) (add-one i)
+      ∙ ap₂ (λ (y z : Table). y ++ f z) (take-suc-set t i x h) (drop-set-lt (suc i) t i x (omega arith))
+      ∙ append-assoc (take i t) (x ∷ []) (f (drop (suc i) t))
+      ∙ ap₂ (λ (b : List ℕ) (z : Table). take i t ++ removeWithin now grace b z) (sym (drop-cons bs i 0 g))
+      (sym (drop-cons t i e h ∙ ap (λ (y : Entry). y ∷ drop (suc i) t) q))
 
--- ---- in a table's bytes
+  nodes-done : (t : Table) (i : ℕ) → length t ≤ i → nodesFrom now grace bs i t ≡ t
+  unfolding removeWithin
+  nodes-done t i h =
+      ap₂ (λ (y z : Table). y ++ removeWithin now grace (drop i bs) z) (take-all i t h) (drop-of-length-le t {i = i} h) ∙ append-nil t
 
-module _ (l : List ℕ) (o : LaidTable l) (due : Rec → Bool) where
-  module _ (i : ℕ) (h : i < nodesOf l) (s : List ℕ) (e : s ≡ put (nodePlace i) (encodeNode (removed due (nodeAt i l))) l) where
-    abbrev node : Entry
-    node = removed due (nodeAt i l)
+  -- ---- in a table's bytes
 
-    within : i < length (decode l)
-    within = rw length-decode h
+  module _ (l : List ℕ) (o : LaidTable l) where
+    module _ (i : ℕ) (h : i < nodesOf l) (g : i < length bs) (s : List ℕ) (e : s ≡ put (nodePlace i) (encodeNode (removed (dueAt i) (nodeAt i l))) l) where
+      abbrev node : Entry
+      node = removed (dueAt i) (nodeAt i l)
 
-    changed : s ≡ encode (set (decode l) i node)
-    changed = e ∙ ap (put (nodePlace i) (encodeNode node)) (sym (o .is)) ∙ table-set (decode l) (o .fits .few) i node within
+      within : i < length (decode l)
+      within = rw length-decode h
 
-    fits : FitsTable (set (decode l) i node)
-    fits = fits-set (decode l) i node within (o .fits) (fits-removed due (nodeAt i l) (laid-at l o i h .fits))
+      changed : s ≡ encode (set (decode l) i node)
+      changed = e ∙ ap (put (nodePlace i) (encodeNode node)) (sym (o .is)) ∙ table-set (decode l) (o .fits .few) i node within
 
-    is-table : decode s ≡ set (decode l) i node
-    is-table = ap decode changed ∙ read-back (set (decode l) i node) fits
+      fits : FitsTable (set (decode l) i node)
+      fits = fits-set (decode l) i node within (o .fits) (fits-removed (dueAt i) (nodeAt i l) (laid-at l o i h .fits))
 
-    pub next-laid : LaidTable s
-    next-laid = subst LaidTable (sym changed) (laid-table (set (decode l) i node) fits)
+      is-table : decode s ≡ set (decode l) i node
+      is-table = ap decode changed ∙ read-back (set (decode l) i node) fits
 
-    pub next-count : nodesOf s ≡ nodesOf l
-    next-count = sym (length-decode s) ∙ ap length is-table ∙ length-set (decode l) i node ∙ length-decode l
+      pub next-laid : LaidTable s
+      next-laid = subst LaidTable (sym changed) (laid-table (set (decode l) i node) fits)
 
-    pub next-node : nodesFrom due (i + 1) (decode s) ≡ nodesFrom due i (decode l)
-    next-node = ap (nodesFrom due (i + 1)) is-table ∙ nodes-step due (decode l) i (nodeAt i l) within (decode-at i l (nodeAt i l) h)
+      pub next-count : nodesOf s ≡ nodesOf l
+      next-count = sym (length-decode s) ∙ ap length is-table ∙ length-set (decode l) i node ∙ length-decode l
 
-  pub table-end : (i : ℕ) (t : Table) → nodesOf l ≤ i → nodesFrom due i (decode l) ≡ t → l ≡ encode t
-  table-end i t h e = sym (o .is) ∙ ap encode (sym (nodes-done due (decode l) i (rw length-decode h)) ∙ e)
+      pub next-node : nodesFrom now grace bs (i + 1) (decode s) ≡ nodesFrom now grace bs i (decode l)
+      next-node = ap (nodesFrom now grace bs (i + 1)) is-table ∙ nodes-step (decode l) i (nodeAt i l) within g (decode-at i l (nodeAt i l) h)
+
+    pub table-end : (i : ℕ) (t : Table) → nodesOf l ≤ i → nodesFrom now grace bs i (decode l) ≡ t → l ≡ encode t
+    table-end i t h e = sym (o .is) ∙ ap encode (sym (nodes-done (decode l) i (rw length-decode h)) ∙ e)

@@ -119,13 +119,13 @@ fn peer_call(
 // One call: what it answers is written, and nothing where the line asks for none.
 fn call(
     desk: Desk,
+    verb: usize,
     room: &mut [u8],
     digest: &mut [u8],
     delta: &mut [u8],
     line: &[u8],
     out: &mut [u8],
 ) -> Desk {
-    let verb = verbs::asked(line);
     let at = desk.out;
     match verb {
         verbs::WRITE..=verbs::LIST => {
@@ -159,8 +159,7 @@ fn call(
 }
 
 // A reading over the overrides of the hub that stands in the line and the current table: what it answers is written, and nothing where the line asks for none.
-fn over_call(desk: Desk, tables: &[u8], line: &[u8], out: &mut [u8]) -> Desk {
-    let verb = verbs::asked(line);
+fn over_call(desk: Desk, verb: usize, tables: &[u8], line: &[u8], out: &mut [u8]) -> Desk {
     match verb {
         verbs::GET_OVER..=verbs::LIST_OVER => {
             let word = read::word(line, 1);
@@ -182,13 +181,51 @@ fn over_call(desk: Desk, tables: &[u8], line: &[u8], out: &mut [u8]) -> Desk {
     }
 }
 
-// Closes the answer by the table's checksum. Where nothing was answered, the line was malformed.
-fn closed(before: Desk, after: Desk, room: &[u8], out: &mut [u8]) -> Desk {
+// One call on the rooms of the current hub's table and grid. Where it makes a table, it makes the grid too.
+fn answered(
+    desk: Desk,
+    verb: usize,
+    room: &mut [u8],
+    grid: &mut [u8],
+    digest: &mut [u8],
+    delta: &mut [u8],
+    line: &[u8],
+    out: &mut [u8],
+) -> Desk {
+    match verb {
+        verbs::NEW_GRID..=verbs::TELL => replay_watch::grid_call(
+            desk,
+            verb,
+            grid,
+            read::front_mut(room, desk.lent()),
+            read::front(digest, desk.digest),
+            read::front(delta, desk.delta),
+            line,
+            out,
+        ),
+        _ => {
+            let after = call(desk, verb, room, digest, delta, line, out);
+            replay_watch::renewed(after, verb, grid, read::front(room, after.lent()), line)
+        }
+    }
+}
+
+// Closes the answer by the table's checksum, and by the grid's where the call is on a grid. Where nothing was answered, the line was malformed.
+fn closed(
+    before: Desk,
+    after: Desk,
+    verb: usize,
+    room: &[u8],
+    grid: &[u8],
+    out: &mut [u8],
+) -> Desk {
     if before.out == after.out {
         return after.with_out(print::text(out, after.out, b"malformed\n"));
     }
     let table = read::front(room, after.lent());
-    after.with_out(checksum::checksum(out, after.out, table))
+    let told = checksum::told(out, after.out, table);
+    let next = replay_watch::checksum(after, verb, grid, out, told);
+    after.with_out(print::byte(out, next, b'\n'))
 }
 
 // Writes the output so far. Where it cannot be written, it stays.
@@ -215,25 +252,31 @@ fn taken(line: &[u8; lines::LINE], n: usize) -> &[u8] {
     read::front(line, 0)
 }
 
-// One line, on the table of the hub that is current after it.
+// One line, the first bytes of its room, on the table and the grid of the hub that is current after it.
 fn on_line(
     before: Desk,
     tables: &mut [u8],
+    grids: &mut [u8],
     digest: &mut [u8; DIGEST],
     delta: &mut [u8; DELTA],
-    line: &[u8],
+    room: &[u8; lines::LINE],
+    n: usize,
     out: &mut [u8; OUT],
 ) -> Desk {
+    let line = taken(room, n);
     let desk = replay_desk::turned(before, line);
-    let seen = over_call(desk, tables, line, out);
-    let room = desk.room(tables);
-    let after = call(seen, room, digest, delta, line, out);
-    let told = closed(desk, after, room, out);
+    let verb = verbs::asked(line);
+    let seen = over_call(desk, verb, tables, line, out);
+    let table = desk.room(tables);
+    let grid = desk.grid_room(grids);
+    let after = answered(seen, verb, table, grid, digest, delta, line, out);
+    let told = closed(desk, after, verb, table, grid, out);
     flushed(told, out)
 }
 
 fn main() {
     let mut tables = [0u8; replay_desk::TABLES];
+    let mut grids = [0u8; replay_desk::GRIDS];
     let mut digest = [0u8; DIGEST];
     let mut delta = [0u8; DELTA];
     let mut chunk = [0u8; lines::CHUNK];
@@ -247,8 +290,16 @@ fn main() {
         if source.len == 0 && !source.closed {
             break;
         }
-        let line = taken(&room, source.len);
-        desk = on_line(desk, &mut tables, &mut digest, &mut delta, line, &mut out);
+        desk = on_line(
+            desk,
+            &mut tables,
+            &mut grids,
+            &mut digest,
+            &mut delta,
+            &room,
+            source.len,
+            &mut out,
+        );
         if ENOUGH <= desk.out {
             return;
         }

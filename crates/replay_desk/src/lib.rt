@@ -1,4 +1,5 @@
-// Four hubs' tables, which one is current, and what `@digest` and `@delta` stand for.
+// Four hubs' tables and grids, which hub is current, and what `@digest` and `@delta` stand for.
+use grid::layout as grid_layout;
 use replay_words::print;
 use replay_words::read;
 use replay_words::read::Count;
@@ -18,20 +19,30 @@ const HUBS: u64 = 4;
 // The rooms of the hubs' tables, one behind the other.
 pub const TABLES: usize = 4 * TABLE;
 
-// The current hub, how many bytes of each hub's room are its lent table, the lengths of the last digest and the last delta, and the output so far.
+// Room for a grid, good or not, and the rooms of the hubs' grids.
+pub const GRID: usize = grid_layout::GRID + 1;
+
+pub const GRIDS: usize = 4 * GRID;
+
+// The current hub, how many bytes of each hub's rooms are its lent table and its lent grid, the lengths of the last digest and the last delta, and the output
+// so far.
 pub struct Desk {
     pub hub: u64,
     pub first: usize,
     pub second: usize,
     pub third: usize,
     pub fourth: usize,
+    pub first_grid: usize,
+    pub second_grid: usize,
+    pub third_grid: usize,
+    pub fourth_grid: usize,
     pub digest: usize,
     pub delta: usize,
     pub out: usize,
 }
 
 impl Desk {
-    // All tables are empty.
+    // All tables are empty, and all grids are of empty tables: without a column, and nobody is present.
     pub fn new() -> Self {
         Desk {
             hub: 0,
@@ -39,6 +50,10 @@ impl Desk {
             second: layout::TABLE,
             third: layout::TABLE,
             fourth: layout::TABLE,
+            first_grid: grid_layout::GRID,
+            second_grid: grid_layout::GRID,
+            third_grid: grid_layout::GRID,
+            fourth_grid: grid_layout::GRID,
             digest: 0,
             delta: 0,
             out: 0,
@@ -104,6 +119,53 @@ impl Desk {
             self.third = n;
         } else {
             self.fourth = n;
+        }
+        self
+    }
+
+    // How long the current grid is.
+    pub fn lent_grid(self) -> usize {
+        if self.hub == 0 {
+            return self.first_grid;
+        }
+        if self.hub == 1 {
+            return self.second_grid;
+        }
+        if self.hub == 2 {
+            return self.third_grid;
+        }
+        self.fourth_grid
+    }
+
+    // Where the current grid's room begins.
+    fn grid_place(self) -> usize {
+        if self.hub == 0 {
+            return 0;
+        }
+        if self.hub == 1 {
+            return GRID;
+        }
+        if self.hub == 2 {
+            return 2 * GRID;
+        }
+        3 * GRID
+    }
+
+    // The room of the current grid.
+    pub fn grid_room(self, grids: &mut [u8]) -> &mut [u8] {
+        let behind = read::behind_mut(grids, self.grid_place());
+        read::front_mut(behind, GRID)
+    }
+
+    pub fn with_grid(mut self, n: usize) -> Self {
+        if self.hub == 0 {
+            self.first_grid = n;
+        } else if self.hub == 1 {
+            self.second_grid = n;
+        } else if self.hub == 2 {
+            self.third_grid = n;
+        } else {
+            self.fourth_grid = n;
         }
         self
     }

@@ -1,4 +1,4 @@
-// The checksum of a table: h = 0; for each byte b of it, h = (31 h + b) mod 4294967291.
+// The checksum of a table or a grid: h = 0; for each byte b of it, h = (31 h + b) mod 4294967291.
 use replay_words::print;
 ghost use Prim.Native.Nat.{_<_};
 
@@ -43,9 +43,8 @@ fn sum_of(table: &[u8]) -> u64 {
     sum_from(table, i, sum)
 }
 
-// A space, the checksum of the table, and the end of the line.
-pub fn checksum(out: &mut [u8], at: usize, table: &[u8]) -> usize {
-    let mut next = print::byte(out, at, b' ');
-    next = print::decimal(out, next, sum_of(table));
-    print::byte(out, next, b'\n')
+// A space and the checksum.
+pub fn told(out: &mut [u8], at: usize, bytes: &[u8]) -> usize {
+    let next = print::byte(out, at, b' ');
+    print::decimal(out, next, sum_of(bytes))
 }

@@ -1,5 +1,5 @@
 // Which call a line asks for, by number: those at a key of a node, those that take numbers alone, those of the desk itself, those of an exchange, those of
-// overrides.
+// overrides, those of a grid.
 use crate::read;
 
 pub const WRITE: usize = 0;
@@ -62,10 +62,30 @@ pub const GET_OVER: usize = 28;
 
 pub const LIST_OVER: usize = 29;
 
-pub const NOTHING: usize = 30;
+pub const NEW_GRID: usize = 30;
+
+pub const GRID: usize = 31;
+
+pub const DUMP_GRID: usize = 32;
+
+pub const GRID_ADD: usize = 33;
+
+pub const GRID_REMOVE: usize = 34;
+
+pub const TAKE_OUT: usize = 35;
+
+pub const LEAST: usize = 36;
+
+pub const TOLD: usize = 37;
+
+pub const CAREFUL: usize = 38;
+
+pub const TELL: usize = 39;
+
+pub const NOTHING: usize = 40;
 
 // How many words a line of each call has.
-const WORDS: [usize; 30] = [
+const WORDS: [usize; 40] = [
     6,
     4,
     4,
@@ -96,13 +116,24 @@ const WORDS: [usize; 30] = [
     3,
     4,
     5,
+    1,
+    2,
+    1,
+    2,
+    2,
+    2,
+    2,
+    3,
+    3,
+    4,
 ];
 
 // The call of the line. One with another count of words than its call has asks for none.
 pub fn asked(line: &[u8]) -> usize {
     let names =
         b"write delete deletettl get list add remove removed beat offer gc new make hub table dump digest readdigest readdelta compute plan planfault apply \
-        overrides label unlabel unlabelttl gclabels getover listover";
+        overrides label unlabel unlabelttl gclabels getover listover newgrid grid dumpgrid \
+        gridadd gridremove takeout least told careful tell";
     let verb = read::place_of(names, read::word(line, 0));
     if NOTHING <= verb {
         return NOTHING;

@@ -1,5 +1,5 @@
 //! The port and the original Rust side by side, in one process and on the same inputs. Prints the tables of
-//! docs/SPEED.md: the calls of an owned table, nodes that come and go there, then all others.
+//! docs/SPEED.md: the calls of an owned table, nodes that come and go there, then all others, and those on a grid, which the original has not.
 //!
 //! A row has two sides. Each runs a batch of calls between two looks at the clock, so that the clock's cost does not
 //! count, and the two take turns, so that load on the machine hits both; the row shows the medians. Before a row is timed both sides do
@@ -9,6 +9,7 @@
 //! keys with values of two turns. For a new key, a delete and applying, the tables are made anew before each batch, outside
 //! the time.
 
+mod grid;
 mod inputs;
 mod local;
 mod port;
@@ -26,6 +27,9 @@ use crate::port::Port;
 
 const ROUNDS: usize = 400;
 
+/// The sides of a row, but for those of a grid.
+const BOTH: &str = "Rust ns | port ns";
+
 const OWNED: Aim = Aim::Owned;
 /// What a call of an owned table may take, in times of the original's.
 const OWNED_MOST: f64 = 0.75;
@@ -42,6 +46,8 @@ enum Aim {
     Owned,
     /// Nodes that come and go in an owned table: the same aim, in a table of their own (DECISIONS 130).
     Nodes,
+    /// A call on a grid, beside one of the port without it: no aim, in a table of its own.
+    Grid,
     /// No aim: shown beside the others.
     None,
 }
@@ -118,9 +124,9 @@ impl Rows {
         self.0.push(Row { name, aim, beside: "", rust: rust - more, port });
     }
 
-    /// The rows of one of the three tables.
-    fn print(&self, shown: fn(&Aim) -> bool) {
-        println!("| call | Rust ns | port ns | ratio | aim | |");
+    /// The rows of one of the tables.
+    fn print(&self, sides: &str, shown: fn(&Aim) -> bool) {
+        println!("| call | {sides} | ratio | aim | |");
         println!("|---|---|---|---|---|---|");
         for Row { name, aim, beside, rust, port } in self.0.iter().filter(|row| shown(&row.aim)) {
             let ratio = port / rust;
@@ -128,7 +134,7 @@ impl Rows {
             let (aim, verdict) = match aim {
                 Aim::Times(most) => verdict(*most),
                 Aim::Owned | Aim::Nodes => verdict(OWNED_MOST),
-                Aim::None => (String::new(), ""),
+                Aim::Grid | Aim::None => (String::new(), ""),
             };
             let digits = if ratio < 1.0 { 3 } else { 2 };
             println!("| {name}{beside} | {rust:.0} | {port:.0} | {ratio:.digits$} | {aim} | {verdict} |");
@@ -679,12 +685,15 @@ fn main() {
     let (newer, _) = delta_of(&inputs::table(&inputs::all(), |record| 100 + inputs::in_order(record)));
     applying(&mut rows, "apply 16,384 bytes to a half full table", &half, &newer, APPLY, false, Aim::None);
     applying(&mut rows, "apply 16,384 bytes to a half full table, owned table", &half, &newer, APPLY, true, OWNED);
+    grid::rows(&mut rows);
     println!("An owned table:\n");
-    rows.print(|aim| matches!(aim, Aim::Owned));
+    rows.print(BOTH, |aim| matches!(aim, Aim::Owned));
     println!("\nNodes that come and go in an owned table:\n");
-    rows.print(|aim| matches!(aim, Aim::Nodes));
+    rows.print(BOTH, |aim| matches!(aim, Aim::Nodes));
     println!("\nA lent table, and calls without a table:\n");
-    rows.print(|aim| matches!(aim, Aim::Times(_) | Aim::None));
+    rows.print(BOTH, |aim| matches!(aim, Aim::Times(_) | Aim::None));
+    println!("\nCalls on a grid, beside the port's own without it:\n");
+    rows.print("without, ns | with a grid, ns", |aim| matches!(aim, Aim::Grid));
 
     let (reset, _) = delta_of(&inputs::with_last_gc(&full, 200));
     let computing = [&full, &scattered].map(|table| deepest_compute(table));

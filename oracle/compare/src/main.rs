@@ -11,6 +11,7 @@
 
 mod count;
 mod damage;
+mod grids;
 mod maker;
 mod pieces;
 mod plans;

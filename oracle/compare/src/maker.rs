@@ -108,6 +108,20 @@ impl Maker {
         self.line(format!("remove {node}"));
     }
 
+    /// As `add`, through the grid.
+    pub fn grid_add(&mut self, node: u64) {
+        if self.held[self.hub].len() < NODES {
+            self.held[self.hub].insert(node);
+        }
+        self.line(format!("gridadd {node}"));
+    }
+
+    /// As `remove`, through the grid.
+    pub fn grid_remove(&mut self, node: u64) {
+        self.held[self.hub].remove(&node);
+        self.line(format!("gridremove {node}"));
+    }
+
     pub fn removed(&mut self, node: u64) {
         self.line(format!("removed {node}"));
     }

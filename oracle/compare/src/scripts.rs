@@ -4,7 +4,7 @@ use script::hex;
 
 use crate::maker::Maker;
 use crate::random::Random;
-use crate::{damage, pieces};
+use crate::{damage, grids, pieces};
 
 pub fn random(seed: u64, index: u64) -> Vec<String> {
     any(Random::new(seed, index))
@@ -18,7 +18,7 @@ pub fn beyond(seed: u64, index: u64) -> Vec<String> {
 }
 
 fn any(mut random: Random) -> Vec<String> {
-    match random.below(23) {
+    match random.below(26) {
         0..=2 => local(random),
         3 => sizes(random),
         4 => full_node(random),
@@ -30,6 +30,8 @@ fn any(mut random: Random) -> Vec<String> {
         18 => broken(random),
         19 => coming(random),
         20 | 21 => planned(random),
+        22 | 23 => grids::watched(random),
+        24 => grids::given(random),
         _ => brim(random),
     }
 }

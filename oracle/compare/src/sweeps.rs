@@ -1,12 +1,13 @@
 //! Short scripts, all of a kind.
 
+use script::grid;
 use script::hex;
 use script::table::{self, Node, RECORDS, Record, SET};
 
 use crate::damage::texts_are_utf8;
 use crate::pieces::{Op, delta, digest};
 
-const SWEEPS: [(&str, fn() -> Vec<String>); 20] = [
+const SWEEPS: [(&str, fn() -> Vec<String>); 24] = [
     ("bench", bench),
     ("writes", writes),
     ("wanted", wanted),
@@ -22,6 +23,10 @@ const SWEEPS: [(&str, fn() -> Vec<String>); 20] = [
     ("plan-numbers", plan_numbers),
     ("plan-cuts", plan_cuts),
     ("plan-brim", plan_brim),
+    ("grid-columns", grid_columns),
+    ("grid-numbers", grid_numbers),
+    ("grid-bytes", grid_bytes),
+    ("careful", careful),
     ("exchanges", exchanges),
     ("damaged-delta", damaged_delta),
     ("damaged-digest", damaged_digest),
@@ -253,6 +258,94 @@ fn late() -> Vec<String> {
         lines.extend(["new".into(), "add 1".into(), "write 1 x61 x76 0 9".into(), "write 1 x62 x77 0 9".into()]);
         lines.extend([format!("write 1 x63 x78 2 {start}"), format!("delete 1 x62 {start}")]);
         lines.extend([format!("gc {} 0", start - 1), format!("gc {start} 0")]);
+    }
+    lines
+}
+
+/// A digest of nodes, last_gcs and maxes, told by a peer.
+fn tell(peer: u64, edition: u64, entries: &[[u64; 3]]) -> String {
+    let entries: Vec<[u64; 4]> = entries.iter().map(|&[number, last_gc, max]| [number, 9, last_gc, max]).collect();
+    format!("tell {peer} {} {edition}", hex(&digest(edition, &entries)))
+}
+
+/// Four columns in every order of coming; what is told of them; then every two of them go.
+fn grid_columns() -> Vec<String> {
+    const NUMBERS: [u64; 4] = [1, 2, 256, u64::MAX];
+    let mut lines = Vec::new();
+    for order in 0..256usize {
+        let order = [0, 2, 4, 6].map(|shift| NUMBERS[order >> shift & 3]);
+        for first in 0..4 {
+            lines.push("new".to_string());
+            for (step, number) in (0..).zip(order) {
+                lines.push(format!("gridadd {number}"));
+                lines.push(tell(step, step % 2, &NUMBERS.map(|told| [told, told / 2 + step, told - 1 + step / 3])));
+            }
+            lines.extend([format!("gridremove {}", order[first]), format!("gridremove {}", order[(first + 1) % 4]), format!("gridadd {}", order[first])]);
+            lines.extend([1, 256].into_iter().flat_map(|number| [format!("least {number}"), format!("told 1 {number}"), format!("told 3 {number}")]));
+        }
+    }
+    lines
+}
+
+/// Every choice of the things that a call on a grid can be refused for: which one is told?
+fn grid_numbers() -> Vec<String> {
+    const PEERS: [u64; 9] = [0, 1, 6, 7, 8, 9, 255, 1 << 32, u64::MAX];
+    let mut lines = Vec::new();
+    for spoilt in ["least 1", "table x", "grid x", "add 3"] {
+        for present in [false, true] {
+            lines.extend(["new", "gridadd 1", "gridadd 2"].map(String::from));
+            lines.push(if present { tell(1, 0, &[[1, 2, 3]]) } else { "takeout 1".into() });
+            lines.push(spoilt.to_string());
+            for peer in PEERS {
+                lines.extend([format!("takeout {peer}"), format!("told {peer} 1"), format!("told {peer} 4")]);
+                for edition in [0, 1, 2, 3, u64::MAX] {
+                    for bytes in [digest(edition, &[]), digest(edition, &[[1, 0, 0, 1]])[..31].to_vec(), digest(edition, &[[1, 0, 0, 0]; 9]), vec![1; 64]] {
+                        lines.push(format!("tell {peer} {} {edition}", hex(&bytes)));
+                    }
+                }
+                lines.extend(["least 1", "least 4", "careful 9 1", "gridadd 1", "gridremove 4", "told 7 1"].map(String::from));
+            }
+            lines.push("newgrid".into());
+            lines.extend((10..18).map(|number| format!("gridadd {number}")));
+            lines.push("dumpgrid".into());
+        }
+    }
+    lines
+}
+
+/// Each byte of a grid changed, by one bit and to 1: is it a grid still, and what does it say?
+fn grid_bytes() -> Vec<String> {
+    let mut rows: [Option<Vec<grid::Pair>>; grid::PEERS] = Default::default();
+    rows[1] = Some(vec![(1, 5), (0, 3), (9, 9)]);
+    rows[7] = Some(vec![(0, 4), (2, 7), (1, 1)]);
+    let good = grid::encode(&[3, 256, u64::MAX - 1], &rows);
+    let mut lines: Vec<String> = ["new", "add 3", "add 256", "add 18446744073709551614"].map(String::from).into();
+    for place in 0..good.len() {
+        for byte in [good[place] ^ 1 << (place % 8), 1] {
+            let mut bytes = good.clone();
+            bytes[place] = byte;
+            lines.extend([format!("grid {}", hex(&bytes)), "takeout 0".into(), "careful 9 1".into(), "least 256".into(), "told 7 3".into()]);
+        }
+    }
+    lines
+}
+
+/// Two peers who are absent or told a small max, three records of every status, the last of them not over before the second moment.
+fn careful() -> Vec<String> {
+    let mut lines = Vec::new();
+    for told in 0..36u64 {
+        for statuses in 0..27u64 {
+            let [one, two, three] = [1, 3, 9].map(|by| (statuses / by % 3) as u8);
+            lines.extend(["new".to_string(), "gridadd 1".to_string()]);
+            lines.push(apply(&[node(0, 0), record("a", 1, one), record("c", 2, two)]));
+            lines.push(format!("apply {} 6 8", hex(&delta(&[node(0, 2), record("b", 3, three)]))));
+            for (peer, max) in [(0, told / 6), (7, told % 6)] {
+                if max > 0 {
+                    lines.push(tell(peer, peer % 2, &[[1, 5 - max, max - 1]]));
+                }
+            }
+            lines.extend(["careful 4 0", "careful 7 2", "careful 8 2", "gc 8 2"].map(String::from));
+        }
     }
     lines
 }

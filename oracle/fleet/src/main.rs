@@ -1,5 +1,6 @@
 //! Fleets of hubs. See oracle/scale.
 
+mod careful;
 mod chance;
 mod claims;
 #[cfg(feature = "original")]
@@ -26,7 +27,7 @@ use plan::Plan;
 use report::grouped;
 use story::Report;
 
-/// The modes. Careful removal, once it is there, is one more thing that a plan says, and one more row here.
+/// The modes. Careful removal is a study of its own (`studies::careful`): a grid has rows for eight peers.
 const MODES: [Mode; 3] = [Mode::Plain, Mode::Fenced, Mode::Guarded];
 const RECORDS: [usize; 2] = [4, 32];
 const MTUS: [usize; 4] = [135, 508, 1_400, 16_384];
@@ -98,9 +99,9 @@ fn matrix(plans: Vec<Plan>, jobs: usize, folder: Option<&Path>) -> usize {
     faults(&reports)
 }
 
-/// Small nets of every mode, and the wrong hubs.
+/// Small nets of every mode, careful ones, and the wrong hubs.
 fn small(seed: u64, jobs: usize) -> usize {
-    matrix(plans(&[10, 100], &RECORDS, &[135, 1_400], seed), jobs, None) + wrong::all(seed)
+    matrix(plans(&[10, 100], &RECORDS, &[135, 1_400], seed), jobs, None) + studies::careful(seed, jobs) + wrong::all(seed)
 }
 
 fn run(words: &[String]) -> Option<usize> {

@@ -61,6 +61,8 @@ pub struct Counts {
     pub fenced: u64,
     pub switched: u64,
     pub restored: u64,
+    /// Records that removal took, at all hubs.
+    pub removed: u64,
     /// Nodes of hubs looked at, and readings of hubs that fell to an older version.
     pub looked: u64,
     pub fell: u64,
@@ -221,7 +223,7 @@ impl<S: Side> Net<S> {
             if self.off[hub].is_some() {
                 continue;
             }
-            let forgets = !self.plan.owns(hub) || self.plan.wrong == Some(Wrong::OwnerLost);
+            let forgets = !self.plan.keeps && !self.plan.owns(hub) || self.plan.wrong == Some(Wrong::OwnerLost);
             // Owners are few: where they are to lose writes they are switched off more often.
             let once_in = if self.plan.owns(hub) && forgets { once_in / 10 } else { once_in };
             let mut chance = self.chance(For::Off, hub);
@@ -319,6 +321,7 @@ impl<S: Side> Net<S> {
             self.spent.remove += elapsed(start);
             let after = removable(&self.hubs[hub]);
             for place in (0..NODES).filter(|&place| after[place] != before[place]) {
+                self.counts.removed += (before[place].1 - after[place].1) as u64;
                 self.stale[hub] |= 1 << place;
                 if place == hub {
                     self.owner_changed(place);
@@ -386,6 +389,7 @@ impl<S: Side> Net<S> {
         match kind {
             Kind::Digest => {
                 self.hubs[hub].offer(&bytes, own);
+                self.hubs[hub].tell(Plan::row(hub, from), &bytes);
                 let mut chance =
                     Chance::of(self.plan.seed, For::Ties, (began.0 as usize) << 8 | usize::from(copy), began.1.into());
                 let ties: [u64; NODES] = std::array::from_fn(|_| chance.below(NODES) as u64);

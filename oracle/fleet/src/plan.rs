@@ -65,12 +65,19 @@ pub struct Plan {
     pub both: bool,
     /// Ticks from a delete to its removal, while hubs are switched off and on.
     pub grace: u64,
+    /// Whether every hub that is switched off comes back with the table that it had, and not owners alone.
+    pub keeps: bool,
     pub wrong: Option<Wrong>,
 }
 
 impl Plan {
     pub fn new(hubs: usize, records: usize, mtu: usize, mode: Mode, seed: u64) -> Plan {
-        Plan { hubs, records, mtu, mode, seed, peers: Peers::Any, link: LINK, both: false, grace: 10, wrong: None }
+        Plan { hubs, records, mtu, mode, seed, peers: Peers::Any, link: LINK, both: false, grace: 10, keeps: false, wrong: None }
+    }
+
+    /// The row that another hub has in a hub's grid, which has none for the hub itself.
+    pub fn row(hub: usize, other: usize) -> u64 {
+        if other < hub { other as u64 } else { other as u64 - 1 }
     }
 
     pub fn owns(&self, hub: usize) -> bool {

@@ -2,13 +2,13 @@
 
 use std::borrow::Cow;
 
-use kevdarosh::{Answer, DIGEST, Digest, Edition, Mode, OwnedTable, Wanted};
+use kevdarosh::{Answer, Answers, DIGEST, Digest, Edition, Mode, OwnedTable, Wanted};
 
 use crate::plan::NODES;
 use crate::side::{Change, Sent, Side, Taken};
 use crate::view;
 
-const EDITION: Edition = Edition::V0;
+pub const EDITION: Edition = Edition::V0;
 
 pub struct Port(Box<OwnedTable>);
 
@@ -22,25 +22,61 @@ fn written(table: &mut OwnedTable, node: u64, key: &[u8], change: Change, clock:
     done.expect("room for every key of the fleet");
 }
 
-impl Port {
-    fn max(&self, node: u64) -> u64 {
-        self.0.node_state(node).expect("a node of the fleet").max_version()
+/// A table with the nodes of the fleet.
+pub fn fresh(mode: Mode) -> OwnedTable {
+    let mut table = OwnedTable::new(mode);
+    for node in 1..=NODES as u64 {
+        table.add_node(node).expect("room for eight nodes");
     }
+    table
+}
+
+pub fn max(table: &OwnedTable, node: u64) -> u64 {
+    table.node_state(node).expect("a node of the fleet").max_version()
+}
+
+pub fn digest(table: &OwnedTable) -> Sent {
+    let mut datagram = [0; DIGEST];
+    let len = table.compute_digest(EDITION, &[], &mut datagram).expect("room for a digest");
+    Sent { bytes: datagram[..len].into(), len, extra: 0 }
+}
+
+/// The nodes of a digest and their heartbeats.
+pub fn heartbeats(digest: &[u8]) -> impl Iterator<Item = (u64, u64)> {
+    let told = Digest::read(EDITION, digest).expect("a digest of the fleet");
+    let told: Vec<(u64, u64)> = told.nodes().map(|node| (node.node, node.heartbeat)).collect();
+    told.into_iter()
+}
+
+pub fn computed(table: &OwnedTable, digest: &[u8], mtu: usize, ties: &[u64], datagram: &mut [u8]) -> Option<Sent> {
+    let sent =
+        table.compute_partial_delta_respecting_mtu(EDITION, digest, mtu, &[], ties, datagram).expect("a digest of the fleet");
+    (sent.ops > 0).then(|| Sent { bytes: datagram[..sent.bytes].into(), len: sent.bytes, extra: 0 })
+}
+
+/// What the answers to a delta say.
+pub fn taken(delta: &[u8], answers: Answers, own: Option<u64>) -> Taken {
+    let mut taken = Taken::default();
+    for (node, answer) in view::nodes(delta).zip(answers.iter()) {
+        if matches!(answer, Answer::Apply | Answer::ApplyAfterReset) {
+            taken.changed |= 1 << (node - 1);
+        }
+        taken.resets += u64::from(answer == Answer::ApplyAfterReset);
+        taken.fenced += u64::from(answer == Answer::Fenced);
+        taken.own_taken |= own == Some(node) && answer != Answer::Reject;
+    }
+    taken
 }
 
 impl Side for Port {
     fn new(mode: Mode) -> Port {
-        let mut table = Box::new(OwnedTable::new(mode));
-        for node in 1..=NODES as u64 {
-            table.add_node(node).expect("room for eight nodes");
-        }
-        Port(table)
+        Port(Box::new(fresh(mode)))
     }
 
     fn change(&mut self, node: u64, key: &str, change: Change, clock: u64) -> bool {
-        let before = self.max(node);
+        let before = max(&self.0, node);
         written(&mut self.0, node, key.as_bytes(), change, clock);
-        self.max(node) != before
+        max(&self.0, node) != before
     }
 
     fn beat(&mut self, node: u64) {
@@ -52,9 +88,7 @@ impl Side for Port {
     }
 
     fn digest(&self) -> Sent {
-        let mut datagram = [0; DIGEST];
-        let len = self.0.compute_digest(EDITION, &[], &mut datagram).expect("room for a digest");
-        Sent { bytes: datagram[..len].into(), len, extra: 0 }
+        digest(&self.0)
     }
 
     fn offer(&mut self, digest: &[u8], own: Option<u64>) {
@@ -65,25 +99,11 @@ impl Side for Port {
     }
 
     fn compute(&self, digest: &[u8], mtu: usize, ties: &[u64], datagram: &mut [u8]) -> Option<Sent> {
-        let sent = self
-            .0
-            .compute_partial_delta_respecting_mtu(EDITION, digest, mtu, &[], ties, datagram)
-            .expect("a digest of the fleet");
-        (sent.ops > 0).then(|| Sent { bytes: datagram[..sent.bytes].into(), len: sent.bytes, extra: 0 })
+        computed(&self.0, digest, mtu, ties, datagram)
     }
 
     fn apply(&mut self, delta: &[u8], clock: u64, own: Option<u64>) -> Taken {
-        let answers = self.0.apply_delta(delta, clock).expect("a delta of the fleet");
-        let mut taken = Taken::default();
-        for (node, answer) in view::nodes(delta).zip(answers.iter()) {
-            if matches!(answer, Answer::Apply | Answer::ApplyAfterReset) {
-                taken.changed |= 1 << (node - 1);
-            }
-            taken.resets += u64::from(answer == Answer::ApplyAfterReset);
-            taken.fenced += u64::from(answer == Answer::Fenced);
-            taken.own_taken |= own == Some(node) && answer != Answer::Reject;
-        }
-        taken
+        taken(delta, self.0.apply_delta(delta, clock).expect("a delta of the fleet"), own)
     }
 
     fn table(&self) -> Cow<'_, [u8]> {

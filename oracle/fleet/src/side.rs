@@ -42,6 +42,8 @@ pub trait Side: Sized {
     fn digest(&self) -> Sent;
     /// Takes the heartbeats of a digest, but for those of the own node.
     fn offer(&mut self, digest: &[u8], own: Option<u64>);
+    /// Takes what a digest tells, as that of a peer, where the hub has a grid.
+    fn tell(&mut self, _peer: u64, _digest: &[u8]) {}
     /// The ties of the next delta, where they are no argument of computing.
     fn set_ties(_ties: &[u64]) {}
     /// Nothing where nothing is owed. The datagram has 16,384 bytes.

@@ -1,10 +1,11 @@
-//! One thing changed at a time: whom a hub hears, what is lost, asking back, the grace.
+//! One thing changed at a time: whom a hub hears, what is lost, asking back, the grace, careful removal.
 
 use kevdarosh::Mode;
 
+use crate::careful::{self, Careful};
 use crate::plan::{LINK, Link, Peers, Plan};
 use crate::port::Port;
-use crate::report::{grouped, span};
+use crate::report::{self, grouped, percent, span};
 use crate::story::{self, Part, Report};
 use crate::{HUBS, work};
 
@@ -111,10 +112,49 @@ fn lives(seed: u64, jobs: usize) -> usize {
     reports.iter().map(|report| report.broken() as usize).sum()
 }
 
+/// Nine plain hubs, each of which is switched off and on with the table that it had: they remove by the clock, or carefully and while all the others are present. How many claims are broken in
+/// careful fleets, and how many nodes reset.
+pub fn careful(seed: u64, jobs: usize) -> usize {
+    let sizes = [4, RECORDS].into_iter().flat_map(|records| [135, 508, MTU, 16_384].map(|mtu| (records, mtu)));
+    let plans: Vec<Plan> =
+        sizes.map(|(records, mtu)| Plan { keeps: true, ..Plan::new(careful::HUBS, records, mtu, Mode::Plain, seed) }).collect();
+    let by_clock = work::each(plans.clone(), jobs, story::whole::<Port>);
+    let with_care = work::each(plans, jobs, story::whole::<Careful>);
+    println!(
+        "Careful removal: {} plain hubs, switched off and on, nobody restored\n\n\
+         | records of a node | MTU | removal | records removed | resets | hubs that show what is back: most at once | at the end | agree after | claims broken |\n|---|---|---|---|---|---|---|---|---|",
+        careful::HUBS
+    );
+    let mut faults = 0;
+    for (clock, care) in by_clock.iter().zip(&with_care) {
+        for (name, report) in [("by the clock", clock), ("careful", care)] {
+            let (most, end, _) = report.back();
+            println!(
+                "| {} | {} | {name} | {} | {} | {} | {} | {} | {} |",
+                report.plan.records,
+                grouped(report.plan.mtu as u64),
+                grouped(report.counts.removed),
+                grouped(report.counts.resets),
+                percent(most),
+                percent(end),
+                ticks(report, Part::End),
+                grouped(report.broken()),
+            );
+        }
+        for claim in report::broken(care) {
+            println!("{:?}: BROKEN: {claim}", care.plan);
+        }
+        // A fleet that removes nothing would show nothing.
+        faults += (care.broken() + care.counts.resets + care.behind(Part::End) as u64) as usize + usize::from(care.counts.removed == 0);
+    }
+    println!();
+    faults
+}
+
 /// One of them, or all. How many claims are broken; none where there is no such study.
 pub fn play(seed: u64, jobs: usize, name: Option<&str>) -> Option<usize> {
-    let studies: [(&str, fn(u64, usize) -> usize); 5] =
-        [("peers", peers), ("links", links), ("asking", asking), ("graces", graces), ("lives", lives)];
+    let studies: [(&str, fn(u64, usize) -> usize); 6] =
+        [("peers", peers), ("links", links), ("asking", asking), ("graces", graces), ("lives", lives), ("careful", careful)];
     let wanted = studies.into_iter().filter(|(study, _)| name.is_none_or(|name| name == *study));
     let broken: Vec<usize> = wanted.map(|(_, study)| study(seed, jobs)).collect();
     println!("claims broken: {}", broken.iter().sum::<usize>());

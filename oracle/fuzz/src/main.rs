@@ -10,7 +10,7 @@
 //! - where a delta was applied, its two parts do the same in either order, cut at a Node; cut elsewhere, the second is refused with 11,
 //! - now and then, the readings by place give the very table again.
 //!
-//! One script in sixteen is followed by a walk over overrides (`over.rs`).
+//! A call on a grid is made by the crate's `Watched` too (`grid.rs`). One script in sixteen is followed by a walk over overrides (`over.rs`).
 
 #[allow(dead_code)]
 #[path = "../../compare/src/damage.rs"]
@@ -18,6 +18,9 @@ mod damage;
 #[allow(dead_code)]
 #[path = "../../../rust/kevdarosh/src/ffi.rs"]
 mod ffi;
+mod grid;
+#[path = "../../compare/src/grids.rs"]
+mod grids;
 #[allow(dead_code)]
 #[path = "../../compare/src/maker.rs"]
 mod maker;
@@ -43,6 +46,7 @@ use plain::side::Lent;
 use script::{Answer, Bytes, Call, HUBS, Side};
 
 use port::Port;
+use random::Random;
 
 /// Bytes of a table, for `ffi`.
 pub const TABLE: usize = script::table::TABLE_BYTES;
@@ -79,6 +83,7 @@ impl Run {
     /// One script: the words of a difference, and the line that shows it.
     fn script(&mut self, lines: &[String], port: &mut [Port; HUBS]) -> Result<(), String> {
         let mut plain = [(); HUBS].map(|()| Lent::new(0));
+        let mut grids = [(); HUBS].map(|()| script::grid::empty());
         let (mut current, mut digest, mut delta) = (0, Vec::new(), Vec::new());
         let calls = all(port);
         *port = [(); HUBS].map(|()| Port::new(0));
@@ -90,6 +95,8 @@ impl Run {
                 | Call::ReadDelta { bytes }
                 | Call::Apply { bytes, .. }
                 | Call::Table { bytes }
+                | Call::Grid { bytes }
+                | Call::Tell { digest: bytes, .. }
                 | Call::Compute { digest: bytes, .. }
                 | Call::Plan { digest: bytes, .. }
                 | Call::PlanFault { digest: bytes, .. } => write_out(bytes, &digest, &delta),
@@ -102,15 +109,28 @@ impl Run {
                     let refused = port[current].remake(*mode)?;
                     if !refused {
                         plain[current] = Lent::new(*mode as u8);
+                        grids[current] = script::grid::empty();
                     }
                 }
                 Call::Table { bytes: Bytes::Given(bytes) } => {
                     plain[current].take_table(bytes);
                     port[current].table = bytes.clone();
                 }
-                Call::Dump => {}
+                Call::Grid { bytes: Bytes::Given(bytes) } => {
+                    grids[current] = bytes.clone();
+                    port[current].grid = bytes.clone();
+                    let good = kevdarosh::Watched::from_bytes(&port[current].table, bytes).is_ok();
+                    if good != grid::belong(bytes, &plain[current]) {
+                        return Err(format!("{line}\n  the crate takes the two in: {good}"));
+                    }
+                }
+                Call::Dump | Call::DumpGrid => {}
                 call => {
-                    let (want, got) = (plain[current].answer(call), port[current].answer(call)?);
+                    let (want, got) = if call.on_grid() {
+                        (plain[current].answer_grid(&mut grids[current], call), port[current].answer_grid(call)?)
+                    } else {
+                        (plain[current].answer(call), port[current].answer(call)?)
+                    };
                     if want != got {
                         return Err(format!("{line}\n  plain:   {want}\n  library: {got}"));
                     }
@@ -124,6 +144,9 @@ impl Run {
             }
             if plain[current].table_bytes() != port[current].table {
                 return Err(format!("{line}\n  the tables differ"));
+            }
+            if grids[current] != port[current].grid {
+                return Err(format!("{line}\n  the grids differ"));
             }
             if self.lines % READ_EVERY == 0 {
                 port[current].read_all().map_err(|what| format!("{line}\n  {what}"))?;
@@ -174,7 +197,13 @@ fn main() -> ExitCode {
                 }
             }
         }
-        let script = if index % 16 == 15 { scripts::peers(seed, index / 16) } else { scripts::beyond(seed, index) };
+        // Grids among all others would be few.
+        let script = match index % 16 {
+            3 => grids::watched(Random::new(seed, index)),
+            11 => grids::given(Random::new(seed, index)),
+            15 => scripts::peers(seed, index / 16),
+            _ => scripts::beyond(seed, index),
+        };
         if let Err(what) = run.script(&script, &mut port) {
             println!("seed={seed}, script {index}: {what}");
             for line in &script {

@@ -15,18 +15,20 @@ const PLACES: u64 = 64;
 
 pub struct Port {
     pub table: Vec<u8>,
+    /// The grid beside it (`grid.rs`).
+    pub grid: Vec<u8>,
     /// How many calls of the library were made.
     pub calls: u64,
 }
 
-fn given(bytes: &Bytes) -> &[u8] {
+pub fn given(bytes: &Bytes) -> &[u8] {
     match bytes {
         Bytes::Given(bytes) => bytes,
         _ => unreachable!("bytes are written out"),
     }
 }
 
-fn plain_answer(number: u64) -> Answer {
+pub fn plain_answer(number: u64) -> Answer {
     if number == 0 { Answer::Done } else { Answer::Refused(number as u8) }
 }
 
@@ -190,17 +192,17 @@ fn plain(number: u64) -> (u64, Answer) {
     (number, plain_answer(number))
 }
 
-fn or_cut(number: u64, need: usize, answer: Answer) -> (u64, Answer) {
+pub fn or_cut(number: u64, need: usize, answer: Answer) -> (u64, Answer) {
     if number == 9 { (9, Answer::Cut { at: None, need }) } else { or(number, answer) }
 }
 
-fn or(number: u64, answer: Answer) -> (u64, Answer) {
+pub fn or(number: u64, answer: Answer) -> (u64, Answer) {
     (number, if number == 0 { answer } else { plain_answer(number) })
 }
 
 impl Port {
     pub fn new(mode: usize) -> Port {
-        let mut port = Port { table: vec![MARK; crate::TABLE], calls: 1 };
+        let mut port = Port { table: vec![MARK; crate::TABLE], grid: script::grid::empty(), calls: 1 };
         assert_eq!(ffi::new_table(&mut port.table, mode), 0);
         port
     }
@@ -213,6 +215,7 @@ impl Port {
         match ffi::new_table(&mut table, mode as usize) {
             0 => {
                 self.table = table;
+                self.grid = script::grid::empty();
                 Ok(false)
             }
             14 if marked(&table) => Ok(true),

@@ -42,7 +42,7 @@ pub struct Hub {
 }
 
 /// A call ends early with a refusal, or with something that document 01 does not foresee.
-type Outcome<T> = Result<T, Answer>;
+pub(crate) type Outcome<T> = Result<T, Answer>;
 
 fn text(bytes: &[u8]) -> Outcome<&str> {
     std::str::from_utf8(bytes).map_err(|_| Answer::Outside)
@@ -103,11 +103,11 @@ fn panic_message(panic: Box<dyn std::any::Any + Send>) -> String {
 }
 
 /// Asks the original. A panic becomes `Broken`.
-fn ask<T>(question: impl FnOnce() -> T) -> Outcome<T> {
+pub(crate) fn ask<T>(question: impl FnOnce() -> T) -> Outcome<T> {
     catch_unwind(AssertUnwindSafe(question)).map_err(|panic| Answer::Broken(panic_message(panic)))
 }
 
-fn given(bytes: &Bytes) -> &[u8] {
+pub(crate) fn given(bytes: &Bytes) -> &[u8] {
     match bytes {
         Bytes::Given(bytes) => bytes,
         _ => unreachable!("the runner writes bytes out"),
@@ -200,7 +200,7 @@ fn edition_of(number: u64) -> Outcome<ProtocolVersion> {
     }
 }
 
-fn read_digest(bytes: &[u8], edition: u64) -> Outcome<(Digest, usize)> {
+pub(crate) fn read_digest(bytes: &[u8], edition: u64) -> Outcome<(Digest, usize)> {
     match edition_of(edition)? {
         ProtocolVersion::V0 => read_counted(bytes),
         ProtocolVersion::V1 => read_to_end(bytes).map(|digest| (digest, 0)),
@@ -260,8 +260,13 @@ fn node_count(operations: &[Vec<u8>]) -> usize {
 }
 
 impl Hub {
+    /// Whether the lent bytes are a good table.
+    pub(crate) fn is_good(&self) -> bool {
+        self.bad.is_none()
+    }
+
     /// Layer: 14, then 2. A node of the table.
-    fn node(&mut self, number: u64) -> Outcome<&mut NodeState> {
+    pub(crate) fn node(&mut self, number: u64) -> Outcome<&mut NodeState> {
         self.cluster.node_state_mut(&wire::chitchat_id(number)).ok_or(Answer::Refused(2))
     }
 
@@ -297,7 +302,7 @@ impl Hub {
         if node.get_versioned(key).is_none() { Err(Answer::Refused(3)) } else { Ok(key) }
     }
 
-    fn add(&mut self, number: u64) -> Outcome<Answer> {
+    pub(crate) fn add(&mut self, number: u64) -> Outcome<Answer> {
         let id = wire::chitchat_id(number);
         if self.cluster.node_state(&id).is_none() && self.cluster.nodes().count() == NODES {
             return Err(Answer::Refused(4));
@@ -308,7 +313,7 @@ impl Hub {
         Ok(Answer::Done)
     }
 
-    fn remove(&mut self, number: u64) -> Outcome<Answer> {
+    pub(crate) fn remove(&mut self, number: u64) -> Outcome<Answer> {
         self.node(number)?;
         self.cluster.remove_node(&wire::chitchat_id(number));
         if self.removed.len() == REMOVED {
@@ -711,6 +716,10 @@ impl Side for Hub {
             call => self.answer_good(call),
         };
         outcome.unwrap_or_else(|early| early)
+    }
+
+    fn answer_grid(&mut self, grid: &mut Vec<u8>, call: &Call) -> Answer {
+        self.on_grid(grid, call).unwrap_or_else(|early| early)
     }
 
     /// Builds the table with the original's own setters.

@@ -2,7 +2,7 @@
 //!
 //! - `mount`: the original files as modules, each with a probe beside it that reaches its private items.
 //! - `wire`: document 01's bytes to the original's bytes and back.
-//! - `hub`: one table. It holds the layer of refusals that document 01 adds around the original.
+//! - `hub`: one table. It holds the layer of refusals that document 01 adds around the original. `grid`: the grid beside it.
 //! - `raw`: the original without that layer, for the findings; `timed`: the same for the measurement; `fleet`: the same as one hub of many.
 
 // The original's own looks are not ours to mend.
@@ -40,6 +40,7 @@ mod types {
 }
 
 pub mod fleet;
+mod grid;
 pub mod hub;
 pub mod raw;
 pub mod timed;

@@ -37,12 +37,15 @@ fn number(word: Option<String>) -> u64 {
     word.and_then(|word| word.parse().ok()).expect("usage: nets [rule|claims|locks] N SEED")
 }
 
+/// Of so many steps, those that each safe kind has.
+const SHARE: u64 = 6;
+
 /// The safe kinds keep what is claimed; each unsafe one is found out.
 fn both(steps: u64, seed: u64) -> bool {
     let mut good = true;
     for kind in SAFE {
         let mut counts = Counts::default();
-        let outcome = search(kind, Look { rule: true, claims: true }, steps / SAFE.len() as u64, seed, &mut counts);
+        let outcome = search(kind, Look { rule: true, claims: true }, steps / SHARE, seed, &mut counts);
         counts.say(kind);
         if let Err((claim, at)) = outcome {
             println!("{kind:?}: FAILS after {at} steps: {claim}");
@@ -50,7 +53,9 @@ fn both(steps: u64, seed: u64) -> bool {
         }
     }
     for kind in UNSAFE {
-        match search(kind, Look { rule: true, claims: true }, steps, seed, &mut Counts::default()) {
+        // It takes four hubs and some luck to see that one condition of a careful net is missed.
+        let most = if kind.has_grids() { 10 * steps } else { steps };
+        match search(kind, Look { rule: true, claims: true }, most, seed, &mut Counts::default()) {
             Err((claim, at)) => println!("{kind:?}: fails, as it must, after {at} steps: {claim}"),
             Ok(()) => {
                 println!("{kind:?}: NOT FOUND");

@@ -2,6 +2,7 @@
 
 use std::collections::BTreeMap;
 
+use script::grid::PRESENT;
 use script::table::{self, AREA_BYTES, FENCED, GUARDED, PLAIN};
 
 use crate::bytes::{self, Pair, Part};
@@ -34,10 +35,52 @@ pub enum Kind {
     Hasty,
     /// Four guarded hubs and two nodes of hub 0: see `locks`.
     Narrow,
+    /// All plain. Every hub has a grid, which peers tell by digests that they wrote, old ones too; it removes only carefully and while every other hub is present.
+    /// Nobody is restored, and no node is removed.
+    Careful,
+    /// The same in any modes.
+    CarefulAny,
+    /// As Careful, but a hub that owns no node removes by the clock alone.
+    OwnerAlone,
+    /// As Careful, but some never tell, and whoever is present is enough.
+    Whoever,
+    /// As Careful, but a peer that was present may be taken out, and is not waited for then.
+    TakenOut,
+    /// As Careful, but hubs are restored.
+    Restored,
+    /// As Careful, but nodes are removed and added again.
+    Renewed,
+    /// As Careful, but a row may be told by a digest that its peer did not write.
+    Forged,
 }
 
-pub const SAFE: [Kind; 6] = [Kind::Fenced, Kind::Guarded, Kind::Both, Kind::Leaf, Kind::Losing, Kind::Overlapping];
-pub const UNSAFE: [Kind; 5] = [Kind::Plain, Kind::Relay, Kind::Lost, Kind::Unstored, Kind::Hasty];
+pub const SAFE: [Kind; 8] =
+    [Kind::Fenced, Kind::Guarded, Kind::Both, Kind::Leaf, Kind::Losing, Kind::Overlapping, Kind::Careful, Kind::CarefulAny];
+pub const UNSAFE: [Kind; 11] = [
+    Kind::Plain,
+    Kind::Relay,
+    Kind::Lost,
+    Kind::Unstored,
+    Kind::Hasty,
+    Kind::OwnerAlone,
+    Kind::Whoever,
+    Kind::TakenOut,
+    Kind::Restored,
+    Kind::Renewed,
+    Kind::Forged,
+];
+
+impl Kind {
+    /// Every hub has a grid.
+    pub fn has_grids(self) -> bool {
+        self.is_careful() || matches!(self, Kind::OwnerAlone | Kind::Whoever | Kind::TakenOut | Kind::Restored | Kind::Renewed | Kind::Forged)
+    }
+
+    /// A careful net with all its conditions.
+    fn is_careful(self) -> bool {
+        matches!(self, Kind::Careful | Kind::CarefulAny)
+    }
+}
 
 /// What an owner gave to a node: how many versions, and the one that each key was given last.
 #[derive(Clone, Default)]
@@ -81,6 +124,9 @@ pub struct Counts {
     pub recalled: u64,
     pub crossed: u64,
     pub resets_between: u64,
+    pub told: u64,
+    pub waited: u64,
+    pub gone: u64,
 }
 
 const KEYS: [&[u8]; 4] = [b"a", b"b", b"c", b"d"];
@@ -109,6 +155,13 @@ pub struct Net<'a> {
     /// Everything ever computed.
     deltas: Vec<Vec<u8>>,
     digests: Vec<Vec<u8>>,
+    /// Each hub's grid, where another has the row of its number; who never tells it; who is out of it; and the digests that each hub wrote.
+    grids: Vec<Vec<u8>>,
+    mute: Vec<Vec<bool>>,
+    /// Who hears, tells and removes for a while.
+    awake: Vec<usize>,
+    outs: Vec<Vec<bool>>,
+    written: Vec<Vec<Vec<u8>>>,
     counts: &'a mut Counts,
 }
 
@@ -121,9 +174,10 @@ fn ensure(holds: bool, claim: impl Fn() -> String) -> Claim {
 impl<'a> Net<'a> {
     pub fn new(kind: Kind, look: Look, mut random: Random, counts: &'a mut Counts) -> Net<'a> {
         let narrow = kind == Kind::Narrow;
-        let hubs = if narrow { 4 } else { 3 + random.below(3) };
-        let nodes = if narrow { 2 } else { 1 + random.below(2) };
-        let keys = 2 + random.below(KEYS.len() - 1);
+        let small = kind.has_grids() && !random.once_in(4);
+        let hubs = if narrow || small { 4 } else { 3 + random.below(3) };
+        let nodes = if narrow { 2 } else { 1 + if small { 0 } else { random.below(2) } };
+        let keys = 2 + if small { 0 } else { random.below(KEYS.len() - 1) };
         let owners = (0..nodes).map(|_| if narrow { 0 } else { random.below(hubs) }).collect();
         let mut modes: Vec<u8> = (0..hubs)
             .map(|_| match kind {
@@ -132,6 +186,9 @@ impl<'a> Net<'a> {
                 Kind::Guarded | Kind::Lost | Kind::Overlapping | Kind::Narrow => GUARDED,
                 Kind::Both | Kind::Leaf | Kind::Relay => *random.pick(&[FENCED, GUARDED]),
                 Kind::Losing | Kind::Unstored | Kind::Hasty => *random.pick(&[FENCED, GUARDED]),
+                Kind::CarefulAny => *random.pick(&[PLAIN, FENCED, GUARDED]),
+                Kind::Careful | Kind::OwnerAlone | Kind::Whoever | Kind::TakenOut => PLAIN,
+                Kind::Restored | Kind::Renewed | Kind::Forged => PLAIN,
             })
             .collect();
         if matches!(kind, Kind::Leaf | Kind::Relay) {
@@ -141,6 +198,8 @@ impl<'a> Net<'a> {
         let fresh: Vec<_> = (1..=nodes as u64).map(fresh).collect();
         counts.nets += 1;
         let tables: Vec<Vec<u8>> = modes.iter().map(|&mode| table::encode(&fresh, mode)).collect();
+        let grids = tables.iter().map(|table| if kind.has_grids() { port::grid(table) } else { Vec::new() }).collect();
+        let mute = (0..hubs).map(|_| (0..hubs).map(|_| kind == Kind::Whoever && random.once_in(2)).collect()).collect();
         Net {
             random,
             kind,
@@ -157,6 +216,11 @@ impl<'a> Net<'a> {
             open: Vec::new(),
             deltas: Vec::new(),
             digests: Vec::new(),
+            grids,
+            mute,
+            awake: (0..hubs).collect(),
+            outs: vec![vec![false; hubs]; hubs],
+            written: vec![Vec::new(); hubs],
             counts,
         }
     }
@@ -211,6 +275,9 @@ impl<'a> Net<'a> {
 
     pub fn step(&mut self) -> Claim {
         self.counts.steps += 1;
+        if self.kind.has_grids() {
+            return self.watched_step().and_then(|()| self.claims());
+        }
         let hub = self.random.below(self.tables.len());
         match self.random.below(24) {
             0..=3 => self.write(),
@@ -228,6 +295,127 @@ impl<'a> Net<'a> {
         .and_then(|()| self.claims())
     }
 
+    /// Where hubs have grids: some sleep for a while. What an owner writes is heard at once by those awake, or by nobody; more is told and removed.
+    fn watched_step(&mut self) -> Claim {
+        let hubs = self.tables.len();
+        if self.random.once_in(4) || self.awake.len() < 2 {
+            self.awake = (0..hubs).filter(|_| self.random.once_in(2)).collect();
+            return Ok(());
+        }
+        let hub = *self.random.pick(&self.awake);
+        match self.random.below(20) {
+            0 | 1 => {
+                self.write()?;
+                if self.random.once_in(2) { self.all_hear() } else { Ok(()) }
+            }
+            2..=4 => self.spread(),
+            5 | 6 => self.watch(hub),
+            7 => {
+                self.all_tell(hub);
+                self.remove(hub)
+            }
+            8 if self.random.once_in(2) => self.compute(),
+            8 | 9 => self.arrive(hub),
+            _ => {
+                let other = *self.random.pick(&self.awake);
+                let (mtu, excluded) = (self.mtu(), self.excluded());
+                if other == hub { Ok(()) } else { self.hear(hub, other, mtu, &excluded) }
+            }
+        }
+    }
+
+    /// Those awake hear an owner.
+    fn all_hear(&mut self) -> Claim {
+        let owner = *self.random.pick(&self.owners);
+        for hub in self.awake.clone() {
+            if hub != owner {
+                self.hear(hub, owner, WHOLE, &[])?;
+            }
+        }
+        Ok(())
+    }
+
+    /// An owner deletes a key; those awake hear it and tell, and one of them removes, mostly the owner. Where the kind lacks a condition, that is missed here.
+    fn spread(&mut self) -> Claim {
+        let place = self.random.below(self.owners.len());
+        let owner = self.owners[place];
+        self.lapse_before();
+        let key = KEYS[self.random.below(self.keys)];
+        let (before, clock) = (self.pair(owner, place), self.clock(owner));
+        port::delete(&mut self.tables[owner], place as u64 + 1, key, clock);
+        if self.pair(owner, place).max > before.max {
+            self.gave(place, key);
+        }
+        for hub in self.awake.clone() {
+            if hub != owner {
+                self.hear(hub, owner, WHOLE, &[])?;
+            }
+        }
+        let follower = self.kind == Kind::OwnerAlone || self.random.once_in(3);
+        let hub = if follower { *self.random.pick(&self.awake) } else { owner };
+        self.all_tell(hub);
+        self.lapse_at(hub);
+        self.remove(hub)?;
+        self.lapse_after()
+    }
+
+    fn asleep(&self) -> Vec<usize> {
+        (0..self.tables.len()).filter(|hub| !self.awake.contains(hub)).collect()
+    }
+
+    /// Hubs are saved.
+    fn lapse_before(&mut self) {
+        if self.kind == Kind::Restored {
+            for hub in 0..self.tables.len() {
+                if self.random.once_in(2) {
+                    self.saved[hub].truncate(1);
+                    self.saved[hub].insert(0, self.tables[hub].clone());
+                }
+            }
+        }
+    }
+
+    /// Who sleeps is taken out of a hub's grid, or has its row told by another.
+    fn lapse_at(&mut self, hub: usize) {
+        for peer in self.asleep() {
+            if peer == hub || self.random.once_in(3) {
+                continue;
+            }
+            if self.kind == Kind::TakenOut && self.grids[hub][PRESENT + peer] == 1 {
+                assert_eq!(port::take_out(&mut self.grids[hub], peer as u64), 0);
+                self.outs[hub][peer] = true;
+            }
+            if self.kind == Kind::Forged {
+                let digest = port::digest(&self.tables[hub], &[]);
+                self.tell(hub, peer, &digest);
+            }
+        }
+    }
+
+    /// Hubs are restored, or have a node removed and added again.
+    fn lapse_after(&mut self) -> Claim {
+        for hub in 0..self.tables.len() {
+            if self.kind == Kind::Restored && self.random.once_in(3) {
+                self.restore(hub)?;
+            }
+            let place = self.random.below(self.owners.len());
+            if self.kind == Kind::Renewed && self.random.once_in(3) && self.owners[place] != hub {
+                assert_eq!(port::renew(&mut self.grids[hub], &mut self.tables[hub], place as u64 + 1), 0);
+                self.counts.wiped += 1;
+            }
+        }
+        Ok(())
+    }
+
+    /// Those awake tell a hub what they hold.
+    fn all_tell(&mut self, hub: usize) {
+        for peer in self.awake.clone() {
+            if peer != hub {
+                self.tell_now(hub, peer);
+            }
+        }
+    }
+
     fn write(&mut self) -> Claim {
         let place = self.random.below(self.owners.len());
         if !self.may_write(place) {
@@ -241,7 +429,8 @@ impl<'a> Net<'a> {
         let value = if long { &value[..] } else { &value[..1] };
         let (number, clock) = (place as u64 + 1, self.clock(hub));
         let table = &mut self.tables[hub];
-        match self.random.below(6) {
+        // Where hubs have grids, `spread` deletes.
+        match if self.kind.has_grids() { self.random.below(4) } else { self.random.below(6) } {
             0..=2 => port::write(table, number, key, value, table::SET.into(), clock),
             3 => port::write(table, number, key, value, table::TTL.into(), clock),
             _ => port::delete(table, number, key, clock),
@@ -268,21 +457,76 @@ impl<'a> Net<'a> {
         {
             self.gave(place, key);
         }
-        port::remove(&mut self.tables[hub], clock, 0);
-        self.counts.removals += 1;
+        self.remove_at(hub, clock, 0);
         self.no_fall(hub, &before)
     }
 
     fn remove(&mut self, hub: usize) -> Claim {
         let before = self.pairs(hub);
-        let (clock, grace) = (self.clock(hub), *self.random.pick(&[0, 0, 4, 12]));
-        port::remove(&mut self.tables[hub], clock, grace);
-        self.counts.removals += 1;
+        let (clock, grace) = (self.clock(hub), if self.kind.has_grids() { 0 } else { *self.random.pick(&[0, 0, 4, 12]) });
+        self.remove_at(hub, clock, grace);
         self.no_fall(hub, &before)
     }
 
+    fn remove_at(&mut self, hub: usize, clock: u64, grace: u64) {
+        if !self.kind.has_grids() || self.kind == Kind::OwnerAlone && self.owned(hub).is_empty() {
+            port::remove(&mut self.tables[hub], clock, grace);
+            self.counts.removals += 1;
+            return;
+        }
+        if !self.may_remove(hub) {
+            self.counts.waited += 1;
+            return;
+        }
+        let held = |table: &[u8]| (0..self.owners.len()).map(|place| bytes::records(table, place).count()).sum::<usize>();
+        let before = held(&self.tables[hub]);
+        if port::remove_carefully(&self.grids[hub], &mut self.tables[hub], clock, grace) == 0 {
+            self.counts.removals += 1;
+            self.counts.gone += (before - held(&self.tables[hub])) as u64;
+        }
+    }
+
+    // ---- who has seen what
+
+    /// Every other hub is present in this one's grid, or need not be.
+    fn may_remove(&self, hub: usize) -> bool {
+        let present = |peer: usize| self.grids[hub][PRESENT + peer] == 1;
+        (0..self.tables.len()).all(|peer| peer == hub || present(peer) || self.kind == Kind::Whoever || self.outs[hub][peer])
+    }
+
+    /// A digest is told to a hub's grid as that of a peer.
+    fn tell(&mut self, hub: usize, peer: usize, digest: &[u8]) {
+        if self.mute[hub][peer] {
+            return;
+        }
+        assert_eq!(port::tell(&mut self.grids[hub], peer as u64, digest), 0);
+        self.outs[hub][peer] = false;
+        self.counts.told += 1;
+    }
+
+    /// A peer tells what it holds.
+    fn tell_now(&mut self, hub: usize, peer: usize) {
+        let digest = port::digest(&self.tables[peer], &[]);
+        self.written[peer].push(digest.clone());
+        self.tell(hub, peer, &digest);
+    }
+
+    /// A peer tells a hub a digest that it wrote, now or before.
+    fn watch(&mut self, hub: usize) -> Claim {
+        let hubs = self.tables.len();
+        let peer = (hub + 1 + self.random.below(hubs - 1)) % hubs;
+        if !self.written[peer].is_empty() && self.random.once_in(4) {
+            let digest = self.random.pick(&self.written[peer]).clone();
+            self.tell(hub, peer, &digest);
+        } else if self.awake.contains(&peer) || self.random.once_in(8) {
+            self.tell_now(hub, peer);
+        }
+        Ok(())
+    }
+
     fn mtu(&mut self) -> usize {
-        if self.random.once_in(2) { WHOLE } else { 100 + self.random.below(80) }
+        let whole = if self.kind.has_grids() { !self.random.once_in(6) } else { self.random.once_in(2) };
+        if whole { WHOLE } else { 100 + self.random.below(80) }
     }
 
     /// Seldom a node is left out.
@@ -344,6 +588,10 @@ impl<'a> Net<'a> {
     fn hear(&mut self, hub: usize, other: usize, mtu: usize, excluded: &[u64]) -> Claim {
         let digest = port::digest(&self.tables[hub], &[]);
         self.digests.push(digest.clone());
+        if self.kind.has_grids() {
+            self.written[hub].push(digest.clone());
+            self.tell(other, hub, &digest);
+        }
         let delta = self.computed(other, &digest, mtu, excluded);
         self.apply(hub, &delta)
     }
@@ -476,6 +724,7 @@ impl<'a> Net<'a> {
         ensure(!self.look.rule || fenced == (answer == FENCED_CODE), || {
             "an answer is Fenced where the rule says so".into()
         })?;
+        ensure(!self.look.claims || !self.kind.is_careful() || answer != RESET_CODE, || "no hub of a careful net is reset".into())?;
         let own = self.owners[place] == hub && before[place].max >= self.given[place].versions;
         ensure(!self.look.claims || !own || answer == 0, || "an owner rejects".into())
     }
@@ -494,6 +743,11 @@ impl<'a> Net<'a> {
             return Ok(());
         }
         for place in 0..self.owners.len() {
+            if self.kind.is_careful() {
+                let pairs: Vec<Pair> = (0..self.tables.len()).map(|hub| self.pair(hub, place)).collect();
+                let least = pairs.iter().map(|pair| pair.max).min().unwrap_or(0);
+                ensure(pairs.iter().all(|pair| pair.last_gc <= least), || "every last_gc is within every hub's max".into())?;
+            }
             let owner = self.owners[place];
             let most = if self.loses() { self.given[place].versions } else { self.owner_pair(place).max };
             // An owner that forgot may be behind: then any hub that has all stands for it.
@@ -608,13 +862,13 @@ impl<'a> Net<'a> {
 
     // ---- how it ends
 
-    /// Whole deltas along a tree of hubs, nobody writes. A guarded net is closed after two rounds for each step of the way; of others it is counted whether
-    /// a round that changes nothing leaves a hub behind.
+    /// Whole deltas along a tree of hubs, nobody writes. A guarded net is closed after two rounds for each step of the way, a careful one after one; of others it is
+    /// counted whether a round that changes nothing leaves a hub behind.
     pub fn end(&mut self) -> Claim {
         if self.kind == Kind::Overlapping {
             return self.end_crossing();
         }
-        if !matches!(self.kind, Kind::Fenced | Kind::Guarded | Kind::Both) {
+        if !matches!(self.kind, Kind::Fenced | Kind::Guarded | Kind::Both) && !self.kind.is_careful() {
             return Ok(());
         }
         let hubs = self.tables.len();
@@ -629,6 +883,9 @@ impl<'a> Net<'a> {
             let quiet = self.tables == before;
             if self.kind == Kind::Guarded && (quiet || round == 2 * (hubs - 1)) {
                 ensure(!self.look.claims || self.level(), || "a guarded net agrees after two rounds a step".into())?;
+            }
+            if self.kind.is_careful() && (quiet || round == hubs - 1) {
+                ensure(!self.look.claims || self.level(), || "a careful net agrees after one round a step".into())?;
             }
             if quiet || round == 40 {
                 break;
@@ -710,6 +967,9 @@ impl Counts {
                 "  crashed {}, versions undone {}, forgot {}, recalled {}",
                 self.crashed, self.undone, self.forgot, self.recalled
             );
+        }
+        if self.told > 0 {
+            println!("  told {}, removals that waited {}, records removed {}", self.told, self.waited, self.gone);
         }
         if self.crossed > 0 {
             println!(

@@ -34,6 +34,12 @@ mod c {
             place: usize,
         ) -> usize;
         pub fn kev_apply(table: &Lent, delta: &Lent, clock: u64, answers: &Lent) -> usize;
+        pub fn kev_new_grid(grid: &Lent, table: &Lent) -> u64;
+        pub fn kev_grid_add(grid: &Lent, table: &Lent, number: u64) -> u64;
+        pub fn kev_grid_drop(grid: &Lent, table: &Lent, number: u64) -> u64;
+        pub fn kev_tell(grid: &Lent, peer: u64, digest: &Lent) -> u64;
+        pub fn kev_take_out(grid: &Lent, peer: u64) -> u64;
+        pub fn kev_remove_carefully(grid: &Lent, table: &Lent, clock: u64, grace: u64) -> u64;
     }
 }
 
@@ -75,4 +81,28 @@ pub fn apply(table: &mut [u8], delta: &[u8], clock: u64) -> Vec<u8> {
     let nodes = unsafe { c::kev_apply(&lent_mut(table), &lent(delta), clock, &lent_mut(&mut answers)) };
     answers.truncate(nodes);
     answers
+}
+
+/// The grid of a table: nobody is present.
+pub fn grid(table: &[u8]) -> Vec<u8> {
+    let mut grid = vec![0; script::grid::GRID_BYTES];
+    assert_eq!(unsafe { c::kev_new_grid(&lent_mut(&mut grid), &lent(table)) }, 0);
+    grid
+}
+
+/// A node removed and added again through the grid. 0 where it was done.
+pub fn renew(grid: &mut [u8], table: &mut [u8], number: u64) -> u64 {
+    unsafe { c::kev_grid_drop(&lent_mut(grid), &lent_mut(table), number) | c::kev_grid_add(&lent_mut(grid), &lent_mut(table), number) }
+}
+
+pub fn tell(grid: &mut [u8], peer: u64, digest: &[u8]) -> u64 {
+    unsafe { c::kev_tell(&lent_mut(grid), peer, &lent(digest)) }
+}
+
+pub fn take_out(grid: &mut [u8], peer: u64) -> u64 {
+    unsafe { c::kev_take_out(&lent_mut(grid), peer) }
+}
+
+pub fn remove_carefully(grid: &[u8], table: &mut [u8], clock: u64, grace: u64) -> u64 {
+    unsafe { c::kev_remove_carefully(&lent(grid), &lent_mut(table), clock, grace) }
 }

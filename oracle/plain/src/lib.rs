@@ -5,6 +5,7 @@ mod apply;
 mod compute;
 mod delta;
 mod digest;
+pub mod grid;
 pub mod local;
 pub mod over;
 mod plan;

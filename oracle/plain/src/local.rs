@@ -140,13 +140,15 @@ impl Table {
 
     /// Removal, over all nodes.
     pub fn gc(&mut self, now: u64, grace: u64) {
-        for node in self.nodes.values_mut() {
-            let stays = |record: &Record| {
-                !record.status.scheduled() || u128::from(now) < u128::from(record.start) + u128::from(grace)
-            };
-            let removed = node.records.values().filter(|record| !stays(record)).map(|record| record.version).max();
+        self.remove_records(|_, record| record.over(now, grace));
+    }
+
+    /// The records of a node that go, by its number. The largest version among them is the node's last_gc, if that grows by it.
+    pub fn remove_records(&mut self, goes: impl Fn(u64, &Record) -> bool) {
+        for (&number, node) in &mut self.nodes {
+            let removed = node.records.values().filter(|record| goes(number, record)).map(|record| record.version).max();
             node.last_gc = node.last_gc.max(removed.unwrap_or(0));
-            node.records.retain(|_, record| stays(record));
+            node.records.retain(|_, record| !goes(number, record));
         }
     }
 }

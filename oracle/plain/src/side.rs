@@ -2,6 +2,7 @@
 
 use script::{Answer, Bytes, Call, DigestEntry, Side};
 
+use crate::grid::Grid;
 use crate::local::{Refused, Scheduled, Unread};
 use crate::table::Table;
 use crate::{apply, compute, delta, digest, plan};
@@ -181,6 +182,38 @@ fn answer_good(table: &mut Table, call: &Call) -> Result<Answer, Answer> {
     }
 }
 
+/// A call on a grid. Where it takes the table too, both must be good and belong together.
+fn answer_grid(lent: &mut Lent, bytes: &mut Vec<u8>, call: &Call) -> Result<Answer, Answer> {
+    const BAD: Answer = Answer::Refused(14);
+    if let (Call::NewGrid, Lent::Good(table)) = (call, &lent) {
+        if bytes.len() != script::grid::GRID_BYTES {
+            return Err(BAD);
+        }
+        *bytes = Grid::of(table).to_bytes();
+        return Ok(Answer::Done);
+    }
+    let mut grid = Grid::from_bytes(bytes).ok_or(BAD)?;
+    let answer = match (call, lent) {
+        (Call::Tell { peer, digest, edition }, _) => grid.tell(*peer, *edition, given(digest)).map(|()| Answer::Done).map_err(unread),
+        (Call::TakeOut { peer }, _) => done(grid.take_out(*peer)),
+        (Call::Least { node }, _) => grid.least(*node).map(Answer::Least).map_err(Answer::Refused),
+        (Call::Told { peer, node }, _) => match grid.told(*peer, *node) {
+            Ok(Some((last_gc, max))) => Ok(Answer::Told { last_gc, max }),
+            Ok(None) => Ok(Answer::Absent),
+            Err(number) => Err(Answer::Refused(number)),
+        },
+        (call, Lent::Good(table)) if grid.fits(table) => match call {
+            Call::GridAdd { node } => done(grid.add(table, *node)),
+            Call::GridRemove { node } => done(grid.remove(table, *node)),
+            Call::Careful { now, grace } => done(grid.remove_carefully(table, *now, *grace)),
+            _ => unreachable!("answered without a grid"),
+        },
+        _ => Err(BAD),
+    }?;
+    *bytes = grid.to_bytes();
+    Ok(answer)
+}
+
 impl Side for Lent {
     fn new(mode: u8) -> Lent {
         Lent::Good(Table::in_mode(mode))
@@ -198,6 +231,10 @@ impl Side for Lent {
             (call, Lent::Good(table)) => answer_good(table, call),
         };
         outcome.unwrap_or_else(|refused| refused)
+    }
+
+    fn answer_grid(&mut self, grid: &mut Vec<u8>, call: &Call) -> Answer {
+        answer_grid(self, grid, call).unwrap_or_else(|refused| refused)
     }
 
     fn take_table(&mut self, bytes: &[u8]) -> Answer {

@@ -48,6 +48,11 @@ impl Record {
     pub fn hidden(&self) -> bool {
         self.status == Status::Delete
     }
+
+    /// Whether it is scheduled and its grace is over.
+    pub fn over(&self, now: u64, grace: u64) -> bool {
+        self.status.scheduled() && u128::from(now) >= u128::from(self.start) + u128::from(grace)
+    }
 }
 
 #[derive(Clone, Default)]
@@ -161,11 +166,11 @@ fn laid_out(number: u64, node: &Node) -> layout::Node {
     }
 }
 
-/// Walks over the bytes of a table field by field; None where a rule breaks.
-struct Walk<'a>(&'a [u8]);
+/// Walks over lent bytes field by field; None where a rule breaks.
+pub struct Walk<'a>(pub &'a [u8]);
 
 impl<'a> Walk<'a> {
-    fn take(&mut self, count: usize) -> Option<&'a [u8]> {
+    pub fn take(&mut self, count: usize) -> Option<&'a [u8]> {
         let (taken, rest) = self.0.split_at_checked(count)?;
         self.0 = rest;
         Some(taken)
@@ -175,15 +180,15 @@ impl<'a> Walk<'a> {
         Some(self.take(1)?[0])
     }
 
-    fn number(&mut self) -> Option<u64> {
+    pub fn number(&mut self) -> Option<u64> {
         Some(u64::from_le_bytes(self.take(8)?.try_into().ok()?))
     }
 
-    fn count(&mut self, most: usize) -> Option<usize> {
+    pub fn count(&mut self, most: usize) -> Option<usize> {
         Some(usize::from(self.byte()?)).filter(|&count| count <= most)
     }
 
-    fn zeros(&mut self, count: usize) -> Option<()> {
+    pub fn zeros(&mut self, count: usize) -> Option<()> {
         self.take(count)?.iter().all(|&byte| byte == 0).then_some(())
     }
 

@@ -89,6 +89,16 @@ pub enum Answer {
     },
     Applied(Vec<Verdict>),
     Table(Vec<u8>),
+    Grid(Vec<u8>),
+    /// The least max of a node over the peers present.
+    Least(u64),
+    /// What a peer told of a node.
+    Told {
+        last_gc: u64,
+        max: u64,
+    },
+    /// The peer is not present.
+    Absent,
     /// The original cannot be asked: the text is no UTF-8.
     Outside,
     /// The original panicked, erred or contradicted itself where document 01 foresees nothing. Never expected.
@@ -170,6 +180,10 @@ impl Display for Answer {
                 list(f, verdicts, |f, verdict| write!(f, "{verdict}"))
             }
             Answer::Table(bytes) => write!(f, "table {}", hex(bytes)),
+            Answer::Grid(bytes) => write!(f, "grid {}", hex(bytes)),
+            Answer::Least(max) => write!(f, "least {max}"),
+            Answer::Told { last_gc, max } => write!(f, "told {last_gc}:{max}"),
+            Answer::Absent => f.write_str("absent"),
             Answer::Outside => f.write_str("outside"),
             Answer::Broken(what) => write!(f, "broken {}", what.replace([' ', '\n'], "_")),
         }

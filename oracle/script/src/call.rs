@@ -48,6 +48,17 @@ pub enum Call {
     /// Readings over the overrides of a hub and the current table.
     GetOver { hub: usize, node: u64, key: Vec<u8> },
     ListOver { hub: usize, node: u64, prefix: Vec<u8>, places: u64 },
+    /// The current hub's grid, made for its table.
+    NewGrid,
+    Grid { bytes: Bytes },
+    DumpGrid,
+    GridAdd { node: u64 },
+    GridRemove { node: u64 },
+    Tell { peer: u64, digest: Bytes, edition: u64 },
+    TakeOut { peer: u64 },
+    Least { node: u64 },
+    Told { peer: u64, node: u64 },
+    Careful { now: u64, grace: u64 },
 }
 
 /// `x` and two lowercase digits a byte.
@@ -116,6 +127,15 @@ impl Words<'_> {
 }
 
 impl Call {
+    /// Whether it is a call on a grid: its answer ends with the grid's checksum.
+    pub fn on_grid(&self) -> bool {
+        use Call::{Careful, DumpGrid, Grid, GridAdd, GridRemove, Least, NewGrid, TakeOut, Tell, Told};
+        matches!(
+            self,
+            NewGrid | Grid { .. } | DumpGrid | GridAdd { .. } | GridRemove { .. } | Tell { .. } | TakeOut { .. } | Least { .. } | Told { .. } | Careful { .. }
+        )
+    }
+
     /// None: the line is not of the language.
     pub fn parse(line: &str) -> Option<Call> {
         let mut words = Words(line.split(' '));
@@ -187,6 +207,16 @@ impl Call {
             "gclabels" => Call::GcLabels { now: w.number()?, grace: w.number()? },
             "getover" => Call::GetOver { hub: w.hub()?, node: w.number()?, key: w.text()? },
             "listover" => Call::ListOver { hub: w.hub()?, node: w.number()?, prefix: w.text()?, places: w.number()? },
+            "newgrid" => Call::NewGrid,
+            "grid" => Call::Grid { bytes: w.bytes()? },
+            "dumpgrid" => Call::DumpGrid,
+            "gridadd" => Call::GridAdd { node: w.number()? },
+            "gridremove" => Call::GridRemove { node: w.number()? },
+            "tell" => Call::Tell { peer: w.number()?, digest: w.bytes()?, edition: w.number()? },
+            "takeout" => Call::TakeOut { peer: w.number()? },
+            "least" => Call::Least { node: w.number()? },
+            "told" => Call::Told { peer: w.number()?, node: w.number()? },
+            "careful" => Call::Careful { now: w.number()?, grace: w.number()? },
             _ => return None,
         };
         words.0.next().is_none().then_some(call)
@@ -239,10 +269,13 @@ mod tests {
             Call::parse("write 18446744073709551615 x x00ff 3 7"),
             Some(Call::Write { node: u64::MAX, key: vec![], value: vec![0, 255], status: 3, now: 7 })
         );
+        assert_eq!(Call::parse("tell 8 @digest 2"), Some(Call::Tell { peer: 8, digest: Bytes::LastDigest, edition: 2 }));
+        assert_eq!(Call::parse("told 0 7"), Some(Call::Told { peer: 0, node: 7 }));
         let calls = ["", "write 1 x x 0", "write 1 x x x 0 0", "write 1 x x -1 0", "get 1 xA0", "get 1 x0", "hub 4"];
         let numbers = ["add -1", "add +1", "add :", "add  1", "digest +1 0 2 0", "digest - 0 2"];
         let plans = ["plan x0000 100 - 7 1 0 100", "plan x0000 100 - 7 -1 0 100 0", "planfault x0000 100 - 7 1", "planfault x0000 100 - 7 1 0 100 0"];
-        for wrong in calls.into_iter().chain(numbers).chain(plans) {
+        let grids = ["newgrid 1", "grid", "tell 0 x0000", "tell 0 0 x0000", "takeout", "least 1 2", "told 1", "careful 9"];
+        for wrong in calls.into_iter().chain(numbers).chain(plans).chain(grids) {
             assert_eq!(Call::parse(wrong), None, "{wrong:?}");
         }
     }

@@ -4,14 +4,17 @@ use std::io::{BufRead, Write};
 
 use crate::call::HUBS;
 use crate::table::{GUARDED, PLAIN, checksum};
-use crate::{Answer, Bytes, Call, over};
+use crate::{Answer, Bytes, Call, grid, over};
 
 /// One lent table and who answers for it. Calls come with their bytes written out; `new`, `hub`, `table` and
 /// `dump` are answered by the runner through `take_table` and `table_bytes`, and so are the calls on overrides (`over`).
+/// The lent grid beside the table is the runner's, which answers `grid` and `dumpgrid`.
 pub trait Side {
     /// An empty table in a mode.
     fn new(mode: u8) -> Self;
     fn answer(&mut self, call: &Call) -> Answer;
+    /// A call on a grid and this table.
+    fn answer_grid(&mut self, grid: &mut Vec<u8>, call: &Call) -> Answer;
     /// From now on the lent table is these bytes, good or not.
     fn take_table(&mut self, bytes: &[u8]) -> Answer;
     fn table_bytes(&self) -> Vec<u8>;
@@ -19,6 +22,7 @@ pub trait Side {
 
 struct Desk<S> {
     hubs: [S; HUBS],
+    grids: [Vec<u8>; HUBS],
     current: usize,
     last_digest: Vec<u8>,
     last_delta: Vec<u8>,
@@ -26,7 +30,9 @@ struct Desk<S> {
 
 impl<S: Side> Desk<S> {
     fn new() -> Self {
-        Desk { hubs: [(); HUBS].map(|()| S::new(PLAIN)), current: 0, last_digest: Vec::new(), last_delta: Vec::new() }
+        let hubs = [(); HUBS].map(|()| S::new(PLAIN));
+        let grids = [(); HUBS].map(|()| grid::empty());
+        Desk { hubs, grids, current: 0, last_digest: Vec::new(), last_delta: Vec::new() }
     }
 
     fn write_out(&self, bytes: &mut Bytes) {
@@ -43,6 +49,8 @@ impl<S: Side> Desk<S> {
             | Call::ReadDelta { bytes }
             | Call::Apply { bytes, .. }
             | Call::Table { bytes }
+            | Call::Grid { bytes }
+            | Call::Tell { digest: bytes, .. }
             | Call::Compute { digest: bytes, .. }
             | Call::Plan { digest: bytes, .. }
             | Call::PlanFault { digest: bytes, .. } => self.write_out(bytes),
@@ -52,6 +60,7 @@ impl<S: Side> Desk<S> {
             Call::New { mode } if *mode > u64::from(GUARDED) => Answer::Refused(14),
             Call::New { mode } => {
                 self.hubs[self.current] = S::new(*mode as u8);
+                self.grids[self.current] = grid::empty();
                 Answer::Done
             }
             Call::Hub(hub) => {
@@ -76,6 +85,12 @@ impl<S: Side> Desk<S> {
                 let overrides = self.hubs[*hub].table_bytes();
                 over::list(&overrides, &mut self.hubs[self.current], *node, prefix, *places).unwrap_or_else(|refused| refused)
             }
+            Call::Grid { bytes: Bytes::Given(bytes) } => {
+                self.grids[self.current] = bytes.clone();
+                Answer::Done
+            }
+            Call::DumpGrid => Answer::Grid(self.grids[self.current].clone()),
+            call if call.on_grid() => self.hubs[self.current].answer_grid(&mut self.grids[self.current], call),
             call => self.hubs[self.current].answer(call),
         };
         match &answer {
@@ -87,8 +102,8 @@ impl<S: Side> Desk<S> {
     }
 }
 
-/// Answers each line of the script by one line: the answer and the checksum of the current table; `malformed` alone where the
-/// line is not of the language.
+/// Answers each line of the script by one line: the answer and the checksum of the current table, and that of its grid where the call is on a grid;
+/// `malformed` alone where the line is not of the language.
 pub fn answer_script<S: Side>(input: impl BufRead, output: &mut impl Write) -> std::io::Result<()> {
     let mut desk = Desk::<S>::new();
     for line in input.lines() {
@@ -97,9 +112,14 @@ pub fn answer_script<S: Side>(input: impl BufRead, output: &mut impl Write) -> s
             writeln!(output, "malformed")?;
             continue;
         };
+        let on_grid = call.on_grid();
         let answer = desk.answer(call);
         let table = desk.hubs[desk.current].table_bytes();
-        writeln!(output, "{answer} {}", checksum(&table))?;
+        write!(output, "{answer} {}", checksum(&table))?;
+        if on_grid {
+            write!(output, " {}", checksum(&desk.grids[desk.current]))?;
+        }
+        writeln!(output)?;
     }
     Ok(())
 }

@@ -208,6 +208,29 @@ pub struct Exchanged {
     pub step: Size,
 }
 
+#[repr(C)]
+#[derive(Clone, Copy)]
+pub struct Told {
+    pub number: u64,
+    pub need: Size,
+}
+
+#[repr(C)]
+#[derive(Clone, Copy)]
+pub struct Least {
+    pub number: u64,
+    pub max: u64,
+}
+
+#[repr(C)]
+#[derive(Clone, Copy)]
+pub struct Seen {
+    pub number: u64,
+    pub found: Size,
+    pub last_gc: u64,
+    pub max: u64,
+}
+
 /// Where a table's bytes are, and whether they are known to be a good table. Only this module can say so.
 pub trait Bytes: sealed::Sealed {
     const GOOD: bool;
@@ -388,6 +411,14 @@ unsafe extern "C" {
     fn kev_list_delta(delta: *const u8, delta_len: Size, out: *mut u8, out_len: Size) -> Count;
     fn kev_make_delta(text: *const u8, text_len: Size, out: *mut u8, out_len: Size) -> Made;
     fn kev_exchange(publisher: *const u8, publisher_len: Size, follower: *mut u8, follower_len: Size, edition: u64, mtu: Size, unasked: *const u64, unasked_len: Size, unsent: *const u64, unsent_len: Size, ties: *const u64, ties_len: Size, clock: u64, digest: *mut u8, digest_len: Size, delta: *mut u8, delta_len: Size, answers: *mut u8, answers_len: Size) -> Exchanged;
+    fn kev_new_grid(grid: *mut u8, grid_len: Size, table: *const u8, table_len: Size) -> u64;
+    fn kev_grid_add_node(grid: *mut u8, grid_len: Size, table: *mut u8, table_len: Size, node: u64) -> u64;
+    fn kev_grid_remove_node(grid: *mut u8, grid_len: Size, table: *mut u8, table_len: Size, node: u64) -> u64;
+    fn kev_tell(grid: *mut u8, grid_len: Size, peer: u64, edition: u64, digest: *const u8, digest_len: Size) -> Told;
+    fn kev_take_out(grid: *mut u8, grid_len: Size, peer: u64) -> u64;
+    fn kev_least_max(grid: *const u8, grid_len: Size, node: u64) -> Least;
+    fn kev_seen_by(grid: *const u8, grid_len: Size, peer: u64, node: u64) -> Seen;
+    fn kev_remove_carefully(grid: *const u8, grid_len: Size, table: *mut u8, table_len: Size, clock: u64, grace: u64) -> u64;
 }
 
 // ---- the calls, each by its name in the header; on a good table those without the check
@@ -630,4 +661,42 @@ pub fn make_delta(text: &[u8], out: &mut [u8]) -> Made {
 
 pub fn exchange(publisher: &[u8], follower: &mut [u8], edition: u64, mtu: usize, unasked: &[u64], unsent: &[u64], ties: &[u64], clock: u64, digest: &mut [u8], delta: &mut [u8], answers: &mut [u8]) -> Exchanged {
     unsafe { kev_exchange(publisher.as_ptr(), len(publisher), follower.as_mut_ptr(), len(follower), edition, Size::of(mtu), unasked.as_ptr(), len(unasked), unsent.as_ptr(), len(unsent), ties.as_ptr(), len(ties), clock, digest.as_mut_ptr(), len(digest), delta.as_mut_ptr(), len(delta), answers.as_mut_ptr(), len(answers)) }
+}
+
+// ---- who has seen what: both are checked in each call, an owned table too
+
+pub fn new_grid<S: Bytes>(grid: &mut [u8], store: &S) -> u64 {
+    let table = store.bytes();
+    unsafe { kev_new_grid(grid.as_mut_ptr(), len(grid), table.as_ptr(), len(table)) }
+}
+
+pub fn grid_add_node<S: BytesMut>(grid: &mut [u8], store: &mut S, node: u64) -> u64 {
+    let table = store.lend();
+    unsafe { kev_grid_add_node(grid.as_mut_ptr(), len(grid), table.as_mut_ptr(), len(table), node) }
+}
+
+pub fn grid_remove_node<S: BytesMut>(grid: &mut [u8], store: &mut S, node: u64) -> u64 {
+    let table = store.lend();
+    unsafe { kev_grid_remove_node(grid.as_mut_ptr(), len(grid), table.as_mut_ptr(), len(table), node) }
+}
+
+pub fn tell(grid: &mut [u8], peer: u64, edition: u64, digest: &[u8]) -> Told {
+    unsafe { kev_tell(grid.as_mut_ptr(), len(grid), peer, edition, digest.as_ptr(), len(digest)) }
+}
+
+pub fn take_out(grid: &mut [u8], peer: u64) -> u64 {
+    unsafe { kev_take_out(grid.as_mut_ptr(), len(grid), peer) }
+}
+
+pub fn least_max(grid: &[u8], node: u64) -> Least {
+    unsafe { kev_least_max(grid.as_ptr(), len(grid), node) }
+}
+
+pub fn seen_by(grid: &[u8], peer: u64, node: u64) -> Seen {
+    unsafe { kev_seen_by(grid.as_ptr(), len(grid), peer, node) }
+}
+
+pub fn remove_carefully<S: BytesMut>(grid: &[u8], store: &mut S, clock: u64, grace: u64) -> u64 {
+    let table = store.lend();
+    unsafe { kev_remove_carefully(grid.as_ptr(), len(grid), table.as_mut_ptr(), len(table), clock, grace) }
 }

@@ -76,6 +76,29 @@
 //! # }
 //! ```
 //!
+//! A table with its grid of what each peer told last: a removal that waits for the peer that was switched off ([`Watched`]):
+//!
+//! ```
+//! # use kevdarosh::{DIGEST, Edition, Mode, OwnedTable, Refusal, Wanted, Watched};
+//! # fn main() -> Result<(), Box<dyn std::error::Error>> {
+//! let mut hub = Watched::new(OwnedTable::new(Mode::Plain));
+//! hub.add_node(7)?;
+//! hub.write(7, b"lamp", b"on", Wanted::Set)?;
+//! hub.delete(7, b"lamp", 1_000)?;
+//! assert_eq!(hub.remove_carefully(9_000, 500), Err(Refusal::NobodyPresent));
+//!
+//! let mut peer = OwnedTable::new(Mode::Plain);
+//! peer.add_node(7)?;
+//! let mut digest = [0; DIGEST];
+//! let n = peer.compute_digest(Edition::V0, &[], &mut digest)?;
+//! hub.tell(0, Edition::V0, &digest[..n])?;
+//! hub.remove_carefully(9_000, 500)?;
+//! assert_eq!(hub.least_max(7)?, 0);
+//! assert_eq!(hub.table().node_state(7)?.last_gc_version(), 0); // the peer has not seen it
+//! # Ok(())
+//! # }
+//! ```
+//!
 //! docs/MOVING.md of the repository takes an engineer from each call of chitchat's `NodeState` and `ClusterState` to its own here.
 
 #![no_std]
@@ -91,12 +114,14 @@ mod over;
 mod refusal;
 mod row;
 mod table;
+mod watch;
 mod wire;
 
 pub use over::{Merged, Overrides};
 pub use refusal::{ExchangeRefused, Fault, LineFault, ListingRefused, PlanFault, Refusal, Step};
 pub use row::Records;
 pub use table::{Answer, Answers, Computed, Header, LentTable, Mode, NodeState, OwnedTable, Record, Status, Table, TableView, Wanted};
+pub use watch::{Pair, Watched};
 pub use wire::{Datagrams, DeltaRead, Digest, Edition, Exchanged, NodeDigest, exchange, list_delta, make_delta, read_delta};
 
 /// Bytes of a table.
@@ -120,6 +145,11 @@ pub const LISTING: usize = 81_979;
 
 /// Bytes of overrides.
 pub const OVERRIDES: usize = 3_713;
+
+/// Bytes of a grid.
+pub const GRID: usize = 1_097;
+/// Peers of a grid, numbered from 0.
+pub const PEERS: usize = 8;
 
 /// The byte of a table that says its mode.
 const MODE_AT: usize = 29_705;

@@ -57,9 +57,11 @@ refusals! {
     11 OutOfOrder "an operation before its Node, or versions that do not rise";
     12 NodeTwice "a node twice in one delta";
     13 TooMany "over eight nodes, or a delta over 16,384 bytes";
-    14 BadTable "the bytes are not a table that obeys the rules";
+    14 BadTable "the bytes are not a table, overrides or a grid that obey the rules, or the grid is not the table's";
     15 BadTies "not one tie for each node of the table";
     20 BadEdition "no such edition of a digest";
+    21 BadPeer "a peer's number above 7";
+    22 NobodyPresent "no peer is present";
     23 BadPlan "the plan is not accepted, or its two lists are not as long as each other";
 }
 

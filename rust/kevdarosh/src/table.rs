@@ -379,6 +379,12 @@ impl<S: Bytes> Table<S> {
 
 /// Calls that change the table. A refused one changes nothing.
 impl<S: BytesMut> Table<S> {
+    /// Its bytes, for a call that keeps them.
+    #[inline]
+    pub(crate) fn store_mut(&mut self) -> &mut S {
+        &mut self.store
+    }
+
     /// Adds a fresh node, and forgets that it was removed; one that is held already stays as it is: [`Refusal::NinthNode`].
     pub fn add_node(&mut self, node: u64) -> Result<(), Refusal> {
         accepted(ffi::add_node(&mut self.store, node))

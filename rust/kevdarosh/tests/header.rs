@@ -70,3 +70,30 @@ fn every_struct_is_declared_as_in_the_header() {
     assert!(header.len() > 10, "{header:?}");
     assert_eq!(ours, header);
 }
+
+#[test]
+fn every_size_is_that_of_the_header() {
+    let sizes: Vec<(&str, usize)> = HEADER
+        .lines()
+        .filter_map(|line| line.strip_prefix("#define KEV_")?.split_once(' '))
+        .filter_map(|(name, rest)| Some((name, rest.split_whitespace().next()?.parse().ok()?)))
+        .collect();
+    use kevdarosh::{DELTA, DIGEST, GRID, KEY, LISTING, MTU_LEAST, NODES, OVERRIDES, PEERS, RECORDS, TABLE, VALUE};
+    let ours = [
+        ("TABLE", TABLE),
+        ("NODES", NODES),
+        ("RECORDS", RECORDS),
+        ("KEY", KEY),
+        ("VALUE", VALUE),
+        ("DIGEST", DIGEST),
+        ("MTU_LEAST", MTU_LEAST),
+        ("DELTA", DELTA),
+        ("LISTING", LISTING),
+        ("OVERRIDES", OVERRIDES),
+        ("GRID", GRID),
+        ("PEERS", PEERS),
+    ];
+    for size in ours {
+        assert!(sizes.contains(&size), "{size:?} of {sizes:?}");
+    }
+}

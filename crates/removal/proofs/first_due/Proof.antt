@@ -4,20 +4,19 @@ use mathlib.Core.Path.{_≡_, sym, _∙_}
 use native.Mathlib.Nat.{zero-add}
 use native.Mathlib.Omega.{arith}
 use lib.ListN.{drop}
-use Rattle.rules.specs.Node.{due}
 use Rattle.table.specs.Tests.{countOf, recsIn}
-use Rattle.removal.specs.Removals.{firstGoing}
+use Rattle.removal.specs.Removals.{dueWithin, firstGoing}
 use Rattle.removal.proofs.Removing.{found, not-found, none-found}
 use borrow.Author.Needs.{needs}
 use Rattle.removal.proofs.first_due.Statement.{statement}
 use Rattle.removal.proofs.first_due.Tie as tie
 
 abbrev Inv-loop : tie.InvT-loop
-Inv-loop b time grace n j₀ j =
-    (n ≡ countOf b) × (j ≤ n) × (j + firstGoing (due time grace) (drop j (recsIn b)) ≡ firstGoing (due time grace) (recsIn b))
+Inv-loop b time grace bound n j₀ j =
+    (n ≡ countOf b) × (j ≤ n) × (j + firstGoing (dueWithin bound time grace) (drop j (recsIn b)) ≡ firstGoing (dueWithin bound time grace) (recsIn b))
 
 abbrev μ-loop : tie.MeasureT-loop
-μ-loop b time grace n j₀ j = n - j
+μ-loop b time grace bound n j₀ j = n - j
 
 within : (c : tie.In-loop Inv-loop μ-loop) → c .before .loop .j < countOf (c .before .before .before .before .args .node .now)
 within c = omega (arith, c .before .loop .inv .0)
@@ -37,7 +36,7 @@ returns c =
     let q = m .before .before in
     let st = q .before .before .before in
     let a = st .args in
-    found (a .node .now) (st .pre) (due (a .clock) (a .grace)) (q .loop .j) _ (q .loop .inv .2) (within (m .before)) (sym (m .must-go .ensures) ∙ c .if1 .taken)
+    found (a .node .now) (st .pre) (dueWithin (a .bound) (a .clock) (a .grace)) (q .loop .j) _ (q .loop .inv .2) (within (m .before)) (sym (m .must-go .ensures) ∙ c .if1 .taken)
 
 add-j : tie.Need-add-j Inv-loop μ-loop
 add-j c = search needs
@@ -53,7 +52,7 @@ loop-again c =
     let a = st .args in (
       q .loop .inv .0,
       omega arith,
-      not-found (a .node .now) (st .pre) (due (a .clock) (a .grace)) (q .loop .j) _ (q .loop .inv .2) (within (m .before)) (sym (m .must-go .ensures) ∙ c .if1 .left),
+      not-found (a .node .now) (st .pre) (dueWithin (a .bound) (a .clock) (a .grace)) (q .loop .j) _ (q .loop .inv .2) (within (m .before)) (sym (m .must-go .ensures) ∙ c .if1 .left),
     )
 
 returns-2 : tie.Need-returns-2 Inv-loop μ-loop
@@ -61,7 +60,7 @@ returns-2 c =
     let q = c .before in
     let st = q .before .before .before in
     let a = st .args in
-    none-found (a .node .now) (st .pre) (due (a .clock) (a .grace)) (q .loop .j) _ (q .loop .inv .2) (omega (arith, q .loop .inv .0))
+    none-found (a .node .now) (st .pre) (dueWithin (a .bound) (a .clock) (a .grace)) (q .loop .j) _ (q .loop .inv .2) (omega (arith, q .loop .inv .0))
 
 pub first-due-spec : {M : Type 1} → statement M
 first-due-spec =

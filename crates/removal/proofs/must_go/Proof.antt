@@ -4,9 +4,10 @@ use mathlib.Core.Path.{_≡_, ap, ap₂, sym, subst, _∙_}
 use mathlib.Core.Bool.{not, _&&_}
 use mathlib.Core.List.{List}
 use lib.ListN.{length}
-use lib.Dec.{ltb}
+use lib.Dec.{leb, ltb}
 use Rattle.rules.specs.Sizes.{maxKey, maxValue}
-use Rattle.rules.specs.Node.{goes, due, scheduled}
+use Rattle.rules.specs.Node.{goes, scheduled}
+use Rattle.removal.specs.Removals.{dueWithin}
 use Rattle.rules.specs.Layout.{decodeRec}
 use Rattle.rules.specs.declared.Record.{Record}
 use Rattle.rules.specs.declared.Status.{Status}
@@ -20,12 +21,14 @@ use Rattle.removal.proofs.must_go.Statement.{statement}
 use Rattle.removal.proofs.must_go.Tie as tie
 
 -- by what was read of the record
-by-status : (b x : List ℕ) (j time grace : ℕ) → x ≡ recBytes j b → (r : Record) → r ≡ recordOf (decodeRec x) → (s : Status) → r .status ≡ s
-    → (scheduled s && not (ltb time (r .start + grace))) ≡ goes (due time grace) (recAt j b)
-by-status b x j time grace q r g s f =
-    ap₂ (λ (u : Status) (n : ℕ). scheduled u && not (ltb time (n + grace)))
+by-status : (b x : List ℕ) (j time grace bound : ℕ) → x ≡ recBytes j b → (r : Record) → r ≡ recordOf (decodeRec x) → (s : Status) → r .status ≡ s
+    → (scheduled s && (not (ltb time (r .start + grace)) && leb (r .version) bound)) ≡ goes (dueWithin bound time grace) (recAt j b)
+by-status b x j time grace bound q r g s f =
+    ap (λ (u : Status). scheduled u && (not (ltb time (r .start + grace)) && leb (r .version) bound))
     (sym f ∙ ap (λ (z : Record). z .status) g ∙ ap (λ (z : List ℕ). decodeRec z .kv .status) q)
+    ∙ ap₂ (λ (n v : ℕ). scheduled (recAt j b .kv .status) && (not (ltb time (n + grace)) && leb v bound))
     (ap (λ (z : Record). z .start) g ∙ ap (λ (z : List ℕ). decodeRec z .start) q)
+    (ap (λ (z : Record). z .version) g ∙ ap (λ (z : List ℕ). decodeRec z .kv .version) q)
 
 record-of-requires : tie.Need-record-of-requires
 record-of-requires c κs = search needs
@@ -47,37 +50,37 @@ enum-told c = search needs
 enum-told-2 : tie.Need-enum-told-2
 enum-told-2 c = search needs
 
-is-due-requires : tie.Need-is-due-requires
-is-due-requires c κs = search needs
+may-go-requires : tie.Need-may-go-requires
+may-go-requires c κs = search needs
 
 enum-told-3 : tie.Need-enum-told-3
 enum-told-3 c = search needs
 
-is-due-requires-2 : tie.Need-is-due-requires-2
-is-due-requires-2 c κs = search needs
+may-go-requires-2 : tie.Need-may-go-requires-2
+may-go-requires-2 c κs = search needs
 
 returns : tie.Need-returns
 returns c =
     let m = c .before .before in
     let p = m .before in
     let a = p .before .before .args in
-    by-status (a .node .now) (p .record-of .result .now) (a .j) (a .clock) (a .grace) (p .record-of .ensures) (m .read-record .result) (m .read-record .ensures) Set (c .enum-told .given .1)
+    by-status (a .node .now) (p .record-of .result .now) (a .j) (a .clock) (a .grace) (a .bound) (p .record-of .ensures) (m .read-record .result) (m .read-record .ensures) Set (c .enum-told .given .1)
 
 returns-2 : tie.Need-returns-2
 returns-2 c =
     let m = c .before .before .before in
     let p = m .before in
     let a = p .before .before .args in
-    c .is-due .ensures
-    ∙ by-status (a .node .now) (p .record-of .result .now) (a .j) (a .clock) (a .grace) (p .record-of .ensures) (m .read-record .result) (m .read-record .ensures) Delete (c .before .enum-told2 .given .1)
+    c .may-go .ensures
+    ∙ by-status (a .node .now) (p .record-of .result .now) (a .j) (a .clock) (a .grace) (a .bound) (p .record-of .ensures) (m .read-record .result) (m .read-record .ensures) Delete (c .before .enum-told2 .given .1)
 
 returns-3 : tie.Need-returns-3
 returns-3 c =
     let m = c .before .before .before in
     let p = m .before in
     let a = p .before .before .args in
-    c .is-due2 .ensures
-    ∙ by-status (a .node .now) (p .record-of .result .now) (a .j) (a .clock) (a .grace) (p .record-of .ensures) (m .read-record .result) (m .read-record .ensures) Ttl (c .before .enum-told3 .given .1)
+    c .may-go2 .ensures
+    ∙ by-status (a .node .now) (p .record-of .result .now) (a .j) (a .clock) (a .grace) (a .bound) (p .record-of .ensures) (m .read-record .result) (m .read-record .ensures) Ttl (c .before .enum-told3 .given .1)
 
 pub must-go-spec : {M : Type 1} → statement M
 must-go-spec =
@@ -87,9 +90,9 @@ must-go-spec =
     read-record-requires
     enum-told
     enum-told-2
-    is-due-requires
+    may-go-requires
     enum-told-3
-    is-due-requires-2
+    may-go-requires-2
     returns
     returns-2
     returns-3)

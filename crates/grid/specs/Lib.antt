@@ -1,0 +1,4 @@
+pub mod Grid
+pub mod GridLayout
+pub mod Careful
+pub mod LentGrid

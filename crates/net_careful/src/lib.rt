@@ -1,0 +1,1 @@
+// Careful nets: definitions and theorems (specs/, proofs/). There is no code here.

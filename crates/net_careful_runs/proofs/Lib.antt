@@ -1,0 +1,3 @@
+pub mod Stories
+pub mod Runs
+pub mod Witnesses

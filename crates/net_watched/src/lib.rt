@@ -1,0 +1,1 @@
+// Nets whose hubs keep grids: definitions and theorems (specs/, proofs/). There is no code here.
