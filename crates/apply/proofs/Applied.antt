@@ -47,11 +47,6 @@ module _ (s : List ℕ) (a : Accepted s) where
   pub accepted-parts : partsFrom s 0 ≡ rule.partsOf (a .0)
   accepted-parts = parts.accepted-parts s a
 
-  -- it is not read as one that is refused
-  pub not-refused : {X : Type 0} (why : Refusal) (at : ℕ) → rule.deltaRead s ≡ read.Refused why at → X
-  unfolding rule.deltaRead
-  not-refused why at e = let z : read.Good (length (a .0)) (length (rule.partsOf (a .0))) ≡ read.Refused why at = ap rule.readAnswer (sym (a .1)) ∙ e in let y : _≡_ {A = ℕ} 0 1 = cc in absurd (omega arith)
-
 module _ (delta : List ℕ) (ops nodes : ℕ) (e : rule.deltaRead delta ≡ read.Good ops nodes) where
   pub accepted : (a : Accepted delta) × (nodes ≡ length (rule.partsOf (a .0)))
   unfolding rule.deltaRead

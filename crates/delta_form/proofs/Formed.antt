@@ -2,17 +2,16 @@
 use Prim.Native.Nat.{ℕ, zero, suc, _+_, _-_, _≤_, _<_}
 use mathlib.Core.Bool.{Bool, true, false}
 use mathlib.Core.List.{List, [], _∷_}
-use mathlib.Core.Path.{_≡_, refl, ap, ap₂, sym, subst, _∙_}
+use mathlib.Core.Path.{_≡_, refl, ap, sym, _∙_}
 use native.Mathlib.Omega.{arith}
 use lib.Dec.{leb, ltb}
 use lib.ListN.{length}
-use borrow.Author.Tests.{ltb-true, ltb-false, lt-ltb, le-ltb}
+use borrow.Author.Tests.{lt-ltb, le-ltb}
 use Rattle.fields.specs.Choice.{pick}
 use Rattle.fields.proofs.Choice.{pick-true, pick-false}
 use Rattle.rules.specs.Sizes.{maxDelta}
-use Rattle.rules.specs.Delta.{Op, OpRead, Got, Bad, Reading, nothingRead, Followed, Next, Fault, follow, Ops, Good, Faulty, andThen, onFollowed, onRead, partsOf, readAnswer, readOp, readOps, readDelta, deltaRead}
+use Rattle.rules.specs.Delta.{Op, OpRead, Got, Bad, Reading, nothingRead, Followed, Next, Fault, follow, Ops, Good, Faulty, andThen, onFollowed, onRead, readAnswer, readOp, readOps, readDelta, deltaRead}
 use Rattle.rules.specs.Profile.{andForm, opInForm, onReadAs, readDeltaAs, readOpsAs}
-use Rattle.rules.specs.declared.DeltaRead.{DeltaRead}
 use Rattle.rules.specs.declared.DeltaRead.the-variants as read
 use Rattle.rules.specs.declared.Profile.{Profile}
 use Rattle.rules.specs.declared.Profile.the-variants.{Free, Meter}

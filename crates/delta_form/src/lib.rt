@@ -1,5 +1,5 @@
-// Reading a delta in a table's profile: a delta with one record out of form is refused whole, with 17 at that record's place, straight after the operation's own 11.
-// Document 01's verdict comes first, and then one more pass over the records before the fault. A free table makes none.
+// Reading a delta in a table's profile: a delta with one record out of form is refused whole, with 17 at that record's place, straight after the operation's
+// own 11. Document 01's verdict comes first, and then one more pass over the records before the fault. A free table makes none.
 use delta_op::Op;
 use delta_op::OpRead;
 use rules::DeltaRead;

@@ -3,19 +3,18 @@ use Prim.Native.Nat.{ℕ, _≤_, _<_}
 use mathlib.Core.Bool.{Bool, true, false, not, _&&_}
 use mathlib.Core.List.{List}
 use mathlib.Core.Option.{Option, none, some}
-use mathlib.Core.Path.{_≡_, _∙_, ap, refl, sym, subst}
+use mathlib.Core.Path.{_≡_, _∙_, ap, refl, sym}
 use lib.Dec.{leb, ltb}
 use lib.ListN.{length}
 use borrow.Author.Tests.{le-leb, lt-leb, lt-ltb, le-ltb}
-use Rattle.fields.specs.Choice.{pick, all, _∈_}
+use Rattle.fields.specs.Choice.{pick, _∈_}
 use Rattle.fields.specs.Order.{sameBytes}
-use Rattle.fields.proofs.Choice.{all-from, and-left, and-no, and-right, and-yes}
+use Rattle.fields.proofs.Choice.{all-from, and-no, and-right, and-yes}
 use Rattle.rules.specs.Sizes.{maxKey, maxValue}
-use Rattle.rules.specs.Node.{KeyValue, Node, Rec, find, hidden}
+use Rattle.rules.specs.Node.{KeyValue, Node, Rec, hidden}
 use Rattle.rules.specs.Profile.{guardAt, guardIn, inForm, meterGuard, meterKey, meterValue, numeral, recsFormed, smaller, totalKey}
 use Rattle.rules.specs.declared.Profile.{Profile}
 use Rattle.rules.specs.declared.Profile.the-variants.{Free, Meter}
-use Rattle.rules.specs.declared.Refusal.{Refusal}
 use Rattle.rules.specs.declared.Refusal.the-variants.{BadForm, SmallerTotal}
 use Rattle.rules.specs.declared.Status.{Status}
 use Rattle.local_node.specs.Writes.{callOf}

@@ -67,7 +67,8 @@ fn guard_held(record: &[u8], value: &[u8], status: Status) -> Guarded
 fn guard_total(node: &[u8], key: &[u8], value: &[u8], status: Status) -> Guarded
     requires { ⌜ LaidNode (now node) × (keysRise (recsIn (now node)) ≡ true) × (recsFormed Meter (recsIn (now node)) ≡ true)
         × (meterValue status (now value) ≡ true) ⌝ }
-    ensures { λ r. ⌜ r ≡ guardedBy (pick (smaller (bringing (now (key .entry)) (now (value .entry)) status) (find (now (key .entry)) (recsIn (now (node .entry)))))
+    ensures { λ r. ⌜ r ≡ guardedBy (pick
+        (smaller (bringing (now (key .entry)) (now (value .entry)) status) (find (now (key .entry)) (recsIn (now (node .entry)))))
         (some SmallerTotal) none) ⌝ }
 {
     if fields::same(key, b"total") {

@@ -4,17 +4,14 @@ use mathlib.Core.Bool.{Bool, true, false, _&&_}
 use mathlib.Core.List.{List}
 use mathlib.Core.Path.{_≡_, _∙_, ap, refl, sym}
 use native.Mathlib.Numerals.{add-one}
-use native.Mathlib.Omega.{arith}
-use lib.ListN.{length, drop, drop-of-length-le}
+use lib.ListN.{drop, drop-of-length-le}
 use Rattle.fields.specs.Choice.{all}
 use Rattle.fields.proofs.Choice.{and-no, and-yes}
-use Rattle.rules.specs.Node.{Rec}
-use Rattle.rules.specs.Table.{Entry}
-use Rattle.rules.specs.Layout.{decode, decodeNode, decodeRec}
+use Rattle.rules.specs.Layout.{decode, decodeRec}
 use Rattle.rules.specs.Profile.{inForm, recsFormed, profileObeys}
 use Rattle.rules.specs.declared.Profile.the-variants.{Meter}
 use Rattle.table.specs.Tests.{countOf, nodesOf, recsIn}
-use Rattle.table.proofs.Places.{decode-drop, length-recs, nodeAt, nodeBytes, recAt, recBytes, recs-drop}
+use Rattle.table.proofs.Places.{decode-drop, length-recs, nodeBytes, recAt, recBytes, recs-drop}
 use Rattle.table.proofs.Tables.{length-decode}
 
 module _ (b : List ℕ) (i : ℕ) where

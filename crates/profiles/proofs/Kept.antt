@@ -4,16 +4,16 @@ use mathlib.Core.Bool.{Bool, true, false, _&&_}
 use mathlib.Core.List.{List, [], _∷_}
 use mathlib.Core.Logic.{_⊎_, inl, inr}
 use mathlib.Core.Option.{Option, none, some}
-use mathlib.Core.Path.{_≡_, refl, ap, sym, subst, _∙_}
+use mathlib.Core.Path.{_≡_, refl, sym, subst}
 use native.Mathlib.Omega.{arith}
 use lib.Dec.{eqb, leb, ltb}
 use lib.ListN.{length}
 use Rattle.fields.specs.Choice.{pick, all, _∈_, here, later}
 use Rattle.fields.specs.Order.{sameBytes}
 use Rattle.fields.proofs.Choice.{all-from, and-intro, and-left, and-right, in-cons, in-none}
-use Rattle.rules.specs.Sizes.{maxKey, maxValue, top}
-use Rattle.rules.specs.Node.{KeyValue, Rec, Node, Call, Setting, SettingTtl, Deleting, DeletingAfterTtl, Change, Decision, Refuse, Leave, Give, act, allowed, beats, brought, decide, due, find, fullFor, offerOf, sameStatus, scheduled, store, unlessSame, ifThere, wish, withHeartbeat, write}
-use Rattle.rules.specs.Table.{Entry, Table, nodeOf, setNode}
+use Rattle.rules.specs.Sizes.{top}
+use Rattle.rules.specs.Node.{KeyValue, Rec, Node, Call, Setting, SettingTtl, Deleting, DeletingAfterTtl, Change, Decision, Refuse, Leave, Give, act, allowed, beats, decide, due, find, fullFor, offerOf, sameStatus, scheduled, store, unlessSame, ifThere, wish, withHeartbeat, write}
+use Rattle.rules.specs.Table.{Table, nodeOf, setNode}
 use Rattle.rules.specs.Local.{Outcome, beatOn, call, callAs, callOn, gc, gives, localBeat, offer, offerOn, unlessGuarded}
 use Rattle.rules.specs.Local as local
 use Rattle.rules.specs.Delta.{Op, NodeOp, KeyValueOp, SetMaxVersionOp, NodeDelta, Part, partsOf, recsOf, maxOf}

@@ -3,9 +3,9 @@ use Prim.Native.Nat.{ℕ, _<_}
 use mathlib.Core.Bool.{Bool, true, false, not, _&&_, false≢true}
 use mathlib.Core.List.{List}
 use mathlib.Core.Option.{Option, none, some}
-use mathlib.Core.Path.{_≡_, refl, ap, sym, subst, _∙_}
+use mathlib.Core.Path.{_≡_, refl, ap, sym, _∙_}
 use native.Mathlib.Omega.{arith}
-use lib.Dec.{leb, ltb}
+use lib.Dec.{leb}
 use lib.ListN.{length}
 use borrow.Author.Tests.{ltb-true}
 use Rattle.fields.specs.Choice.{pick}
@@ -16,7 +16,7 @@ use Rattle.rules.specs.Sizes.{maxKey, maxValue}
 use Rattle.rules.specs.Node.{KeyValue, Rec, Node, Change, Call, Setting, SettingTtl, Deleting, DeletingAfterTtl, brought, Decision, Refuse, Leave, Give, act, sameStatus, hidden, find, wish, unlessSame, allowed, decide}
 use Rattle.rules.specs.Table.{Table, nodeOf, setNode}
 use Rattle.rules.specs.Local.{answerOf, call, callAs, callOn, gives, unlessGuarded}
-use Rattle.rules.specs.Profile.{brings, guardAt, guardIn, inForm, meterGuard, numeral, sizesFit, smaller, totalKey}
+use Rattle.rules.specs.Profile.{brings, guardAt, guardIn, inForm, meterGuard, numeral, smaller, totalKey}
 use Rattle.rules.specs.declared.Profile.the-variants.{Meter}
 use Rattle.rules.specs.declared.Refusal.{Refusal}
 use Rattle.rules.specs.declared.Refusal.the-variants.{TooLong, BadForm, SmallerTotal}

@@ -1,8 +1,8 @@
 -- What computing makes of a table whose records are in a form is in that form: so a table of the same profile never refuses it with 17. Assumes nothing.
-use Prim.Native.Nat.{ℕ, _-_, _<_, _≤_}
+use Prim.Native.Nat.{ℕ, _-_, _≤_}
 use mathlib.Core.Bool.{Bool, true, false}
 use mathlib.Core.List.{List, [], _∷_, _++_}
-use mathlib.Core.Path.{_≡_, refl, ap, sym, subst, _∙_}
+use mathlib.Core.Path.{_≡_, refl, sym, subst}
 use lib.Dec.{leb}
 use Rattle.fields.specs.Choice.{pick, all, _∈_, here, later}
 use Rattle.fields.proofs.Choice.{all-from, and-intro, and-left, and-right}

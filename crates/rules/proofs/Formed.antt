@@ -1,13 +1,12 @@
 -- The rules that a profile adds to 14 are kept where nodes come and go, where records go, and where a node becomes another in form. Assumes nothing.
 use Prim.Native.Nat.{ℕ}
-use mathlib.Core.Bool.{Bool, true, false, not, _&&_}
+use mathlib.Core.Bool.{Bool, true, false, not}
 use mathlib.Core.List.{List, [], _∷_}
-use mathlib.Core.Logic.{_⊎_, inl, inr}
 use mathlib.Core.Option.{some}
-use mathlib.Core.Path.{_≡_, refl, sym, subst}
+use mathlib.Core.Path.{_≡_, refl, subst}
 use lib.Dec.{eqb, ltb}
 use lib.ListN.{length}
-use Rattle.fields.specs.Choice.{pick, keep, all, _∈_}
+use Rattle.fields.specs.Choice.{pick, keep, all}
 use Rattle.fields.specs.Order.{sameBytes, lessBytes}
 use Rattle.fields.proofs.Choice.{all-from, and-intro, and-left, and-right}
 use Rattle.rules.specs.Sizes.{maxNodes}
@@ -17,7 +16,7 @@ use Rattle.rules.specs.Profile.{inForm, profileObeys, recsFormed}
 use Rattle.rules.specs.Local.{add, gives, removeNode}
 use Rattle.rules.specs.declared.Answer.the-variants.{Done, Refused}
 use Rattle.rules.specs.declared.Profile.{Profile}
-use Rattle.rules.specs.declared.Profile.the-variants.{Free, Meter}
+use Rattle.rules.specs.declared.Profile.the-variants.{Free}
 use Rattle.rules.specs.declared.Refusal.the-variants.{NinthNode, NoNode}
 use Rattle.rules.proofs.Calls.{node-in}
 

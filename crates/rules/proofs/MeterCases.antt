@@ -2,10 +2,10 @@
 -- what the ticket says of it. Assumes nothing.
 use Prim.Native.Nat.{ℕ}
 use mathlib.Core.Bool.{Bool, true}
-use mathlib.Core.List.{List, [], _∷_, _++_}
+use mathlib.Core.List.{List, [], _∷_}
 use mathlib.Core.Option.{Option, none, some}
 use mathlib.Core.Path.{_≡_, refl}
-use lib.ListN.{length, replicate}
+use lib.ListN.{replicate}
 use Rattle.fields.specs.Blocks.{flat}
 use Rattle.fields.specs.Choice.{all}
 use Rattle.fields.specs.Numbers.{bytesOf, natOf}
@@ -13,13 +13,12 @@ use Rattle.fields.specs.Order.{lessBytes, sameBytes}
 use Rattle.rules.specs.Answers.{answerTold, appliedTold, readTold}
 use Rattle.rules.specs.Apply.{ApplyOutcome, apply, applyEach, applyNode, codes, deltaStatus, newerOf, outcome, statusOf, takeAll, takes, waysIn}
 use Rattle.rules.specs.Delta.{NodeOp, KeyValueOp, Op, deltaBytes, follow, maxOf, opBytes, partsOf, readAnswer, readKeyValue, readNode, readOp, readSetMaxVersion, recsOf, textBytes}
-use Rattle.rules.specs.Local.{Outcome, call, callAs}
-use Rattle.rules.specs.Node.{Call, Setting, SettingTtl, Deleting, DeletingAfterTtl, KeyValue, Rec, Node, act, beats, decide, find, store, wish}
+use Rattle.rules.specs.Local.{call, callAs}
+use Rattle.rules.specs.Node.{Call, Setting, SettingTtl, Deleting, DeletingAfterTtl, Rec, Node, act, beats, decide, find, store, wish}
 use Rattle.rules.specs.Node as one
-use Rattle.rules.specs.Profile.{inForm, kind, meterKey, meterValue, numeral, readDeltaAs, readOpsAs, smaller, totalKey}
+use Rattle.rules.specs.Profile.{kind, meterKey, meterValue, numeral, readDeltaAs, readOpsAs, smaller, totalKey}
 use Rattle.rules.specs.Sizes.{top}
-use Rattle.rules.specs.Table.{Table, among, nodeOf, setNode, versions}
-use Rattle.rules.specs.declared.Answer.{Answer}
+use Rattle.rules.specs.Table.{Table, among, nodeOf, setNode}
 use Rattle.rules.specs.declared.Mode.the-variants.{Plain}
 use Rattle.rules.specs.declared.Profile.the-variants.{Meter}
 use Rattle.rules.specs.declared.Status.{Status}

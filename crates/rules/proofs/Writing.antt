@@ -8,10 +8,10 @@ use mathlib.Core.Path.{_≡_, refl}
 use lib.Dec.{eqb}
 use borrow.Author.Tests.{eqb-true}
 use Rattle.fields.specs.Choice.{pick}
-use Rattle.rules.specs.Node.{Call, KeyValue, Node, Rec, Setting, SettingTtl, find}
+use Rattle.rules.specs.Node.{Call, KeyValue, Node, Setting, SettingTtl, find}
 use Rattle.rules.specs.Table.{Table, nodeOf}
 use Rattle.rules.specs.Local.{Outcome, gives, call, callAs, unlessGuarded, write, writeAs}
-use Rattle.rules.specs.Profile.{guardIn, guardAt, guardOf, inForm, meterGuard, sizesFit, smaller, brings}
+use Rattle.rules.specs.Profile.{guardIn, inForm, meterGuard, sizesFit, smaller, brings}
 use Rattle.rules.specs.Whole.{decodeWhole}
 use Rattle.rules.specs.Lent.{onTable, lentCall, lentWrite}
 use Rattle.rules.specs.Delta.{statusByte}

@@ -20,7 +20,7 @@ use Rattle.fields.proofs.Choice.{every-at, same-test, and-left, and-right, and-
 use Rattle.fields.proofs.Numbers.{length-bytesOf, nat-bytes, nat-part, part-back, bytes-part, bytes-drop}
 use Rattle.fields.proofs.Parts.{length-part, part-drop}
 use Rattle.fields.proofs.Lent.{seen-first}
-use Rattle.fields.proofs.Blocks.{length-zeros, zeros-add, bytes-zero, zero-all, all-zero, fit-zeros, blocks-is, blocks-read, blocks-back, length-blocks, length-flat, length-unblock, unblock-at}
+use Rattle.fields.proofs.Blocks.{zeros-add, bytes-zero, fit-zeros, blocks-is, blocks-read, blocks-back, length-blocks, length-flat, length-unblock, unblock-at}
 use Rattle.fields.proofs.Widths.{field, field-put, field-set, length-joined, joined-whole}
 use Rattle.fields.proofs.Ordered.{same-self}
 use Rattle.rules.specs.Answers.{modeOf, profileOf}

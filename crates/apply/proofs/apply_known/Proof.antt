@@ -3,7 +3,7 @@ use mathlib.Core.Path.{_≡_, ap, sym, _∙_}
 use native.Mathlib.Omega.{arith}
 use lib.Seq.{length-take-le}
 use Rattle.rules.specs.Layout.{tableWidth}
-use Rattle.rules.specs.Whole.{areaOf, decodeWhole}
+use Rattle.rules.specs.Whole.{decodeWhole}
 use Rattle.rules.specs.declared.Profile.{Profile}
 use Rattle.table.proofs.Wholes.{area-valid, whole-long}
 use Rattle.delta_form.specs.Forming.{deltaReadAs}

@@ -1,6 +1,5 @@
 -- `delta_form::end_of` meets its contract. Assumes nothing.
 use mathlib.Core.Path.{ap, sym}
-use Rattle.rules.specs.declared.DeltaRead.{DeltaRead}
 use Rattle.delta_form.specs.Forming.{endOf}
 use borrow.Author.Needs.{needs}
 use Rattle.delta_form.proofs.end_of.Statement.{statement}

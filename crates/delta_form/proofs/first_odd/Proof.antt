@@ -1,5 +1,5 @@
 -- `delta_form::first_odd` meets its contract: what is left of the pass gives the whole's answer. Assumes nothing.
-use Prim.Native.Nat.{_-_, _≤_}
+use Prim.Native.Nat.{_-_}
 use mathlib.Core.Path.{sym, subst, _∙_}
 use native.Mathlib.Omega.{arith}
 use lib.ListN.{length}

@@ -1,5 +1,4 @@
 -- `local::call_known` meets its contract: what the table's profile refuses, or the call on its area. Assumes nothing.
-use Prim.Native.Nat.{ℕ}
 use mathlib.Core.Bool.{true}
 use mathlib.Core.Path.{_≡_, ap, sym, subst, _∙_}
 use native.Mathlib.Omega.{arith}

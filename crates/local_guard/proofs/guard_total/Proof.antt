@@ -17,7 +17,7 @@ use Rattle.table.specs.Tests.{countOf, keyLength, recsIn, valueLength}
 use Rattle.table.proofs.Laid.{laid-key, laid-value, rec-long}
 use Rattle.table.proofs.Places.{length-recs, recAt, recs-at}
 use Rattle.table_read.specs.Find.{findKey}
-use Rattle.table_read.specs.declared.Place.the-variants.{At, Free}
+use Rattle.table_read.specs.declared.Place.the-variants.{At}
 use Rattle.table_read.proofs.Searched.{rec-found, rec-in, rec-missing}
 use Rattle.local_guard.specs.Guarding.{bringing}
 use Rattle.local_guard.proofs.Guarding.{byTotal, no-record, other-key, record-formed, that-record}

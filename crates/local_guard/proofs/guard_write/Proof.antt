@@ -1,6 +1,5 @@
 -- `local_guard::guard_write` meets its contract: lengths, form, then the total. Assumes nothing.
 use mathlib.Core.Path.{_∙_}
-use native.Mathlib.Omega.{arith}
 use borrow.Author.Needs.{needs}
 use Rattle.rules.specs.Node.{find}
 use Rattle.table.specs.Tests.{recsIn}

@@ -1,12 +1,8 @@
 -- `profile_check::record_formed` meets its contract. Assumes nothing.
 use mathlib.Core.Bool.{_&&_}
-use mathlib.Core.List.{List}
-use mathlib.Core.Path.{_∙_, ap}
-use Prim.Native.Nat.{ℕ}
+use mathlib.Core.Path.{_∙_}
 use borrow.Author.Needs.{needs}
-use Rattle.rules.specs.Layout.{decodeRec}
 use Rattle.rules.specs.Profile.{meterKey, meterValue}
-use Rattle.rules.specs.declared.Record.{Record}
 use Rattle.profile_check.proofs.record_formed.Statement.{statement}
 use Rattle.profile_check.proofs.record_formed.Tie as tie
 
