@@ -1,30 +1,31 @@
 -- Each number of a kind of call is given to some call of that kind: one for each. The tables are small ones that obey the rules, in their bytes; bytes that are
 -- no table are none at all. Assumes nothing.
 use Prim.Native.Nat.{ℕ, zero, suc, _-_}
-use mathlib.Core.Bool.{Bool, true, false, false≢true}
+use mathlib.Core.Bool.{Bool, true, false, false≢true, _&&_}
 use mathlib.Core.List.{List, [], _∷_}
-use mathlib.Core.Path.{_≡_, _∙_, ap, refl, subst, sym}
+use mathlib.Core.Path.{_≡_, _∙_, ap, ap₂, refl, subst, sym}
 use native.Mathlib.Omega.{arith}
 use lib.Dec.{eqb, ltb}
 use lib.ListN.{length}
 use borrow.Author.Tests.{eq-eqb, eqb-true, ltb-true}
-use Rattle.fields.specs.Blocks.{flat, unblock, zeros}
+use Rattle.fields.specs.Blocks.{fit, flat, unblock, zeros}
 use Rattle.fields.specs.Choice.{all, pick}
 use Rattle.fields.specs.Numbers.{Bytes, bytesOf, natOf}
 use Rattle.fields.specs.Order.{lessBytes, sameBytes, startsWith}
 use Rattle.fields.specs.Parts.{part}
 use Rattle.fields.specs.Widths.{joined}
-use Rattle.fields.proofs.Choice.{all-from}
+use Rattle.fields.proofs.Choice.{all-from, and-intro}
 use Rattle.rules.specs.Sizes.{numbers, top}
 use Rattle.rules.specs.Answers.{Told, answerTold, appliedTold, computedTold, listedTold, offeredTold, readTold, rememberedTold, writtenTold}
 use Rattle.rules.specs.Apply.{apply, plainWays, waysOf}
 use Rattle.rules.specs.Compute as computing
+use Rattle.rules.specs.Compute.{toldOf}
 use Rattle.rules.specs.Delta.{Good, NodeOp, Op, SetMaxVersionOp, deltaBytes, deltaRead, follow, opBytes, partsOf, readDelta, readKeyValue, readNode, readOp, readOps, readSetMaxVersion, sizeOf}
 use Rattle.rules.specs.Digest.{digestBytes, digestOf, headWidth, readDigest, readEntries, tell, tellAll, writeDigest}
 use Rattle.rules.specs.Given.{Given, given}
 use Rattle.rules.specs.Layout.{nodeWidth, encodeNode, decodeNode, decode, encode}
 use Rattle.rules.specs.Memory.{apart, heartbeatOf, memoryObeys, removedNumbers}
-use Rattle.rules.specs.Whole.{Whole, decodeMemory, decodeWhole, encodeWhole, obeysWhole, validWhole, wholeWidth}
+use Rattle.rules.specs.Whole.{Whole, decodeMemory, decodeWhole, encodeWhole, obeysWhole, validWhole, wholeWidth, withTable}
 use Rattle.rules.specs.declared.Mode.the-variants as mode
 use Rattle.rules.specs.Lent.{TableAndList, addWhole, both, fromTable, lentApply, lentApplyAs, lentNew, lentRemoved, onTable, onWhole, rememberedAs, removeWhole, storedIn, storedApply}
 use Rattle.rules.specs.Listing.{decimal, digits, listing, listingOf, opLine}
@@ -41,7 +42,7 @@ use Rattle.rules.specs.declared.Computed.the-variants as computed
 use Rattle.rules.specs.declared.Listed.{Listed}
 use Rattle.rules.specs.declared.Listed.the-variants as listed
 use Rattle.rules.specs.declared.Offered.the-variants as offered
-use Rattle.rules.specs.declared.Refusal.the-variants.{BadTable}
+use Rattle.rules.specs.declared.Refusal.the-variants.{BadPeer, BadTable, NobodyPresent}
 use Rattle.rules.specs.declared.Status.the-variants as status
 use Rattle.rules.specs.declared.Written.{Written}
 use Rattle.rules.specs.declared.Written.the-variants as written
@@ -65,6 +66,16 @@ use Rattle.over_list.specs.Merged.{listOver}
 use Rattle.over_list.specs.Told.{listedOverTold}
 use Rattle.over_list.specs.declared.ListedOver.{ListedOver}
 use Rattle.over_list.specs.declared.ListedOver.the-variants as merged
+use Rattle.grid.specs.Grid.{Grid, addColumn, columns, dropColumn, maxPeers, newGrid, somebody, takeOut, tellRow}
+use Rattle.grid.specs.GridLayout.{decodeGrid, encodeGrid, gridWidth, validGrid}
+use Rattle.grid.specs.LentGrid.{GridAndTable, both as beside, carefullyRemoved, fitsTable, gridOn, leastIn, leastTold, lentCareful, lentColumnIn, lentColumnOut, lentLeast, lentNewGrid, lentSeen, lentTakeOut, lentTell, seenIn, seenTold, tellOn, validBoth}
+use Rattle.grid.specs.declared.Least.the-variants as least
+use Rattle.grid.specs.declared.Seen.the-variants as seen
+use Rattle.grid.proofs.GridBytes.{length-grid, valid-long}
+use Rattle.grid_kept.proofs.Encoded.{decode-encode as decode-encode-grid}
+use Rattle.grid_kept.proofs.Keeps.{tell-sound}
+use Rattle.grid_kept.proofs.LentKept.{table-columns, table-sound, together}
+use Rattle.grid_kept.proofs.Sound.{Sound, sound-valid}
 use Rattle.nodes.specs.New.{lentMade}
 use Rattle.lookup.specs.Lookup.{findRec, foundIn}
 use Rattle.lookup.specs.Told.{foundTold}
@@ -487,6 +498,144 @@ lists-over =
     and (calls.list-over (lent usual) none-laid [] [] seven, both-good (λ (a : Given ListedOver Bytes). listedOverTold (a .answer) .number) (λ w. given (merged.Refused w BadTable) []) (listOver 7 [] []) usual usual-obeys 8 refl)
     and no-more
 
+-- ---- grids: those of small tables, in their bytes
+
+-- nobody is present; peer 0 is, and has told nothing
+abbrev made : (table : Table) → Grid
+made t = newGrid (numbersOf t)
+
+abbrev heard : (table : Table) → Grid
+heard t = tellRow 0 [] (made t)
+
+heard-sound : (t : Table) → obeys t ≡ true → Sound (heard t)
+unfolding toldOf
+heard-sound t o = tell-sound (made t) (table-sound t o) 0 [] (λ i. ltb-true 0 numbers refl) (λ i. ltb-true 0 numbers refl)
+
+-- no bytes are no grid
+none-grid : validGrid [] ≡ false
+none-grid = valid-long [] (λ e. omega arith)
+
+none-both : validBoth [] [] ≡ false
+unfolding validBoth
+none-both = ap (λ (b : Bool). b && (validWhole [] && fitsTable (decodeGrid []) (decodeWhole [] .table))) none-grid
+
+grid-good : {A : Type 0} (number : A → ℕ) (g : Grid) → Sound g → (rule : Grid → A) (bad : A) (n : ℕ) → number (rule g) ≡ n
+    → number (pick (validGrid (encodeGrid g)) (rule (decodeGrid (encodeGrid g))) bad) ≡ n
+grid-good number g s rule bad n e =
+    ap (λ (b : Bool). number (pick b (rule (decodeGrid (encodeGrid g))) bad)) (sound-valid g s) ∙ ap (λ (x : Grid). number (rule x)) (decode-encode-grid g (s .fits)) ∙ e
+
+grid-bad : {A : Type 0} (number : A → ℕ) (x bad : A) (n : ℕ) → number bad ≡ n → number (pick (validGrid []) x bad) ≡ n
+grid-bad number x bad n e = ap (λ (b : Bool). number (pick b x bad)) none-grid ∙ e
+
+beside-good : {A : Type 0} (number : A → ℕ) (g : Grid) → Sound g → (t : Table) → obeys t ≡ true → columns g ≡ numbersOf t → (rule : Grid → Whole → A) (bad : A) (n : ℕ) → number (rule g (whole t)) ≡ n
+    → number (pick (validBoth (encodeGrid g) (lent t)) (rule (decodeGrid (encodeGrid g)) (decodeWhole (lent t))) bad) ≡ n
+beside-good number g s t o c rule bad n e =
+    ap (λ (b : Bool). number (pick b (rule (decodeGrid (encodeGrid g)) (decodeWhole (lent t))) bad)) (together g s (whole t) (whole-obeys t o) c)
+    ∙ ap₂ (λ (x : Grid) (w : Whole). number (rule x w)) (decode-encode-grid g (s .fits)) (decode-encode-whole (whole t) (whole-obeys t o))
+    ∙ e
+
+beside-bad : {A : Type 0} (number : A → ℕ) (x bad : A) (n : ℕ) → number bad ≡ n → number (pick (validBoth [] []) x bad) ≡ n
+beside-bad number x bad n e = ap (λ (b : Bool). number (pick b x bad)) none-both ∙ e
+
+abbrev answered : {M : Type 0} → Given Answer M → ℕ
+answered a = answerTold (a .answer) .number
+
+grids-made : AllShown calls.NewGrid (0 ∷ 14 ∷ [])
+unfolding calls.leaves lentNewGrid answerTold
+grids-made = (
+  calls.new-grid (lent []) (encodeGrid (made [])),
+  ap (λ (b : Bool). answered (pick b (given plain.Done (encodeGrid (newGrid (numbersOf (decodeWhole (lent []) .table))))) (given (plain.Refused BadTable) (encodeGrid (made [])))))
+      (and-intro (eqb (length (encodeGrid (made []))) gridWidth) (validWhole (lent [])) (eq-eqb (length (encodeGrid (made []))) gridWidth (length-grid (made [])))
+      (valid-encode-whole (whole []) (whole-obeys [] none-obeys))),
+)
+    and (calls.new-grid [] [], refl)
+    and no-more
+
+-- what a node that comes with its column gives
+abbrev come : (i : ℕ) (g t : Bytes) (x : Grid) (w : Whole) → Given Answer GridAndTable
+come i g t x w = given (addWhole i w .answer) (beside (gridOn (addWhole i w .answer) (encodeGrid (addColumn i x)) g) (encodeWhole (addWhole i w .lent)))
+
+abbrev go-away : (i : ℕ) (g t : Bytes) (x : Grid) (w : Whole) → Given Answer GridAndTable
+go-away i g t x w = given (removeWhole i w .answer) (beside (gridOn (removeWhole i w .answer) (encodeGrid (dropColumn i x)) g) (encodeWhole (removeWhole i w .lent)))
+
+came : AllShown calls.GridAddNode (0 ∷ 14 ∷ 4 ∷ [])
+unfolding calls.leaves answerTold lentColumnIn addWhole add among numbersOf nodes
+came =
+    (calls.grid-add-node (lent []) (encodeGrid (made [])) seven, beside-good answered (made []) (table-sound [] none-obeys) [] none-obeys (table-columns [] none-obeys) (come 7 (encodeGrid (made [])) (lent [])) _ 0 refl)
+    and (calls.grid-add-node [] [] seven, beside-bad answered (come 7 [] [] (decodeGrid []) (decodeWhole [])) _ 14 refl)
+    and (calls.grid-add-node (lent crowded) (encodeGrid (made crowded)) nine, beside-good answered (made crowded) (table-sound crowded crowded-obeys) crowded crowded-obeys (table-columns crowded crowded-obeys) (come 9 (encodeGrid (made crowded)) (lent crowded)) _ 4 refl)
+    and no-more
+
+went : AllShown calls.GridRemoveNode (0 ∷ 14 ∷ 2 ∷ [])
+unfolding calls.leaves answerTold lentColumnOut removeWhole removeNode among numbersOf
+went =
+    (calls.grid-remove-node (lent newly) (encodeGrid (made newly)) seven, beside-good answered (made newly) (table-sound newly newly-obeys) newly newly-obeys (table-columns newly newly-obeys) (go-away 7 (encodeGrid (made newly)) (lent newly)) _ 0 refl)
+    and (calls.grid-remove-node [] [] seven, beside-bad answered (go-away 7 [] [] (decodeGrid []) (decodeWhole [])) _ 14 refl)
+    and (calls.grid-remove-node (lent []) (encodeGrid (made [])) seven, beside-good answered (made []) (table-sound [] none-obeys) [] none-obeys (table-columns [] none-obeys) (go-away 7 (encodeGrid (made [])) (lent [])) _ 2 refl)
+    and no-more
+
+-- the grid of no node
+abbrev bare : Bytes
+bare = encodeGrid (made [])
+
+abbrev hear : (p edition : ℕ) (digest g : Bytes) (x : Grid) → Given Answer Bytes
+hear p edition digest g x = pick (ltb p maxPeers) (tellOn p (readDigest edition digest) g) (given (plain.Refused BadPeer) g)
+
+heard-so : (p edition : ℕ) (digest : Bytes) (n : ℕ) → answered (hear p edition digest bare (made [])) ≡ n → answered (lentTell p edition digest bare) ≡ n
+unfolding lentTell
+heard-so p edition digest n e = grid-good answered (made []) (table-sound [] none-obeys) (hear p edition digest bare) (given (plain.Refused BadTable) bare) n e
+
+tells : AllShown calls.Tell (0 ∷ 14 ∷ 21 ∷ 20 ∷ 9 ∷ 13 ∷ [])
+unfolding calls.leaves answerTold readDigest readEntries natOf unblock tellAll lentTell all received
+tells =
+    (calls.tell bare (received (0 ∷ 0 ∷ []) refl) 0 0, heard-so 0 0 (0 ∷ 0 ∷ []) 0 refl)
+    and (calls.tell [] (received [] refl) 0 0, grid-bad answered (hear 0 0 [] [] (decodeGrid [])) (given (plain.Refused BadTable) []) 14 refl)
+    and (calls.tell bare (received [] refl) 8 2, heard-so 8 2 [] 21 refl)
+    and (calls.tell bare (received [] refl) 0 2, heard-so 0 2 [] 20 refl)
+    and (calls.tell bare (received [] refl) 0 0, heard-so 0 0 [] 9 refl)
+    and (calls.tell bare (received (9 ∷ 0 ∷ []) refl) 0 0, heard-so 0 0 (9 ∷ 0 ∷ []) 13 refl)
+    and no-more
+
+abbrev take-away : (p : ℕ) (g : Bytes) (x : Grid) → Given Answer Bytes
+take-away p g x = pick (ltb p maxPeers) (given plain.Done (encodeGrid (takeOut p x))) (given (plain.Refused BadPeer) g)
+
+taken-out : AllShown calls.TakeOut (0 ∷ 14 ∷ 21 ∷ [])
+unfolding calls.leaves answerTold lentTakeOut
+taken-out =
+    (calls.take-out bare 0, grid-good answered (made []) (table-sound [] none-obeys) (take-away 0 bare) (given (plain.Refused BadTable) bare) 0 refl)
+    and (calls.take-out [] 0, grid-bad answered (take-away 0 [] (decodeGrid [])) (given (plain.Refused BadTable) []) 14 refl)
+    and (calls.take-out bare 8, grid-good answered (made []) (table-sound [] none-obeys) (take-away 8 bare) (given (plain.Refused BadTable) bare) 21 refl)
+    and no-more
+
+leasts : AllShown calls.LeastMax (0 ∷ 14 ∷ 22 ∷ 2 ∷ [])
+unfolding calls.leaves leastTold lentLeast newGrid tellRow numbersOf among fit zeros
+leasts =
+    (calls.least-max (encodeGrid (heard newly)) 7, grid-good (λ a. leastTold a .number) (heard newly) (heard-sound newly newly-obeys) (leastIn 7) (least.Refused BadTable) 0 refl)
+    and (calls.least-max [] 7, grid-bad (λ a. leastTold a .number) (leastIn 7 (decodeGrid [])) (least.Refused BadTable) 14 refl)
+    and (calls.least-max bare 7, grid-good (λ a. leastTold a .number) (made []) (table-sound [] none-obeys) (leastIn 7) (least.Refused BadTable) 22 refl)
+    and (calls.least-max (encodeGrid (heard [])) 7, grid-good (λ a. leastTold a .number) (heard []) (heard-sound [] none-obeys) (leastIn 7) (least.Refused BadTable) 2 refl)
+    and no-more
+
+seen-pairs : AllShown calls.SeenBy (0 ∷ 14 ∷ 21 ∷ 2 ∷ [])
+unfolding calls.leaves seenTold lentSeen newGrid numbersOf among fit zeros
+seen-pairs =
+    (calls.seen-by (encodeGrid (made newly)) 0 7, grid-good (λ a. seenTold a .number) (made newly) (table-sound newly newly-obeys) (seenIn 0 7) (seen.Refused BadTable) 0 refl)
+    and (calls.seen-by [] 0 7, grid-bad (λ a. seenTold a .number) (seenIn 0 7 (decodeGrid [])) (seen.Refused BadTable) 14 refl)
+    and (calls.seen-by bare 8 7, grid-good (λ a. seenTold a .number) (made []) (table-sound [] none-obeys) (seenIn 8 7) (seen.Refused BadTable) 21 refl)
+    and (calls.seen-by bare 0 7, grid-good (λ a. seenTold a .number) (made []) (table-sound [] none-obeys) (seenIn 0 7) (seen.Refused BadTable) 2 refl)
+    and no-more
+
+abbrev clear : (t : Bytes) (x : Grid) (w : Whole) → Given Answer Bytes
+clear t x w = pick (somebody x) (given plain.Done (encodeWhole (withTable (carefullyRemoved x 7 7 (w .table)) w))) (given (plain.Refused NobodyPresent) t)
+
+carefully : AllShown calls.RemoveCarefully (0 ∷ 14 ∷ 22 ∷ [])
+unfolding calls.leaves answerTold lentCareful newGrid tellRow numbersOf among fit zeros
+carefully =
+    (calls.remove-carefully (lent []) (encodeGrid (heard [])) seven seven, beside-good answered (heard []) (heard-sound [] none-obeys) [] none-obeys refl (clear (lent [])) (given (plain.Refused BadTable) (lent [])) 0 refl)
+    and (calls.remove-carefully [] [] seven seven, beside-bad answered (clear [] (decodeGrid []) (decodeWhole [])) (given (plain.Refused BadTable) []) 14 refl)
+    and (calls.remove-carefully (lent []) bare seven seven, beside-good answered (made []) (table-sound [] none-obeys) [] none-obeys refl (clear (lent [])) (given (plain.Refused BadTable) (lent [])) 22 refl)
+    and no-more
+
 -- ---- readings of a table
 
 counts : AllShown calls.NodeCount (0 ∷ 14 ∷ [])
@@ -768,6 +917,14 @@ all-shown calls.DeleteOverrideAfterTtl = (_, deletes-over-ttl, refl)
 all-shown calls.RemoveOverrides = (_, cleans-over, refl)
 all-shown calls.FindOver = (_, finds-over, refl)
 all-shown calls.ListOver = (_, lists-over, refl)
+all-shown calls.NewGrid = (_, grids-made, refl)
+all-shown calls.GridAddNode = (_, came, refl)
+all-shown calls.GridRemoveNode = (_, went, refl)
+all-shown calls.Tell = (_, tells, refl)
+all-shown calls.TakeOut = (_, taken-out, refl)
+all-shown calls.LeastMax = (_, leasts, refl)
+all-shown calls.SeenBy = (_, seen-pairs, refl)
+all-shown calls.RemoveCarefully = (_, carefully, refl)
 all-shown calls.NodeCount = (_, counts, refl)
 all-shown calls.NodeNumber = (_, numbered, refl)
 all-shown calls.NodeHeader = (_, headed, refl)

@@ -39,7 +39,10 @@ use Rattle.apply.proofs.Applied.{reads-is}
 use Rattle.nodes.specs.New.{lentMade}
 use Rattle.overrides.specs.Overrides.{validNode}
 use Rattle.overrides.proofs.Valid.{over-long}
-use Rattle.overrides.proofs.Keeps.{new-keeps, removal-keeps, call-keeps as over-call-keeps, write-keeps as over-write-keeps}
+use Rattle.overrides.proofs.Keeps.{new-keeps as over-new-keeps, removal-keeps, call-keeps as over-call-keeps, write-keeps as over-write-keeps}
+use Rattle.grid.specs.GridLayout.{validGrid}
+use Rattle.grid.specs.LentGrid.{GridAndTable, lentCareful, lentColumnIn, lentColumnOut, validBoth}
+use Rattle.grid_kept.proofs.LentKept.{both-grid, both-table, careful-bad, careful-together, in-bad, in-together, new-keeps, out-bad, out-together, take-out-keeps, tell-keeps}
 use Rattle.exchange.specs.Exchanging.{Lending, afterAsking, afterComputing, afterDigesting, lentAnswer, lentExchange, roomsOf, threeCalls, lending}
 use Rattle.exchange_ask.specs.Asking.{readyFor}
 use Rattle.exchange_ask.specs.declared.Ready.{Ready}
@@ -106,6 +109,30 @@ applying delta now answers l v f =
     ap (λ (b : Bool). validWhole (pick b (storedApply (decodeWhole l) o) (given (applied.Refused BadTable 0) (both l answers)) .lent .table)) v
     ∙ stays l v (o .table) (f (whole-obeys l v)) (numbers-apply (waysOf (decodeWhole l .mode)) delta now (decodeWhole l .table) answers)
 
+-- ---- grids
+
+-- a node that comes or goes with its column: what belongs together does so afterwards, and all else is left
+grown : (i : ℕ) → i < numbers → (t g : Bytes) → validWhole t ≡ true → validGrid g ≡ true → (validWhole (lentColumnIn i g t .lent .table) ≡ true) × (validGrid (lentColumnIn i g t .lent .grid) ≡ true)
+grown i h t g w v = go (validBoth g t) refl
+  where
+    go : (b : Bool) → validBoth g t ≡ b → (validWhole (lentColumnIn i g t .lent .table) ≡ true) × (validGrid (lentColumnIn i g t .lent .grid) ≡ true)
+    go true e = let x = in-together g t e i h in (both-table _ _ x, both-grid _ _ x)
+    go false e = let x = in-bad i g t e in (ap (λ (u : GridAndTable). validWhole (u .table)) x ∙ w, ap (λ (u : GridAndTable). validGrid (u .grid)) x ∙ v)
+
+shrunk : (i : ℕ) (t g : Bytes) → validWhole t ≡ true → validGrid g ≡ true → (validWhole (lentColumnOut i g t .lent .table) ≡ true) × (validGrid (lentColumnOut i g t .lent .grid) ≡ true)
+shrunk i t g w v = go (validBoth g t) refl
+  where
+    go : (b : Bool) → validBoth g t ≡ b → (validWhole (lentColumnOut i g t .lent .table) ≡ true) × (validGrid (lentColumnOut i g t .lent .grid) ≡ true)
+    go true e = let x = out-together g t e i in (both-table _ _ x, both-grid _ _ x)
+    go false e = let x = out-bad i g t e in (ap (λ (u : GridAndTable). validWhole (u .table)) x ∙ w, ap (λ (u : GridAndTable). validGrid (u .grid)) x ∙ v)
+
+carefully : (now grace : ℕ) (t g : Bytes) → validWhole t ≡ true → validWhole (lentCareful now grace g t .lent) ≡ true
+carefully now grace t g w = go (validBoth g t) refl
+  where
+    go : (b : Bool) → validBoth g t ≡ b → validWhole (lentCareful now grace g t .lent) ≡ true
+    go true e = both-table _ _ (careful-together g t e now grace)
+    go false e = ap validWhole (careful-bad now grace g t e) ∙ w
+
 -- ---- an exchange
 
 -- the publisher's delta keeps the follower's rules
@@ -147,6 +174,20 @@ over : (a b : Bytes) → (validNode a ≡ true → validNode b ≡ true) → obe
 unfolding obeyAll
 over a b f e = and-intro (validNode b) true (f (and-left (validNode a) true e)) refl
 
+-- a grid
+watched : (a b : Bytes) → (validGrid a ≡ true → validGrid b ≡ true) → obeyAll (validGrid ∷ []) (a ∷ []) ≡ true → obeyAll (validGrid ∷ []) (b ∷ []) ≡ true
+unfolding obeyAll
+watched a b f e = and-intro (validGrid b) true (f (and-left (validGrid a) true e)) refl
+
+-- a table and a grid
+pair : (t g u h : Bytes) → (validWhole t ≡ true → validGrid g ≡ true → (validWhole u ≡ true) × (validGrid h ≡ true))
+    → obeyAll (validWhole ∷ validGrid ∷ []) (t ∷ g ∷ []) ≡ true
+    → obeyAll (validWhole ∷ validGrid ∷ []) (u ∷ h ∷ []) ≡ true
+unfolding obeyAll
+pair t g u h f e =
+    let x = f (and-left (validWhole t) (validGrid g && true) e) (and-left (validGrid g) true (and-right (validWhole t) (validGrid g && true) e)) in
+    and-intro (validWhole u) (validGrid h && true) (x .0) (and-intro (validGrid h) true (x .1) refl)
+
 -- one table
 one : (a b : Bytes) → (validWhole a ≡ true → validWhole b ≡ true) → obeyAll (validWhole ∷ []) (a ∷ []) ≡ true → obeyAll (validWhole ∷ []) (b ∷ []) ≡ true
 unfolding obeyAll
@@ -183,13 +224,21 @@ obeying (calls.offer-heartbeat t i h) =
 obeying (calls.local-beat t i) = one t _ (kept (plain.Refused BadTable) (localBeat (i .value)) (beat-keeps (i .value)) (numbers-beat (i .value)) t)
 obeying (calls.find t k i) = λ e. e
 obeying (calls.list-prefix t k out i) = λ e. e
-obeying (calls.new-overrides o i) = over o _ (λ v. new-keeps (i .value) o (i .fits) (over-long o v))
+obeying (calls.new-overrides o i) = over o _ (λ v. over-new-keeps (i .value) o (i .fits) (over-long o v))
 obeying (calls.write-override o k v wanted now) = over o _ (over-write-keeps (wanted .value) v (now .value) k o (now .fits))
 obeying (calls.delete-override o k now) = over o _ (over-call-keeps (Deleting (now .value)) k o (now .fits))
 obeying (calls.delete-override-after-ttl o k now) = over o _ (over-call-keeps (DeletingAfterTtl (now .value)) k o (now .fits))
 obeying (calls.remove-overrides o now grace) = over o _ (removal-keeps (now .value) (grace .value) o)
 obeying (calls.find-over t o k i) = λ e. e
 obeying (calls.list-over t o k out i) = λ e. e
+obeying (calls.new-grid t g) = pair t g t _ (λ w v. (w, new-keeps t g w v))
+obeying (calls.grid-add-node t g i) = pair t g _ _ (λ w v. grown (i .value) (i .fits) t g w v)
+obeying (calls.grid-remove-node t g i) = pair t g _ _ (λ w v. shrunk (i .value) t g w v)
+obeying (calls.tell g digest p edition) = watched g _ (tell-keeps p edition (digest .bytes) g (digest .are))
+obeying (calls.take-out g p) = watched g _ (take-out-keeps p g)
+obeying (calls.least-max g i) = λ e. e
+obeying (calls.seen-by g p i) = λ e. e
+obeying (calls.remove-carefully t g now grace) = pair t g _ g (λ w v. (carefully (now .value) (grace .value) t g w, v))
 obeying (calls.node-count t) = λ e. e
 obeying (calls.node-number t i) = λ e. e
 obeying (calls.node-header t i) = λ e. e

@@ -18,10 +18,14 @@ use Rattle.rules.specs.declared.Answer.the-variants as plain
 use Rattle.rules.specs.declared.Applied.the-variants as applied
 use Rattle.rules.specs.declared.Computed.{Computed}
 use Rattle.rules.specs.declared.Offered.the-variants as offered
-use Rattle.rules.specs.declared.Refusal.the-variants.{BadTable}
+use Rattle.rules.specs.declared.Refusal.the-variants.{BadTable, NobodyPresent}
 use Rattle.rules.specs.declared.Written.{Written}
 use Rattle.rules.proofs.Refusing.{whole-bytes}
 use Rattle.table.proofs.Wholes.{whole-tail}
+use Rattle.grid.specs.Grid.{somebody}
+use Rattle.grid.specs.GridLayout.{decodeGrid}
+use Rattle.grid.specs.LentGrid.{carefullyRemoved, lentCareful, validBoth}
+use Rattle.grid_kept.proofs.LentKept.{both-table}
 use Rattle.exchange.specs.Exchanging.{Lending, afterAsking, afterComputing, afterDigesting, lentAnswer, lentExchange, lending, roomsOf, threeCalls}
 use Rattle.exchange_ask.specs.Asking.{readyFor}
 use Rattle.exchange_ask.specs.declared.Ready.{Ready}
@@ -57,6 +61,16 @@ applying delta now answers l = go (validWhole l) refl
         → memoryIn (pick b (storedApply (decodeWhole l) (apply (waysOf (decodeWhole l .mode)) delta now (decodeWhole l .table) answers)) (given (applied.Refused BadTable 0) (both l answers)) .lent .table) ≡ memoryIn l
     go true v = tail-stays l v _
     go false v = refl
+
+carefully : (now grace : ℕ) (g l : Bytes) → memoryIn (lentCareful now grace g l .lent) ≡ memoryIn l
+unfolding lentCareful
+carefully now grace g l = go (validBoth g l) refl (somebody (decodeGrid g))
+  where
+    go : (b : Bool) → validBoth g l ≡ b → (c : Bool)
+        → memoryIn (pick b (pick c (given plain.Done (encodeWhole (withTable (carefullyRemoved (decodeGrid g) now grace (decodeWhole l .table)) (decodeWhole l)))) (given (plain.Refused NobodyPresent) l)) (given (plain.Refused BadTable) l) .lent) ≡ memoryIn l
+    go true v true = tail-stays l (both-table g l v) _
+    go true v false = refl
+    go false v c = refl
 
 module _ (g : Lending) (publisher follower : Bytes) where
   ready-stays : IsReady g publisher follower → memoryIn (threeCalls g publisher follower .lent .follower) ≡ memoryIn follower
@@ -106,6 +120,14 @@ remembered (calls.delete-override-after-ttl o k now) e = refl
 remembered (calls.remove-overrides o now grace) e = refl
 remembered (calls.find-over t o k i) e = refl
 remembered (calls.list-over t o k out i) e = refl
+remembered (calls.new-grid t g) e = refl
+remembered (calls.grid-add-node t g i) e = absurd (true≢false e)
+remembered (calls.grid-remove-node t g i) e = absurd (true≢false e)
+remembered (calls.tell g digest p edition) e = refl
+remembered (calls.take-out g p) e = refl
+remembered (calls.least-max g i) e = refl
+remembered (calls.seen-by g p i) e = refl
+remembered (calls.remove-carefully t g now grace) e = one t _ (carefully (now .value) (grace .value) g t)
 remembered (calls.node-count t) e = refl
 remembered (calls.node-number t i) e = refl
 remembered (calls.node-header t i) e = refl

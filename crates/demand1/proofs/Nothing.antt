@@ -1,10 +1,10 @@
 -- A refused call leaves everything that was lent to it as it was. A refusal is known by its number, which is not 0. Assumes nothing.
 use Prim.Native.Nat.{ℕ}
-use mathlib.Core.Bool.{Bool, false, true}
+use mathlib.Core.Bool.{Bool, false, true, _&&_}
 use mathlib.Core.List.{[], _∷_}
 use mathlib.Core.Option.{Option, none, some}
 use mathlib.Core.Path.{_≡_, _∙_, ap, ap₂, refl}
-use lib.Dec.{eqb, leb}
+use lib.Dec.{eqb, leb, ltb}
 use lib.ListN.{length}
 use Rattle.fields.specs.Choice.{pick}
 use Rattle.fields.specs.Numbers.{Bytes}
@@ -12,9 +12,9 @@ use Rattle.fields.specs.Parts.{put}
 use Rattle.rules.specs.Answers.{Told, answerTold, appliedTold, computedTold, listedTold, offeredTold, writtenTold}
 use Rattle.rules.specs.Apply.{waysOf}
 use Rattle.rules.specs.Compute as computing
-use Rattle.rules.specs.Digest.{fitsAt, writeBytes, writeDigest}
+use Rattle.rules.specs.Digest.{DigestRead, Entries, Refused as NotRead, fitsAt, readDigest, writeBytes, writeDigest}
 use Rattle.rules.specs.Given.{Given, given}
-use Rattle.rules.specs.Whole.{decodeWhole, validWhole, wholeWidth}
+use Rattle.rules.specs.Whole.{Whole, decodeWhole, encodeWhole, validWhole, wholeWidth, withTable}
 use Rattle.rules.specs.declared.Mode.{Mode}
 use Rattle.rules.specs.Lent.{addWhole, fromTable, lentNew, onTable, removeWhole}
 use Rattle.rules.specs.Listing.{listing}
@@ -23,7 +23,7 @@ use Rattle.rules.specs.Layout.{nodeWidth, encodeNode, decodeNode}
 use Rattle.rules.specs.Sizes.{maxKey}
 use Rattle.rules.specs.Local.{Outcome, answerOf, call, gc, localBeat, offer, prefixed, write}
 use Rattle.rules.specs.Node.{Call, Decision, Deleting, DeletingAfterTtl, Give, Leave, Node, Refuse, Setting, SettingTtl, act, beats, decide}
-use Rattle.rules.specs.Table.{Entry, Table, nodeOf}
+use Rattle.rules.specs.Table.{Entry, Table, nodeOf, numbersOf}
 use Rattle.rules.specs.declared.Answer.{Answer}
 use Rattle.rules.specs.declared.Answer.the-variants as plain
 use Rattle.rules.specs.declared.Applied.{Applied}
@@ -35,11 +35,11 @@ use Rattle.rules.specs.declared.Listed.the-variants as listed
 use Rattle.rules.specs.declared.Offered.{Offered}
 use Rattle.rules.specs.declared.Offered.the-variants as offered
 use Rattle.rules.specs.declared.Refusal.{Refusal}
-use Rattle.rules.specs.declared.Refusal.the-variants.{BadTable, BadTag, NoPlace, TooLong}
+use Rattle.rules.specs.declared.Refusal.the-variants.{BadPeer, BadTable, BadTag, NoPlace, NobodyPresent, TooLong}
 use Rattle.rules.specs.declared.Status.the-variants.{Set, Ttl}
 use Rattle.rules.specs.declared.Written.{Written}
 use Rattle.rules.specs.declared.Written.the-variants as written
-use Rattle.rules.proofs.Refusing.{beat-refused, call-refused, compute-refused, digest-refused, lent-apply-refused, lent-refused, offer-refused, prefixed-refused, write-refused}
+use Rattle.rules.proofs.Refusing.{beat-refused, call-refused, compute-refused, digest-refused, lent-apply-refused, lent-refused, offer-refused, prefixed-refused, whole-bytes, write-refused}
 use Rattle.rules.proofs.Memories.{add-whole-refused, remove-whole-refused, whole-refused}
 use Rattle.nodes.specs.New.{lentMade}
 use Rattle.table.specs.Changes.{withNode, freshEntry}
@@ -53,6 +53,10 @@ use Rattle.over_list.specs.Merged.{placesOf, listInto, listOn, listOver, lentLi
 use Rattle.over_list.specs.Told.{listedOverTold}
 use Rattle.over_list.specs.declared.ListedOver.{ListedOver}
 use Rattle.over_list.specs.declared.ListedOver.the-variants as over
+use Rattle.grid.specs.Grid.{addColumn, dropColumn, maxPeers, newGrid, somebody, takeOut}
+use Rattle.grid.specs.GridLayout.{decodeGrid, encodeGrid, gridWidth, validGrid}
+use Rattle.grid.specs.LentGrid.{GridAndTable, both as beside, carefullyRemoved, gridOn, lentCareful, lentColumnIn, lentColumnOut, lentNewGrid, lentTakeOut, lentTell, tellOn, validBoth}
+use Rattle.grid_kept.proofs.LentKept.{both-table}
 use Rattle.delta_make.specs.declared.Made.the-variants as making
 use Rattle.listing_read.specs.Unlist.{Delta, Faulty, NotInForm, Unlisted, unlist}
 use Rattle.listing_make.specs.Make.{lentMake, lentUnlisted, madeTold, placed}
@@ -254,6 +258,85 @@ over-listed i k out o t = go (validNode o) (validWhole t)
     go true false h = refl
     go false b h = refl
 
+-- ---- calls on a grid
+
+grid-made : (t g : Bytes) → Refuses (answerTold (lentNewGrid t g .answer)) → lentNewGrid t g .lent ≡ g
+unfolding lentNewGrid answerTold
+grid-made t g = go (eqb (length g) gridWidth && validWhole t)
+  where
+    out : Bool → Given Answer Bytes
+    out b = pick b (given plain.Done (encodeGrid (newGrid (numbersOf (decodeWhole t .table))))) (given (plain.Refused BadTable) g)
+
+    go : (b : Bool) → Refuses (answerTold (out b .answer)) → out b .lent ≡ g
+    go true h = absurd (h refl)
+    go false h = refl
+
+-- a refused node leaves the table, and the grid goes with it
+with-column : (g t : Bytes) (o : Given Answer Whole) (after : Bytes) → ((r : Refusal) → o .answer ≡ plain.Refused r → o .lent ≡ decodeWhole t)
+    → Refuses (answerTold (pick (validBoth g t) (given (o .answer) (beside (gridOn (o .answer) after g) (encodeWhole (o .lent)))) (given (plain.Refused BadTable) (beside g t)) .answer))
+    → pick (validBoth g t) (given (o .answer) (beside (gridOn (o .answer) after g) (encodeWhole (o .lent)))) (given (plain.Refused BadTable) (beside g t)) .lent ≡ beside g t
+with-column g t o after f = go (validBoth g t) refl
+  where
+    out : Bool → Given Answer GridAndTable
+    out b = pick b (given (o .answer) (beside (gridOn (o .answer) after g) (encodeWhole (o .lent)))) (given (plain.Refused BadTable) (beside g t))
+
+    go : (b : Bool) → validBoth g t ≡ b → Refuses (answerTold (out b .answer)) → out b .lent ≡ beside g t
+    go true v h =
+        let x = by-answer (o .answer) h in
+        let a : gridOn (o .answer) after g ≡ g = ap (λ (y : Answer). gridOn y after g) (x .1) in
+        let b : encodeWhole (o .lent) ≡ t = ap encodeWhole (f (x .0) (x .1)) ∙ whole-bytes t (both-table g t v) in
+        λ z. beside (a z) (b z)
+    go false v h = refl
+
+came : (i : ℕ) (g t : Bytes) → Refuses (answerTold (lentColumnIn i g t .answer)) → lentColumnIn i g t .lent ≡ beside g t
+unfolding lentColumnIn
+came i g t = with-column g t (addWhole i (decodeWhole t)) (encodeGrid (addColumn i (decodeGrid g))) (add-whole-refused i (decodeWhole t))
+
+went : (i : ℕ) (g t : Bytes) → Refuses (answerTold (lentColumnOut i g t .answer)) → lentColumnOut i g t .lent ≡ beside g t
+unfolding lentColumnOut
+went i g t = with-column g t (removeWhole i (decodeWhole t)) (encodeGrid (dropColumn i (decodeGrid g))) (remove-whole-refused i (decodeWhole t))
+
+-- a refused digest makes nobody present
+was-told : (p edition : ℕ) (digest g : Bytes) → Refuses (answerTold (lentTell p edition digest g .answer)) → lentTell p edition digest g .lent ≡ g
+unfolding lentTell answerTold
+was-told p edition digest g = go (validGrid g) (ltb p maxPeers) (readDigest edition digest)
+  where
+    out : Bool → Bool → DigestRead → Given Answer Bytes
+    out b c r = pick b (pick c (tellOn p r g) (given (plain.Refused BadPeer) g)) (given (plain.Refused BadTable) g)
+
+    go : (b c : Bool) (r : DigestRead) → Refuses (answerTold (out b c r .answer)) → out b c r .lent ≡ g
+    go true true (Entries ds rest) h = absurd (h refl)
+    go true true (NotRead r) h = refl
+    go true false r h = refl
+    go false c r h = refl
+
+taken-out : (p : ℕ) (g : Bytes) → Refuses (answerTold (lentTakeOut p g .answer)) → lentTakeOut p g .lent ≡ g
+unfolding lentTakeOut answerTold
+taken-out p g = go (validGrid g) (ltb p maxPeers)
+  where
+    out : Bool → Bool → Given Answer Bytes
+    out b c = pick b (pick c (given plain.Done (encodeGrid (takeOut p (decodeGrid g)))) (given (plain.Refused BadPeer) g)) (given (plain.Refused BadTable) g)
+
+    go : (b c : Bool) → Refuses (answerTold (out b c .answer)) → out b c .lent ≡ g
+    go true true h = absurd (h refl)
+    go true false h = refl
+    go false c h = refl
+
+carefully : (now grace : ℕ) (g t : Bytes) → Refuses (answerTold (lentCareful now grace g t .answer)) → lentCareful now grace g t .lent ≡ t
+unfolding lentCareful answerTold
+carefully now grace g t = go (validBoth g t) (somebody (decodeGrid g))
+  where
+    out : Bool → Bool → Given Answer Bytes
+    out b c =
+        pick b
+        (pick c (given plain.Done (encodeWhole (withTable (carefullyRemoved (decodeGrid g) now grace (decodeWhole t .table)) (decodeWhole t)))) (given (plain.Refused NobodyPresent) t))
+        (given (plain.Refused BadTable) t)
+
+    go : (b c : Bool) → Refuses (answerTold (out b c .answer)) → out b c .lent ≡ t
+    go true true h = absurd (h refl)
+    go true false h = refl
+    go false c h = refl
+
 -- an exchange that goes ahead is not refused
 exchanged : (g : Lending) (publisher follower : Bytes) → Refuses (exchangedTold (lentExchange g publisher follower .answer))
     → lentExchange g publisher follower .lent ≡ allFour follower (g .digest) (g .delta) (g .answers)
@@ -315,6 +398,14 @@ nothing (calls.remove-overrides o now grace) h =
     ap (λ (u : Bytes). u ∷ []) (on-over (cleaned (now .value) (grace .value)) (over-cleaned (now .value) (grace .value)) o h)
 nothing (calls.find-over t o k i) h = refl
 nothing (calls.list-over t o k out i) h = ap (λ (u : Bytes). t ∷ o ∷ k ∷ u ∷ []) (over-listed (i .value) k out o t h)
+nothing (calls.new-grid t g) h = ap (λ (u : Bytes). t ∷ u ∷ []) (grid-made t g h)
+nothing (calls.grid-add-node t g i) h = ap (λ (u : GridAndTable). u .table ∷ u .grid ∷ []) (came (i .value) g t h)
+nothing (calls.grid-remove-node t g i) h = ap (λ (u : GridAndTable). u .table ∷ u .grid ∷ []) (went (i .value) g t h)
+nothing (calls.tell g digest p edition) h = ap (λ (u : Bytes). u ∷ digest .bytes ∷ []) (was-told p edition (digest .bytes) g h)
+nothing (calls.take-out g p) h = ap (λ (u : Bytes). u ∷ []) (taken-out p g h)
+nothing (calls.least-max g i) h = refl
+nothing (calls.seen-by g p i) h = refl
+nothing (calls.remove-carefully t g now grace) h = ap (λ (u : Bytes). u ∷ g ∷ []) (carefully (now .value) (grace .value) g t h)
 nothing (calls.node-count t) h = refl
 nothing (calls.node-number t i) h = refl
 nothing (calls.node-header t i) h = refl

@@ -19,7 +19,7 @@ use Rattle.rules.specs.Delta.{Faulty, Good, Op, Ops, deltaRead, partsOf, readAn
 use Rattle.rules.specs.Digest as digest
 use Rattle.rules.specs.Given.{Given, given}
 use Rattle.rules.specs.Memory.{heartbeatOf}
-use Rattle.rules.specs.Whole.{Whole, decodeWhole, encodeWhole, validWhole, wholeWidth}
+use Rattle.rules.specs.Whole.{Whole, decodeWhole, encodeWhole, validWhole, wholeWidth, withTable}
 use Rattle.rules.specs.declared.Mode.{Mode}
 use Rattle.rules.specs.Lent.{addWhole, both, fromTable, lentApply, lentApplyAs, lentNew, lentRemoved, onTable, onWhole, rememberedAs, removeWhole, storedIn, storedApply}
 use Rattle.rules.specs.Listing.{listing}
@@ -39,7 +39,7 @@ use Rattle.rules.specs.declared.Listed.{Listed}
 use Rattle.rules.specs.declared.Listed.the-variants as listed
 use Rattle.rules.specs.declared.Offered.the-variants as offered
 use Rattle.rules.specs.declared.Refusal.{Refusal}
-use Rattle.rules.specs.declared.Refusal.the-variants.{BadMtu, BadPlan, BadTable, BadTag, BadTies, Exhausted, NinthNode, NoNode, NodeFull, NoPlace, TooLong, BadEdition}
+use Rattle.rules.specs.declared.Refusal.the-variants.{BadMtu, BadPeer, BadPlan, BadTable, BadTag, BadTies, Exhausted, NinthNode, NoNode, NobodyPresent, NodeFull, NoPlace, TooLong, BadEdition}
 use Rattle.rules.specs.declared.Status.the-variants.{Set, Ttl}
 use Rattle.rules.specs.declared.Written.{Written}
 use Rattle.rules.specs.declared.Written.the-variants as written
@@ -66,6 +66,11 @@ use Rattle.over_list.specs.Told.{listedOverTold}
 use Rattle.over_list.specs.declared.ListedOver.{ListedOver}
 use Rattle.over_list.specs.declared.ListedOver.the-variants as merged
 use Rattle.over_list.proofs.Listed.{searched}
+use Rattle.grid.specs.Grid.{Grid, addColumn, columns, dropColumn, leastOf, maxPeers, maxesTold, newGrid, placeOf, somebody, takeOut}
+use Rattle.grid.specs.GridLayout.{decodeGrid, encodeGrid, gridWidth, validGrid}
+use Rattle.grid.specs.LentGrid.{both as beside, carefullyRemoved, gridOn, leastTold, lentCareful, lentColumnIn, lentColumnOut, lentLeast, lentNewGrid, lentSeen, lentTakeOut, lentTell, seenTold, tellOn, validBoth}
+use Rattle.grid.specs.declared.Least.the-variants as least
+use Rattle.grid.specs.declared.Seen.the-variants as seen
 use Rattle.inspect.specs.Look.{elementAt, headerOn, nodeCount, nodeHeader, nodeNumber, numberOn, readAt, readKey, readRec, readRecord, recordByKey, recordByKeyOn, recordCount, recordIn, recordOfPlaces, recordOn, recordsOn, rowsOn, nodeRows}
 use Rattle.inspect.specs.Told.{countTold, nodeHeaderTold, nodeNumberTold, recordReadTold, rowsTold}
 use Rattle.inspect.specs.declared.Count.the-variants as count
@@ -442,6 +447,104 @@ listed-over i k out o t =
     go n none = refl
     go n (some m) = limit (merging.placesOf (merging.listing k (n .recs) (m .recs))) (leb (length k) maxKey)
 
+-- ---- grids
+
+grid-made : (t g : Bytes) → Of calls.NewGrid (answerTold (lentNewGrid t g .answer))
+unfolding lentNewGrid answerTold among calls.refusals
+grid-made t g = go (eqb (length g) gridWidth && validWhole t)
+  where
+    go : (b : Bool) → Of calls.NewGrid (answerTold (pick b (given plain.Done (encodeGrid (newGrid (numbersOf (decodeWhole t .table))))) (given (plain.Refused BadTable) g) .answer))
+    go true = refl
+    go false = refl
+
+-- 14 of the two, else what the table says
+with-column : (kind : calls.Kind) (g t : Bytes) (o : Given Answer Whole) (after : Bytes) → Of kind (answerTold (plain.Refused BadTable)) → Of kind (answerTold (o .answer))
+    → Of kind (answerTold (pick (validBoth g t) (given (o .answer) (beside (gridOn (o .answer) after g) (encodeWhole (o .lent)))) (given (plain.Refused BadTable) (beside g t)) .answer))
+with-column kind g t o after bad f = go (validBoth g t)
+  where
+    go : (b : Bool) → Of kind (answerTold (pick b (given (o .answer) (beside (gridOn (o .answer) after g) (encodeWhole (o .lent)))) (given (plain.Refused BadTable) (beside g t)) .answer))
+    go true = f
+    go false = bad
+
+came : (i : ℕ) (g t : Bytes) → Of calls.GridAddNode (answerTold (lentColumnIn i g t .answer))
+unfolding lentColumnIn addWhole add answerTold among calls.refusals
+came i g t =
+    with-column calls.GridAddNode g t (addWhole i (decodeWhole t)) (encodeGrid (addColumn i (decodeGrid g))) refl
+    (go (decodeWhole t .table) (among i (numbersOf (decodeWhole t .table))) (ltb (length (decodeWhole t .table)) maxNodes))
+  where
+    go : (u : Table) (a b : Bool) → Of calls.GridAddNode (answerTold (pick a (gives plain.Done u) (pick b (gives plain.Done (addNode i u)) (gives (plain.Refused NinthNode) u)) .answer))
+    go u true b = refl
+    go u false true = refl
+    go u false false = refl
+
+went : (i : ℕ) (g t : Bytes) → Of calls.GridRemoveNode (answerTold (lentColumnOut i g t .answer))
+unfolding lentColumnOut removeWhole removeNode answerTold among calls.refusals
+went i g t =
+    with-column calls.GridRemoveNode g t (removeWhole i (decodeWhole t)) (encodeGrid (dropColumn i (decodeGrid g))) refl
+    (go (decodeWhole t .table) (among i (numbersOf (decodeWhole t .table))))
+  where
+    go : (u : Table) (a : Bool) → Of calls.GridRemoveNode (answerTold (pick a (gives plain.Done (dropNode i u)) (gives (plain.Refused NoNode) u) .answer))
+    go u true = refl
+    go u false = refl
+
+was-told : (p edition : ℕ) (d g : Bytes) → Of calls.Tell (answerTold (lentTell p edition d g .answer))
+unfolding lentTell answerTold among calls.refusals
+was-told p edition d g = go (validGrid g) (ltb p maxPeers)
+  where
+    go : (b c : Bool) → Of calls.Tell (answerTold (pick b (pick c (tellOn p (digest.readDigest edition d) g) (given (plain.Refused BadPeer) g)) (given (plain.Refused BadTable) g) .answer))
+    go true true = digest-comes (λ x. Of calls.Tell (answerTold (tellOn p x g .answer))) refl (λ n. refl) refl (λ ds rest. refl) edition d
+    go true false = refl
+    go false c = refl
+
+taken-out : (p : ℕ) (g : Bytes) → Of calls.TakeOut (answerTold (lentTakeOut p g .answer))
+unfolding lentTakeOut answerTold among calls.refusals
+taken-out p g = go (validGrid g) (ltb p maxPeers)
+  where
+    go : (b c : Bool)
+        → Of calls.TakeOut (answerTold (pick b (pick c (given plain.Done (encodeGrid (takeOut p (decodeGrid g)))) (given (plain.Refused BadPeer) g)) (given (plain.Refused BadTable) g) .answer))
+    go true true = refl
+    go true false = refl
+    go false c = refl
+
+least-is : (i : ℕ) (g : Bytes) → Of calls.LeastMax (leastTold (lentLeast i g))
+unfolding lentLeast leastTold among calls.refusals
+least-is i g = go (validGrid g) (somebody (decodeGrid g)) (among i (columns (decodeGrid g)))
+  where
+    go : (b c d : Bool)
+        → Of calls.LeastMax (leastTold (pick b (pick c (pick d (least.Is (leastOf (maxesTold i (decodeGrid g)))) (least.Refused NoNode)) (least.Refused NobodyPresent)) (least.Refused BadTable)))
+    go true true true = refl
+    go true true false = refl
+    go true false d = refl
+    go false c d = refl
+
+seen-is : (p i : ℕ) (g : Bytes) → Of calls.SeenBy (seenTold (lentSeen p i g))
+unfolding lentSeen seenTold among calls.refusals
+seen-is p i g = go (validGrid g) (ltb p maxPeers) (among i (columns (decodeGrid g))) (eqb (getD (decodeGrid g .present) p 0) 1)
+  where
+    x : Grid
+    x = decodeGrid g
+
+    j : ℕ
+    j = placeOf i (columns x)
+
+    go : (b c d e : Bool)
+        → Of calls.SeenBy (seenTold (pick b (pick c (pick d (pick e (seen.Pair (getD (getD (x .gcs) p []) j 0) (getD (getD (x .maxes) p []) j 0)) seen.Absent) (seen.Refused NoNode)) (seen.Refused BadPeer)) (seen.Refused BadTable)))
+    go true true true true = refl
+    go true true true false = refl
+    go true true false e = refl
+    go true false d e = refl
+    go false c d e = refl
+
+carefully : (now grace : ℕ) (g t : Bytes) → Of calls.RemoveCarefully (answerTold (lentCareful now grace g t .answer))
+unfolding lentCareful answerTold among calls.refusals
+carefully now grace g t = go (validBoth g t) (somebody (decodeGrid g))
+  where
+    go : (b c : Bool)
+        → Of calls.RemoveCarefully (answerTold (pick b (pick c (given plain.Done (encodeWhole (withTable (carefullyRemoved (decodeGrid g) now grace (decodeWhole t .table)) (decodeWhole t)))) (given (plain.Refused NobodyPresent) t)) (given (plain.Refused BadTable) t) .answer))
+    go true true = refl
+    go true false = refl
+    go false c = refl
+
 -- ---- readings of a table
 
 counts : (l : Bytes) → Of calls.NodeCount (countTold (fromTable (count.Refused BadTable) nodeCount l))
@@ -779,6 +882,14 @@ no-other (calls.delete-override-after-ttl o k now) = over-deleted-ttl (now .valu
 no-other (calls.remove-overrides o now grace) = over-cleaned (now .value) (grace .value) o
 no-other (calls.find-over t o k i) = found-over (i .value) k o t
 no-other (calls.list-over t o k out i) = listed-over (i .value) k out o t
+no-other (calls.new-grid t g) = grid-made t g
+no-other (calls.grid-add-node t g i) = came (i .value) g t
+no-other (calls.grid-remove-node t g i) = went (i .value) g t
+no-other (calls.tell g d p edition) = was-told p edition (d .bytes) g
+no-other (calls.take-out g p) = taken-out p g
+no-other (calls.least-max g i) = least-is i g
+no-other (calls.seen-by g p i) = seen-is p i g
+no-other (calls.remove-carefully t g now grace) = carefully (now .value) (grace .value) g t
 no-other (calls.node-count t) = counts t
 no-other (calls.node-number t i) = numbered i t
 no-other (calls.node-header t i) = headed (i .value) t

@@ -24,6 +24,8 @@ use Rattle.over_find.specs.Over.{lentFindOver}
 use Rattle.over_find.specs.Told.{foundOverTold}
 use Rattle.over_list.specs.Merged.{lentListOver}
 use Rattle.over_list.specs.Told.{listedOverTold}
+use Rattle.grid.specs.GridLayout.{validGrid}
+use Rattle.grid.specs.LentGrid.{leastTold, lentCareful, lentColumnIn, lentColumnOut, lentLeast, lentNewGrid, lentSeen, lentTakeOut, lentTell, seenTold}
 use Rattle.inspect_text.specs.Texts.{lentTextFound}
 use Rattle.inspect_text.specs.declared.Text.{Text}
 use Rattle.digest_read.specs.Held.{digestIn}
@@ -67,6 +69,14 @@ pub data Kind : Type 0 where
   RemoveOverrides : Kind
   FindOver : Kind
   ListOver : Kind
+  NewGrid : Kind
+  GridAddNode : Kind
+  GridRemoveNode : Kind
+  Tell : Kind
+  TakeOut : Kind
+  LeastMax : Kind
+  SeenBy : Kind
+  RemoveCarefully : Kind
   NodeCount : Kind
   NodeNumber : Kind
   NodeHeader : Kind
@@ -112,6 +122,15 @@ pub data Call : Kind → Type 0 where
   remove-overrides : (overrides : Bytes) (clock grace : U64) → Call RemoveOverrides
   find-over : (table overrides key : Bytes) (number : U64) → Call FindOver
   list-over : (table overrides prefix out : Bytes) (number : U64) → Call ListOver
+  -- a grid stands beside a table; a digest that is told is bytes, so that what it tells are numbers
+  new-grid : (table grid : Bytes) → Call NewGrid
+  grid-add-node : (table grid : Bytes) (number : U64) → Call GridAddNode
+  grid-remove-node : (table grid : Bytes) (number : U64) → Call GridRemoveNode
+  tell : (grid : Bytes) (digest : Received) (peer edition : ℕ) → Call Tell
+  take-out : (grid : Bytes) (peer : ℕ) → Call TakeOut
+  least-max : (grid : Bytes) (number : ℕ) → Call LeastMax
+  seen-by : (grid : Bytes) (peer number : ℕ) → Call SeenBy
+  remove-carefully : (table grid : Bytes) (clock grace : U64) → Call RemoveCarefully
   node-count : (table : Bytes) → Call NodeCount
   node-number : (table : Bytes) (i : ℕ) → Call NodeNumber
   node-header : (table : Bytes) (number : U64) → Call NodeHeader
@@ -155,6 +174,14 @@ lentTo (delete-override-after-ttl o k now) = o ∷ k ∷ []
 lentTo (remove-overrides o now grace) = o ∷ []
 lentTo (find-over t o k i) = t ∷ o ∷ k ∷ []
 lentTo (list-over t o k out i) = t ∷ o ∷ k ∷ out ∷ []
+lentTo (new-grid t g) = t ∷ g ∷ []
+lentTo (grid-add-node t g i) = t ∷ g ∷ []
+lentTo (grid-remove-node t g i) = t ∷ g ∷ []
+lentTo (tell g digest p edition) = g ∷ digest .bytes ∷ []
+lentTo (take-out g p) = g ∷ []
+lentTo (least-max g i) = g ∷ []
+lentTo (seen-by g p i) = g ∷ []
+lentTo (remove-carefully t g now grace) = t ∷ g ∷ []
 lentTo (node-count t) = t ∷ []
 lentTo (node-number t i) = t ∷ []
 lentTo (node-header t i) = t ∷ []
@@ -199,6 +226,14 @@ checks DeleteOverrideAfterTtl = validNode ∷ []
 checks RemoveOverrides = validNode ∷ []
 checks FindOver = validWhole ∷ validNode ∷ []
 checks ListOver = validWhole ∷ validNode ∷ []
+checks NewGrid = validWhole ∷ validGrid ∷ []
+checks GridAddNode = validWhole ∷ validGrid ∷ []
+checks GridRemoveNode = validWhole ∷ validGrid ∷ []
+checks Tell = validGrid ∷ []
+checks TakeOut = validGrid ∷ []
+checks LeastMax = validGrid ∷ []
+checks SeenBy = validGrid ∷ []
+checks RemoveCarefully = validWhole ∷ validGrid ∷ []
 checks NodeCount = validWhole ∷ []
 checks NodeNumber = validWhole ∷ []
 checks NodeHeader = validWhole ∷ []
@@ -242,6 +277,14 @@ tables DeleteOverrideAfterTtl = 0
 tables RemoveOverrides = 0
 tables FindOver = 1
 tables ListOver = 1
+tables NewGrid = 1
+tables GridAddNode = 1
+tables GridRemoveNode = 1
+tables Tell = 0
+tables TakeOut = 0
+tables LeastMax = 0
+tables SeenBy = 0
+tables RemoveCarefully = 1
 tables NodeCount = 1
 tables NodeNumber = 1
 tables NodeHeader = 1
@@ -291,6 +334,14 @@ leaves (delete-override-after-ttl o k now) = asTold answerTold (λ u. u ∷ k �
 leaves (remove-overrides o now grace) = asTold answerTold (λ u. u ∷ []) (lentRemoveOverrides (now .value) (grace .value) o)
 leaves (find-over t o k i) = given (foundOverTold (lentFindOver (i .value) k o t)) (t ∷ o ∷ k ∷ [])
 leaves (list-over t o k out i) = asTold listedOverTold (λ u. t ∷ o ∷ k ∷ u ∷ []) (lentListOver (i .value) k out o t)
+leaves (new-grid t g) = asTold answerTold (λ u. t ∷ u ∷ []) (lentNewGrid t g)
+leaves (grid-add-node t g i) = asTold answerTold (λ u. u .table ∷ u .grid ∷ []) (lentColumnIn (i .value) g t)
+leaves (grid-remove-node t g i) = asTold answerTold (λ u. u .table ∷ u .grid ∷ []) (lentColumnOut (i .value) g t)
+leaves (tell g digest p edition) = asTold answerTold (λ u. u ∷ digest .bytes ∷ []) (lentTell p edition (digest .bytes) g)
+leaves (take-out g p) = asTold answerTold (λ u. u ∷ []) (lentTakeOut p g)
+leaves (least-max g i) = given (leastTold (lentLeast i g)) (g ∷ [])
+leaves (seen-by g p i) = given (seenTold (lentSeen p i g)) (g ∷ [])
+leaves (remove-carefully t g now grace) = asTold answerTold (λ u. u ∷ g ∷ []) (lentCareful (now .value) (grace .value) g t)
 leaves (node-count t) = given (countTold (lentNodeCount t)) (t ∷ [])
 leaves (node-number t i) = given (nodeNumberTold (lentNodeNumber i t)) (t ∷ [])
 leaves (node-header t i) = given (nodeHeaderTold (lentNodeHeader (i .value) t)) (t ∷ [])
@@ -340,6 +391,14 @@ refusals DeleteOverrideAfterTtl = 14 ∷ 1 ∷ 3 ∷ 6 ∷ []
 refusals RemoveOverrides = 14 ∷ []
 refusals FindOver = 14 ∷ 2 ∷ 1 ∷ []
 refusals ListOver = 14 ∷ 2 ∷ 1 ∷ 8 ∷ []
+refusals NewGrid = 14 ∷ []
+refusals GridAddNode = 14 ∷ 4 ∷ []
+refusals GridRemoveNode = 14 ∷ 2 ∷ []
+refusals Tell = 14 ∷ 21 ∷ 20 ∷ 9 ∷ 13 ∷ []
+refusals TakeOut = 14 ∷ 21 ∷ []
+refusals LeastMax = 14 ∷ 22 ∷ 2 ∷ []
+refusals SeenBy = 14 ∷ 21 ∷ 2 ∷ []
+refusals RemoveCarefully = 14 ∷ 22 ∷ []
 refusals NodeCount = 14 ∷ []
 refusals NodeNumber = 14 ∷ 8 ∷ []
 refusals NodeHeader = 14 ∷ 2 ∷ []
@@ -384,6 +443,14 @@ remembers DeleteOverrideAfterTtl = false
 remembers RemoveOverrides = false
 remembers FindOver = false
 remembers ListOver = false
+remembers NewGrid = false
+remembers GridAddNode = true
+remembers GridRemoveNode = true
+remembers Tell = false
+remembers TakeOut = false
+remembers LeastMax = false
+remembers SeenBy = false
+remembers RemoveCarefully = false
 remembers NodeCount = false
 remembers NodeNumber = false
 remembers NodeHeader = false

@@ -1,15 +1,14 @@
 -- The bytes of a grid: their length; a grid is read out of its bytes, and written they are its bytes again. Assumes nothing.
-use Prim.Native.Nat.{ℕ, _+_, _*_, _≤_, _<_}
-use mathlib.Core.Path.{_≡_, _∙_, ap, refl, sym, subst}
+use Prim.Native.Nat.{ℕ, _*_, _≤_}
+use mathlib.Core.Path.{_≡_, _∙_, ap, refl, sym}
 use mathlib.Core.Bool.{Bool, true, false, _&&_}
-use mathlib.Core.List.{List, [], _∷_, _++_}
+use mathlib.Core.List.{List, [], _∷_}
 use native.Mathlib.Omega.{arith}
-use lib.ListN.{length, take, drop, getD}
-use Rattle.fields.specs.Choice.{_∈_, every}
+use lib.ListN.{length}
 use Rattle.fields.specs.Numbers.{AreBytes, bytesOf, natOf}
-use Rattle.fields.specs.Parts.{part, put}
-use Rattle.fields.specs.Blocks.{allZero, blocks, fit, unblock, zeros}
-use Rattle.fields.specs.Widths.{Widths, cutAt, joined, offset, total}
+use Rattle.fields.specs.Parts.{part}
+use Rattle.fields.specs.Blocks.{allZero, fit, zeros}
+use Rattle.fields.specs.Widths.{Widths, joined, offset}
 use Rattle.fields.specs.Order.{sameBytes}
 use borrow.Author.Tests.{leb-true}
 use lib.Seq.{take-at}
@@ -18,7 +17,7 @@ use Rattle.fields.proofs.Blocks.{blocks-back, length-blocks, length-fit, length
 use Rattle.fields.proofs.Numbers.{bytes-part, length-bytesOf, part-back}
 use Rattle.fields.proofs.Ordered.{same-true, same-self, same-length}
 use Rattle.fields.proofs.Parts.{length-part}
-use Rattle.fields.proofs.Widths.{field, joined-whole, length-joined}
+use Rattle.fields.proofs.Widths.{joined-whole, length-joined}
 use Rattle.rules.specs.Sizes.{maxNodes}
 use Rattle.grid.specs.Grid.{Grid, maxPeers, obeysGrid}
 use Rattle.grid.specs.GridLayout.{decodeGrid, encodeGrid, gridFields, gridWidth, gridWidths, rowBytes, rowIn, rowWidth, rowsBytes, rowsIn, rowsWidth, validGrid}

@@ -1,3 +1,4 @@
 pub mod GridBytes
 pub mod Cases
 pub mod Places
+pub mod Told

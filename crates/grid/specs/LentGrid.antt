@@ -2,7 +2,7 @@
 -- of grids, the table one of tables, or, for the calls that take both, the columns are not the table's nodes.
 use Prim.Native.Nat.{ℕ}
 use mathlib.Core.Bool.{Bool, _&&_}
-use mathlib.Core.List.{List, [], _∷_}
+use mathlib.Core.List.{[], _∷_}
 use lib.ListN.{length, getD}
 use lib.Dec.{ltb, eqb}
 use Rattle.fields.specs.Numbers.{Bytes}
@@ -12,7 +12,7 @@ use Rattle.rules.specs.Given.{Given, given}
 use Rattle.rules.specs.Answers.{Told, accepted, refused}
 use Rattle.rules.specs.Table.{Table, among, numbersOf, removeAll}
 use Rattle.rules.specs.Digest.{DigestRead, Entries, Refused, readDigest}
-use Rattle.rules.specs.Whole.{Whole, withTable, encodeWhole, decodeWhole, validWhole}
+use Rattle.rules.specs.Whole.{withTable, encodeWhole, decodeWhole, validWhole}
 use Rattle.rules.specs.Lent.{addWhole, removeWhole}
 use Rattle.rules.specs.declared.Answer.{Answer}
 use Rattle.rules.specs.declared.Answer.the-variants as plain

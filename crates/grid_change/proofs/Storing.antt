@@ -5,8 +5,8 @@ use mathlib.Core.Bool.{true, false}
 use mathlib.Core.List.{List, [], _∷_, _++_, map}
 use native.Mathlib.Omega.{arith}
 use native.Mathlib.Numerals.{add-one}
-use lib.ListN.{length, take, drop, getD, set, length-map, replicate}
-use lib.Seq.{drop-set-add, getD-take, length-take-le, set-at, take-all, take-set-lt, take-suc}
+use lib.ListN.{length, take, drop, getD, set}
+use lib.Seq.{drop-set-add, length-take-le, set-at, take-all, take-set-lt, take-suc}
 use Rattle.fields.specs.Numbers.{bytesOf, natOf}
 use Rattle.fields.specs.Parts.{part, put}
 use Rattle.fields.specs.Blocks.{fit, zeros}

@@ -1,15 +1,15 @@
 -- A grid whose numbers fit eight bytes is read back from its bytes; so one that obeys the rules has valid bytes. Assumes nothing.
-use Prim.Native.Nat.{ℕ, _*_, _^_, _≤_, _<_}
-use mathlib.Core.Path.{_≡_, _∙_, ap, refl, subst, sym}
-use mathlib.Core.Bool.{true, _&&_}
-use mathlib.Core.List.{List, [], _∷_}
+use Prim.Native.Nat.{ℕ, _≤_, _<_}
+use mathlib.Core.Path.{_≡_, _∙_, ap, sym}
+use mathlib.Core.Bool.{true}
+use mathlib.Core.List.{List, []}
 use native.Mathlib.Omega.{arith}
 use lib.ListN.{length, getD}
 use Rattle.fields.specs.Choice.{_∈_}
 use Rattle.fields.specs.Numbers.{bytesOf, natOf}
 use Rattle.fields.specs.Parts.{part}
 use Rattle.fields.specs.Blocks.{blocks, unblock}
-use Rattle.fields.specs.Widths.{joined, offset}
+use Rattle.fields.specs.Widths.{offset}
 use Rattle.fields.specs.Order.{sameBytes}
 use Rattle.fields.proofs.Blocks.{blocks-read}
 use Rattle.fields.proofs.Choice.{and-intro}

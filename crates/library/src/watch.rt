@@ -5,7 +5,8 @@ use answers_peers::KevTold;
 ghost use mathlib.Core.Path.{_≡_};
 ghost use Rattle.rules.specs.Answers.{answerTold};
 ghost use Rattle.rules.specs.Given.{Gives};
-ghost use Rattle.grid.specs.LentGrid.{both, leastTold, lentCareful, lentColumnIn, lentColumnOut, lentLeast, lentNewGrid, lentSeen, lentTakeOut, lentTell, seenTold};
+ghost use Rattle.grid.specs.LentGrid.{both, leastTold, seenTold};
+ghost use Rattle.grid.specs.LentGrid.{lentCareful, lentColumnIn, lentColumnOut, lentLeast, lentNewGrid, lentSeen, lentTakeOut, lentTell};
 ghost use Rattle.answers.specs.Shown.{numberShown, shownAs};
 ghost use Rattle.answers_peers.specs.ShownPeers.{leastShown, seenShown, toldShown};
 
@@ -20,7 +21,8 @@ pub extern "C" fn kev_new_grid(grid: &mut [u8], table: &[u8]) -> u64
 // A fresh node with this number, and its column: 14, 4.
 #[no_mangle]
 pub extern "C" fn kev_grid_add_node(grid: &mut [u8], table: &mut [u8], number: u64) -> u64
-    ensures { λ r. ⌜ Gives (shownAs answerTold numberShown (lentColumnIn number (now (grid .entry)) (now (table .entry)))) r (both (now (grid .exit)) (now (table .exit))) ⌝ }
+    ensures { λ r. ⌜ Gives (shownAs answerTold numberShown (lentColumnIn number (now (grid .entry)) (now (table .entry))))
+        r (both (now (grid .exit)) (now (table .exit))) ⌝ }
 {
     answers::number(peers::add_node(grid, table, number))
 }
@@ -28,7 +30,8 @@ pub extern "C" fn kev_grid_add_node(grid: &mut [u8], table: &mut [u8], number: u
 // The node with this number goes, and its column: 14, 2.
 #[no_mangle]
 pub extern "C" fn kev_grid_remove_node(grid: &mut [u8], table: &mut [u8], number: u64) -> u64
-    ensures { λ r. ⌜ Gives (shownAs answerTold numberShown (lentColumnOut number (now (grid .entry)) (now (table .entry)))) r (both (now (grid .exit)) (now (table .exit))) ⌝ }
+    ensures { λ r. ⌜ Gives (shownAs answerTold numberShown (lentColumnOut number (now (grid .entry)) (now (table .entry))))
+        r (both (now (grid .exit)) (now (table .exit))) ⌝ }
 {
     answers::number(peers::remove_node(grid, table, number))
 }

@@ -1,7 +1,7 @@
 -- Careful nets in lent bytes: at every moment of a careful run the bytes are those of the net of tables, in any modes. Assumes nothing.
 use Prim.Native.Nat.{ℕ}
 use mathlib.Core.List.{List, [], _∷_}
-use mathlib.Core.Path.{_∙_, _≡_, ap, refl, subst, sym}
+use mathlib.Core.Path.{_∙_, _≡_, ap, subst, sym}
 use Rattle.rules.proofs.Keeps.{mode-lawful}
 use Rattle.rules.specs.declared.Mode.{Mode}
 use Rattle.net.proofs.LentNet.{Good, Same, begin-lent, happen-lent}

@@ -1,7 +1,7 @@
 -- In a careful net hubs in any mode are safe though deltas come late, and no hub is reset: what a hub removes, every hub has, so that no last_gc passes any max.
 -- Assumes nothing.
 use Prim.Native.Nat.{_≤_, suc, zero, ℕ}
-use mathlib.Core.Bool.{Bool, _&&_, false, false≢true, true, true≢false}
+use mathlib.Core.Bool.{Bool, _&&_, false, true, true≢false}
 use mathlib.Core.List.{List, [], _∷_}
 use mathlib.Core.Logic.{_⊎_, inl, inr}
 use mathlib.Core.Option.{Option, none, some}
@@ -20,7 +20,7 @@ use Rattle.rules.proofs.Sending.{nodeDelta}
 use Rattle.rules.proofs.Tables.{partAt}
 use Rattle.rules.proofs.Taking.{Came, came, left, reset, took}
 use Rattle.rules.specs.Apply.{Lawful, Ways, answered, applyNode, deltaStatus, newerOf, outcome, plainWays, statusOf, takenAs}
-use Rattle.rules.specs.Delta.{Good, NodeDelta, Op, Ops, Part, deltaBytes, nothingRead, partsOf, readDelta}
+use Rattle.rules.specs.Delta.{Good, NodeDelta, Op, Ops, deltaBytes, nothingRead, partsOf, readDelta}
 use Rattle.rules.specs.Given.{Given}
 use Rattle.rules.specs.Local.{call}
 use Rattle.rules.specs.Node.{Decision, Give, Leave, Node, Rec, Refuse, act, due, goes, lastGc, remove, scheduled, write}
@@ -40,12 +40,12 @@ use Rattle.demand3.proofs.EachNode.{nodeAt, orFresh, partsIn, removed}
 use Rattle.demand3.proofs.Forms.{Comes, comes, refuses, writes}
 use Rattle.demand3.proofs.Moments.{nth-sent, read-once}
 use Rattle.demand3.specs.Forms.{ByClock, Carefully, Order, Removal, opsBy}
-use Rattle.demand3.specs.World.{appliedTo, nthSent, sentAfter}
+use Rattle.demand3.specs.World.{appliedTo, sentAfter}
 use Rattle.net.proofs.Coming.{part-there}
 use Rattle.net.proofs.Each.{each-add, each-beat, each-call, each-hub, each-offer, each-taken}
 use Rattle.net.proofs.Moments.{Moment, arrived, moment-begin, moment-calls, moment-removing, same-table}
 use Rattle.net.proofs.Safe.{sound}
-use Rattle.net.specs.Net.{Adding, Arriving, Beating, Computing, Dropping, Event, Net, NetSound, Offering, Plan, Removing, Restoring, Saving, Writing, after, begin, calls, happen, possible, withTable}
+use Rattle.net.specs.Net.{Adding, Arriving, Beating, Computing, Dropping, Event, Net, Offering, Plan, Removing, Restoring, Saving, Writing, after, begin, calls, happen, possible, withTable}
 use Rattle.net_careful.specs.Careful.{CarefulEvent, CarefulOver, CarefulRun, CarefulSafe, ToldBy, maxAt, maxOn, toldMax}
 
 -- ---- what peers told

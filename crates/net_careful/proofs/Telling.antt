@@ -17,7 +17,7 @@ use Rattle.rules.specs.Compute.{toldOf}
 use Rattle.rules.specs.Digest.{NodeDigest, digestOf, digestOfNode}
 use Rattle.rules.specs.Table.{Table, among, nodeOf}
 use Rattle.grid.specs.Grid.{Grid, columns, placeOf, rowTold, tellRow}
-use Rattle.net_careful.specs.Careful.{ToldBy, maxAt, maxOn, toldMax}
+use Rattle.net_careful.specs.Careful.{ToldBy, maxAt, maxOn}
 
 -- ---- a digest
 

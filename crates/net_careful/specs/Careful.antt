@@ -19,7 +19,7 @@ use Rattle.grid.specs.Grid.{Grid, columns, placeOf}
 use Rattle.grid.specs.GridLayout.{decodeGrid}
 use Rattle.demand3.specs.Forms.{ByClock, Carefully, Removal}
 use Rattle.net.specs.Net.{Adding, Arriving, Beating, Computing, Dropping, Event, Net, NetSound, Offering, Plan, Removing, Restoring, Saving, Writing, after, begin, happen}
-use Rattle.net.specs.LentNet.{LentSound, lentAfter, lentBegin, planIn, tablesIn}
+use Rattle.net.specs.LentNet.{LentSound, lentAfter, lentBegin, planIn}
 
 -- ---- what a grid tells of a hub
 

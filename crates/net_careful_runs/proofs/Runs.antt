@@ -14,7 +14,7 @@ use Rattle.rules.specs.Local.{add, call, gc}
 use Rattle.rules.specs.Node.{act, decide, find, lastGc, remove, store, wish, write}
 use Rattle.rules.specs.Table.{addNode, among, nodeOf, numbersOf, removeAll, rising, setNode, versions}
 use Rattle.fields.specs.Widths.{joined}
-use Rattle.grid.specs.Grid.{newGrid, noRows, obeysGrid, ofPresent, placeOf, rowTold, rowsObey, tellRow}
+use Rattle.grid.specs.Grid.{newGrid, noRows, obeysGrid, ofPresent, placeOf, rowTold, rowsObey, takeOut, tellRow}
 use Rattle.grid.specs.GridLayout.{decodeGrid, encodeGrid, rowBytes, rowIn, rowsBytes, rowsIn, validGrid}
 use Rattle.demand3.specs.World.{nthSent}
 use Rattle.net.specs.Net.{after, begin, happen, placed}
@@ -38,5 +38,5 @@ restored-hubs = (refl, refl, refl, refl)
 
 -- the same
 pub taken-out : (pairAt 0 (after (alike plainWays) takenOut begin) ≡ 3 ∷ 4 ∷ []) × (pairAt 2 (after (alike plainWays) takenOut begin) ≡ 3 ∷ 4 ∷ []) × (versionsAt 0 (after (alike plainWays) takenOut begin) ≡ 1 ∷ 4 ∷ []) × (versionsAt 2 (after (alike plainWays) takenOut begin) ≡ 1 ∷ 2 ∷ 4 ∷ [])
-unfolding after happen nthSent add addNode numbersOf call gc nodeOf setNode removeAll decide wish find act write store remove lastGc keep all sameBytes lessBytes among digestBytes headWidth entryBytes entryOf readEntries readDigest tell tellAll compute deltaFor cut allOps ordered queue sooner staleNodes toldOf fromOf stale byVersion keyValueOps sizeOf deltaBytes opBytes textBytes bytesOf natOf part put flat unblock apply applyEach applyNode deltaStatus statusOf newerOf outcome takeAll takes codes readDelta readOps readOp readNode readKeyValue readSetMaxVersion follow partsOf recsOf maxOf versions validGrid obeysGrid encodeGrid decodeGrid rowBytes rowIn rowsBytes rowsIn blocks fit zeros joined rising allZero rowsObey ofPresent placeOf tellRow rowTold newGrid noRows placed
+unfolding after happen nthSent add addNode numbersOf call gc nodeOf setNode removeAll decide wish find act write store remove lastGc keep all sameBytes lessBytes among digestBytes headWidth entryBytes entryOf readEntries readDigest tell tellAll compute deltaFor cut allOps ordered queue sooner staleNodes toldOf fromOf stale byVersion keyValueOps sizeOf deltaBytes opBytes textBytes bytesOf natOf part put flat unblock apply applyEach applyNode deltaStatus statusOf newerOf outcome takeAll takes codes readDelta readOps readOp readNode readKeyValue readSetMaxVersion follow partsOf recsOf maxOf versions validGrid obeysGrid encodeGrid decodeGrid rowBytes rowIn rowsBytes rowsIn blocks fit zeros joined rising allZero rowsObey ofPresent placeOf tellRow rowTold newGrid noRows placed takeOut
 taken-out = (refl, refl, refl, refl)

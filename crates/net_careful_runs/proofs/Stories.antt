@@ -3,10 +3,9 @@
 use Prim.Native.Nat.{ℕ}
 use mathlib.Core.List.{List, [], _∷_, _++_}
 use lib.ListN.{replicate}
-use Rattle.rules.specs.Digest.{NodeDigest, digestBytes}
-use Rattle.rules.specs.Node.{Deleting, KeyValue, Setting, beats}
-use Rattle.rules.specs.declared.Status.the-variants.{Set}
-use Rattle.grid.specs.Grid.{Grid, newGrid, tellRow}
+use Rattle.rules.specs.Digest.{digestBytes}
+use Rattle.rules.specs.Node.{Deleting, Setting}
+use Rattle.grid.specs.Grid.{Grid, newGrid, takeOut, tellRow}
 use Rattle.grid.specs.GridLayout.{encodeGrid}
 use Rattle.demand3.specs.Forms.{ByClock, Carefully, InLine}
 use Rattle.net.specs.Net.{Adding, Arriving, Computing, Event, Removing, Restoring, Saving, Writing}
@@ -61,8 +60,8 @@ long = replicate 40 49
 abbrev computes : (gc max mtu : ℕ) → Event
 computes g m mtu = Computing 0 0 (digestBytes 0 (told g m)) [] (InLine (0 ∷ [])) mtu 0 (replicate 300 0)
 
--- G hears a. The owner sets b, and the delta for G is late. The owner deletes b; F hears it and tells; G is taken out, and the owner removes carefully, with F alone
--- present, and sets c. G hears the owner in 100 bytes and is at (3,1); the late delta comes, and b with it; G hears the owner.
+-- G hears a and tells. The owner sets b, and the delta for G is late. The owner deletes b; F hears it and tells; G is taken out, and the owner removes carefully, with F
+-- alone present, and sets c. G hears the owner in 100 bytes and is at (3,1); the late delta comes, and b with it; G hears the owner.
 abbrev pub takenOut : List Event
 takenOut =
     (Adding 0 7 ∷ Adding 1 7 ∷ Adding 2 7 ∷ Writing 0 7 a (Setting long) ∷ [])
@@ -70,4 +69,4 @@ takenOut =
     ++ ((set b ∷ computes 0 1 300 ∷ [])
     ++ (deletesB
     ++ (hears 1 0 0 0
-    ++ ((Removing 0 (Carefully (encodeGrid (oneTold 1 3)) 9 5) ∷ Writing 0 7 c (Setting long) ∷ computes 0 1 100 ∷ Arriving 2 0 50 (0 ∷ []) ∷ Arriving 2 2 50 (0 ∷ []) ∷ []) ++ hears 2 0 3 2)))))
+    ++ ((Removing 0 (Carefully (encodeGrid (takeOut 2 (twoTold 1 3 2 1))) 9 5) ∷ Writing 0 7 c (Setting long) ∷ computes 0 1 100 ∷ Arriving 2 0 50 (0 ∷ []) ∷ Arriving 2 2 50 (0 ∷ []) ∷ []) ++ hears 2 0 3 2)))))

@@ -1,8 +1,7 @@
 -- What the runs show: each condition of a careful net is needed. In each run every hub is plain, and at its end hub 2 is at the owner's max and holds what the owner
 -- deleted, so that the claims fail. Assumes nothing.
-use mathlib.Core.Bool.{false}
 use mathlib.Core.List.{List, [], _∷_}
-use mathlib.Core.Path.{_≡_, refl}
+use mathlib.Core.Path.{refl}
 use native.Mathlib.Omega.{arith}
 use Rattle.fields.specs.Blocks.{allZero, blocks, fit, flat, unblock, zeros}
 use Rattle.fields.specs.Choice.{all, here, keep, later}
@@ -17,7 +16,7 @@ use Rattle.rules.specs.Local.{add, call, gc}
 use Rattle.rules.specs.Node.{act, decide, find, lastGc, remove, store, wish, write}
 use Rattle.rules.specs.Table.{addNode, among, nodeOf, numbersOf, removeAll, rising, setNode, versions}
 use Rattle.fields.specs.Widths.{joined}
-use Rattle.grid.specs.Grid.{newGrid, noRows, obeysGrid, ofPresent, placeOf, rowTold, rowsObey, tellRow}
+use Rattle.grid.specs.Grid.{newGrid, noRows, obeysGrid, ofPresent, placeOf, rowTold, rowsObey, takeOut, tellRow}
 use Rattle.grid.specs.GridLayout.{decodeGrid, encodeGrid, rowBytes, rowIn, rowsBytes, rowsIn, validGrid}
 use Rattle.demand3.specs.World.{nthSent}
 use Rattle.net.specs.Net.{Event, Net, NetSound, after, begin, happen, placed}
@@ -57,7 +56,7 @@ unfolding among
 restored-hubs-fails s = failed (λ x. plainWays) (ends restoredHubs) 2 3 3 3 (omega arith) (restored-hubs .0) (restored-hubs .1) there-restored-hubs (gone-of (1 ∷ []) refl (ends restoredHubs .hubs 0) (restored-hubs .2)) s
 
 there-taken-out : There (ends takenOut) 2
-unfolding after happen nthSent add addNode numbersOf call gc nodeOf setNode removeAll decide wish find act write store remove lastGc keep all sameBytes lessBytes among digestBytes headWidth entryBytes entryOf readEntries readDigest tell tellAll compute deltaFor cut allOps ordered queue sooner staleNodes toldOf fromOf stale byVersion keyValueOps sizeOf deltaBytes opBytes textBytes bytesOf natOf part put flat unblock apply applyEach applyNode deltaStatus statusOf newerOf outcome takeAll takes codes readDelta readOps readOp readNode readKeyValue readSetMaxVersion follow partsOf recsOf maxOf versions validGrid obeysGrid encodeGrid decodeGrid rowBytes rowIn rowsBytes rowsIn blocks fit zeros joined rising allZero rowsObey ofPresent placeOf tellRow rowTold newGrid noRows placed
+unfolding after happen nthSent add addNode numbersOf call gc nodeOf setNode removeAll decide wish find act write store remove lastGc keep all sameBytes lessBytes among digestBytes headWidth entryBytes entryOf readEntries readDigest tell tellAll compute deltaFor cut allOps ordered queue sooner staleNodes toldOf fromOf stale byVersion keyValueOps sizeOf deltaBytes opBytes textBytes bytesOf natOf part put flat unblock apply applyEach applyNode deltaStatus statusOf newerOf outcome takeAll takes codes readDelta readOps readOp readNode readKeyValue readSetMaxVersion follow partsOf recsOf maxOf versions validGrid obeysGrid encodeGrid decodeGrid rowBytes rowIn rowsBytes rowsIn blocks fit zeros joined rising allZero rowsObey ofPresent placeOf tellRow rowTold newGrid noRows placed takeOut
 there-taken-out = (record { kv = dead; start = 0 }, later (here refl), refl)
 
 -- nor may a follower be taken out, late deltas being under way

@@ -9,17 +9,17 @@ use lib.Dec.{eqb, leb, ltb}
 use lib.ListN.{length, take, drop, getD, set}
 use lib.Seq.{getD-drop, getD-set-other, getD-set-same, getD-take}
 use borrow.Author.Tests.{eq-eqb, eqb-false, eqb-true, le-leb, le-ltb, leb-true, lt-ltb, ltb-false, ltb-true, ne-eqb}
-use Rattle.fields.specs.Choice.{_∈_, all, pick}
+use Rattle.fields.specs.Choice.{all, pick}
 use Rattle.fields.proofs.Choice.{and-left, and-no, and-right, and-yes, in-at, pick-false, pick-true, same-test}
 use Rattle.fields.proofs.Ordered.{same-true}
 use Rattle.fields.specs.Numbers.{Bytes, natOf}
 use Rattle.fields.specs.Parts.{part}
 use Rattle.fields.specs.Widths.{offset}
 use Rattle.rules.specs.Given.{Given, Gives, given}
-use Rattle.rules.specs.Node.{Rec, due}
+use Rattle.rules.specs.Node.{due}
 use Rattle.rules.specs.Digest.{DigestRead, Entries, NodeDigest, Refused}
 use Rattle.rules.specs.Sizes.{maxNodes, numbers, top}
-use Rattle.rules.specs.Table.{Entry, Table, among, numbersOf, removeAll, rising}
+use Rattle.rules.specs.Table.{Entry, Table, among, numbersOf, rising}
 use Rattle.rules.specs.Whole.{Whole, decodeWhole, encodeWhole, validWhole}
 use Rattle.rules.specs.declared.Answer.{Answer}
 use Rattle.rules.specs.declared.Answer.the-variants as plain
@@ -28,7 +28,7 @@ use Rattle.rules.specs.declared.Refusal.the-variants.{BadPeer, BadTable, NoNode
 use Rattle.table.specs.Changes.{freshEntry}
 use Rattle.table.specs.Fits.{FitsTable}
 use Rattle.grid_check.proofs.Checked.{number-of, numbers-long}
-use Rattle.removal.specs.Removals.{dueWithin, removeWithin}
+use Rattle.removal.specs.Removals.{removeWithin}
 use Rattle.removal.proofs.Within.{within-as}
 use Rattle.grid.specs.Grid.{Grid, columnAt, columns, leastOf, maxPeers, maxesAt, maxesTold, ofPresent, placeOf, somebody, tellRow}
 use Rattle.grid.specs.GridLayout.{decodeGrid, encodeGrid, gridWidths, rowIn, rowWidth, rowsIn, rowsWidth, validGrid}

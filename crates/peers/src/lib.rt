@@ -18,9 +18,10 @@ ghost use Rattle.rules.specs.Given.{Gives, Says, Tells};
 ghost use Rattle.rules.specs.Digest.{readDigest};
 ghost use Rattle.rules.specs.Layout.{encode, decode, valid};
 ghost use Rattle.rules.specs.Sizes.{maxNodes};
-ghost use Rattle.grid.specs.Grid.{leastOf, maxesAt, maxPeers, somebody};
+ghost use Rattle.grid.specs.Grid.{leastOf, maxesAt, maxPeers};
 ghost use Rattle.grid.specs.GridLayout.{decodeGrid, validGrid};
-ghost use Rattle.grid.specs.LentGrid.{both, carefullyRemoved, fitsTable, leastIn, leastTold, lentCareful, lentColumnIn, lentColumnOut, lentLeast, lentNewGrid, lentSeen, lentTakeOut, lentTell, seenIn, seenTold, tellOn, validBoth};
+ghost use Rattle.grid.specs.LentGrid.{both, carefullyRemoved, fitsTable, leastIn, leastTold, seenIn, seenTold, tellOn, validBoth};
+ghost use Rattle.grid.specs.LentGrid.{lentCareful, lentColumnIn, lentColumnOut, lentLeast, lentNewGrid, lentSeen, lentTakeOut, lentTell};
 
 // Whether a grid and a table each obey their rules, and the columns are the table's nodes: number 14 is refused where not.
 fn check_both(grid: &[u8], table: &[u8]) -> bool

@@ -1,7 +1,7 @@
 -- `grid_change::add_column` meets its contract: the column is there, or it comes. Assumes nothing.
 use Prim.Native.Nat.{ℕ}
 use mathlib.Core.List.{List}
-use mathlib.Core.Path.{_∙_, ap, sym}
+use mathlib.Core.Path.{_∙_, ap}
 use native.Mathlib.Omega.{arith}
 use lib.ListN.{take}
 use Rattle.fields.proofs.Lent.{seen}

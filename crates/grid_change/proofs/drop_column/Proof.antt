@@ -1,9 +1,8 @@
 -- `grid_change::drop_column` meets its contract: the column goes, or it is not there. Assumes nothing.
 use Prim.Native.Nat.{ℕ}
 use mathlib.Core.List.{List}
-use mathlib.Core.Path.{_∙_, ap, sym}
+use mathlib.Core.Path.{_∙_, ap}
 use native.Mathlib.Omega.{arith}
-use lib.ListN.{take}
 use Rattle.fields.proofs.Lent.{seen}
 use Rattle.grid.specs.GridLayout.{rowIn, rowWidth, rowsIn, rowsWidth}
 use Rattle.grid.proofs.GridBytes.{good-grid}

@@ -3,11 +3,10 @@ use Prim.Native.Nat.{ℕ}
 use mathlib.Core.List.{List}
 use mathlib.Core.Path.{_∙_, ap, sym}
 use native.Mathlib.Omega.{arith}
-use lib.ListN.{take}
 use Rattle.fields.proofs.Lent.{seen}
 use Rattle.grid.specs.GridLayout.{rowIn, rowWidth, rowsIn, rowsWidth}
 use Rattle.grid.proofs.GridBytes.{good-grid}
-use lib.ListN.{length, set, length-set}
+use lib.ListN.{length, length-set}
 use Rattle.grid.proofs.GridBytes.{length-grid}
 use Rattle.grid_change.proofs.Storing.{rows-set}
 use borrow.Author.Needs.{needs}

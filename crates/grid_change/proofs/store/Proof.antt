@@ -1,6 +1,4 @@
 -- `grid_change::store` meets its contract: the five fields, of which one stays. Assumes nothing.
-use Prim.Native.Nat.{ℕ}
-use mathlib.Core.List.{List}
 use mathlib.Core.Path.{_∙_, ap}
 use lib.ListN.{length}
 use Rattle.fields.proofs.Lent.{lent}

@@ -1,13 +1,12 @@
 -- `grid_check::check_head` meets its contract: each rule in turn. Assumes nothing.
-use Prim.Native.Nat.{ℕ, _≤_}
+use Prim.Native.Nat.{ℕ}
 use mathlib.Core.List.{List}
-use mathlib.Core.Path.{_≡_, _∙_, ap, refl, sym}
+use mathlib.Core.Path.{_∙_, ap, refl, sym}
 use native.Mathlib.Omega.{arith}
 use lib.ListN.{length}
 use Rattle.fields.specs.Parts.{part}
 use Rattle.fields.proofs.Lent.{seen}
 use Rattle.fields.proofs.Parts.{length-part}
-use Rattle.rules.specs.Sizes.{maxNodes}
 use Rattle.grid.specs.Grid.{maxPeers}
 use Rattle.grid.specs.GridLayout.{rowIn, rowWidth}
 use lib.Dec.{leb}

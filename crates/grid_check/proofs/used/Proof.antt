@@ -2,7 +2,6 @@
 use mathlib.Core.Path.{sym}
 use Rattle.fields.proofs.Choice.{pick-false, pick-true}
 use borrow.Author.Tests.{eq-eqb, ne-eqb}
-use borrow.Author.Needs.{needs}
 use Rattle.grid_check.proofs.used.Statement.{statement}
 use Rattle.grid_check.proofs.used.Tie as tie
 

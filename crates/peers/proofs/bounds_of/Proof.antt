@@ -1,14 +1,13 @@
 -- `peers::bounds_of` meets its contract: one column after the other. Assumes nothing.
 use Prim.Native.Nat.{ℕ, _-_, _<_, _≤_}
-use mathlib.Core.List.{List}
-use mathlib.Core.Path.{_≡_, _∙_, ap, ap₂, refl, sym}
+use mathlib.Core.Path.{_≡_, _∙_, ap, refl}
 use native.Mathlib.Omega.{arith}
 use lib.ListN.{length, getD, length-set}
 use Rattle.fields.specs.Parts.{part}
 use Rattle.fields.proofs.Lent.{seen}
 use Rattle.fields.proofs.Parts.{length-part}
 use Rattle.rules.specs.Sizes.{maxNodes}
-use Rattle.grid.specs.Grid.{columnAt, leastOf, maxPeers, maxesAt, ofPresent}
+use Rattle.grid.specs.Grid.{leastOf, maxPeers, maxesAt}
 use Rattle.grid.specs.GridLayout.{decodeGrid, rowsIn, rowsWidth}
 use Rattle.grid.proofs.GridBytes.{good-grid}
 use Rattle.peers.proofs.Watching.{bound-is, more-bounds}

@@ -4,7 +4,7 @@ use native.Mathlib.Omega.{arith}
 use borrow.Author.Tests.{le-ltb, lt-ltb}
 use Rattle.rules.proofs.Unique.{tells}
 use Rattle.rules.specs.Answers.{answerTold}
-use Rattle.rules.specs.declared.Answer.the-variants.{Done, Refused}
+use Rattle.rules.specs.declared.Answer.the-variants.{Refused}
 use Rattle.rules.specs.declared.Refusal.the-variants.{BadPeer, BadTable}
 use Rattle.grid.specs.Grid.{maxPeers}
 use Rattle.grid.specs.LentGrid.{lentTell}

@@ -1,11 +1,10 @@
 -- `peers::told_known` meets its contract: 21, 2, the pair, or absent. Assumes nothing.
 use Prim.Native.Nat.{ℕ}
 use mathlib.Core.List.{List, []}
-use mathlib.Core.Path.{_∙_, ap, ap₂, sym}
+use mathlib.Core.Path.{_∙_, ap, ap₂}
 use native.Mathlib.Omega.{arith}
-use lib.ListN.{length, getD}
+use lib.ListN.{getD}
 use Rattle.fields.proofs.Lent.{seen}
-use Rattle.fields.proofs.Parts.{length-part}
 use Rattle.grid.specs.GridLayout.{rowIn, rowWidth, rowsIn, rowsWidth}
 use Rattle.grid.specs.declared.Seen.the-variants as answer
 use Rattle.grid.proofs.GridBytes.{good-grid}
