@@ -17,7 +17,6 @@ use Rattle.rules.specs.Whole.{withTable, areaOf, encodeWhole, decodeWhole, vali
 use Rattle.rules.specs.Given.{Gives}
 use Rattle.rules.specs.Lent.{TableAndList, both, lentApply, lentApplyAs}
 use Rattle.rules.specs.declared.Mode.{Mode}
-use Rattle.rules.specs.declared.Mode.the-variants as modes
 use Rattle.rules.specs.declared.Profile.{Profile}
 use Rattle.rules.specs.declared.Refusal.{Refusal}
 use Rattle.rules.specs.declared.Refusal.the-variants.{NoPlace, BadTable}
@@ -34,12 +33,6 @@ use Rattle.delta_read.specs.declared.Heads.{Heads}
 use Rattle.delta_read.specs.NodeDeltas.{partsFrom, AllHeads}
 use Rattle.apply_parts.proofs.Applying as parts
 use Rattle.apply_parts.specs.Applying.{partsApplied, Accepted, HeadsFound}
-
--- every mode has document 01's reading
-pub reads-is : (m : Mode) (s : List ℕ) → waysOf m .reads s ≡ rule.readDelta s
-reads-is modes.Plain s = refl
-reads-is modes.Fenced s = refl
-reads-is modes.Guarded s = refl
 
 -- ---- an accepted delta
 
