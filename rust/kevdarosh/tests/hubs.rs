@@ -272,7 +272,8 @@ fn story(without: Option<&'static str>) {
     net.agree(&mut hubs, |shown| shown.readings.len() == 4);
     println!("hub 1 is killed when hub 2 has heard what it wrote");
     let sent = hubs[0].done("set total 004139.0");
-    hubs[1].shows(MOST, "hub 2 hears of the total", |shown| shown.node(1).max == sent);
+    let told = hubs[1].shows(MOST, "hub 2 hears of the total", |shown| shown.node(1).max == sent).node(1).beat;
+    hubs[1].shows(MOST, "hub 2 hears some beats more", |shown| shown.node(1).beat > told + 5);
     drop(hubs.remove(0));
     net.world.lock().unwrap().hubs[0] = None;
     net.all(SHUT);
@@ -281,7 +282,7 @@ fn story(without: Option<&'static str>) {
     hubs.insert(0, net.start(1, false));
     let again = hubs[0].show();
     assert!(again.node(1).max >= sent && again.reads("1 total=004139.0"), "hub 1 is behind what it sent: {again:?}");
-    hubs[0].shows(MOST, "its heartbeat is news", |shown| shown.node(1).beat > most_told);
+    assert!(again.node(1).beat >= most_told, "its next heartbeat is no news: {} after {most_told}", again.node(1).beat);
     assert_eq!(hubs[0].done("set note read"), sent + 1);
     net.all(BAD);
     net.agree(&mut hubs, |shown| shown.readings.len() == 5);
