@@ -117,10 +117,11 @@ mod table;
 mod watch;
 mod wire;
 
+pub use ffi::{Bytes, BytesMut, Kept};
 pub use over::{Merged, Overrides};
 pub use refusal::{ExchangeRefused, Fault, LineFault, ListingRefused, PlanFault, Refusal, Step};
 pub use row::Records;
-pub use table::{Answer, Answers, Computed, Header, LentTable, Mode, NodeState, OwnedTable, Record, Status, Table, TableView, Wanted};
+pub use table::{Answer, Answers, Computed, Header, LentTable, Mode, NodeState, OwnedNode, OwnedTable, Record, Status, Table, TableView, Wanted};
 pub use watch::{Pair, Watched};
 pub use wire::{Datagrams, DeltaRead, Digest, Edition, Exchanged, NodeDigest, exchange, list_delta, make_delta, read_delta};
 
