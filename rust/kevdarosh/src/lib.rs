@@ -109,6 +109,11 @@
 #[cfg(not(any(target_pointer_width = "32", target_pointer_width = "64")))]
 compile_error!("this crate is for processors whose usize has 32 or 64 bits");
 
+/// The code of docs/MOVING.md is compiled and run with the tests.
+#[cfg(doctest)]
+#[doc = include_str!("../../../docs/MOVING.md")]
+struct Moving;
+
 mod ffi;
 mod over;
 mod refusal;

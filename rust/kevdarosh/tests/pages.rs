@@ -123,6 +123,24 @@ fn each_page_names_its_refusals_in_order_and_has_an_example() {
     assert_eq!(seen, functions.len(), "every function has its page");
 }
 
+/// Every call in the Rust column of docs/MOVING.md stands in a block of code there, which the documentation tests compile and run.
+#[test]
+fn every_call_of_the_moving_page_is_compiled() {
+    let page = file("../../docs/MOVING.md");
+    let code: String = page.split("```rust\n").skip(1).map(|block| block.split("```").next().unwrap()).collect();
+    let mut calls = 0;
+    for row in page.lines().filter(|line| line.starts_with("| ") && !line.starts_with("| chitchat")) {
+        let cell = row.split(" | ").nth(1).unwrap();
+        for piece in cell.split('`').skip(1).step_by(2) {
+            for call in piece.split('(').rev().skip(1).map(|before| before.rsplit(|c: char| !c.is_alphanumeric() && c != '_').next().unwrap()).filter(|call| !call.is_empty()) {
+                assert!(code.contains(&format!("{call}(")), "{call} of {cell} is in no block");
+                calls += 1;
+            }
+        }
+    }
+    assert!(calls > 35, "{calls}");
+}
+
 fn number_of(name: &str) -> u64 {
     Refusal::ALL.iter().find(|refusal| format!("{refusal:?}") == name).unwrap_or_else(|| panic!("no {name}")).number()
 }

@@ -320,7 +320,7 @@ fn ways_out(trouble: &Trouble, own: u64, file: &str) -> String {
     let mut text = format!("{file}: {trouble}.");
     if matches!(trouble, Trouble::Missing | Trouble::Damaged(_) | Trouble::Refused(_)) {
         text += &format!(
-            " The file is left as it is. With a new table the owner of node {own} would give versions twice, and no mode heals that. Ways out:
+            " It is not made anew by itself: with a new table the owner of node {own} would give versions twice, and no mode heals that. Ways out:
   - The hub never ran before: start it with --new.
   - The file is elsewhere, or the last one that was stored is on a copy of the disk: put it here. An older copy will not do.
   - The disk is lost, and it is known up to which version node {own} was let out: move what is left away and start with --forgot VERSION. The hub hears its peers, and writes when it has heard that version.

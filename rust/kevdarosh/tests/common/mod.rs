@@ -153,7 +153,9 @@ impl Hub {
 
     /// A signal by its name.
     pub fn signal(&self, name: &str) {
-        assert!(Command::new("kill").args([name, &self.child.id().to_string()]).status().unwrap().success());
+        // A shell has the command where the machine has it not.
+        let command = format!("kill {name} {}", self.child.id());
+        assert!(Command::new("sh").args(["-c", &command]).status().unwrap().success(), "{command}");
     }
 
     /// Ended by its own word.
