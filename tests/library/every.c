@@ -600,7 +600,7 @@ static void meters(void) {
 #define EXCHANGE(from, to, ties_len) \
     kev_exchange(T(from), T(to), KEV_V0, 1400, NO_NUMBERS, NO_NUMBERS, ties, ties_len, 9, T(digest), T(delta), T(answers))
     GIVES(0, kev_write(T(free_one), 8, TEXT("total"), TEXT("50"), KEV_SET, 0));
-    CHECK(EXCHANGE(free_one, meter, 1).nodes == 1 && answers.at[0] == KEV_APPLY);
+    CHECK(EXCHANGE(free_one, meter, 1).nodes == 1 && answers.at[0] == KEV_ANSWER_APPLY);
     GIVES(0, kev_write(T(free_one), 8, TEXT("total"), TEXT("4"), KEV_SET, 0));
     CHECK(EXCHANGE(free_one, meter, 1).nodes == 1 && kev_find(T(meter), 8, TEXT("total")).len == 1);
     GIVES(KEV_SMALLER_TOTAL, kev_write(T(meter), 8, TEXT("total"), TEXT("3"), KEV_SET, 0));
