@@ -200,6 +200,7 @@ fn files() {
         hub.quit();
     }
     refused(&words("1", &folder.file("hub.kev-new"), &["--new"]), "a temporary file's");
+    assert!(!refused(&words("1", &folder.file("no folder/hub"), &["--new"]), "No such file or directory").contains("Ways out"));
 
     // Another's table, another mode, a new table where there is one.
     refused(&words("2", &one, &[]), "it is the table of the owner of node 1");

@@ -99,11 +99,11 @@ impl Disk {
     /// Takes the file for the owner of this node, whether or not there is one.
     pub fn take(file: &Path, owner: u64) -> Result<Disk, Trouble> {
         // The file itself where the name is a link, so that two names of one file have one lock.
-        let file = fs::canonicalize(file).or_else(|_| std::path::absolute(file))?;
+        let file = fs::canonicalize(file).or_else(|_| std::path::absolute(file)).map_err(Trouble::Disk)?;
         if [TEMPORARY, LOCK].iter().any(|suffix| file.as_os_str().as_encoded_bytes().ends_with(suffix.as_bytes())) {
             return Err(Trouble::Name);
         }
-        let lock = File::options().create(true).append(true).open(beside(&file, LOCK))?;
+        let lock = File::options().create(true).append(true).open(beside(&file, LOCK)).map_err(Trouble::Disk)?;
         if flock(lock.as_raw_fd(), ALONE_OR_NOT_AT_ALL) != 0 {
             return Err(Trouble::Taken);
         }
