@@ -891,7 +891,7 @@ static void answers_to_deltas(void) {
     uint8_t delta[100];
     for (unsigned mode = KEV_PLAIN; mode <= KEV_GUARDED; mode++) {
         struct lent t = lend(KEV_TABLE);
-        GIVES(0, kev_new_table(T(t), mode));
+        GIVES(0, kev_new_table(T(t), mode, KEV_PROFILE_FREE));
         GIVES(0, kev_add_node(T(t), 7));
         mark(t);
         CHECK(answered(t, delta, one_record(delta, 8, 0, 0, 1, "a")) == KEV_ANSWER_UNKNOWN);
@@ -935,7 +935,7 @@ static void answers_to_deltas(void) {
 static void null_parts(void) {
     struct lent t = lend(KEV_TABLE), over = lend(KEV_OVERRIDES), grid = lend(KEV_GRID), out = lend(1400), digest = lend(KEV_DIGEST), answers = lend(KEV_NODES);
     static const uint64_t tie[1] = {0};
-    GIVES(0, kev_new_table(T(t), KEV_GUARDED));
+    GIVES(0, kev_new_table(T(t), KEV_GUARDED, KEV_PROFILE_FREE));
     GIVES(0, kev_add_node(T(t), 7));
     GIVES(0, kev_new_overrides(T(over), 7));
     GIVES(0, kev_new_grid(T(grid), T(t)));
@@ -975,7 +975,7 @@ static void null_parts(void) {
     GIVES(KEV_NO_PLACE, kev_list_delta(NO_BYTES, NO_OUT).number);
     GIVES(KEV_BAD_LINE, kev_make_delta(NO_BYTES, NO_OUT).number);
     struct lent other = lend(KEV_TABLE);
-    GIVES(0, kev_new_table(T(other), KEV_GUARDED));
+    GIVES(0, kev_new_table(T(other), KEV_GUARDED, KEV_PROFILE_FREE));
     GIVES(KEV_NO_PLACE, kev_exchange(T(t), T(other), KEV_V0, 100, NO_NUMBERS, NO_NUMBERS, NO_NUMBERS, 5, NO_OUT, NO_OUT, NO_OUT).number);
     give_back(other);
     GIVES(0, kev_tell(T(grid), 0, KEV_V1, NO_BYTES).number);
@@ -983,7 +983,7 @@ static void null_parts(void) {
     GIVES(0, kev_delete(T(t), 7, NO_BYTES, 5));
     /* what is no table, no overrides and no grid */
     GIVES(KEV_BAD_TABLE, kev_check(NO_BYTES));
-    GIVES(KEV_BAD_TABLE, kev_new_table(NO_OUT, KEV_PLAIN));
+    GIVES(KEV_BAD_TABLE, kev_new_table(NO_OUT, KEV_PLAIN, KEV_PROFILE_FREE));
     GIVES(KEV_BAD_TABLE, kev_add_node(NO_OUT, 7));
     GIVES(KEV_BAD_TABLE, kev_remove_node(NO_OUT, 7));
     GIVES(KEV_BAD_TABLE, kev_last_heartbeat(NO_BYTES, 7).number);
