@@ -316,6 +316,15 @@ impl OwnedTable {
     }
 
     /// An empty table of this profile.
+    ///
+    /// ```
+    /// # use kevdarosh::{Mode, OwnedTable, Profile, Refusal, Wanted};
+    /// let mut table = OwnedTable::with_profile(Mode::Guarded, Profile::Meter);
+    /// table.add_node(7).unwrap();
+    /// table.write(7, b"total", b"0041823", Wanted::Set).unwrap();
+    /// assert_eq!(table.write(7, b"total", b"41283", Wanted::Set), Err(Refusal::SmallerTotal));
+    /// assert_eq!(table.write(7, b"Total", b"41823", Wanted::Set), Err(Refusal::BadForm));
+    /// ```
     pub fn with_profile(mode: Mode, profile: Profile) -> OwnedTable {
         match Kept::new(mode.number(), profile.number()) {
             Ok(store) => Table { store },
@@ -383,6 +392,17 @@ impl<'a> LentTable<'a> {
     }
 
     /// Makes these [`TABLE`] bytes an empty table of this profile.
+    ///
+    /// # Errors
+    ///
+    /// [`Refusal::BadTable`] where they are not as many.
+    ///
+    /// ```
+    /// # use kevdarosh::{LentTable, Mode, Profile, TABLE};
+    /// let mut bytes = [0; TABLE];
+    /// let table = LentTable::with_profile_in(&mut bytes, Mode::Plain, Profile::Meter).unwrap();
+    /// assert_eq!(table.profile(), Ok(Profile::Meter));
+    /// ```
     pub fn with_profile_in(bytes: &'a mut [u8], mode: Mode, profile: Profile) -> Result<LentTable<'a>, Refusal> {
         accepted(ffi::new_table(bytes, mode.number(), profile.number()))?;
         Ok(Table { store: bytes })
@@ -460,6 +480,15 @@ impl<S: Bytes> Table<S> {
     }
 
     /// Which records the table may have.
+    ///
+    /// # Errors
+    ///
+    /// [`Refusal::BadTable`].
+    ///
+    /// ```
+    /// # use kevdarosh::{Mode, OwnedTable, Profile};
+    /// assert_eq!(OwnedTable::new(Mode::Guarded).profile(), Ok(Profile::Free));
+    /// ```
     pub fn profile(&self) -> Result<Profile, Refusal> {
         accepted(if S::GOOD { 0 } else { ffi::check(self.store.bytes()) })?;
         Ok(match self.store.bytes()[crate::PROFILE_AT] {
@@ -736,7 +765,8 @@ impl<S: BytesMut> Table<S> {
     ///
     /// # Errors
     ///
-    /// [`Refusal::BadTable`], [`Refusal::NoNode`], [`Refusal::TooLong`], [`Refusal::NodeFull`], [`Refusal::Exhausted`].
+    /// [`Refusal::BadTable`], [`Refusal::NoNode`], [`Refusal::TooLong`], in a meter table [`Refusal::BadForm`] and [`Refusal::SmallerTotal`], then [`Refusal::NodeFull`],
+    /// [`Refusal::Exhausted`].
     ///
     /// ```
     /// # use kevdarosh::{Mode, OwnedTable, Refusal, Wanted};
@@ -857,7 +887,7 @@ impl<S: BytesMut> Table<S> {
     ///
     /// # Errors
     ///
-    /// [`Refusal::BadTable`], [`Refusal::TooMany`], [`Refusal::Cut`], [`Refusal::TooLong`], [`Refusal::BadTag`], [`Refusal::OutOfOrder`], [`Refusal::NodeTwice`]: of the delta's the first that is
+    /// [`Refusal::BadTable`], [`Refusal::TooMany`], [`Refusal::Cut`], [`Refusal::TooLong`], [`Refusal::BadTag`], [`Refusal::OutOfOrder`], in a meter table [`Refusal::BadForm`], [`Refusal::NodeTwice`]: of the delta's the first that is
     /// met in its order, with its place.
     ///
     /// ```

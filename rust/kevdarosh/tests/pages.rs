@@ -59,7 +59,9 @@ fn each_page_names_its_refusals_in_order_and_has_an_example() {
     let functions: &[(&str, &str, &str, &[u64])] = &[
         // file, method, function of the header, and what cannot come
         ("src/table.rs", "new_in", "new_table", &[]),
+        ("src/table.rs", "with_profile_in", "new_table", &[]),
         ("src/table.rs", "from_bytes", "check", &[]),
+        ("src/table.rs", "profile", "check", &[]),
         ("src/table.rs", "mode", "check", &[]),
         ("src/table.rs", "nodes", "node_count", &[]),
         ("src/table.rs", "node_state", "node_header", &[]),
