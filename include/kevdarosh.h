@@ -46,6 +46,7 @@ typedef uint64_t kev_size;
 #define KEV_DELTA 16384   /* the largest MTU, and the longest delta */
 #define KEV_LISTING 81979 /* bytes of a listing, at most */
 #define KEV_MODE_AT 29705 /* the byte of a table that says its mode */
+#define KEV_PROFILE_AT 29706 /* the byte behind it, that says its profile */
 #define KEV_ROW 115       /* bytes of a record in a table */
 #define KEV_OVERRIDES 3713 /* bytes of overrides */
 #define KEV_OVER 128      /* what a hit in the overrides has before its place */
@@ -58,6 +59,11 @@ typedef uint64_t kev_size;
 #define KEV_PLAIN 0   /* for deltas that arrive before the next digest is written */
 #define KEV_FENCED 1  /* late deltas cannot bring back what was deleted */
 #define KEV_GUARDED 2 /* the same, and in a net no hub is left behind */
+
+/* ---- profiles of a table */
+
+#define KEV_PROFILE_FREE 0  /* any record */
+#define KEV_PROFILE_METER 1 /* readings alone: keys of a to z, 0 to 9 and dots, at least one; values of 1 to 10 digits, or empty where the record is deleted or has a TTL */
 
 /* ---- editions of a digest */
 
@@ -108,6 +114,8 @@ typedef uint64_t kev_size;
 #define KEV_BAD_TABLE 14       /* the table, the overrides or the grid break a rule, or the grid's columns are not the table's nodes */
 #define KEV_BAD_TIES 15        /* not one tie for each node */
 #define KEV_BAD_LINE 16        /* a line of a listing is not as it is printed */
+#define KEV_BAD_FORM 17        /* a write or a delta's record that a meter table does not take */
+#define KEV_SMALLER_TOTAL 18   /* a write to the key total of a meter table that states a smaller number than the record there */
 #define KEV_BAD_EDITION 20     /* no such edition of a digest */
 #define KEV_BAD_PEER 21        /* a peer's number above 7 */
 #define KEV_NOBODY_PRESENT 22  /* no peer is present */
@@ -304,10 +312,11 @@ static inline struct kev_record kev_row(const uint8_t *table, struct kev_rows ro
  * Numbers: 14. */
 uint64_t kev_check(const uint8_t *table, kev_size table_len);
 
-/* The bytes become an empty table in this mode (KEV_PLAIN, KEV_FENCED, KEV_GUARDED), whatever stood there. 14 where table_len is not
- * KEV_TABLE, or the number is that of no mode.
+/* The bytes become an empty table in this mode (KEV_PLAIN, KEV_FENCED, KEV_GUARDED) and of this profile (KEV_PROFILE_FREE,
+ * KEV_PROFILE_METER), whatever stood there. 14 where table_len is not KEV_TABLE, or a number is that of no mode or no profile. Choose one
+ * profile for all hubs of a net: a meter table refuses a whole delta for one record that it may not have.
  * Numbers: 14. */
-uint64_t kev_new_table(uint8_t *table, kev_size table_len, kev_size mode);
+uint64_t kev_new_table(uint8_t *table, kev_size table_len, kev_size mode, kev_size profile);
 
 /* Adds a fresh node. One that is held already stays as it is.
  * Numbers: 14, 4. */
@@ -325,7 +334,9 @@ struct kev_heartbeat kev_last_heartbeat(const uint8_t *table, kev_size table_len
 
 /* The key's record takes this value and a new version, under the wanted status, KEV_SET or KEV_TTL. Where it has both already,
  * nothing changes. A record under TTL is scheduled from the clock on; under Set the clock is not looked at.
- * Numbers: 14, 10, 2, 1, 5, 6. */
+ * In a meter table 17 where the key or the value has not its form, and 18 where the key is total and the value states a smaller number
+ * than that of the record there, unless it is deleted; an empty value is 0. No other local call gives 17 or 18.
+ * Numbers: 14, 10, 2, 1, 17, 18, 5, 6. */
 uint64_t kev_write(
     uint8_t *table, kev_size table_len, uint64_t node, const uint8_t *key, kev_size key_len, const uint8_t *value,
     kev_size value_len, uint64_t wanted, uint64_t clock);
@@ -502,8 +513,9 @@ struct kev_judged kev_plan_fault(
 struct kev_delta kev_read_delta(const uint8_t *delta, kev_size delta_len);
 
 /* Takes a peer's delta into the table, at the receiver's clock. For each node delta an answer (KEV_REJECT and on), a byte each, at
- * the front of answers; nodes is how many. KEV_NODES places are always enough.
- * Numbers: 14, 13, 9, 1, 10, 11, 12, 8. */
+ * the front of answers; nodes is how many. KEV_NODES places are always enough. A meter table refuses the whole delta with 17 for one
+ * record that has not its form, also where that record would be skipped or its node is not held; a total may be smaller here.
+ * Numbers: 14, 13, 9, 1, 10, 11, 17, 12, 8. */
 struct kev_applied kev_apply(
     uint8_t *table, kev_size table_len, const uint8_t *delta, kev_size delta_len, uint64_t clock, uint8_t *answers,
     kev_size answers_len);
@@ -519,8 +531,9 @@ struct kev_count kev_list_delta(const uint8_t *delta, kev_size delta_len, uint8_
 struct kev_made kev_make_delta(const uint8_t *text, kev_size text_len, uint8_t *out, kev_size out_len);
 
 /* One exchange of two tables in one memory: the follower's digest without the unasked nodes, the publisher's delta for it without
- * the unsent ones, the delta applied. Refused, it wrote nothing.
- * Numbers: 14, 20, 8, 7, 15. */
+ * the unsent ones, the delta applied. Refused, it wrote nothing: so with 17, of applying, wherever the follower is a meter table and one
+ * record of the publisher's table, sent or not, has not its form.
+ * Numbers: 14, 20, 8, 7, 15, 17. */
 struct kev_exchanged kev_exchange(
     const uint8_t *publisher, kev_size publisher_len, uint8_t *follower, kev_size follower_len, uint64_t edition,
     kev_size mtu, const uint64_t *unasked, kev_size unasked_len, const uint64_t *unsent, kev_size unsent_len,
@@ -589,7 +602,7 @@ uint64_t kev_good_remove_node(uint8_t *table, kev_size table_len, uint64_t node)
 /* Numbers: none. */
 struct kev_heartbeat kev_good_last_heartbeat(const uint8_t *table, kev_size table_len, uint64_t node);
 
-/* Numbers: 10, 2, 1, 5, 6. */
+/* Numbers: 10, 2, 1, 17, 18, 5, 6. */
 uint64_t kev_good_write(
     uint8_t *table, kev_size table_len, uint64_t node, const uint8_t *key, kev_size key_len, const uint8_t *value,
     kev_size value_len, uint64_t wanted, uint64_t clock);
@@ -689,7 +702,7 @@ struct kev_judged kev_good_plan_fault(
     const uint64_t *excluded, kev_size excluded_len, const uint64_t *nodes, kev_size nodes_len, const uint64_t *counts,
     kev_size counts_len);
 
-/* Numbers: 13, 9, 1, 10, 11, 12, 8. */
+/* Numbers: 13, 9, 1, 10, 11, 17, 12, 8. */
 struct kev_applied kev_good_apply(
     uint8_t *table, kev_size table_len, const uint8_t *delta, kev_size delta_len, uint64_t clock, uint8_t *answers,
     kev_size answers_len);

@@ -61,9 +61,9 @@ def slot(number, records, max_version, heartbeat=0, last_gc=0):
     return (u64(number, heartbeat, max_version, last_gc) + bytes([len(records)]) + b"".join(records)).ljust(NODE, b"\0")
 
 
-def table(*slots, mode=0, removed=()):
+def table(*slots, mode=0, profile=0, removed=()):
     """The removed nodes with their heartbeats, the longest remembered first."""
-    tail = bytes([mode, 0, len(removed)]) + b"".join(u64(*pair) for pair in removed)
+    tail = bytes([mode, profile, len(removed)]) + b"".join(u64(*pair) for pair in removed)
     return ((bytes([len(slots)]) + b"".join(slots)).ljust(AREA, b"\0") + tail).ljust(TABLE, b"\0")
 
 
@@ -194,7 +194,7 @@ def bad_memories():
     broken = (put(table(seven, removed=pairs), AREA + 2, 17), put(table(seven), AREA + 2, 255), table(seven, removed=((7, 5),)),
               table(seven, removed=pairs[:15] + ((7, 5),)), table(seven, removed=pairs[:2] + ((21, 6),)), table(seven, removed=pairs[:15] + ((20, 5),)),
               put(table(seven, removed=pairs[:1]), AREA + 3 + 16, 1), put(table(seven, removed=pairs[:15]), TABLE - 1, 1),
-              put(table(seven, removed=pairs), AREA + 2, 15), put(table(seven, removed=pairs), AREA + 1, 1))
+              put(table(seven, removed=pairs), AREA + 2, 15), put(table(seven, removed=pairs), AREA + 1, 255))
     for data in broken:
         yield f"table {x(data)}"
         yield from ("removed 7", "removed 20", "add 7", "remove 7", "beat 7")
@@ -1066,7 +1066,7 @@ def bad_tables():
     good = table(slot(7, [one, two], 2))
     broken = (table(slot(7, [one, two], 1)), table(slot(7, [one, record(b"b", b"2", 1)], 5)), table(slot(7, [record(b"a", b"1", 0), two], 5)),
               table(slot(7, [two, one], 5)), table(slot(7, [], 0), slot(6, [], 0)), good[:-1], good[:-1] + b"\1",
-              table(slot(7, [one, two], 2), mode=3), good[:AREA] + b"\0\1" + good[AREA + 2:], good[:AREA])
+              table(slot(7, [one, two], 2), mode=3), good[:AREA] + b"\0\xff" + good[AREA + 2:], good[:AREA])
     for data in broken:
         yield f"table {x(data)}"
         yield from CALLS
@@ -1170,6 +1170,151 @@ def over_refusals():
     yield "hub 0"
     yield from ("getover 0 7 x61", "listover 0 7 x 64", "overrides 7", "getover 0 7 x61", "listover 0 7 x 64")
     yield from ("new", "add 7", "getover 1 7 x61")
+
+
+METER = 1
+TOTAL = x(b"total")
+
+
+def meter(mode=0):
+    """An empty meter table with node 1."""
+    yield f"kind {mode} {METER}"
+    yield "add 1"
+
+
+def meter_forms():
+    """Keys of 1 to 32 of `a` to `z`, `0` to `9` and `.`, values of 1 to 10 digits, or empty under TTL: 17 in a write, and in no other local call."""
+    keys = [bytes([letter]) for letter in b"-./09:@AZ[`az{~ \0\x7f"] + ["é".encode(), "ａ".encode(), b"aA", b"Aa", b"a.9", b"a/9", b"a\0", b""] + [b"k" * n for n in (1, 31, 32, 33)] + [b"K" * 33]
+    values = [bytes([digit]) for digit in b"/09:.-+ ax\0"] + ["٣".encode(), b"1a", b"a1", b"1.5", b"0" * 10, b"9" * 10, b"0" * 11, b"12345678901", b"1" * 63, b"1" * 64, b"1" * 65, b""]
+    yield from meter()
+    for key in keys:
+        yield f"write 1 {x(key)} x37 0 9"
+    for key in keys:
+        for call in ("delete 1 {} 9", "deletettl 1 {} 9", "get 1 {}", "list 1 {} 32"):
+            yield call.format(x(key))
+    for status in (0, 2):
+        yield from meter(status)
+        for value in values:
+            yield f"write 1 x6b {x(value)} {status} 9"
+            yield f"write 1 {x(b'k%d' % len(value))} {x(value)} {status} 9"
+        yield "dump"
+    # A free table takes them all.
+    yield from ("kind 2 0", "add 1")
+    for key in keys[:8]:
+        yield f"write 1 {x(key)} x 0 9"
+    yield "dump"
+
+
+def meter_totals():
+    """A write to `total` states no smaller number than the unhidden record there: by number and not by text, empty is 0, TTL is not hidden, Delete is."""
+    numbers = (b"", b"0", b"00", b"7", b"007", b"8", b"9", b"10", b"010", b"65535", b"65536", b"70000", b"999999999", b"0999999999", b"4294967296", b"9999999999")
+    for held in numbers:
+        for status in (0, 2):
+            yield from meter()
+            yield f"write 1 {TOTAL} {x(held)} {status} 9"
+            for value in numbers:
+                # Nothing is written that would be there for the next one: the version is the last.
+                if value == b"":
+                    yield apply(node(1), top(TOP))
+                yield f"write 1 {TOTAL} {x(value)} {2 - status} 9"
+    between = ((), (f"delete 1 {TOTAL} 9",), (f"deletettl 1 {TOTAL} 9",), (f"delete 1 {TOTAL} 9", f"deletettl 1 {TOTAL} 10"), (f"deletettl 1 {TOTAL} 9", f"delete 1 {TOTAL} 10"),
+               (f"deletettl 1 {TOTAL} 9", "gc 100 5"), (f"delete 1 {TOTAL} 9", "gc 100 5"), (f"deletettl 1 {TOTAL} 9", "gc 9 5"), ("remove 1", "add 1"), (apply(node(1, 50), top(50)),))
+    for calls in between:
+        for status in (0, 2):
+            yield from meter(2)
+            yield f"write 1 {TOTAL} x37 {status} 9"
+            yield from calls
+            yield f"get 1 {TOTAL}"
+            for value in (b"", b"0", b"6", b"7"):
+                yield f"write 1 {TOTAL} {x(value)} {status} 11"
+    # Another key may fall, and so may what a peer sends, and a total in a free table.
+    for key in (b"tota", b"totals", b"total.", b"total0", b"0total", b"t"):
+        yield f"write 1 {x(key)} x39 0 9"
+        yield f"write 1 {x(key)} x38 0 9"
+    yield from meter(1)
+    yield f"write 1 {TOTAL} x39 0 9"
+    yield apply(node(1), kv(b"total", b"8", 2))
+    yield from (f"write 1 {TOTAL} x37 0 9", f"write 1 {TOTAL} x38 0 9", f"write 1 {TOTAL} x39 0 9")
+    for status in (1, 2):
+        yield apply(node(1), kv(b"total", b"5", 90 + status, status))
+        yield from (f"write 1 {TOTAL} x34 0 9", f"write 1 {TOTAL} x35 0 9")
+    yield from ("new", "add 1", f"write 1 {TOTAL} x39 0 9", f"write 1 {TOTAL} x38 0 9")
+
+
+def meter_orders():
+    """A write's refusals in their order: 14, 10, 2, 1, 17, (nothing to change), 18, 5, 6."""
+    writes = [f"write 1 {x(key)} {x(value)} {status} 9" for status in (0, 1, 2) for key in (b"total", b"new", b"k00", b"N", b"", b"K" * 33)
+              for value in (b"4", b"5", b"", b"x", b"1" * 11, b"1" * 65)]
+    yield "table x"
+    yield from writes
+    yield f"kind 0 {METER}"
+    yield from writes
+    for held in (b"total", b"k31"):
+        for last in (40, TOP):
+            records = sorted([record(b"k%02d" % place, b"5", 1 + place) for place in range(31)] + [record(held, b"5", 32)], key=lambda data: data[1:33])
+            yield f"table {x(table(slot(1, records, last), profile=METER))}"
+            yield from writes
+            yield from (f"delete 1 {x(b'N')} 9", f"deletettl 1 {x(b'')} 9", f"delete 1 {x(b'K' * 33)} 9", f"delete 1 {TOTAL} 9", f"write 1 {TOTAL} x30 0 9")
+
+
+def meter_streams():
+    """17 in a stream: after the record's own 11, at its tag; the first operation at fault decides; before 8; also of a record that would not be taken. Digits under Delete are in form."""
+    odd, good = kv(b"A", b"1", 2), node(1) + kv(b"a", b"1", 1)
+    others = (kv(b"b", b"2", 1), kv(b"b", b"2", 9, 3), kv(b"k" * 33, b"2", 9), kv(b"b", b"1" * 65, 9), node(1), top(0), b"\3", kv(b"b", b"2", 9)[:-1], kv(b"b", b"2", 9)[:5], top(9)[:4], node(2)[:9])
+    yield from meter()
+    for other in others:
+        yield apply(good, odd, other)
+        yield apply(good, other, odd)
+    for ops in ((odd,), (top(1), odd), (node(1), kv(b"A", b"1", 0)), (node(1), kv(b"a", b"1", 5), kv(b"A", b"1", 5)), (node(1), kv(b"A", b"1", 5, 3)), (node(1), kv(b"A" * 33, b"1", 5)),
+                (node(1), odd, node(2), kv(b"B", b"2", 1)), (node(2), kv(b"b", b"1", 1), node(1), odd)):
+        yield apply(*ops)
+    yield from (apply(good, odd, places=0), apply(good, places=0), f"readdelta {x(good + odd)}")
+    # 16,384 bytes with the odd record at the end, and one more: 13 for the length comes first.
+    long = node(1) + b"".join(top(1) for _ in range(1813))
+    last = 16384 - len(long)
+    for more in (0, 1):
+        yield apply(long, kv(b"A", b"1" * (last + more - 15), 2))
+    forms = [(b"a", b"1"), (b"a", b""), (b"", b"1"), (b"A", b"1"), (b"k" * 32, b"9" * 10), (b"a", b"0" * 11), (b"a", b"x"), (b"a.b", b"007")]
+    for status in (0, 1, 2):
+        for key, value in forms:
+            yield from meter(status)
+            yield apply(node(1), kv(key, value, 3, status))
+    # Skipped, of an unknown node, rejected, fenced, without room: refused all the same, and nothing of the others is taken.
+    for mode in (0, 1, 2):
+        for gc, last in ((0, 5), (9, 5), (5, 0)):
+            for delta in (node(1, 0, 0), node(1, 0, 6), node(1, 4, 0), node(1, 10, 0), node(1, 10, 1), node(9)):
+                yield from meter(mode)
+                yield "add 2"
+                yield apply(node(1, gc), top(last))
+                yield apply(delta, odd)
+                yield apply(node(2), kv(b"b", b"1", 4), delta, odd, kv(b"c", b"1", 7))
+    yield from meter()
+    yield apply(node(1), *(kv(b"k%02d" % place, b"1", 1 + place) for place in range(32)))
+    yield apply(node(1), kv(b"new", b"1", 40), kv(b"New", b"1", 41))
+    yield apply(node(1), kv(b"new", b"1", 40))
+
+
+def meter_tables():
+    """14 for a table of the meter profile with one record out of form, wherever it stands; which numbers name a kind of table; the same bytes as a free table."""
+    calls = ("beat 1", "write 1 x61 x39 0 9", "get 1 x61", "removed 7", "digest - 0 258 0", "compute x0000 100 - 0,0 0 100 0", "apply x 5 8", "gc 0 0")
+    for mode in (0, 1, 2, 3, 255, 256, TOP):
+        for profile in (0, 1, 2, 3, 255, 256, 257, 2**32 + 1, TOP):
+            yield f"kind {mode} {profile}"
+            yield "add 1"
+    one, last = record(b"a", b"1", 1), record(b"z", b"2", 3, 2, 9)
+    middles = ((b"b", b"2", 0, True), (b"b", b"", 0, False), (b"b", b"", 1, True), (b"b", b"", 2, True), (b"b", b"5", 1, True), (b"b/", b"2", 0, False), (b"B", b"2", 0, False), (b"b", b"12345678901", 1, False),
+               (b"b", b"2a", 2, False), (b"b", b"1234567890", 0, True))
+    for key, value, status, good in middles:
+        records = sorted([one, record(key, value, 2, status, 9 if status else 0), last], key=lambda data: data[1:33])
+        yield f"table {x(table(slot(1, records, 3), slot(2, [], 0), profile=METER))}"
+        yield from calls[:3] if good else calls
+    for slots in ((slot(1, [record(b"", b"1", 1)], 1),), (slot(1, [], 0), slot(2, [record(b"k" * 32, b"1", 1)], 1), slot(3, [record(b"Z", b"1", 1)], 1))):
+        for profile in (METER, 0):
+            yield f"table {x(table(*slots, profile=profile, mode=2))}"
+            yield from calls[:3]
+    for profile in (2, 3, 255):
+        yield f"table {x(table(slot(1, [], 0), profile=profile))}"
+        yield from calls[:3]
 
 
 def tell(peer, *entries, edition=0):
@@ -1574,7 +1719,7 @@ def malformed():
         yield f"get 1 {key}"
     for numbers in ("", ",", "1,", ",1", "1,,2", "1,:", "--"):
         yield f"digest {numbers} 0 34 0"
-    yield from ("", " ", "add", "add 1 ", "add  1", " add 1", "add 1 2", "Add 1", "adds 1", "ad 1", "new 0", "make", "hub", "hub 4", "hub :", "dump 0",
+    yield from ("", " ", "add", "add 1 ", "add  1", " add 1", "add 1 2", "Add 1", "adds 1", "ad 1", "new 0", "make", "make 0 0", "kind", "kind 0", "kind 0 0 0", "kind 0 :", "kind : 0", "kind 0 -1", "kinds 0 0", "hub", "hub 4", "hub :", "dump 0",
                 "readdelta", "readdelta @delt", "table @", "gc 1", "digest - 0 34", "digest - 0 34 -1", "digest - 0 34 0 0", "readdigest x0000", "readdigest x0000 x",
                 "compute x0000 100 - 0 0 100", "compute x0000 100 - 0 0 100 +1", "plan x0000 100 - - - 0 100", "plan x0000 100 - - - 0 100 0 0", "plan x0000 100 - - 0 100 0",
                 "plan x0000 100 - 1, - 0 100 0", "plan x0000 100 - - -1 0 100 0", "plan @ 100 - - - 0 100 0", "planfault x0000 100 - - -", "planfault x0000 100 - - - 0 0",
@@ -1597,6 +1742,7 @@ SCRIPTS = {
     "from": from_where, "in-line": in_line, "plans": plans, "plan-lists": plan_lists, "plan-cuts": plan_cuts, "plan-refusals": plan_refusals,
     "cuts": cuts, "longest-record": longest_record, "verdicts": verdicts, "taking": taking, "room-counts": room, "fence": fence, "guard": guard, "two-datagrams": two_datagrams, "exchange": exchange,
     "net-triangle": triangle, "net-line": line, "net-relay": relay, "net-owner": owner, "net-behind": behind,
+    "meter-forms": meter_forms, "meter-totals": meter_totals, "meter-orders": meter_orders, "meter-streams": meter_streams, "meter-tables": meter_tables,
     "over-writes": over_writes, "over-reads": over_reads, "over-refusals": over_refusals,
     "grid-columns": grid_columns, "grid-told": grid_told, "grid-least": grid_least, "grid-refusals": grid_refusals, "careful": careful,
     "careful-owner-alone": owner_alone, "careful-whoever-present": whoever_present, "careful-restored": restored, "careful-taken-out": taken_out, "careful-net": careful_net,

@@ -35,8 +35,8 @@ static void write_all(uint8_t *table, const char *order, char first) {
 int main(int argc, char **argv) {
     if (argc != 3) { fprintf(stderr, "usage: applying ORDER TIMES\n"); return 2; }
     int held = !strcmp(argv[1], "held");
-    ok(kev_new_table(giver, KEV_TABLE, KEV_PLAIN));
-    ok(kev_new_table(fresh, KEV_TABLE, KEV_PLAIN));
+    ok(kev_new_table(giver, KEV_TABLE, KEV_PLAIN, KEV_PROFILE_FREE));
+    ok(kev_new_table(fresh, KEV_TABLE, KEV_PLAIN, KEV_PROFILE_FREE));
     for (uint64_t node = 1; node <= NODES; node++) {
         ok(kev_add_node(giver, KEV_TABLE, node));
         ok(kev_add_node(fresh, KEV_TABLE, node));

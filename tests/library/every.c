@@ -162,17 +162,20 @@ static void overrides_of(struct lent table) {
 
 static void local_calls(void) {
     struct lent table = lend(KEV_TABLE), brief = lend(KEV_TABLE - 1);
-    GIVES(KEV_BAD_TABLE, kev_new_table(T(brief), KEV_PLAIN));
+    GIVES(KEV_BAD_TABLE, kev_new_table(T(brief), KEV_PLAIN, KEV_PROFILE_FREE));
     CHECK(same(brief));
-    GIVES(KEV_BAD_TABLE, kev_new_table(T(table), 3));
-    GIVES(KEV_BAD_TABLE, kev_new_table(T(table), (kev_size)-1));
+    GIVES(KEV_BAD_TABLE, kev_new_table(T(table), 3, KEV_PROFILE_FREE));
+    GIVES(KEV_BAD_TABLE, kev_new_table(T(table), (kev_size)-1, KEV_PROFILE_FREE));
+    GIVES(KEV_BAD_TABLE, kev_new_table(T(table), KEV_PLAIN, 2));
+    GIVES(KEV_BAD_TABLE, kev_new_table(T(table), KEV_PLAIN, (kev_size)-1));
+    GIVES(KEV_BAD_TABLE, kev_new_table(T(table), 3, KEV_PROFILE_METER));
     CHECK(same(table));
     GIVES(KEV_BAD_TABLE, kev_check(T(table)));
-    GIVES(0, kev_new_table(T(table), KEV_GUARDED));
+    GIVES(0, kev_new_table(T(table), KEV_GUARDED, KEV_PROFILE_FREE));
     CHECK(table.at[KEV_MODE_AT] == KEV_GUARDED);
-    GIVES(0, kev_new_table(T(table), KEV_FENCED));
+    GIVES(0, kev_new_table(T(table), KEV_FENCED, KEV_PROFILE_FREE));
     CHECK(table.at[KEV_MODE_AT] == KEV_FENCED);
-    GIVES(0, kev_new_table(T(table), KEV_PLAIN));
+    GIVES(0, kev_new_table(T(table), KEV_PLAIN, KEV_PROFILE_FREE));
     GIVES(0, kev_check(T(table)));
     for (uint64_t node = 10; node < 18; node++) BOTH(table, kev_add_node(T(t), node), kev_good_add_node(T(t), node));
     BOTH(table, kev_add_node(T(t), 10), kev_good_add_node(T(t), 10));
@@ -357,8 +360,8 @@ static void local_calls(void) {
 static void peers(void) {
     struct lent a = lend(KEV_TABLE), b = lend(KEV_TABLE), digest = lend(KEV_DIGEST), delta = lend(1400), answers = lend(KEV_NODES);
     static const uint64_t ties[2] = {0, 1}, one[1] = {7};
-    GIVES(0, kev_new_table(T(a), KEV_FENCED));
-    GIVES(0, kev_new_table(T(b), KEV_FENCED));
+    GIVES(0, kev_new_table(T(a), KEV_FENCED, KEV_PROFILE_FREE));
+    GIVES(0, kev_new_table(T(b), KEV_FENCED, KEV_PROFILE_FREE));
     for (uint64_t node = 7; node < 9; node++) { GIVES(0, kev_add_node(T(a), node)); GIVES(0, kev_add_node(T(b), node)); }
     GIVES(0, kev_write(T(a), 7, TEXT("total"), TEXT("41"), KEV_SET, 0));
     GIVES(0, kev_write(T(a), 8, TEXT("flow"), TEXT("3"), KEV_SET, 0));
@@ -520,7 +523,7 @@ static void peers(void) {
     GIVES(KEV_EXHAUSTED, kev_good_delete(T(b), 7, TEXT("total"), 0));
 
     struct lent c2 = lend(KEV_TABLE);
-    GIVES(0, kev_new_table(T(c2), KEV_PLAIN));
+    GIVES(0, kev_new_table(T(c2), KEV_PLAIN, KEV_PROFILE_FREE));
     GIVES(0, kev_add_node(T(c2), 7));
     mark(c2), mark(digest), mark(delta), mark(answers);
     struct kev_exchanged x = kev_exchange(T(a), T(c2), KEV_V0, 1400, NO_NUMBERS, NO_NUMBERS, ties, 1, 5, T(digest), T(delta), T(answers));
@@ -540,6 +543,97 @@ static void peers(void) {
     CHECK(x.number == 0 && x.nodes == 2 && x.ops == 4 && x.step == 0 && answers.at[0] == KEV_APPLY && answers.at[1] == KEV_UNKNOWN);
     CHECK(kev_check(T(c2)) == 0);
     give_back(a), give_back(b), give_back(digest), give_back(delta), give_back(answers), give_back(listing), give_back(brief), give_back(bad), give_back(c2);
+}
+
+/* A write that both calls refuse with this number, and that changes nothing. */
+#define REFUSES(no, table, key, value, wanted)                                     \
+    do {                                                                           \
+        mark(table);                                                               \
+        GIVES(no, kev_write(T(table), 7, TEXT(key), TEXT(value), wanted, 9));      \
+        GIVES(no, kev_good_write(T(table), 7, TEXT(key), TEXT(value), wanted, 9)); \
+        CHECK(same(table));                                                        \
+    } while (0)
+
+/* Tables of the meter profile, beside free ones. */
+static void meters(void) {
+    struct lent meter = lend(KEV_TABLE), free_one = lend(KEV_TABLE), digest = lend(KEV_DIGEST), delta = lend(1400), answers = lend(KEV_NODES);
+    static const uint64_t ties[2] = {0, 1};
+    GIVES(0, kev_new_table(T(meter), KEV_GUARDED, KEV_PROFILE_METER));
+    CHECK(meter.at[KEV_MODE_AT] == KEV_GUARDED && meter.at[KEV_PROFILE_AT] == KEV_PROFILE_METER);
+    GIVES(0, kev_check(T(meter)));
+    GIVES(0, kev_new_table(T(free_one), KEV_GUARDED, KEV_PROFILE_FREE));
+    CHECK(free_one.at[KEV_PROFILE_AT] == KEV_PROFILE_FREE);
+    GIVES(KEV_NO_NODE, kev_write(T(meter), 7, TEXT("A"), TEXT("x"), KEV_SET, 0));
+    GIVES(0, kev_add_node(T(meter), 7));
+    GIVES(0, kev_add_node(T(free_one), 7));
+
+    /* forms: 17 behind 1, and in no other local call */
+    REFUSES(KEV_BAD_TAG, meter, "A", "x", KEV_DELETE);
+    REFUSES(KEV_TOO_LONG, meter, long_key, "x", KEV_SET);
+    REFUSES(KEV_TOO_LONG, meter, "A", long_value, KEV_SET);
+    REFUSES(KEV_BAD_FORM, meter, "A", "1", KEV_SET);
+    REFUSES(KEV_BAD_FORM, meter, "a/b", "1", KEV_TTL);
+    REFUSES(KEV_BAD_FORM, meter, "", "1", KEV_SET);
+    REFUSES(KEV_BAD_FORM, meter, "a", "1.5", KEV_SET);
+    REFUSES(KEV_BAD_FORM, meter, "a", "", KEV_SET);
+    REFUSES(KEV_BAD_FORM, meter, "a", "12345678901", KEV_SET);
+    BOTH(meter, kev_write(T(t), 7, TEXT("a.1"), NO_BYTES, KEV_TTL, 5), kev_good_write(T(t), 7, TEXT("a.1"), NO_BYTES, KEV_TTL, 5));
+    BOTH(meter, kev_delete(T(t), 7, TEXT("A"), 5), kev_good_delete(T(t), 7, TEXT("A"), 5));
+    GIVES(KEV_NO_KEY, kev_delete_after_ttl(T(meter), 7, TEXT("A"), 5));
+    CHECK(kev_find(T(meter), 7, TEXT("A")).number == 0 && kev_find(T(meter), 7, TEXT("A")).found == 0);
+
+    /* totals: by number, and only against a record that is not deleted */
+    BOTH(meter, kev_write(T(t), 7, TEXT("total"), TEXT("0041823"), KEV_SET, 0), kev_good_write(T(t), 7, TEXT("total"), TEXT("0041823"), KEV_SET, 0));
+    REFUSES(KEV_SMALLER_TOTAL, meter, "total", "41283", KEV_SET);
+    REFUSES(KEV_SMALLER_TOTAL, meter, "total", "9", KEV_TTL);
+    REFUSES(KEV_SMALLER_TOTAL, meter, "total", "", KEV_TTL);
+    BOTH(meter, kev_write(T(t), 7, TEXT("total"), TEXT("41823"), KEV_SET, 0), kev_good_write(T(t), 7, TEXT("total"), TEXT("41823"), KEV_SET, 0));
+    BOTH(meter, kev_write(T(t), 7, TEXT("total"), TEXT("9999999999"), KEV_TTL, 5), kev_good_write(T(t), 7, TEXT("total"), TEXT("9999999999"), KEV_TTL, 5));
+    REFUSES(KEV_SMALLER_TOTAL, meter, "total", "9999999998", KEV_SET);
+    GIVES(0, kev_delete_after_ttl(T(meter), 7, TEXT("total"), 6));
+    REFUSES(KEV_SMALLER_TOTAL, meter, "total", "1", KEV_SET);
+    GIVES(0, kev_delete(T(meter), 7, TEXT("total"), 7));
+    GIVES(0, kev_write(T(meter), 7, TEXT("total"), TEXT("1"), KEV_SET, 0));
+    GIVES(0, kev_write(T(free_one), 7, TEXT("total"), TEXT("5"), KEV_SET, 0));
+    GIVES(0, kev_write(T(free_one), 7, TEXT("total"), TEXT("4"), KEV_SET, 0));
+    CHECK(kev_remove_node(T(free_one), 7) == 0 && kev_add_node(T(free_one), 8) == 0 && kev_add_node(T(meter), 8) == 0);
+
+    /* a peer's record: judged for its form, not for its size; and the exchange in one call asks the whole table before it writes */
+#define EXCHANGE(from, to, ties_len) \
+    kev_exchange(T(from), T(to), KEV_V0, 1400, NO_NUMBERS, NO_NUMBERS, ties, ties_len, 9, T(digest), T(delta), T(answers))
+    GIVES(0, kev_write(T(free_one), 8, TEXT("total"), TEXT("50"), KEV_SET, 0));
+    CHECK(EXCHANGE(free_one, meter, 1).nodes == 1 && answers.at[0] == KEV_APPLY);
+    GIVES(0, kev_write(T(free_one), 8, TEXT("total"), TEXT("4"), KEV_SET, 0));
+    CHECK(EXCHANGE(free_one, meter, 1).nodes == 1 && kev_find(T(meter), 8, TEXT("total")).len == 1);
+    GIVES(KEV_SMALLER_TOTAL, kev_write(T(meter), 8, TEXT("total"), TEXT("3"), KEV_SET, 0));
+    GIVES(0, kev_write(T(free_one), 8, TEXT("Note"), TEXT("bell broken"), KEV_SET, 0));
+    mark(meter), mark(digest), mark(delta), mark(answers);
+    struct kev_exchanged x = EXCHANGE(free_one, meter, 1);
+    CHECK(given(x.number) == KEV_BAD_FORM && x.step == 3 && x.ops == 0 && x.bytes == 0 && x.nodes == 0);
+    CHECK(EXCHANGE(free_one, meter, 0).number == KEV_BAD_TIES);
+    CHECK(same(meter) && same(digest) && same(delta) && same(answers));
+    CHECK(EXCHANGE(meter, free_one, 2).number == 0);
+#undef EXCHANGE
+    struct kev_count d = kev_write_digest(T(meter), KEV_V0, NO_NUMBERS, T(digest), 0);
+    struct kev_computed c = kev_compute(T(free_one), KEV_V0, digest.at, d.count, 1400, NO_NUMBERS, ties, 1, T(delta), 0);
+    CHECK(c.number == 0 && c.ops == 2);
+    mark(meter), mark(answers);
+    struct kev_applied applied = kev_apply(T(meter), delta.at, c.bytes, 9, T(answers));
+    CHECK(given(applied.number) == KEV_BAD_FORM && applied.nodes == 0 && applied.at == 25 && applied.need == 0);
+    struct kev_applied good = kev_good_apply(T(meter), delta.at, c.bytes, 9, T(answers));
+    CHECK(memcmp(&applied, &good, sizeof applied) == 0 && same(meter) && same(answers));
+    CHECK(kev_read_delta(delta.at, c.bytes).number == 0);
+
+    /* the forms are rules of the table: the byte may be changed only where the records obey them */
+    meter.at[KEV_PROFILE_AT] = KEV_PROFILE_FREE;
+    GIVES(0, kev_check(T(meter)));
+    GIVES(0, kev_write(T(meter), 7, TEXT("Note"), TEXT("x"), KEV_SET, 0));
+    meter.at[KEV_PROFILE_AT] = KEV_PROFILE_METER;
+    GIVES(KEV_BAD_TABLE, kev_check(T(meter)));
+    GIVES(KEV_BAD_TABLE, kev_add_node(T(meter), 8));
+    meter.at[KEV_PROFILE_AT] = 2;
+    GIVES(KEV_BAD_TABLE, kev_check(T(meter)));
+    give_back(meter), give_back(free_one), give_back(digest), give_back(delta), give_back(answers);
 }
 
 /* A grid as docs/FORMAT.md has its bytes: count of columns, numbers, who is present, the rows of last_gc, the rows of max. */
@@ -592,7 +686,7 @@ static void grids(void) {
     GIVES(KEV_BAD_TABLE, kev_check(T(grid)));
     CHECK(same(grid));
     no_grid(grid, table);
-    GIVES(0, kev_new_table(T(table), KEV_PLAIN));
+    GIVES(0, kev_new_table(T(table), KEV_PLAIN, KEV_PROFILE_FREE));
     GIVES(0, kev_add_node(T(table), 7));
     GIVES(0, kev_add_node(T(table), 9));
     no_grid(grid, table);
@@ -771,8 +865,9 @@ static void grids(void) {
 int main(void) {
     local_calls();
     peers();
+    meters();
     grids();
-    for (int number = 0; number < 17; number++) CHECK(seen[number]);
+    for (int number = 0; number < 19; number++) CHECK(seen[number]);
     for (int number = 20; number < 24; number++) CHECK(seen[number]);
     printf("every.c: %lu checks held, %lu failed\n", held, failed);
     return failed ? 1 : 0;

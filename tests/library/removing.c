@@ -22,7 +22,7 @@ static void make(int half) {
     char key[40];
     uint8_t value[KEV_VALUE];
     memset(value, '7', sizeof value);
-    ok(kev_new_table(full, KEV_TABLE, KEV_PLAIN));
+    ok(kev_new_table(full, KEV_TABLE, KEV_PLAIN, KEV_PROFILE_FREE));
     for (int node = 0; node < NODES; node++) {
         ok(kev_add_node(full, KEV_TABLE, (uint64_t)node));
         for (int record = 0; record < RECORDS; record++) {

@@ -50,7 +50,7 @@ static void taken_out(void) { number = kev_take_out(grid, KEV_GRID, 7); }
 
 static void fresh(uint8_t *at) {
     uint64_t node;
-    if (kev_new_table(at, KEV_TABLE, KEV_GUARDED)) abort();
+    if (kev_new_table(at, KEV_TABLE, KEV_GUARDED, KEV_PROFILE_FREE)) abort();
     for (node = 0; node < KEV_NODES; node++)
         if (kev_add_node(at, KEV_TABLE, node)) abort();
 }

@@ -7,73 +7,65 @@ use rules::Refusal;
 use table::layout;
 ghost use mathlib.Core.Bool.{true};
 ghost use mathlib.Core.Path.{_≡_};
-ghost use Prim.Native.Nat.{_≤_};
 ghost use lib.ListN.{length};
 ghost use Rattle.rules.specs.Answers.{appliedTold};
-ghost use Rattle.rules.specs.Given.{Tells};
-ghost use Rattle.rules.specs.Layout.{valid};
+ghost use Rattle.rules.specs.Given.{Gives, Tells};
 ghost use Rattle.rules.specs.Lent.{both, lentApply};
-ghost use Rattle.rules.specs.Whole.{wholeWidth, decodeWhole};
-ghost use Rattle.delta_read.specs.NodeDeltas.{partsFrom};
-ghost use Rattle.apply_parts.specs.Applying.{partsApplied, Accepted};
-
-// Applies an accepted delta to a good table in this mode, one answer for each node delta.
-pub fn apply_good(table: &mut [u8], mode: Mode, delta: &[u8], clock: u64, answers: &mut [u8])
-    requires { ⌜ (valid (now table) ≡ true) × Accepted (now delta) × (length (partsFrom (now delta) 0) ≤ length (now answers)) ⌝ }
-    ensures { λ _. ⌜ both (now (table .exit)) (now (answers .exit))
-        ≡ partsApplied mode clock (partsFrom (now (delta .entry)) 0) (now (answers .entry)) (now (table .entry)) ⌝ }
-{
-    let heads = delta_read::read_heads(delta);
-    let read = heads.read;
-    let DeltaRead::Good { ops: _, nodes } = read else {
-        return;
-    };
-    apply_parts::apply_each(table, mode, delta, heads, nodes, clock, answers);
-}
+ghost use Rattle.rules.specs.Whole.{wholeWidth, decodeWhole, validWhole};
 
 // The mode that stands in a table's bytes.
 pub fn mode_of(table: &[u8]) -> Mode
     requires { ⌜ length (now table) ≡ wholeWidth ⌝ }
-    ensures { λ r. ⌜ r ≡ decodeWhole (now (table .entry)) .mode ⌝ }
+    ensures { λ r. ⌜ r ≡ decodeWhole (now (table .entry)) .kind .mode ⌝ }
 {
     Mode::of_byte(fields::byte_at(table, layout::AREA + layout::MODE))
 }
 
-// Applies the bytes of a delta to a lent table at the receiver's clock, and gives one answer for each node delta. It takes any bytes, and refuses in
-// document 01's order: 14, 13 for the delta's length, the first operation at fault, 8 for the places of the answers.
+// Applies the bytes of a delta to a good table: 13 for the delta's length, the first operation at fault, 17 straight after a record's own 11 where the table's
+// profile does not take it, 8 for the places of the answers.
+pub fn apply_known(table: &mut [u8], delta: &[u8], clock: u64, answers: &mut [u8]) -> Applied
+    requires { ⌜ validWhole (now table) ≡ true ⌝ }
+    ensures { λ r. ⌜ Gives (lentApply (now (delta .entry)) clock (now (answers .entry)) (now (table .entry)))
+        r (both (now (table .exit)) (now (answers .exit))) ⌝ }
+{
+    let heads = delta_read::read_heads(delta);
+    let verdict = heads.read;
+    let profile = profile_check::profile_of(table);
+    let read = delta_form::read_as(profile, delta, verdict);
+    match read {
+        DeltaRead::Refused { why, at } => Applied::Refused { why, at },
+        DeltaRead::Good { ops: _, nodes } => {
+            if answers.len() < nodes {
+                return Applied::Refused {
+                    why: Refusal::NoPlace,
+                    at: 0,
+                };
+            }
+            let mode = mode_of(table);
+            apply_parts::apply_each(
+                &mut table[..layout::AREA],
+                mode,
+                delta,
+                heads,
+                nodes,
+                clock,
+                answers,
+            );
+            Applied::Nodes(nodes)
+        }
+    }
+}
+
+// Applies the bytes of a delta to a lent table at the receiver's clock, and gives one answer for each node delta. It takes any bytes: 14 first, then as above.
 pub fn apply(table: &mut [u8], delta: &[u8], clock: u64, answers: &mut [u8]) -> Applied
     ensures { λ r. ⌜ Tells appliedTold (lentApply (now (delta .entry)) clock (now (answers .entry)) (now (table .entry)))
         r (both (now (table .exit)) (now (answers .exit))) ⌝ }
 {
     if table_check::check_table(table) {
-        let heads = delta_read::read_heads(delta);
-        let read = heads.read;
-        match read {
-            DeltaRead::Refused { why, at } => Applied::Refused { why, at },
-            DeltaRead::Good { ops: _, nodes } => {
-                if answers.len() < nodes {
-                    return Applied::Refused {
-                        why: Refusal::NoPlace,
-                        at: 0,
-                    };
-                }
-                let mode = mode_of(table);
-                apply_parts::apply_each(
-                    &mut table[..layout::AREA],
-                    mode,
-                    delta,
-                    heads,
-                    nodes,
-                    clock,
-                    answers,
-                );
-                Applied::Nodes(nodes)
-            }
-        }
-    } else {
-        Applied::Refused {
-            why: Refusal::BadTable,
-            at: 0,
-        }
+        return apply_known(table, delta, clock, answers);
+    }
+    Applied::Refused {
+        why: Refusal::BadTable,
+        at: 0,
     }
 }

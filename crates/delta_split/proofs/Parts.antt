@@ -19,12 +19,12 @@ use Rattle.rules.specs.Sizes.{maxDelta}
 use Rattle.rules.specs.Node.{Node}
 use Rattle.rules.specs.Table.{Table, nodeOf, setNode}
 use Rattle.rules.specs.Delta.{Op, NodeOp, KeyValueOp, SetMaxVersionOp, Ops, Good, Faulty, sizeOf, opBytes, deltaBytes, nothingRead, Part, partsOf, readDelta}
-use Rattle.rules.specs.Apply.{Ways, waysOf, Lawful, Taking, Stream, applyNode, applyEach, onNode, codes, ApplyOutcome, applyOps, apply}
-use Rattle.rules.specs.declared.Mode.{Mode}
-use Rattle.rules.specs.declared.Mode.the-variants as mode
+use Rattle.rules.specs.Apply.{ApplyOutcome, Lawful, Stream, Taking, Ways, apply, applyEach, applyNode, applyOps, codes, onNode, waysIn}
+use Rattle.rules.specs.Profile.{Kind}
 use Rattle.rules.specs.declared.NodeAnswer.{NodeAnswer}
 use Rattle.rules.specs.declared.Applied.the-variants as applied
 use Rattle.rules.proofs.Deltas.{read-delta, delta-is}
+use Rattle.profiles.proofs.Reading.{delta-formed, delta-plain, form-first, form-second}
 use Rattle.delta_split.specs.Split.{nodeTags, cutPlaces, wanted, inOrder, reversed, given, AsUncut, FromNode, Cuttable}
 use Rattle.delta_split.proofs.Cutting.{parts-cut, bytes-cut, small-first, small-second, chain-first, chain-second, parts-apart}
 use Rattle.delta_split.proofs.Each.{Apart, each-append, each-swapped}
@@ -233,9 +233,12 @@ module _ (ways : Ways) (lawful : Lawful ways) (cuttable : Cuttable ways) (b : Li
       by-three (λ w one two. Says w one two one) whole-call (ap (λ (o : ApplyOutcome). apply ways (take place b) now (o .table) list₁) (second-call t) ∙ first-call v) (second-call t)
       (together (applyNode ways now) xs ys t list list₁ list₂ room room₁ room₂ v t (s .0) (sym (s .2)) (applyEach (applyNode ways now) xs v .table) (s .1))
 
--- ---- document 01's reading, in every mode
+-- ---- in every mode and profile
 
-pub mode-cuttable : (m : Mode) → Cuttable (waysOf m)
-mode-cuttable mode.Plain = read-parts
-mode-cuttable mode.Fenced = read-parts
-mode-cuttable mode.Guarded = read-parts
+pub kind-cuttable : (k : Kind) → Cuttable (waysIn k)
+kind-cuttable k xs ys c are e =
+    let z = delta-plain (k .profile) (deltaBytes (xs ++ ys)) (xs ++ ys) e in
+    let r = read-parts xs ys c are (z .0) in (
+      delta-formed (k .profile) (deltaBytes xs) xs (form-first (k .profile) xs ys (z .1)) (r .0),
+      delta-formed (k .profile) (deltaBytes ys) ys (form-second (k .profile) xs ys (z .1)) (r .1),
+    )

@@ -89,7 +89,7 @@ FromNode (NodeOp n g f ∷ ops) = Unit {0}
 FromNode (KeyValueOp r ∷ ops) = ⊥
 FromNode (SetMaxVersionOp m ∷ ops) = ⊥
 
--- A delta that is read is read in two parts too. Document 01's reading does so, in every mode (proofs/Parts, `mode-cuttable`).
+-- A delta that is read is read in two parts too. Every mode and every profile reads so (proofs/Parts, `kind-cuttable`).
 abbrev pub Cuttable : Ways → Type 0
 Cuttable ways =
     (first second : List Op) → FromNode second → AreBytes (deltaBytes (first ++ second)) → ways .reads (deltaBytes (first ++ second)) ≡ Good (first ++ second)

@@ -17,10 +17,10 @@ use Rattle.fields.specs.Widths.{joined}
 use Rattle.fields.proofs.Choice.{all-from, and-intro}
 use Rattle.rules.specs.Sizes.{numbers, top}
 use Rattle.rules.specs.Answers.{Told, answerTold, appliedTold, computedTold, listedTold, offeredTold, readTold, rememberedTold, writtenTold}
-use Rattle.rules.specs.Apply.{apply, plainWays, waysOf}
+use Rattle.rules.specs.Apply.{apply, waysIn}
 use Rattle.rules.specs.Compute as computing
 use Rattle.rules.specs.Compute.{toldOf}
-use Rattle.rules.specs.Delta.{Good, NodeOp, Op, SetMaxVersionOp, deltaBytes, deltaRead, follow, opBytes, partsOf, readDelta, readKeyValue, readNode, readOp, readOps, readSetMaxVersion, sizeOf}
+use Rattle.rules.specs.Delta.{Good, KeyValueOp, NodeOp, Op, SetMaxVersionOp, deltaBytes, deltaRead, follow, opBytes, partsOf, readDelta, readKeyValue, readNode, readOp, readOps, readSetMaxVersion, sizeOf, textBytes}
 use Rattle.rules.specs.Digest.{digestBytes, digestOf, headWidth, readDigest, readEntries, tell, tellAll, writeDigest}
 use Rattle.rules.specs.Given.{Given, given}
 use Rattle.rules.specs.Layout.{nodeWidth, encodeNode, decodeNode, decode, encode}
@@ -29,8 +29,9 @@ use Rattle.rules.specs.Whole.{Whole, decodeMemory, decodeWhole, encodeWhole, ob
 use Rattle.rules.specs.declared.Mode.the-variants as mode
 use Rattle.rules.specs.Lent.{TableAndList, addWhole, both, fromTable, lentApply, lentApplyAs, lentNew, lentRemoved, onTable, onWhole, rememberedAs, removeWhole, storedIn, storedApply}
 use Rattle.rules.specs.Listing.{decimal, digits, listing, listingOf, opLine}
-use Rattle.rules.specs.Local.{Outcome, add, call, gc, localBeat, offer, prefixed, removeNode, write}
+use Rattle.rules.specs.Local.{Outcome, add, call, callAs, gc, localBeat, offer, prefixed, removeNode, writeAs}
 use Rattle.rules.specs.Node.{Deleting, DeletingAfterTtl, Node, Rec, act, beats, decide, find, fresh, hitsFrom, offerOf, wish}
+use Rattle.rules.specs.Profile.{kind, meterKey, meterValue, numeral, profileObeys, readDeltaAs, readOpsAs, smaller, totalKey}
 use Rattle.rules.specs.Table.{Entry, Table, among, differ, entryObeys, keysRise, nodeObeys, nodeOf, numbersOf, obeys, recObeys, rising, setNode, versions}
 use Rattle.rules.specs.declared.Answer.{Answer}
 use Rattle.rules.specs.declared.Answer.the-variants as plain
@@ -42,11 +43,14 @@ use Rattle.rules.specs.declared.Computed.the-variants as computed
 use Rattle.rules.specs.declared.Listed.{Listed}
 use Rattle.rules.specs.declared.Listed.the-variants as listed
 use Rattle.rules.specs.declared.Offered.the-variants as offered
+use Rattle.rules.specs.declared.Profile.{Profile}
+use Rattle.rules.specs.declared.Profile.the-variants.{Free, Meter}
 use Rattle.rules.specs.declared.Refusal.the-variants.{BadPeer, BadTable, NobodyPresent}
 use Rattle.rules.specs.declared.Status.the-variants as status
 use Rattle.rules.specs.declared.Written.{Written}
 use Rattle.rules.specs.declared.Written.the-variants as written
 use Rattle.rules.proofs.Calls.{none-obeys}
+use Rattle.rules.proofs.Formed.{empty-formed, free-formed}
 use Rattle.rules.proofs.Obeys.{among-in}
 use Rattle.table.proofs.Encoded.{apply-whole, from-whole, on-whole, whole-whole}
 use Rattle.table.proofs.Wholes.{decode-encode-whole, length-whole, valid-encode-whole, without-memory}
@@ -97,7 +101,7 @@ use Rattle.listing_make.specs.Make.{madeTold, placed}
 use Rattle.answers.specs.Shown.{entryTold}
 use Rattle.compute.specs.Asking.{askedOf}
 use Rattle.exchange.specs.Exchanging.{Lending, afterAsking, exchangedTold, lending, lentExchange, roomsOf}
-use Rattle.exchange_ask.specs.Asking.{readyFor, readyOn, roomsFor}
+use Rattle.exchange_ask.specs.Asking.{formsFit, readyFor, readyOn, roomsFor, takingFor}
 use Rattle.exchange.specs.declared.Exchanged.{Exchanged}
 use Rattle.exchange_ask.specs.declared.Step.the-variants.{Delta, Digest}
 use Rattle.exchange_ask.specs.declared.Ready.{Ready}
@@ -209,19 +213,30 @@ crowded-obeys : obeys crowded ≡ true
 unfolding obeys rising numbersOf all entryObeys nodeObeys recObeys differ keysRise versions among nodes
 crowded-obeys = refl
 
--- a table in the plain mode that remembers nothing, and its bytes
+-- a plain table that remembers nothing, and its bytes
 abbrev whole : (table : Table) → Whole
-whole t = record { mode = mode.Plain; memory = []; table = t }
+whole t = record { kind = kind mode.Plain Free; memory = []; table = t }
 
 abbrev lent : (table : Table) → Bytes
 lent t = encodeWhole (whole t)
 
 whole-obeys : (t : Table) → obeys t ≡ true → obeysWhole (whole t) ≡ true
-whole-obeys t o = without-memory mode.Plain t o
+whole-obeys t o = without-memory (kind mode.Plain Free) t o (free-formed t)
+
+-- one of the meter profile, with a total of 5
+abbrev counting : Table
+counting = holding (node 1 1 (record { kv = record { key = totalKey; value = 53 ∷ []; version = 1; status = status.Set }; start = 0 } ∷ []))
+
+abbrev metered : Whole
+metered = record { kind = kind mode.Plain Meter; memory = []; table = counting }
+
+metered-obeys : obeysWhole metered ≡ true
+unfolding obeys rising numbersOf all entryObeys nodeObeys recObeys differ keysRise versions among profileObeys meterKey meterValue
+metered-obeys = without-memory (kind mode.Plain Meter) counting refl refl
 
 -- no bytes are no table
 none-valid : validWhole [] ≡ false
-unfolding validWhole obeysWhole memoryObeys apart removedNumbers differ decodeMemory obeys decode part rising numbersOf all encodeWhole encode joined natOf bytesOf sameBytes unblock
+unfolding validWhole obeysWhole profileObeys memoryObeys apart removedNumbers differ decodeMemory obeys decode part rising numbersOf all encodeWhole encode joined natOf bytesOf sameBytes unblock
 none-valid = refl
 
 -- ---- a call on a table that obeys, and on no table
@@ -234,8 +249,16 @@ on-bad : {A : Type 0} (told : A → Told) (bad : A) (rule : Table → Outcome A)
 unfolding onTable
 on-bad told bad rule n e = ap (λ (b : Bool). told (pick b (storedIn (decodeWhole []) (rule (decodeWhole [] .table))) (given bad []) .answer) .number) none-valid ∙ e
 
+-- by a rule of the table's profile
+as-good : {A : Type 0} (told : A → Told) (bad : A) (rule : Profile → Table → Outcome A) (w : Whole) → obeysWhole w ≡ true → (n : ℕ) → told (rule (w .kind .profile) (w .table) .answer) .number ≡ n
+    → told (onTable bad (rule (decodeWhole (encodeWhole w) .kind .profile)) (encodeWhole w) .answer) .number ≡ n
+as-good {A} told bad rule w o n e =
+    ap (λ (u : Whole). told (onTable bad (rule (u .kind .profile)) (encodeWhole w) .answer) .number) (decode-encode-whole w o)
+    ∙ ap (λ (x : Given A Bytes). told (x .answer) .number) (on-whole w o bad (rule (w .kind .profile)))
+    ∙ e
+
 whole-good : {A : Type 0} (told : A → Told) (bad : A) (rule : Whole → Given A Whole) (t : Table) → obeys t ≡ true → (n : ℕ)
-    → told (rule (record { mode = mode.Plain; memory = []; table = t }) .answer) .number ≡ n → told (onWhole bad rule (lent t) .answer) .number ≡ n
+    → told (rule (whole t) .answer) .number ≡ n → told (onWhole bad rule (lent t) .answer) .number ≡ n
 whole-good {A} told bad rule t o n e = ap (λ (x : Given A Bytes). told (x .answer) .number) (whole-whole (whole t) (whole-obeys t o) bad rule) ∙ e
 
 whole-bad : {A : Type 0} (told : A → Told) (bad : A) (rule : Whole → Given A Whole) (n : ℕ) → told bad .number ≡ n → told (onWhole bad rule [] .answer) .number ≡ n
@@ -256,11 +279,11 @@ from-bad number bad rule n e = ap (λ (b : Bool). number (pick b (rule (decodeWh
 new-tables : AllShown calls.NewTable (0 ∷ 14 ∷ [])
 unfolding calls.leaves lentMade answerTold
 new-tables = (
-  calls.new-table (lent []) mode.Plain,
-  ap (λ (b : Bool). answerTold (pick b (given plain.Done (lentNew mode.Plain)) (given (plain.Refused BadTable) (lent [])) .answer) .number)
-      (eq-eqb (length (lent [])) wholeWidth (length-whole (record { mode = mode.Plain; memory = []; table = [] }))),
+  calls.new-table (lent []) mode.Plain Free,
+  ap (λ (b : Bool). answerTold (pick b (given plain.Done (lentNew (kind mode.Plain Free))) (given (plain.Refused BadTable) (lent [])) .answer) .number)
+      (eq-eqb (length (lent [])) wholeWidth (length-whole (whole []))),
 )
-    and (calls.new-table [] mode.Plain, refl)
+    and (calls.new-table [] mode.Plain Free, refl)
     and no-more
 
 added : AllShown calls.AddNode (0 ∷ 14 ∷ 4 ∷ [])
@@ -284,8 +307,8 @@ asked : AllShown calls.LastHeartbeat (0 ∷ 14 ∷ [])
 unfolding calls.leaves rememberedTold lentRemoved heartbeatOf
 asked = (
   calls.last-heartbeat (lent []) seven,
-  let w : Whole = record { mode = mode.Plain; memory = []; table = [] } in
-      let o = without-memory mode.Plain [] none-obeys in
+  let w : Whole = whole [] in
+      let o = whole-obeys [] none-obeys in
       ap (λ (b : Bool). rememberedTold (pick b (rememberedAs (heartbeatOf 7 (decodeWhole (lent []) .memory))) (remembered.Refused BadTable)) .number) (valid-encode-whole w o)
       ∙ ap (λ (u : Whole). rememberedTold (rememberedAs (heartbeatOf 7 (u .memory))) .number) (decode-encode-whole w o),
 )
@@ -297,38 +320,40 @@ asked = (
 
 -- ---- records
 
-writes : AllShown calls.Write (0 ∷ 14 ∷ 10 ∷ 2 ∷ 1 ∷ 5 ∷ 6 ∷ [])
-unfolding calls.leaves answerTold write call nodeOf setNode decide wish act find sameBytes zeros records
+writes : AllShown calls.Write (0 ∷ 14 ∷ 10 ∷ 2 ∷ 1 ∷ 17 ∷ 18 ∷ 5 ∷ 6 ∷ [])
+unfolding calls.leaves answerTold writeAs callAs call nodeOf setNode decide wish act find sameBytes zeros records meterKey meterValue smaller numeral all
 writes =
-    (calls.write (lent newly) [] [] seven under-set seven, on-good answerTold (plain.Refused BadTable) (write 0 [] 7 7 []) newly newly-obeys 0 refl)
-    and (calls.write [] [] [] seven under-set seven, on-bad answerTold (plain.Refused BadTable) (write 0 [] 7 7 []) 14 refl)
-    and (calls.write (lent []) [] [] seven seven seven, on-good answerTold (plain.Refused BadTable) (write 7 [] 7 7 []) [] none-obeys 10 refl)
-    and (calls.write (lent []) [] [] seven under-ttl seven, on-good answerTold (plain.Refused BadTable) (write 2 [] 7 7 []) [] none-obeys 2 refl)
-    and (calls.write (lent newly) (zeros 33) [] seven under-ttl seven, on-good answerTold (plain.Refused BadTable) (write 2 [] 7 7 (zeros 33)) newly newly-obeys 1 refl)
-    and (calls.write (lent packed) [] [] seven under-set seven, on-good answerTold (plain.Refused BadTable) (write 0 [] 7 7 []) packed packed-obeys 5 refl)
-    and (calls.write (lent ended) [] [] seven under-ttl seven, on-good answerTold (plain.Refused BadTable) (write 2 [] 7 7 []) ended ended-obeys 6 refl)
+    (calls.write (lent newly) [] [] seven under-set seven, as-good answerTold (plain.Refused BadTable) (λ p. writeAs p 0 [] 7 7 []) (whole newly) (whole-obeys newly newly-obeys) 0 refl)
+    and (calls.write [] [] [] seven under-set seven, on-bad answerTold (plain.Refused BadTable) (writeAs (decodeWhole [] .kind .profile) 0 [] 7 7 []) 14 refl)
+    and (calls.write (lent []) [] [] seven seven seven, as-good answerTold (plain.Refused BadTable) (λ p. writeAs p 7 [] 7 7 []) (whole []) (whole-obeys [] none-obeys) 10 refl)
+    and (calls.write (lent []) [] [] seven under-ttl seven, as-good answerTold (plain.Refused BadTable) (λ p. writeAs p 2 [] 7 7 []) (whole []) (whole-obeys [] none-obeys) 2 refl)
+    and (calls.write (lent newly) (zeros 33) [] seven under-ttl seven, as-good answerTold (plain.Refused BadTable) (λ p. writeAs p 2 [] 7 7 (zeros 33)) (whole newly) (whole-obeys newly newly-obeys) 1 refl)
+    and (calls.write (encodeWhole metered) [] [] seven under-ttl seven, as-good answerTold (plain.Refused BadTable) (λ p. writeAs p 2 [] 7 7 []) metered metered-obeys 17 refl)
+    and (calls.write (encodeWhole metered) totalKey (52 ∷ []) seven under-set seven, as-good answerTold (plain.Refused BadTable) (λ p. writeAs p 0 (52 ∷ []) 7 7 totalKey) metered metered-obeys 18 refl)
+    and (calls.write (lent packed) [] [] seven under-set seven, as-good answerTold (plain.Refused BadTable) (λ p. writeAs p 0 [] 7 7 []) (whole packed) (whole-obeys packed packed-obeys) 5 refl)
+    and (calls.write (lent ended) [] [] seven under-ttl seven, as-good answerTold (plain.Refused BadTable) (λ p. writeAs p 2 [] 7 7 []) (whole ended) (whole-obeys ended ended-obeys) 6 refl)
     and no-more
 
 deletes : AllShown calls.Delete (0 ∷ 14 ∷ 2 ∷ 1 ∷ 3 ∷ 6 ∷ [])
-unfolding calls.leaves answerTold call nodeOf setNode decide wish act find sameBytes zeros records
+unfolding calls.leaves answerTold callAs call nodeOf setNode decide wish act find sameBytes zeros records
 deletes =
-    (calls.delete (lent usual) (1 ∷ []) seven seven, on-good answerTold (plain.Refused BadTable) (call (Deleting 7) 7 (1 ∷ [])) usual usual-obeys 0 refl)
-    and (calls.delete [] [] seven seven, on-bad answerTold (plain.Refused BadTable) (call (Deleting 7) 7 []) 14 refl)
-    and (calls.delete (lent []) [] seven seven, on-good answerTold (plain.Refused BadTable) (call (Deleting 7) 7 []) [] none-obeys 2 refl)
-    and (calls.delete (lent newly) (zeros 33) seven seven, on-good answerTold (plain.Refused BadTable) (call (Deleting 7) 7 (zeros 33)) newly newly-obeys 1 refl)
-    and (calls.delete (lent newly) [] seven seven, on-good answerTold (plain.Refused BadTable) (call (Deleting 7) 7 []) newly newly-obeys 3 refl)
-    and (calls.delete (lent ended) (1 ∷ []) seven seven, on-good answerTold (plain.Refused BadTable) (call (Deleting 7) 7 (1 ∷ [])) ended ended-obeys 6 refl)
+    (calls.delete (lent usual) (1 ∷ []) seven seven, as-good answerTold (plain.Refused BadTable) (λ p. callAs p (Deleting 7) 7 (1 ∷ [])) (whole usual) (whole-obeys usual usual-obeys) 0 refl)
+    and (calls.delete [] [] seven seven, on-bad answerTold (plain.Refused BadTable) (callAs (decodeWhole [] .kind .profile) (Deleting 7) 7 []) 14 refl)
+    and (calls.delete (lent []) [] seven seven, as-good answerTold (plain.Refused BadTable) (λ p. callAs p (Deleting 7) 7 []) (whole []) (whole-obeys [] none-obeys) 2 refl)
+    and (calls.delete (lent newly) (zeros 33) seven seven, as-good answerTold (plain.Refused BadTable) (λ p. callAs p (Deleting 7) 7 (zeros 33)) (whole newly) (whole-obeys newly newly-obeys) 1 refl)
+    and (calls.delete (lent newly) [] seven seven, as-good answerTold (plain.Refused BadTable) (λ p. callAs p (Deleting 7) 7 []) (whole newly) (whole-obeys newly newly-obeys) 3 refl)
+    and (calls.delete (lent ended) (1 ∷ []) seven seven, as-good answerTold (plain.Refused BadTable) (λ p. callAs p (Deleting 7) 7 (1 ∷ [])) (whole ended) (whole-obeys ended ended-obeys) 6 refl)
     and no-more
 
 deletes-ttl : AllShown calls.DeleteAfterTtl (0 ∷ 14 ∷ 2 ∷ 1 ∷ 3 ∷ 6 ∷ [])
-unfolding calls.leaves answerTold call nodeOf setNode decide wish act find sameBytes zeros records
+unfolding calls.leaves answerTold callAs call nodeOf setNode decide wish act find sameBytes zeros records
 deletes-ttl =
-    (calls.delete-after-ttl (lent usual) (1 ∷ []) seven seven, on-good answerTold (plain.Refused BadTable) (call (DeletingAfterTtl 7) 7 (1 ∷ [])) usual usual-obeys 0 refl)
-    and (calls.delete-after-ttl [] [] seven seven, on-bad answerTold (plain.Refused BadTable) (call (DeletingAfterTtl 7) 7 []) 14 refl)
-    and (calls.delete-after-ttl (lent []) [] seven seven, on-good answerTold (plain.Refused BadTable) (call (DeletingAfterTtl 7) 7 []) [] none-obeys 2 refl)
-    and (calls.delete-after-ttl (lent newly) (zeros 33) seven seven, on-good answerTold (plain.Refused BadTable) (call (DeletingAfterTtl 7) 7 (zeros 33)) newly newly-obeys 1 refl)
-    and (calls.delete-after-ttl (lent newly) [] seven seven, on-good answerTold (plain.Refused BadTable) (call (DeletingAfterTtl 7) 7 []) newly newly-obeys 3 refl)
-    and (calls.delete-after-ttl (lent ended) (1 ∷ []) seven seven, on-good answerTold (plain.Refused BadTable) (call (DeletingAfterTtl 7) 7 (1 ∷ [])) ended ended-obeys 6 refl)
+    (calls.delete-after-ttl (lent usual) (1 ∷ []) seven seven, as-good answerTold (plain.Refused BadTable) (λ p. callAs p (DeletingAfterTtl 7) 7 (1 ∷ [])) (whole usual) (whole-obeys usual usual-obeys) 0 refl)
+    and (calls.delete-after-ttl [] [] seven seven, on-bad answerTold (plain.Refused BadTable) (callAs (decodeWhole [] .kind .profile) (DeletingAfterTtl 7) 7 []) 14 refl)
+    and (calls.delete-after-ttl (lent []) [] seven seven, as-good answerTold (plain.Refused BadTable) (λ p. callAs p (DeletingAfterTtl 7) 7 []) (whole []) (whole-obeys [] none-obeys) 2 refl)
+    and (calls.delete-after-ttl (lent newly) (zeros 33) seven seven, as-good answerTold (plain.Refused BadTable) (λ p. callAs p (DeletingAfterTtl 7) 7 (zeros 33)) (whole newly) (whole-obeys newly newly-obeys) 1 refl)
+    and (calls.delete-after-ttl (lent newly) [] seven seven, as-good answerTold (plain.Refused BadTable) (λ p. callAs p (DeletingAfterTtl 7) 7 []) (whole newly) (whole-obeys newly newly-obeys) 3 refl)
+    and (calls.delete-after-ttl (lent ended) (1 ∷ []) seven seven, as-good answerTold (plain.Refused BadTable) (λ p. callAs p (DeletingAfterTtl 7) 7 (1 ∷ [])) (whole ended) (whole-obeys ended ended-obeys) 6 refl)
     and no-more
 
 collected : AllShown calls.RemoveScheduled (0 ∷ 14 ∷ [])
@@ -808,16 +833,24 @@ delta-reads =
     and (calls.read-delta (deltaBytes (NodeOp 7 0 0 ∷ NodeOp 7 0 0 ∷ [])), refl)
     and no-more
 
-applying : (delta : calls.Received) (answers : Bytes) (n : ℕ) → appliedTold (apply plainWays (delta .bytes) 7 [] answers .answer) .number ≡ n
+applying-as : (w : Whole) → obeysWhole w ≡ true → (delta : calls.Received) (answers : Bytes) (n : ℕ) → appliedTold (apply (waysIn (w .kind)) (delta .bytes) 7 (w .table) answers .answer) .number ≡ n
+    → appliedTold (lentApply (delta .bytes) 7 answers (encodeWhole w) .answer) .number ≡ n
+applying-as w o delta answers n e = ap (λ (x : Given Applied TableAndList). appliedTold (x .answer) .number) (apply-whole w o (delta .bytes) 7 answers) ∙ e
+
+applying : (delta : calls.Received) (answers : Bytes) (n : ℕ) → appliedTold (apply (waysIn (kind mode.Plain Free)) (delta .bytes) 7 [] answers .answer) .number ≡ n
     → appliedTold (lentApply (delta .bytes) 7 answers (lent []) .answer) .number ≡ n
-applying delta answers n e = ap (λ (x : Given Applied TableAndList). appliedTold (x .answer) .number) (apply-whole (whole []) (whole-obeys [] none-obeys) (delta .bytes) 7 answers) ∙ e
+applying = applying-as (whole []) (whole-obeys [] none-obeys)
+
+-- a record without a key
+abbrev odd : List Op
+odd = NodeOp 7 0 0 ∷ KeyValueOp (record { key = []; value = []; version = 1; status = status.Set }) ∷ []
 
 not-applied : appliedTold (lentApply [] 7 [] [] .answer) .number ≡ 14
 unfolding lentApplyAs appliedTold
-not-applied = ap (λ (b : Bool). appliedTold (pick b (storedApply (decodeWhole []) (apply (waysOf (decodeWhole [] .mode)) [] 7 (decodeWhole [] .table) [])) (given (applied.Refused BadTable 0) (both [] [])) .answer) .number) none-valid
+not-applied = ap (λ (b : Bool). appliedTold (pick b (storedApply (decodeWhole []) (apply (waysIn (decodeWhole [] .kind)) [] 7 (decodeWhole [] .table) [])) (given (applied.Refused BadTable 0) (both [] [])) .answer) .number) none-valid
 
-applies : AllShown calls.Apply (0 ∷ 14 ∷ 13 ∷ 9 ∷ 1 ∷ 10 ∷ 11 ∷ 12 ∷ 8 ∷ [])
-unfolding calls.leaves received appliedTold apply all deltaRead readDelta readOps readOp readNode readKeyValue readSetMaxVersion follow natOf among zeros deltaBytes opBytes flat bytesOf ninth partsOf
+applies : AllShown calls.Apply (0 ∷ 14 ∷ 13 ∷ 9 ∷ 1 ∷ 10 ∷ 11 ∷ 17 ∷ 12 ∷ 8 ∷ [])
+unfolding calls.leaves received appliedTold apply all readDeltaAs readOpsAs meterKey readOp readNode readKeyValue readSetMaxVersion follow natOf among zeros deltaBytes opBytes textBytes flat bytesOf ninth partsOf
 applies =
     (calls.apply (lent []) (received [] refl) [] seven, applying (received [] refl) [] 0 refl)
     and (calls.apply [] (received [] refl) [] seven, not-applied)
@@ -826,6 +859,7 @@ applies =
     and (calls.apply (lent []) (received (1 ∷ 33 ∷ 0 ∷ []) refl) [] seven, applying (received (1 ∷ 33 ∷ 0 ∷ []) refl) [] 1 refl)
     and (calls.apply (lent []) (received (3 ∷ []) refl) [] seven, applying (received (3 ∷ []) refl) [] 10 refl)
     and (calls.apply (lent []) (received (2 ∷ zeros 8) refl) [] seven, applying (received (2 ∷ zeros 8) refl) [] 11 refl)
+    and (calls.apply (encodeWhole metered) (received (deltaBytes odd) refl) [] seven, applying-as metered metered-obeys (received (deltaBytes odd) refl) [] 17 refl)
     and (calls.apply (lent []) (received (deltaBytes (NodeOp 7 0 0 ∷ NodeOp 7 0 0 ∷ [])) refl) [] seven, applying (received (deltaBytes (NodeOp 7 0 0 ∷ NodeOp 7 0 0 ∷ [])) refl) [] 12 refl)
     and (calls.apply (lent []) (received (deltaBytes (NodeOp 7 0 0 ∷ [])) refl) [] seven, applying (received (deltaBytes (NodeOp 7 0 0 ∷ [])) refl) [] 8 refl)
     and no-more
@@ -858,33 +892,51 @@ makes =
 abbrev asking : (edition mtu : ℕ) (ties digest delta : List ℕ) → Lending
 asking edition mtu ties digest delta = lending edition [] [] ties mtu 7 digest delta []
 
-asked-for : (g : Lending) → readyFor (g .edition) (g .unasked) (roomsOf g) (lent []) (lent []) ≡ readyOn (g .edition) (g .unasked) (roomsOf g) [] []
+-- the publisher's table and the follower's
+asked-as : (g : Lending) (p f : Whole) → obeysWhole p ≡ true → obeysWhole f ≡ true
+    → readyFor (g .edition) (g .unasked) (roomsOf g) (encodeWhole p) (encodeWhole f) ≡ readyOn (g .edition) (g .unasked) (roomsOf g) (profileObeys (f .kind .profile) (p .table)) (p .table) (f .table)
 unfolding readyFor
-asked-for g =
-    let w : Whole = record { mode = mode.Plain; memory = []; table = [] } in
-    let t : Table = decodeWhole (lent []) .table in
-    ap (λ (b : Bool). pick b (pick b (readyOn (g .edition) (g .unasked) (roomsOf g) t t) (ready.No Delta BadTable)) (ready.No Digest BadTable)) (valid-encode-whole w (without-memory mode.Plain [] none-obeys))
-    ∙ ap (λ (u : Whole). readyOn (g .edition) (g .unasked) (roomsOf g) (u .table) (u .table)) (decode-encode-whole w (without-memory mode.Plain [] none-obeys))
+asked-as g p f op of =
+    ap₂ (λ (b c : Bool). pick b (pick c (on (decodeWhole (encodeWhole p)) (decodeWhole (encodeWhole f))) (ready.No Delta BadTable)) (ready.No Digest BadTable)) (valid-encode-whole f of) (valid-encode-whole p op)
+    ∙ ap₂ on (decode-encode-whole p op) (decode-encode-whole f of)
+  where
+    on : Whole → Whole → Ready
+    on u v = readyOn (g .edition) (g .unasked) (roomsOf g) (profileObeys (v .kind .profile) (u .table)) (u .table) (v .table)
 
-refused-as : (g : Lending) (n : ℕ) → exchangedTold (afterAsking g (lent []) (lent []) (readyOn (g .edition) (g .unasked) (roomsOf g) [] []) .answer) .number ≡ n
-    → exchangedTold (lentExchange g (lent []) (lent []) .answer) .number ≡ n
+refused-by : (g : Lending) (p f : Whole) → obeysWhole p ≡ true → obeysWhole f ≡ true → (n : ℕ)
+    → exchangedTold (afterAsking g (encodeWhole p) (encodeWhole f) (readyOn (g .edition) (g .unasked) (roomsOf g) (profileObeys (f .kind .profile) (p .table)) (p .table) (f .table)) .answer) .number ≡ n
+    → exchangedTold (lentExchange g (encodeWhole p) (encodeWhole f) .answer) .number ≡ n
 unfolding lentExchange
-refused-as g n e = ap (λ (x : Ready). exchangedTold (afterAsking g (lent []) (lent []) x .answer) .number) (asked-for g) ∙ e
+refused-by g p f op of n e = ap (λ (x : Ready). exchangedTold (afterAsking g (encodeWhole p) (encodeWhole f) x .answer) .number) (asked-as g p f op of) ∙ e
 
-done-as : (g : Lending) → readyOn (g .edition) (g .unasked) (roomsOf g) [] [] ≡ ready.Yes → exchangedTold (lentExchange g (lent []) (lent []) .answer) .number ≡ 0
+abbrev formed : Bool
+formed = profileObeys Free []
+
+refused-as : (g : Lending) (n : ℕ) → exchangedTold (afterAsking g (lent []) (lent []) (readyOn (g .edition) (g .unasked) (roomsOf g) formed [] []) .answer) .number ≡ n
+    → exchangedTold (lentExchange g (lent []) (lent []) .answer) .number ≡ n
+refused-as g = refused-by g (whole []) (whole []) (whole-obeys [] none-obeys) (whole-obeys [] none-obeys)
+
+done-as : (g : Lending) → readyOn (g .edition) (g .unasked) (roomsOf g) formed [] [] ≡ ready.Yes → exchangedTold (lentExchange g (lent []) (lent []) .answer) .number ≡ 0
 unfolding lentExchange exchangedTold
 done-as g e =
-    let yes = asked-for g ∙ e in
+    let yes = asked-as g (whole []) (whole []) (whole-obeys [] none-obeys) (whole-obeys [] none-obeys) ∙ e in
     ap (λ (x : Ready). exchangedTold (afterAsking g (lent []) (lent []) x .answer) .number) yes
     ∙ ap (λ (a : Exchanged). exchangedTold a .number) (ready-done g (lent []) (lent []) (is-ready g (lent []) (lent []) yes))
 
 not-asked : (g : Lending) → exchangedTold (lentExchange g [] [] .answer) .number ≡ 14
 unfolding lentExchange readyFor exchangedTold
 not-asked g =
-    ap (λ (b : Bool). exchangedTold (afterAsking g [] [] (pick b (pick (validWhole []) (readyOn (g .edition) (g .unasked) (roomsOf g) (decodeWhole [] .table) (decodeWhole [] .table)) (ready.No Delta BadTable)) (ready.No Digest BadTable)) .answer) .number) none-valid
+    ap (λ (b : Bool). exchangedTold (afterAsking g [] [] (pick b (pick (validWhole []) (readyOn (g .edition) (g .unasked) (roomsOf g) (formsFit [] []) (decodeWhole [] .table) (decodeWhole [] .table)) (ready.No Delta BadTable)) (ready.No Digest BadTable)) .answer) .number) none-valid
 
-exchanges : AllShown calls.Exchange (0 ∷ 14 ∷ 20 ∷ 8 ∷ 7 ∷ 15 ∷ [])
-unfolding calls.leaves exchangedTold readyOn roomsFor askedOf digestOf digestBytes headWidth bytesOf flat zeros
+-- a follower that takes readings alone
+abbrev empty-metered : Whole
+empty-metered = record { kind = kind mode.Plain Meter; memory = []; table = [] }
+
+empty-metered-obeys : obeysWhole empty-metered ≡ true
+empty-metered-obeys = without-memory (kind mode.Plain Meter) [] none-obeys (empty-formed Meter)
+
+exchanges : AllShown calls.Exchange (0 ∷ 14 ∷ 20 ∷ 8 ∷ 7 ∷ 15 ∷ 17 ∷ [])
+unfolding calls.leaves exchangedTold readyOn roomsFor takingFor askedOf digestOf digestBytes headWidth bytesOf flat zeros profileObeys all meterKey meterValue numbersOf differ among
 exchanges =
     (calls.exchange (lent []) (lent []) 0 [] [] [] (zeros 2) (zeros 100) [] 100 seven, done-as (asking 0 100 [] (zeros 2) (zeros 100)) refl)
     and (calls.exchange [] [] 0 [] [] [] [] [] [] 100 seven, not-asked (asking 0 100 [] [] []))
@@ -892,6 +944,7 @@ exchanges =
     and (calls.exchange (lent []) (lent []) 0 [] [] [] [] [] [] 100 seven, refused-as (asking 0 100 [] [] []) 8 refl)
     and (calls.exchange (lent []) (lent []) 0 [] [] [] (zeros 2) [] [] 99 seven, refused-as (asking 0 99 [] (zeros 2) []) 7 refl)
     and (calls.exchange (lent []) (lent []) 0 [] [] (0 ∷ []) (zeros 2) (zeros 100) [] 100 seven, refused-as (asking 0 100 (0 ∷ []) (zeros 2) (zeros 100)) 15 refl)
+    and (calls.exchange (lent usual) (encodeWhole empty-metered) 0 [] [] (0 ∷ []) (zeros 2) (zeros 100) [] 100 seven, refused-by (asking 0 100 (0 ∷ []) (zeros 2) (zeros 100)) (whole usual) empty-metered (whole-obeys usual usual-obeys) empty-metered-obeys 17 refl)
     and no-more
 
 -- ---- all kinds

@@ -8,34 +8,37 @@ use lib.ListN.{length}
 use Rattle.fields.specs.Choice.{pick, _∈_}
 use Rattle.fields.specs.Numbers.{Bytes}
 use Rattle.fields.proofs.Choice.{and-intro, and-left, and-right}
-use Rattle.rules.specs.Apply.{Ways, apply, applyNode, waysOf}
+use Rattle.rules.specs.Apply.{Ways, apply, applyNode, waysIn}
 use Rattle.rules.specs.Delta.{Good, Op, Part, nothingRead, partsOf, readDelta}
 use Rattle.rules.specs.Given.{Given, given}
 use Rattle.rules.specs.Whole.{Whole, areaOf, decodeWhole, encodeWhole, obeysWhole, validWhole, wholeWidth, withTable}
 use Rattle.rules.specs.Lent.{addWhole, both, lentApply, lentApplyAs, lentNew, onTable, onWhole, removeWhole, storedIn, storedApply}
-use Rattle.rules.specs.Local.{Outcome, call, gc, localBeat, offer, write}
-use Rattle.rules.specs.Node.{Deleting, DeletingAfterTtl, Setting, SettingTtl, beats, due}
+use Rattle.rules.specs.Local.{Outcome, callAs, gc, localBeat, offer, writeAs}
+use Rattle.rules.specs.Node.{Call, Deleting, DeletingAfterTtl, Setting, SettingTtl, beats, due}
+use Rattle.rules.specs.Profile.{Kind, kind, profileObeys}
 use Rattle.rules.specs.Sizes.{numbers}
 use Rattle.rules.specs.Table.{Table, numbersOf, obeys}
 use Rattle.rules.specs.declared.Answer.the-variants as plain
-use Rattle.rules.specs.declared.Mode.{Mode}
 use Rattle.rules.specs.declared.Applied.the-variants as applied
 use Rattle.rules.specs.declared.Computed.{Computed}
 use Rattle.rules.specs.declared.Offered.the-variants as offered
+use Rattle.rules.specs.declared.Profile.{Profile}
 use Rattle.rules.specs.declared.Refusal.the-variants.{BadTable}
 use Rattle.rules.specs.declared.Written.{Written}
 use Rattle.rules.proofs.Accepted.{computed-chain, computed-small}
-use Rattle.rules.proofs.Calls.{apply-keeps, beat-keeps, call-keeps, gc-keeps, none-obeys, numbers-beat, numbers-call, numbers-offer, offer-keeps, ok-each, write-keeps}
-use Rattle.rules.proofs.Keeps.{mode-lawful}
+use Rattle.rules.proofs.Calls.{apply-keeps, beat-keeps, call-keeps, gc-keeps, none-obeys, numbers-beat, numbers-call, numbers-offer, offer-keeps, ok-each}
+use Rattle.rules.proofs.Formed.{empty-formed}
+use Rattle.rules.proofs.Keeps.{ClockFits}
 use Rattle.rules.proofs.Obeys.{facts-table, table-facts}
 use Rattle.rules.proofs.Received.{OkDelta, parts-ok}
-use Rattle.rules.proofs.Memories.{add-keeps-whole, remove-keeps-whole, same-nodes}
+use Rattle.rules.proofs.Memories.{add-keeps-whole, remove-keeps-whole, same-nodes, whole-profile}
 use Rattle.rules.proofs.Tables.{applied-table, numbers-each, numbers-remove}
-use Rattle.rules.proofs.Writing.{write-is}
+use Rattle.rules.proofs.Writing.{call-as, write-as}
 use Rattle.table.proofs.Tables.{valid-obeys}
 use Rattle.table.proofs.Wholes.{area-valid, valid-encode-whole, without-memory}
 use Rattle.table.proofs.Wholes as valid
-use Rattle.apply.proofs.Applied.{reads-is}
+use Rattle.profiles.proofs.Kept.{apply-formed, beat-formed, call-formed, gc-formed, offer-formed, write-formed}
+use Rattle.profiles.proofs.Lawful.{kind-lawful}
 use Rattle.nodes.specs.New.{lentMade}
 use Rattle.overrides.specs.Overrides.{validNode}
 use Rattle.overrides.proofs.Valid.{over-long}
@@ -55,20 +58,26 @@ use Rattle.demand1.specs.Demand1.{obeyAll}
 whole-obeys : (l : Bytes) → validWhole l ≡ true → obeys (decodeWhole l .table) ≡ true
 whole-obeys l v = valid-obeys (areaOf l) (area-valid l v)
 
--- and so does one with the same nodes
-stays : (l : Bytes) → validWhole l ≡ true → (t : Table) → obeys t ≡ true → numbersOf t ≡ numbersOf (decodeWhole l .table)
+-- its profile
+abbrev profileIn : Bytes → Profile
+profileIn l = decodeWhole l .kind .profile
+
+-- and so does one with the same nodes, in the form of the profile
+stays : (l : Bytes) → validWhole l ≡ true → (t : Table) → obeys t ≡ true → profileObeys (profileIn l) t ≡ true → numbersOf t ≡ numbersOf (decodeWhole l .table)
     → validWhole (encodeWhole (withTable t (decodeWhole l))) ≡ true
-stays l v t o e = valid-encode-whole (withTable t (decodeWhole l)) (same-nodes (decodeWhole l) (valid.whole-obeys l v) t o e)
+stays l v t o f e = valid-encode-whole (withTable t (decodeWhole l)) (same-nodes (decodeWhole l) (valid.whole-obeys l v) t o f e)
 
 -- ---- calls that change the table
 
 kept : {A : Type 0} (bad : A) (rule : Table → Outcome A) → ((t : Table) → obeys t ≡ true → obeys (rule t .table) ≡ true)
     → ((t : Table) → numbersOf (rule t .table) ≡ numbersOf t)
-    → (l : Bytes) → validWhole l ≡ true → validWhole (onTable bad rule l .lent) ≡ true
+    → (l : Bytes) → ((t : Table) → profileObeys (profileIn l) t ≡ true → profileObeys (profileIn l) (rule t .table) ≡ true)
+    → validWhole l ≡ true → validWhole (onTable bad rule l .lent) ≡ true
 unfolding onTable
-kept {A} bad rule f same l v =
+kept {A} bad rule f same l formed v =
     ap (λ (b : Bool). validWhole (pick b (storedIn (decodeWhole l) (rule (decodeWhole l .table))) (given bad l) .lent)) v
-    ∙ stays l v (rule (decodeWhole l .table) .table) (f (decodeWhole l .table) (whole-obeys l v)) (same (decodeWhole l .table))
+    ∙ stays l v (rule (decodeWhole l .table) .table) (f (decodeWhole l .table) (whole-obeys l v))
+    (formed (decodeWhole l .table) (whole-profile (decodeWhole l) (valid.whole-obeys l v))) (same (decodeWhole l .table))
 
 -- with the memory too
 kept-whole : {A : Type 0} (bad : A) (rule : Whole → Given A Whole) → ((w : Whole) → obeysWhole w ≡ true → obeysWhole (rule w .lent) ≡ true)
@@ -78,18 +87,29 @@ kept-whole {A} bad rule f l v =
     ap (λ (b : Bool). validWhole (pick b (given (rule (decodeWhole l) .answer) (encodeWhole (rule (decodeWhole l) .lent))) (given bad l) .lent)) v
     ∙ valid-encode-whole (rule (decodeWhole l) .lent) (f (decodeWhole l) (valid.whole-obeys l v))
 
-made : (m : Mode) (l : Bytes) → validWhole l ≡ true → validWhole (lentMade m l .lent) ≡ true
+made : (m : Kind) (l : Bytes) → validWhole l ≡ true → validWhole (lentMade m l .lent) ≡ true
 unfolding lentMade lentNew
 made m l v = go (eqb (length l) wholeWidth)
   where
     go : (b : Bool) → validWhole (pick b (given plain.Done (lentNew m)) (given (plain.Refused BadTable) l) .lent) ≡ true
-    go true = valid-encode-whole (record { mode = m; memory = []; table = [] }) (without-memory m [] none-obeys)
+    go true = valid-encode-whole (record { kind = m; memory = []; table = [] }) (without-memory m [] none-obeys (empty-formed (m .profile)))
     go false = v
 
+-- what a profile refuses changes nothing
+call-keeps-as : (p : Profile) (c : Call) (i : ℕ) (k : Bytes) (t : Table) → ClockFits c → obeys t ≡ true → obeys (callAs p c i k t .table) ≡ true
+call-keeps-as p c i k t fits o = call-as p c i k t (λ x. obeys (x .table) ≡ true) (call-keeps c i k t fits o) o o
+
+write-keeps-as : (p : Profile) (wanted : ℕ) (v : Bytes) (now i : ℕ) (k : Bytes) (t : Table) → now < numbers → obeys t ≡ true → obeys (writeAs p wanted v now i k t .table) ≡ true
+write-keeps-as p wanted v now i k t fits o =
+    write-as p wanted v now i k t (λ x. obeys (x .table) ≡ true) (call-keeps-as p (Setting v) i k t tt o) (call-keeps-as p (SettingTtl v now) i k t fits o) o
+
 -- no node comes or goes by a write, a removal of records or a delta
-numbers-write : (wanted : ℕ) (v : Bytes) (now i : ℕ) (k : Bytes) (t : Table) → numbersOf (write wanted v now i k t .table) ≡ numbersOf t
-numbers-write wanted v now i k t =
-    write-is wanted v now i k t (λ o. numbersOf (o .table) ≡ numbersOf t) (numbers-call (Setting v) i k t) (numbers-call (SettingTtl v now) i k t) refl
+numbers-call-as : (p : Profile) (c : Call) (i : ℕ) (k : Bytes) (t : Table) → numbersOf (callAs p c i k t .table) ≡ numbersOf t
+numbers-call-as p c i k t = call-as p c i k t (λ o. numbersOf (o .table) ≡ numbersOf t) (numbers-call c i k t) refl refl
+
+numbers-write : (p : Profile) (wanted : ℕ) (v : Bytes) (now i : ℕ) (k : Bytes) (t : Table) → numbersOf (writeAs p wanted v now i k t .table) ≡ numbersOf t
+numbers-write p wanted v now i k t =
+    write-as p wanted v now i k t (λ o. numbersOf (o .table) ≡ numbersOf t) (numbers-call-as p (Setting v) i k t) (numbers-call-as p (SettingTtl v now) i k t) refl
 
 numbers-gc : (now grace : ℕ) (t : Table) → numbersOf (gc now grace t .table) ≡ numbersOf t
 unfolding gc
@@ -101,13 +121,15 @@ numbers-apply ways delta now t answers =
 
 -- applying a delta of which it is known that the table is kept
 applying : (delta : Bytes) (now : ℕ) (answers l : Bytes) → validWhole l ≡ true
-    → (obeys (decodeWhole l .table) ≡ true → obeys (apply (waysOf (decodeWhole l .mode)) delta now (decodeWhole l .table) answers .table) ≡ true)
+    → (obeys (decodeWhole l .table) ≡ true → obeys (apply (waysIn (decodeWhole l .kind)) delta now (decodeWhole l .table) answers .table) ≡ true)
     → validWhole (lentApply delta now answers l .lent .table) ≡ true
 unfolding lentApplyAs
 applying delta now answers l v f =
-    let o = apply (waysOf (decodeWhole l .mode)) delta now (decodeWhole l .table) answers in
+    let o = apply (waysIn (decodeWhole l .kind)) delta now (decodeWhole l .table) answers in
     ap (λ (b : Bool). validWhole (pick b (storedApply (decodeWhole l) o) (given (applied.Refused BadTable 0) (both l answers)) .lent .table)) v
-    ∙ stays l v (o .table) (f (whole-obeys l v)) (numbers-apply (waysOf (decodeWhole l .mode)) delta now (decodeWhole l .table) answers)
+    ∙ stays l v (o .table) (f (whole-obeys l v))
+    (apply-formed (decodeWhole l .kind) delta now (decodeWhole l .table) answers (whole-profile (decodeWhole l) (valid.whole-obeys l v)))
+    (numbers-apply (waysIn (decodeWhole l .kind)) delta now (decodeWhole l .table) answers)
 
 -- ---- grids
 
@@ -136,12 +158,12 @@ carefully now grace t g w = go (validBoth g t) refl
 -- ---- an exchange
 
 -- the publisher's delta keeps the follower's rules
-read-keeps : (m : Mode) (delta : Bytes) (ops : List Op) (now : ℕ) (answers : Bytes) (t : Table) → now < numbers → readDelta delta ≡ Good ops
+read-keeps : (m : Kind) (delta : Bytes) (ops : List Op) (now : ℕ) (answers : Bytes) (t : Table) → now < numbers → readDelta delta ≡ Good ops
     → ((x : Part) → x ∈ partsOf ops → OkDelta (x .delta))
-    → obeys t ≡ true → obeys (apply (waysOf m) delta now t answers .table) ≡ true
+    → obeys t ≡ true → obeys (apply (waysIn m) delta now t answers .table) ≡ true
 read-keeps m delta ops now answers t clock e fine o =
-    applied-table (waysOf m) delta now t answers (λ u. obeys u ≡ true) o
-    (λ os q. let same : Good ops ≡ Good os = sym e ∙ sym (reads-is m delta) ∙ q in facts-table _ (ok-each (waysOf m) (mode-lawful m) now clock (partsOf os) t (known os same) (table-facts t o)))
+    applied-table (waysIn m) delta now t answers (λ u. obeys u ≡ true) o
+    (λ os q. let same : Good ops ≡ Good os = sym e ∙ kind-lawful m .reads-so delta os q in facts-table _ (ok-each (waysIn m) (kind-lawful m) now clock (partsOf os) t (known os same) (table-facts t o)))
   where
     known : (os : List Op) → Good ops ≡ Good os → (x : Part) → x ∈ partsOf os → OkDelta (x .delta)
     known os q = let s : ops ≡ os = cc in subst (λ (l : List Op). (x : Part) → x ∈ partsOf l → OkDelta (x .delta)) s fine
@@ -155,7 +177,7 @@ module _ (g : Lending) (publisher follower : Bytes) (clock : g .clock < numbers)
       ap (λ (o : Given Written Bytes). validWhole (afterDigesting g publisher follower (o .lent) (o .answer) .lent .follower)) (digest-told g publisher follower r)
       ∙ ap (λ (o : Given Computed Bytes). validWhole (afterComputing (g .clock) (g .answers) follower (o .lent) (o .answer) .lent .follower)) (delta-made g publisher follower r)
       ∙ applying _ (g .clock) (g .answers) follower (r .follower-valid)
-      (read-keeps (decodeWhole follower .mode) _ (sent g publisher follower r) (g .clock) (g .answers) (decodeWhole follower .table) clock (delta-read g publisher follower r)
+      (read-keeps (decodeWhole follower .kind) _ (sent g publisher follower r) (g .clock) (g .answers) (decodeWhole follower .table) clock (delta-read g publisher follower r)
       (parts-ok (sent g publisher follower r) nothingRead (computed-chain (g .unsent) (g .ties) d (decodeWhole publisher .table) ok (g .mtu))
       (computed-small (g .unsent) (g .ties) d (decodeWhole publisher .table) ok (g .mtu))))
 
@@ -205,23 +227,27 @@ pub obeying : {k : calls.Kind} (c : calls.Call k)
     → obeyAll (calls.checks k) (calls.lentTo c) ≡ true
     → obeyAll (calls.checks k) (calls.leaves c .lent) ≡ true
 unfolding calls.leaves calls.lentTo obeyAll
-obeying (calls.new-table t m) = one t _ (made m t)
+obeying (calls.new-table t m p) = one t _ (made (kind m p) t)
 obeying (calls.add-node t i) = one t _ (kept-whole (plain.Refused BadTable) (addWhole (i .value)) (λ w o. add-keeps-whole w o (i .value) (i .fits)) t)
 obeying (calls.remove-node t i) = one t _ (kept-whole (plain.Refused BadTable) (removeWhole (i .value)) (λ w o. remove-keeps-whole w o (i .value)) t)
 obeying (calls.last-heartbeat t i) = λ e. e
 obeying (calls.write t k v i wanted now) =
-    one t _ (kept (plain.Refused BadTable) (write (wanted .value) v (now .value) (i .value) k) (λ t. write-keeps (wanted .value) v (now .value) (i .value) k t (now .fits)) (numbers-write (wanted .value) v (now .value) (i .value) k) t)
+    let p = profileIn t in
+    one t _ (kept (plain.Refused BadTable) (writeAs p (wanted .value) v (now .value) (i .value) k) (λ t. write-keeps-as p (wanted .value) v (now .value) (i .value) k t (now .fits)) (numbers-write p (wanted .value) v (now .value) (i .value) k) t
+    (write-formed p (wanted .value) v (now .value) (i .value) k))
 obeying (calls.delete t k i now) =
+    let p = profileIn t in
     let c = Deleting (now .value) in
-    one t _ (kept (plain.Refused BadTable) (call c (i .value) k) (λ t. call-keeps c (i .value) k t (now .fits)) (numbers-call c (i .value) k) t)
+    one t _ (kept (plain.Refused BadTable) (callAs p c (i .value) k) (λ t. call-keeps-as p c (i .value) k t (now .fits)) (numbers-call-as p c (i .value) k) t (call-formed p c (i .value) k))
 obeying (calls.delete-after-ttl t k i now) =
+    let p = profileIn t in
     let c = DeletingAfterTtl (now .value) in
-    one t _ (kept (plain.Refused BadTable) (call c (i .value) k) (λ t. call-keeps c (i .value) k t (now .fits)) (numbers-call c (i .value) k) t)
+    one t _ (kept (plain.Refused BadTable) (callAs p c (i .value) k) (λ t. call-keeps-as p c (i .value) k t (now .fits)) (numbers-call-as p c (i .value) k) t (call-formed p c (i .value) k))
 obeying (calls.remove-scheduled t now grace) =
-    one t _ (kept (plain.Refused BadTable) (gc (now .value) (grace .value)) (gc-keeps (now .value) (grace .value)) (numbers-gc (now .value) (grace .value)) t)
+    one t _ (kept (plain.Refused BadTable) (gc (now .value) (grace .value)) (gc-keeps (now .value) (grace .value)) (numbers-gc (now .value) (grace .value)) t (gc-formed (profileIn t) (now .value) (grace .value)))
 obeying (calls.offer-heartbeat t i h) =
-    one t _ (kept (offered.Refused BadTable) (offer (i .value) (beats (h .value))) (λ t. offer-keeps (i .value) (beats (h .value)) t (h .fits)) (numbers-offer (i .value) (beats (h .value))) t)
-obeying (calls.local-beat t i) = one t _ (kept (plain.Refused BadTable) (localBeat (i .value)) (beat-keeps (i .value)) (numbers-beat (i .value)) t)
+    one t _ (kept (offered.Refused BadTable) (offer (i .value) (beats (h .value))) (λ t. offer-keeps (i .value) (beats (h .value)) t (h .fits)) (numbers-offer (i .value) (beats (h .value))) t (offer-formed (profileIn t) (i .value) (beats (h .value))))
+obeying (calls.local-beat t i) = one t _ (kept (plain.Refused BadTable) (localBeat (i .value)) (beat-keeps (i .value)) (numbers-beat (i .value)) t (beat-formed (profileIn t) (i .value)))
 obeying (calls.find t k i) = λ e. e
 obeying (calls.list-prefix t k out i) = λ e. e
 obeying (calls.new-overrides o i) = over o _ (λ v. over-new-keeps (i .value) o (i .fits) (over-long o v))
@@ -258,7 +284,7 @@ obeying (calls.plan-fault t edition digest excluded nodes counts mtu) = λ e. e
 obeying (calls.read-delta delta) = λ e. e
 obeying (calls.apply t delta answers now) =
     one t _
-    (λ v. applying (delta .bytes) (now .value) answers t v (apply-keeps (waysOf (decodeWhole t .mode)) (mode-lawful (decodeWhole t .mode)) (delta .bytes) (now .value) (decodeWhole t .table) answers (delta .are) (now .fits)))
+    (λ v. applying (delta .bytes) (now .value) answers t v (apply-keeps (waysIn (decodeWhole t .kind)) (kind-lawful (decodeWhole t .kind)) (delta .bytes) (now .value) (decodeWhole t .table) answers (delta .are) (now .fits)))
 obeying (calls.list-delta delta out) = λ e. e
 obeying (calls.make-delta text out) = λ e. e
 obeying (calls.exchange publisher follower edition unasked unsent ties digest delta answers mtu now) =

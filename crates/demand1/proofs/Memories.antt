@@ -6,9 +6,9 @@ use mathlib.Core.Path.{_≡_, _∙_, ap, refl, sym}
 use lib.ListN.{take}
 use Rattle.fields.specs.Choice.{pick}
 use Rattle.fields.specs.Numbers.{Bytes}
-use Rattle.rules.specs.Apply.{apply, waysOf}
+use Rattle.rules.specs.Apply.{apply, waysIn}
 use Rattle.rules.specs.Given.{Given, given}
-use Rattle.rules.specs.Local.{Outcome, call, gc, localBeat, offer, write}
+use Rattle.rules.specs.Local.{Outcome, callAs, gc, localBeat, offer, writeAs}
 use Rattle.rules.specs.Memory.{Memory}
 use Rattle.rules.specs.Node.{Deleting, DeletingAfterTtl, beats}
 use Rattle.rules.specs.Table.{Table}
@@ -58,7 +58,7 @@ unfolding lentApplyAs
 applying delta now answers l = go (validWhole l) refl
   where
     go : (b : Bool) → validWhole l ≡ b
-        → memoryIn (pick b (storedApply (decodeWhole l) (apply (waysOf (decodeWhole l .mode)) delta now (decodeWhole l .table) answers)) (given (applied.Refused BadTable 0) (both l answers)) .lent .table) ≡ memoryIn l
+        → memoryIn (pick b (storedApply (decodeWhole l) (apply (waysIn (decodeWhole l .kind)) delta now (decodeWhole l .table) answers)) (given (applied.Refused BadTable 0) (both l answers)) .lent .table) ≡ memoryIn l
     go true v = tail-stays l v _
     go false v = refl
 
@@ -101,13 +101,13 @@ two p a b e = ap (λ (m : Memory). memoryIn p ∷ m ∷ []) e
 pub remembered : {k : calls.Kind} (c : calls.Call k) → calls.remembers k ≡ false
     → memoriesIn (take (calls.tables k) (calls.leaves c .lent)) ≡ memoriesIn (take (calls.tables k) (calls.lentTo c))
 unfolding calls.leaves calls.lentTo
-remembered (calls.new-table t m) e = absurd (true≢false e)
+remembered (calls.new-table t m p) e = absurd (true≢false e)
 remembered (calls.add-node t i) e = absurd (true≢false e)
 remembered (calls.remove-node t i) e = absurd (true≢false e)
 remembered (calls.last-heartbeat t i) e = refl
-remembered (calls.write t k v i wanted now) e = one t _ (on-table (plain.Refused BadTable) (write (wanted .value) v (now .value) (i .value) k) t)
-remembered (calls.delete t k i now) e = one t _ (on-table (plain.Refused BadTable) (call (Deleting (now .value)) (i .value) k) t)
-remembered (calls.delete-after-ttl t k i now) e = one t _ (on-table (plain.Refused BadTable) (call (DeletingAfterTtl (now .value)) (i .value) k) t)
+remembered (calls.write t k v i wanted now) e = one t _ (on-table (plain.Refused BadTable) (writeAs (decodeWhole t .kind .profile) (wanted .value) v (now .value) (i .value) k) t)
+remembered (calls.delete t k i now) e = one t _ (on-table (plain.Refused BadTable) (callAs (decodeWhole t .kind .profile) (Deleting (now .value)) (i .value) k) t)
+remembered (calls.delete-after-ttl t k i now) e = one t _ (on-table (plain.Refused BadTable) (callAs (decodeWhole t .kind .profile) (DeletingAfterTtl (now .value)) (i .value) k) t)
 remembered (calls.remove-scheduled t now grace) e = one t _ (on-table (plain.Refused BadTable) (gc (now .value) (grace .value)) t)
 remembered (calls.offer-heartbeat t i h) e = one t _ (on-table (offered.Refused BadTable) (offer (i .value) (beats (h .value))) t)
 remembered (calls.local-beat t i) e = one t _ (on-table (plain.Refused BadTable) (localBeat (i .value)) t)

@@ -10,19 +10,19 @@ use Rattle.fields.specs.Choice.{pick}
 use Rattle.fields.specs.Numbers.{Bytes}
 use Rattle.fields.specs.Parts.{put}
 use Rattle.rules.specs.Answers.{Told, answerTold, appliedTold, computedTold, listedTold, offeredTold, writtenTold}
-use Rattle.rules.specs.Apply.{waysOf}
+use Rattle.rules.specs.Apply.{waysIn}
 use Rattle.rules.specs.Compute as computing
 use Rattle.rules.specs.Digest.{DigestRead, Entries, Refused as NotRead, fitsAt, readDigest, writeBytes, writeDigest}
 use Rattle.rules.specs.Given.{Given, given}
 use Rattle.rules.specs.Whole.{Whole, decodeWhole, encodeWhole, validWhole, wholeWidth, withTable}
-use Rattle.rules.specs.declared.Mode.{Mode}
 use Rattle.rules.specs.Lent.{addWhole, fromTable, lentNew, onTable, removeWhole}
 use Rattle.rules.specs.Listing.{listing}
 use Rattle.rules.specs.Delta.{statusByte}
 use Rattle.rules.specs.Layout.{nodeWidth, encodeNode, decodeNode}
 use Rattle.rules.specs.Sizes.{maxKey}
-use Rattle.rules.specs.Local.{Outcome, answerOf, call, gc, localBeat, offer, prefixed, write}
+use Rattle.rules.specs.Local.{Outcome, answerOf, callAs, gc, localBeat, offer, prefixed, writeAs}
 use Rattle.rules.specs.Node.{Call, Decision, Deleting, DeletingAfterTtl, Give, Leave, Node, Refuse, Setting, SettingTtl, act, beats, decide}
+use Rattle.rules.specs.Profile.{Kind, kind}
 use Rattle.rules.specs.Table.{Entry, Table, nodeOf, numbersOf}
 use Rattle.rules.specs.declared.Answer.{Answer}
 use Rattle.rules.specs.declared.Answer.the-variants as plain
@@ -39,7 +39,7 @@ use Rattle.rules.specs.declared.Refusal.the-variants.{BadPeer, BadTable, BadTag
 use Rattle.rules.specs.declared.Status.the-variants.{Set, Ttl}
 use Rattle.rules.specs.declared.Written.{Written}
 use Rattle.rules.specs.declared.Written.the-variants as written
-use Rattle.rules.proofs.Refusing.{beat-refused, call-refused, compute-refused, digest-refused, lent-apply-refused, lent-refused, offer-refused, prefixed-refused, whole-bytes, write-refused}
+use Rattle.rules.proofs.Refusing.{beat-refused, call-as-refused, compute-refused, digest-refused, lent-apply-refused, lent-refused, offer-refused, prefixed-refused, whole-bytes, write-as-refused}
 use Rattle.rules.proofs.Memories.{add-whole-refused, remove-whole-refused, whole-refused}
 use Rattle.nodes.specs.New.{lentMade}
 use Rattle.table.specs.Changes.{withNode, freshEntry}
@@ -132,7 +132,7 @@ into-list {A} told bad rule m f l = go (validWhole l)
     go true h = f (decodeWhole l .table) h
     go false h = refl
 
-made : (m : Mode) (l : Bytes) → Refuses (answerTold (lentMade m l .answer)) → lentMade m l .lent ≡ l
+made : (m : Kind) (l : Bytes) → Refuses (answerTold (lentMade m l .answer)) → lentMade m l .lent ≡ l
 unfolding lentMade answerTold
 made m l = go (eqb (length l) wholeWidth)
   where
@@ -353,7 +353,7 @@ exchanged g publisher follower = go (readyFor (g .edition) (g .unasked) (roomsOf
 
 pub nothing : {k : calls.Kind} (c : calls.Call k) → Refuses (calls.leaves c .answer) → calls.leaves c .lent ≡ calls.lentTo c
 unfolding calls.leaves calls.lentTo
-nothing (calls.new-table t m) h = ap (λ (u : Bytes). u ∷ []) (made m t h)
+nothing (calls.new-table t m p) h = ap (λ (u : Bytes). u ∷ []) (made (kind m p) t h)
 nothing (calls.add-node t i) h =
     ap (λ (u : Bytes). u ∷ [])
     (whole-refused (plain.Refused BadTable) (addWhole (i .value)) (λ a. Refuses (answerTold a)) (λ w g. let x = by-answer _ g in add-whole-refused (i .value) w (x .0) (x .1)) t h)
@@ -362,17 +362,20 @@ nothing (calls.remove-node t i) h =
     (whole-refused (plain.Refused BadTable) (removeWhole (i .value)) (λ a. Refuses (answerTold a)) (λ w g. let x = by-answer _ g in remove-whole-refused (i .value) w (x .0) (x .1)) t h)
 nothing (calls.last-heartbeat t i) h = refl
 nothing (calls.write t k v i wanted now) h =
-    let rule = write (wanted .value) v (now .value) (i .value) k in
+    let p = decodeWhole t .kind .profile in
+    let rule = writeAs p (wanted .value) v (now .value) (i .value) k in
     ap (λ (u : Bytes). u ∷ k ∷ v ∷ [])
-    (on-table answerTold (plain.Refused BadTable) rule (λ t g. let x = by-answer _ g in write-refused (wanted .value) v (now .value) (i .value) k t (x .0) (x .1)) t h)
+    (on-table answerTold (plain.Refused BadTable) rule (λ t g. let x = by-answer _ g in write-as-refused p (wanted .value) v (now .value) (i .value) k t (x .0) (x .1)) t h)
 nothing (calls.delete t k i now) h =
+    let p = decodeWhole t .kind .profile in
     let c = Deleting (now .value) in
     ap (λ (u : Bytes). u ∷ k ∷ [])
-    (on-table answerTold (plain.Refused BadTable) (call c (i .value) k) (λ t g. let x = by-answer _ g in call-refused c (i .value) k t (x .0) (x .1)) t h)
+    (on-table answerTold (plain.Refused BadTable) (callAs p c (i .value) k) (λ t g. let x = by-answer _ g in call-as-refused p c (i .value) k t (x .0) (x .1)) t h)
 nothing (calls.delete-after-ttl t k i now) h =
+    let p = decodeWhole t .kind .profile in
     let c = DeletingAfterTtl (now .value) in
     ap (λ (u : Bytes). u ∷ k ∷ [])
-    (on-table answerTold (plain.Refused BadTable) (call c (i .value) k) (λ t g. let x = by-answer _ g in call-refused c (i .value) k t (x .0) (x .1)) t h)
+    (on-table answerTold (plain.Refused BadTable) (callAs p c (i .value) k) (λ t g. let x = by-answer _ g in call-as-refused p c (i .value) k t (x .0) (x .1)) t h)
 nothing (calls.remove-scheduled t now grace) h =
     ap (λ (u : Bytes). u ∷ []) (on-table answerTold (plain.Refused BadTable) (gc (now .value) (grace .value)) (scheduled (now .value) (grace .value)) t h)
 nothing (calls.offer-heartbeat t i b) h =
@@ -434,7 +437,7 @@ nothing (calls.plan-fault t edition digest excluded nodes counts mtu) h = refl
 nothing (calls.read-delta delta) h = refl
 nothing (calls.apply t delta answers now) h =
     let x = by-applied _ h in
-    let s = lent-apply-refused (waysOf (decodeWhole t .mode)) (delta .bytes) (now .value) answers t (x .0) (x .1) (x .2) in
+    let s = lent-apply-refused (waysIn (decodeWhole t .kind)) (delta .bytes) (now .value) answers t (x .0) (x .1) (x .2) in
     ap₂ (λ (u m : Bytes). u ∷ delta .bytes ∷ m ∷ []) (s .0) (s .1)
 nothing (calls.list-delta delta out) h = ap (λ (u : Bytes). delta ∷ u ∷ []) (shown (listing delta) out h)
 nothing (calls.make-delta text out) h = ap (λ (u : Bytes). text ∷ u ∷ []) (made-delta text out h)

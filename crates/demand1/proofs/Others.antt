@@ -13,18 +13,18 @@ use Rattle.fields.specs.Order.{sameBytes}
 use Rattle.fields.specs.Parts.{put}
 use Rattle.rules.specs.Sizes.{leastMtu, maxDelta, maxKey, maxNodes, maxValue, top}
 use Rattle.rules.specs.Answers.{Told, refused, numberOf, answerTold, appliedTold, computedTold, listedTold, offeredTold, readTold, rememberedTold, writtenTold}
-use Rattle.rules.specs.Apply.{ApplyOutcome, apply, applyNode, applyOps, waysOf}
+use Rattle.rules.specs.Apply.{ApplyOutcome, apply, applyNode, applyOps, waysIn}
 use Rattle.rules.specs.Compute as computing
 use Rattle.rules.specs.Delta.{Faulty, Good, Op, Ops, deltaRead, partsOf, readAnswer, readDelta}
 use Rattle.rules.specs.Digest as digest
 use Rattle.rules.specs.Given.{Given, given}
 use Rattle.rules.specs.Memory.{heartbeatOf}
 use Rattle.rules.specs.Whole.{Whole, decodeWhole, encodeWhole, validWhole, wholeWidth, withTable}
-use Rattle.rules.specs.declared.Mode.{Mode}
 use Rattle.rules.specs.Lent.{addWhole, both, fromTable, lentApply, lentApplyAs, lentNew, lentRemoved, onTable, onWhole, rememberedAs, removeWhole, storedIn, storedApply}
 use Rattle.rules.specs.Listing.{listing}
-use Rattle.rules.specs.Local.{Outcome, add, answerOf, beatOn, call, callOn, gc, gives, listInto, localBeat, offer, offerOn, prefixOn, prefixed, removeNode, write, yesNo}
-use Rattle.rules.specs.Node.{Call, Change, Deleting, DeletingAfterTtl, Give, Leave, Node, Rec, Refuse, Setting, SettingTtl, allowed, beats, brought, decide, find, fullFor, hidden, hitsFrom, offerOf, sameStatus, unlessSame, wish}
+use Rattle.rules.specs.Local.{Outcome, add, answerOf, beatOn, call, callAs, callOn, gc, gives, listInto, localBeat, offer, offerOn, prefixOn, prefixed, removeNode, unlessGuarded, writeAs, yesNo}
+use Rattle.rules.specs.Node.{Call, Change, Deleting, DeletingAfterTtl, Give, KeyValue, Leave, Node, Rec, Refuse, Setting, SettingTtl, allowed, beats, brought, decide, find, fullFor, hidden, hitsFrom, offerOf, sameStatus, unlessSame, wish}
+use Rattle.rules.specs.Profile.{Kind, brings, guardIn, kind, meterGuard, sizesFit}
 use Rattle.rules.specs.Table.{Entry, Table, addNode, among, dropNode, nodeOf, numbersOf}
 use Rattle.rules.specs.Layout.{nodePlace, nodeWidth, encodeNode, decodeNode}
 use Rattle.rules.specs.Delta.{statusByte}
@@ -38,13 +38,14 @@ use Rattle.rules.specs.declared.Computed.the-variants as computed
 use Rattle.rules.specs.declared.Listed.{Listed}
 use Rattle.rules.specs.declared.Listed.the-variants as listed
 use Rattle.rules.specs.declared.Offered.the-variants as offered
+use Rattle.rules.specs.declared.Profile.{Profile}
+use Rattle.rules.specs.declared.Profile.the-variants.{Free, Meter}
 use Rattle.rules.specs.declared.Refusal.{Refusal}
-use Rattle.rules.specs.declared.Refusal.the-variants.{BadMtu, BadPeer, BadPlan, BadTable, BadTag, BadTies, Exhausted, NinthNode, NoNode, NobodyPresent, NodeFull, NoPlace, TooLong, BadEdition}
+use Rattle.rules.specs.declared.Refusal.the-variants.{BadForm, BadMtu, BadPeer, BadPlan, BadTable, BadTag, BadTies, Exhausted, NinthNode, NoNode, NobodyPresent, NodeFull, NoPlace, TooLong, BadEdition}
 use Rattle.rules.specs.declared.Status.the-variants.{Set, Ttl}
 use Rattle.rules.specs.declared.Written.{Written}
 use Rattle.rules.specs.declared.Written.the-variants as written
 use Rattle.table_read.specs.Find.{nodeStart}
-use Rattle.apply.proofs.Applied.{reads-is}
 use Rattle.nodes.specs.New.{lentMade}
 use Rattle.lookup.specs.Lookup.{findOn, findRec, foundIn, valuePlace}
 use Rattle.lookup.specs.Told.{foundTold}
@@ -87,13 +88,13 @@ use Rattle.digest_read.specs.Told.{digestTold}
 use Rattle.compute.specs.Asking.{askedOf, isFree, mtuFits}
 use Rattle.compute.specs.declared.Asked.the-variants as asked
 use Rattle.exchange.specs.Exchanging.{Lending, afterAsking, exchangedTold, lending, lentExchange, roomsOf}
-use Rattle.exchange_ask.specs.Asking.{Rooms, readyFor, readyOn, roomsFor, unlessRefused}
+use Rattle.exchange_ask.specs.Asking.{Rooms, formsFit, readyFor, readyOn, roomsFor, takingFor, unlessRefused}
 use Rattle.exchange.specs.declared.Exchanged.{Exchanged}
 use Rattle.exchange_ask.specs.declared.Ready.{Ready}
 use Rattle.exchange_ask.specs.declared.Ready.the-variants as ready
 use Rattle.exchange_ask.specs.declared.Step.the-variants.{Applying, Delta, Digest}
 use Rattle.rules.proofs.Obeys.{in-among}
-use Rattle.rules.proofs.Writing.{write-is}
+use Rattle.rules.proofs.Writing.{call-as, write-as}
 use Rattle.exchange.proofs.Refusing.{is-ready, ready-done}
 use Rattle.listing_make.specs.Make.{lentMake, madeTold}
 use Rattle.listing_make.proofs.Numbers.{made-numbers}
@@ -104,7 +105,7 @@ use Rattle.plan.specs.Faults.{judge, judgeOn, judgePlan, judgedTold}
 use Rattle.plan.specs.Plan.{accepts, computePlan, deltaBy, planOn}
 use Rattle.plan.specs.declared.Judged.{Judged}
 use Rattle.plan.specs.declared.Judged.the-variants as judged
-use Rattle.demand1.proofs.Deltas.{OpsSo, delta-comes, digest-comes}
+use Rattle.demand1.proofs.Deltas.{OpsSo, delta-as, delta-comes, digest-comes}
 
 -- the number is one that the kind of call can give
 abbrev Of : calls.Kind → Told → Type 0
@@ -144,7 +145,7 @@ from-table P bad rule b f l = go (validWhole l)
 
 -- ---- nodes, heartbeats
 
-made : (m : Mode) (l : Bytes) → Of calls.NewTable (answerTold (lentMade m l .answer))
+made : (m : Kind) (l : Bytes) → Of calls.NewTable (answerTold (lentMade m l .answer))
 unfolding lentMade answerTold among calls.refusals
 made m l = go (eqb (length l) wholeWidth)
   where
@@ -229,13 +230,29 @@ called-on kind c missing long f i k t = go (nodeOf i t)
     go none = missing
     go (some n) = limits n (leb (length k) maxKey && leb (length (brought c)) maxValue)
 
+-- no profile refuses a call that brings no record
+unguarded : (p : Profile) (c : Call) (k : Bytes) → brings c k ≡ none → (o : Option Node) → guardIn p c k o ≡ none
+unguarded Free c k e o = refl
+unguarded Meter c k e none = refl
+unguarded Meter c k e (some n) = ap (λ (g : Option KeyValue). pick (sizesFit c k) (meterGuard g (find k (n .recs))) none) e ∙ go (sizesFit c k)
+  where
+    go : (b : Bool) → pick {X = Option Refusal} b none none ≡ none
+    go true = refl
+    go false = refl
+
+plainly : (p : Profile) (c : Call) (i : ℕ) (k : Bytes) (t : Table) → brings c k ≡ none → callAs p c i k t ≡ call c i k t
+unfolding callAs
+plainly p c i k t e = ap (λ (g : Option Refusal). unlessGuarded g (call c i k t) t) (unguarded p c k e (nodeOf i t))
+
 -- 14 first
-called : (kind : calls.Kind) (c : Call) → Of kind (answerTold (plain.Refused BadTable)) → Of kind (answerTold (plain.Refused NoNode))
+called : (kind : calls.Kind) (p : Profile) (c : Call) → ((k : Bytes) → brings c k ≡ none) → Of kind (answerTold (plain.Refused BadTable)) → Of kind (answerTold (plain.Refused NoNode))
     → Of kind (answerTold (plain.Refused TooLong))
     → ((k : Bytes) (n : Node) (o : Option Rec) → find k (n .recs) ≡ o → Of kind (answerTold (answerOf (allowed k n (wish c o)))))
     → (i : ℕ) (k l : Bytes)
-    → Of kind (answerTold (onTable (plain.Refused BadTable) (call c i k) l .answer))
-called kind c bad missing long f i k = on-table (λ a. Of kind (answerTold a)) (plain.Refused BadTable) (call c i k) bad (called-on kind c missing long f i k)
+    → Of kind (answerTold (onTable (plain.Refused BadTable) (callAs p c i k) l .answer))
+called kind p c none-brought bad missing long f i k =
+    on-table (λ a. Of kind (answerTold a)) (plain.Refused BadTable) (callAs p c i k) bad
+    (λ t. subst (λ (o : Outcome Answer). Of kind (answerTold (o .answer))) (sym (plainly p c i k t (none-brought k))) (called-on kind c missing long f i k t))
 
 -- a set: nothing to change, 5, 6
 sets : (kind : calls.Kind) → Of kind (answerTold plain.Done) → Of kind (answerTold (plain.Refused NodeFull)) → Of kind (answerTold (plain.Refused Exhausted)) → (c : Change) (k : Bytes) (n : Node) (o : Option Rec) → Of kind (answerTold (answerOf (allowed k n (unlessSame o c))))
@@ -264,24 +281,28 @@ drops kind done over c k n r e =
     rise true = done
     rise false = over
 
-wrote : (wanted : ℕ) (v : Bytes) (now i : ℕ) (k l : Bytes) → Of calls.Write (answerTold (onTable (plain.Refused BadTable) (write wanted v now i k) l .answer))
+-- 17 and 18 of the profile
+wrote : (p : Profile) (wanted : ℕ) (v : Bytes) (now i : ℕ) (k l : Bytes) → Of calls.Write (answerTold (onTable (plain.Refused BadTable) (writeAs p wanted v now i k) l .answer))
 unfolding wish answerTold among calls.refusals
-wrote wanted v now i k =
-    on-table (λ a. Of calls.Write (answerTold a)) (plain.Refused BadTable) (write wanted v now i k) refl
-    (λ t. write-is wanted v now i k t (λ o. Of calls.Write (answerTold (o .answer))) (called-on calls.Write (Setting v) refl refl (λ k n o e. sets calls.Write refl refl refl _ k n o) i k t)
-    (called-on calls.Write (SettingTtl v now) refl refl (λ k n o e. sets calls.Write refl refl refl _ k n o) i k t) refl)
+wrote p wanted v now i k =
+    on-table (λ a. Of calls.Write (answerTold a)) (plain.Refused BadTable) (writeAs p wanted v now i k) refl
+    (λ t. write-as p wanted v now i k t (λ o. Of calls.Write (answerTold (o .answer))) (in-profile t (Setting v) (called-on calls.Write (Setting v) refl refl (λ k n o e. sets calls.Write refl refl refl _ k n o) i k t))
+    (in-profile t (SettingTtl v now) (called-on calls.Write (SettingTtl v now) refl refl (λ k n o e. sets calls.Write refl refl refl _ k n o) i k t)) refl)
+  where
+    in-profile : (t : Table) (c : Call) → Of calls.Write (answerTold (call c i k t .answer)) → Of calls.Write (answerTold (callAs p c i k t .answer))
+    in-profile t c h = call-as p c i k t (λ o. Of calls.Write (answerTold (o .answer))) h refl refl
 
-deleted : (now i : ℕ) (k l : Bytes) → Of calls.Delete (answerTold (onTable (plain.Refused BadTable) (call (Deleting now) i k) l .answer))
+deleted : (p : Profile) (now i : ℕ) (k l : Bytes) → Of calls.Delete (answerTold (onTable (plain.Refused BadTable) (callAs p (Deleting now) i k) l .answer))
 unfolding wish answerTold among calls.refusals
-deleted now = called calls.Delete (Deleting now) refl refl refl go
+deleted p now = called calls.Delete p (Deleting now) (λ k. refl) refl refl refl go
   where
     go : (k : Bytes) (n : Node) (o : Option Rec) → find k (n .recs) ≡ o → Of calls.Delete (answerTold (answerOf (allowed k n (wish (Deleting now) o))))
     go k n none e = refl
     go k n (some r) e = drops calls.Delete refl refl _ k n r e
 
-deleted-ttl : (now i : ℕ) (k l : Bytes) → Of calls.DeleteAfterTtl (answerTold (onTable (plain.Refused BadTable) (call (DeletingAfterTtl now) i k) l .answer))
+deleted-ttl : (p : Profile) (now i : ℕ) (k l : Bytes) → Of calls.DeleteAfterTtl (answerTold (onTable (plain.Refused BadTable) (callAs p (DeletingAfterTtl now) i k) l .answer))
 unfolding wish answerTold among calls.refusals
-deleted-ttl now = called calls.DeleteAfterTtl (DeletingAfterTtl now) refl refl refl go
+deleted-ttl p now = called calls.DeleteAfterTtl p (DeletingAfterTtl now) (λ k. refl) refl refl refl go
   where
     go : (k : Bytes) (n : Node) (o : Option Rec) → find k (n .recs) ≡ o
         → Of calls.DeleteAfterTtl (answerTold (answerOf (allowed k n (wish (DeletingAfterTtl now) o))))
@@ -788,14 +809,12 @@ applies delta now answers l = start (validWhole l)
     room ops u m true = refl
     room ops u m false = refl
 
-    go : (x : Ops) → OpsSo F refl (λ n. refl) refl refl refl refl x → Of calls.Apply (appliedTold (applyOps (applyNode (waysOf (decodeWhole l .mode)) now) x (decodeWhole l .table) answers .answer))
+    go : (x : Ops) → OpsSo F refl (λ n. refl) refl refl refl refl x → Of calls.Apply (appliedTold (applyOps (applyNode (waysIn (decodeWhole l .kind)) now) x (decodeWhole l .table) answers .answer))
     go (Good ops) h = room ops _ _ (leb (length (partsOf ops)) (length answers))
     go (Faulty r at) h = h
 
-    start : (v : Bool) → Of calls.Apply (appliedTold (pick v (storedApply (decodeWhole l) (applyOps (applyNode (waysOf (decodeWhole l .mode)) now) (waysOf (decodeWhole l .mode) .reads delta) (decodeWhole l .table) answers)) (given (applied.Refused BadTable 0) (both l answers)) .answer))
-    start true =
-        go (waysOf (decodeWhole l .mode) .reads delta)
-        (subst (OpsSo F refl (λ n. refl) refl refl refl refl) (sym (reads-is (decodeWhole l .mode) delta)) (delta-comes F refl (λ n. refl) refl refl refl refl delta))
+    start : (v : Bool) → Of calls.Apply (appliedTold (pick v (storedApply (decodeWhole l) (applyOps (applyNode (waysIn (decodeWhole l .kind)) now) (waysIn (decodeWhole l .kind) .reads delta) (decodeWhole l .table) answers)) (given (applied.Refused BadTable 0) (both l answers)) .answer))
+    start true = go (waysIn (decodeWhole l .kind) .reads delta) (delta-as F refl (λ n. refl) refl refl refl refl (decodeWhole l .kind .profile) refl delta)
     start false = refl
 
 shows : (delta out : Bytes) → Of calls.ListDelta (writtenTold (digest.writeBytes (listing delta) 0 out .answer))
@@ -820,20 +839,21 @@ asks-numbers true false c next h = refl
 asks-numbers true true false next h = refl
 asks-numbers true true true next h = h
 
-asks-places : (b : Bool) → Asks (pick b ready.Yes (ready.No Applying NoPlace))
+asks-taking : (formed b : Bool) → Asks (pick formed (pick b ready.Yes (ready.No Applying NoPlace)) (ready.No Applying BadForm))
 unfolding among calls.refusals
-asks-places true = tt
-asks-places false = refl
+asks-taking true true = tt
+asks-taking true false = refl
+asks-taking false b = refl
 
-asks-on : (edition : ℕ) (unasked : List ℕ) (k : Rooms) (p f : Table) → Asks (readyOn edition unasked k p f)
-unfolding readyOn roomsFor askedOf among calls.refusals
-asks-on edition unasked k p f = known (digest.isEdition edition)
+asks-on : (edition : ℕ) (unasked : List ℕ) (k : Rooms) (formed : Bool) (p f : Table) → Asks (readyOn edition unasked k formed p f)
+unfolding readyOn roomsFor takingFor askedOf among calls.refusals
+asks-on edition unasked k formed p f = known (digest.isEdition edition)
   where
-    go : (b : Bool) → Asks (pick b (unlessRefused (askedOf (k .mtu) 0 (k .delta) (k .ties) (length p)) (pick (leb (length p) (k .answers)) ready.Yes (ready.No Applying NoPlace))) (ready.No Digest NoPlace))
-    go true = asks-numbers (mtuFits (k .mtu)) (isFree 0 (k .mtu) (k .delta)) (eqb (k .ties) (length p)) _ (asks-places (leb (length p) (k .answers)))
+    go : (b : Bool) → Asks (pick b (unlessRefused (askedOf (k .mtu) 0 (k .delta) (k .ties) (length p)) (takingFor formed (k .answers) (length p))) (ready.No Digest NoPlace))
+    go true = asks-numbers (mtuFits (k .mtu)) (isFree 0 (k .mtu) (k .delta)) (eqb (k .ties) (length p)) _ (asks-taking formed (leb (length p) (k .answers)))
     go false = refl
 
-    known : (b : Bool) → Asks (pick b (roomsFor edition unasked k p f) (ready.No Digest BadEdition))
+    known : (b : Bool) → Asks (pick b (roomsFor edition unasked k formed p f) (ready.No Digest BadEdition))
     known true = go (leb (length (digest.digestBytes edition (digest.digestOf unasked f))) (k .digest))
     known false = refl
 
@@ -841,10 +861,10 @@ asks : (edition : ℕ) (unasked : List ℕ) (k : Rooms) (publisher follower : By
 unfolding readyFor among calls.refusals
 asks edition unasked k publisher follower = go (validWhole follower) (validWhole publisher)
   where
-    go : (u v : Bool) → Asks (pick u (pick v (readyOn edition unasked k (decodeWhole publisher .table) (decodeWhole follower .table)) (ready.No Delta BadTable)) (ready.No Digest BadTable))
+    go : (u v : Bool) → Asks (pick u (pick v (readyOn edition unasked k (formsFit publisher follower) (decodeWhole publisher .table) (decodeWhole follower .table)) (ready.No Delta BadTable)) (ready.No Digest BadTable))
     go false v = refl
     go true false = refl
-    go true true = asks-on edition unasked k (decodeWhole publisher .table) (decodeWhole follower .table)
+    go true true = asks-on edition unasked k (formsFit publisher follower) (decodeWhole publisher .table) (decodeWhole follower .table)
 
 exchanges : (g : Lending) (publisher follower : Bytes) → Of calls.Exchange (exchangedTold (lentExchange g publisher follower .answer))
 unfolding lentExchange exchangedTold
@@ -863,13 +883,13 @@ exchanges g publisher follower = go (readyFor (g .edition) (g .unasked) (roomsOf
 
 pub no-other : {k : calls.Kind} (c : calls.Call k) → Of k (calls.leaves c .answer)
 unfolding calls.leaves
-no-other (calls.new-table t m) = made m t
+no-other (calls.new-table t m p) = made (kind m p) t
 no-other (calls.add-node t i) = added (i .value) t
 no-other (calls.remove-node t i) = removed (i .value) t
 no-other (calls.last-heartbeat t i) = asked-for (i .value) t
-no-other (calls.write t k v i wanted now) = wrote (wanted .value) v (now .value) (i .value) k t
-no-other (calls.delete t k i now) = deleted (now .value) (i .value) k t
-no-other (calls.delete-after-ttl t k i now) = deleted-ttl (now .value) (i .value) k t
+no-other (calls.write t k v i wanted now) = wrote (decodeWhole t .kind .profile) (wanted .value) v (now .value) (i .value) k t
+no-other (calls.delete t k i now) = deleted (decodeWhole t .kind .profile) (now .value) (i .value) k t
+no-other (calls.delete-after-ttl t k i now) = deleted-ttl (decodeWhole t .kind .profile) (now .value) (i .value) k t
 no-other (calls.remove-scheduled t now grace) = collected (now .value) (grace .value) t
 no-other (calls.offer-heartbeat t i h) = offers (i .value) (h .value) t
 no-other (calls.local-beat t i) = beaten (i .value) t

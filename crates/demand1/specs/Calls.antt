@@ -11,8 +11,10 @@ use Rattle.rules.specs.Node.{Deleting, DeletingAfterTtl, beats}
 use Rattle.rules.specs.Delta.{deltaRead}
 use Rattle.rules.specs.Listing.{listDelta}
 use Rattle.rules.specs.Lent.{lentAdd, lentRemoveNode, lentRemoved, lentCall, lentWrite, lentGc, lentOffer, lentBeat, lentPrefixed, lentDigest, lentCompute, lentApply}
+use Rattle.rules.specs.Profile.{kind}
 use Rattle.rules.specs.Whole.{validWhole}
 use Rattle.rules.specs.declared.Mode.{Mode}
+use Rattle.rules.specs.declared.Profile.{Profile}
 use Rattle.nodes.specs.New.{lentMade}
 use Rattle.lookup.specs.Lookup.{lentFind}
 use Rattle.lookup.specs.Told.{foundTold}
@@ -101,7 +103,7 @@ pub data Kind : Type 0 where
 
 -- one call of an entry point: what is lent comes first, tables before all else, and what has other rules before what has none
 pub data Call : Kind → Type 0 where
-  new-table : (table : Bytes) (mode : Mode) → Call NewTable
+  new-table : (table : Bytes) (mode : Mode) (profile : Profile) → Call NewTable
   add-node : (table : Bytes) (number : U64) → Call AddNode
   remove-node : (table : Bytes) (number : U64) → Call RemoveNode
   last-heartbeat : (table : Bytes) (number : U64) → Call LastHeartbeat
@@ -155,7 +157,7 @@ pub data Call : Kind → Type 0 where
 
 -- everything lent to a call
 unfoldable pub lentTo : {k : Kind} (call : Call k) → List Bytes
-lentTo (new-table t m) = t ∷ []
+lentTo (new-table t m p) = t ∷ []
 lentTo (add-node t i) = t ∷ []
 lentTo (remove-node t i) = t ∷ []
 lentTo (last-heartbeat t i) = t ∷ []
@@ -315,7 +317,7 @@ asTold told lent of = given (told (of .answer)) (lent (of .lent))
 
 -- What the call tells, and everything that was lent to it as it is afterwards. What is lent for reading alone stays.
 unfoldable pub leaves : {k : Kind} (call : Call k) → Given Told (List Bytes)
-leaves (new-table t m) = asTold answerTold (λ u. u ∷ []) (lentMade m t)
+leaves (new-table t m p) = asTold answerTold (λ u. u ∷ []) (lentMade (kind m p) t)
 leaves (add-node t i) = asTold answerTold (λ u. u ∷ []) (lentAdd (i .value) t)
 leaves (remove-node t i) = asTold answerTold (λ u. u ∷ []) (lentRemoveNode (i .value) t)
 leaves (last-heartbeat t i) = given (rememberedTold (lentRemoved (i .value) t)) (t ∷ [])
@@ -376,7 +378,7 @@ refusals NewTable = 14 ∷ []
 refusals AddNode = 14 ∷ 4 ∷ []
 refusals RemoveNode = 14 ∷ 2 ∷ []
 refusals LastHeartbeat = 14 ∷ []
-refusals Write = 14 ∷ 10 ∷ 2 ∷ 1 ∷ 5 ∷ 6 ∷ []
+refusals Write = 14 ∷ 10 ∷ 2 ∷ 1 ∷ 17 ∷ 18 ∷ 5 ∷ 6 ∷ []
 refusals Delete = 14 ∷ 2 ∷ 1 ∷ 3 ∷ 6 ∷ []
 refusals DeleteAfterTtl = 14 ∷ 2 ∷ 1 ∷ 3 ∷ 6 ∷ []
 refusals RemoveScheduled = 14 ∷ []
@@ -416,10 +418,10 @@ refusals Compute = 14 ∷ 20 ∷ 7 ∷ 8 ∷ 15 ∷ 9 ∷ 13 ∷ []
 refusals ComputePlan = 14 ∷ 20 ∷ 7 ∷ 8 ∷ 9 ∷ 13 ∷ 23 ∷ []
 refusals PlanFault = 14 ∷ 20 ∷ 7 ∷ 9 ∷ 13 ∷ 23 ∷ []
 refusals ReadDelta = 13 ∷ 9 ∷ 1 ∷ 10 ∷ 11 ∷ 12 ∷ []
-refusals Apply = 14 ∷ 13 ∷ 9 ∷ 1 ∷ 10 ∷ 11 ∷ 12 ∷ 8 ∷ []
+refusals Apply = 14 ∷ 13 ∷ 9 ∷ 1 ∷ 10 ∷ 11 ∷ 17 ∷ 12 ∷ 8 ∷ []
 refusals ListDelta = 8 ∷ []
 refusals MakeDelta = 16 ∷ 13 ∷ 11 ∷ 12 ∷ 8 ∷ []
-refusals Exchange = 14 ∷ 20 ∷ 8 ∷ 7 ∷ 15 ∷ []
+refusals Exchange = 14 ∷ 20 ∷ 8 ∷ 7 ∷ 15 ∷ 17 ∷ []
 
 -- ---- the calls that may change what is remembered
 

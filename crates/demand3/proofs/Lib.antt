@@ -12,6 +12,7 @@ pub mod OnTheWay
 pub mod Nearer
 pub mod Planned
 pub mod Forms
+pub mod Formed
 pub mod Moments
 pub mod Quiet
 pub mod Whole

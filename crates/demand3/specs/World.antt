@@ -16,7 +16,10 @@ use Rattle.rules.specs.Table.{Table, nodeOf}
 use Rattle.rules.specs.Local.{call, offer, localBeat}
 use Rattle.rules.specs.Digest.{writeDigest}
 use Rattle.rules.specs.Apply.{Ways, apply}
+use Rattle.rules.specs.Profile.{guardIn}
 use Rattle.rules.specs.declared.Heartbeat.{Heartbeat}
+use Rattle.rules.specs.declared.Profile.{Profile}
+use Rattle.rules.specs.declared.Refusal.{Refusal}
 use Rattle.rules.specs.declared.Written.{Written}
 use Rattle.rules.specs.declared.Written.the-variants as written
 use Rattle.rules.specs.declared.Computed.{Computed}
@@ -111,6 +114,14 @@ givenAfter k (Give c) n h = givenBy k c n ∷ h
 abbrev pub givenIn : (key : Bytes) (call : Call) (held : Option Node) (given : List KeyValue) → List KeyValue
 givenIn k c none h = h
 givenIn k c (some n) h = givenAfter k (decide c k n) n h
+
+-- a call that the profile of the table refuses (17, 18) gives none either; so it is in lent bytes and in nets
+abbrev pub unlessRefused : (refused : Option Refusal) (after before : List KeyValue) → List KeyValue
+unlessRefused none g h = g
+unlessRefused (some r) g h = h
+
+abbrev pub givenAs : (profile : Profile) (key : Bytes) (call : Call) (held : Option Node) (given : List KeyValue) → List KeyValue
+givenAs p k c o h = unlessRefused (guardIn p c k o) (givenIn k c o h) h
 
 -- ---- what is on its way after a call; a refused one sends nothing, and what was on its way stays
 

@@ -15,7 +15,7 @@ use Rattle.rules.specs.Sizes.{numbers}
 use Rattle.rules.specs.Table.{nodeOf, obeys}
 use Rattle.rules.specs.Given.{Given}
 use Rattle.rules.specs.declared.Heartbeat.{Heartbeat}
-use Rattle.rules.specs.declared.Mode.{Mode}
+use Rattle.rules.specs.Profile.{Kind}
 use Rattle.rules.specs.declared.Status.the-variants.{Set}
 use Rattle.demand3.specs.Forms.{InLine}
 use Rattle.demand3.specs.World.{Applying, Beating, Computing, Digesting, Event, Followers, Offering, Publishers, Side, freshTable}
@@ -181,7 +181,7 @@ runs (a ∷ acts) w fit =
           (λ s. subst (λ (h : Hubs). wholeCalls acts h ≤ lentWholes s (rest .events) x) (one .ends) (rest .counts s));
     }
 
-module _ (pm fm : Mode) (is : List ℕ) (ok : obeys (freshTable is) ≡ true) where
+module _ (pm fm : Kind) (is : List ℕ) (ok : obeys (freshTable is) ≡ true) where
   -- After any run the whole calls make every node's max the same in both tables.
   pub exchanges-close : (es : List Event) (acts : List Act)
       → allFit acts ≡ true

@@ -4,3 +4,4 @@ pub mod Runs
 pub mod Closing
 pub mod Start
 pub mod Planner
+pub mod OneProfile

@@ -17,7 +17,7 @@ use Rattle.rules.specs.Sizes.{maxDelta}
 use Rattle.rules.specs.Table.{nodeOf, obeys}
 use Rattle.rules.specs.Whole.{obeysWhole, validWhole}
 use Rattle.rules.specs.declared.Computed.{Computed}
-use Rattle.rules.specs.declared.Mode.{Mode}
+use Rattle.rules.specs.Profile.{Kind}
 use Rattle.plan.proofs.Comes.{plan-written}
 use Rattle.plan.specs.Plan.{computePlan, lentComputePlan}
 use Rattle.demand3.proofs.Planner.{behind-can}
@@ -38,7 +38,7 @@ valid-plan : (edition : ℕ) (excluded nodes counts : List ℕ) (mtu place : ℕ
 unfolding fromTable
 valid-plan edition excluded nodes counts mtu place digest d l v = rw v
 
-pub lent-planner-can : (pm fm : Mode) (is : List ℕ) → obeys (freshTable is) ≡ true → (es : List Event)
+pub lent-planner-can : (pm fm : Kind) (is : List ℕ) → obeys (freshTable is) ≡ true → (es : List Event)
     → let w = lentAfter es (lentStart pm fm is) in (i : ℕ) (a b : Node)
     → nodeOf i (tableIn (w .publisher)) ≡ some a
     → nodeOf i (tableIn (w .follower)) ≡ some b

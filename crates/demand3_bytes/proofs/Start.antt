@@ -18,14 +18,15 @@ use Rattle.rules.specs.Local.{add}
 use Rattle.rules.specs.Memory.{forget}
 use Rattle.rules.specs.Whole.{encodeWhole}
 use Rattle.rules.specs.Lent.{addWhole, forgetOn, lentNew}
-use Rattle.rules.specs.declared.Mode.{Mode}
+use Rattle.rules.specs.Profile.{Kind, profileObeys}
 use Rattle.rules.specs.declared.Answer.{Answer}
 use Rattle.rules.specs.declared.Answer.the-variants as plain
 use Rattle.rules.specs.declared.Refusal.the-variants.{BadTable}
 use Rattle.rules.proofs.Calls.{add-keeps, none-obeys}
+use Rattle.rules.proofs.Formed.{add-formed, empty-formed}
 use Rattle.rules.proofs.Obeys.{Ascending, number-in, table-facts}
 use Rattle.demand3.specs.World.{freshTable}
-use Rattle.demand3_bytes.specs.LentWorld.{inMode, lentAdds, lentStart}
+use Rattle.demand3_bytes.specs.LentWorld.{ofKind, lentAdds, lentStart}
 use Rattle.demand3_bytes.proofs.LentWorld.{whole-encoded}
 
 -- ---- a node whose number is above all others comes last
@@ -62,28 +63,29 @@ module _ (i : ℕ) (t rest : Table) (ok : obeys (t ++ (made i ∷ rest)) ≡ tru
       rw (x .1, lt-ltb (length t) maxNodes few, x .0)
 
 -- where nothing is remembered, nothing is forgotten
-forgets : (m : Mode) (i : ℕ) (t : Table) → encodeWhole (addWhole i (record { mode = m; memory = []; table = t }) .lent) ≡ inMode m (add i t .table)
+forgets : (m : Kind) (i : ℕ) (t : Table) → encodeWhole (addWhole i (record { kind = m; memory = []; table = t }) .lent) ≡ ofKind m (add i t .table)
 unfolding addWhole forget
 forgets m i t = go (add i t .answer)
   where
-    go : (a : Answer) → encodeWhole (record { mode = m; memory = forgetOn a i []; table = add i t .table }) ≡ inMode m (add i t .table)
+    go : (a : Answer) → encodeWhole (record { kind = m; memory = forgetOn a i []; table = add i t .table }) ≡ ofKind m (add i t .table)
     go plain.Done = refl
     go (plain.Refused r) = refl
 
-adds : (m : Mode) (is : List ℕ) (t : Table) → obeys t ≡ true → obeys (t ++ freshTable is) ≡ true → lentAdds is (inMode m t) ≡ inMode m (t ++ freshTable is)
+adds : (m : Kind) (is : List ℕ) (t : Table) → obeys t ≡ true → profileObeys (m .profile) t ≡ true → obeys (t ++ freshTable is) ≡ true → lentAdds is (ofKind m t) ≡ ofKind m (t ++ freshTable is)
 unfolding lentAdds freshTable
-adds m [] t o ok = ap (inMode m) (sym (append-nil t))
-adds m (i ∷ is) t o ok =
+adds m [] t o f ok = ap (ofKind m) (sym (append-nil t))
+adds m (i ∷ is) t o f ok =
     let e = add-last i t (freshTable is) ok in
     let u = append-assoc t (made i ∷ []) (freshTable is) in
-    ap (λ (x : Given Answer (List ℕ)). lentAdds is (x .lent)) (whole-encoded m t o (plain.Refused BadTable) (addWhole i))
+    ap (λ (x : Given Answer (List ℕ)). lentAdds is (x .lent)) (whole-encoded m t o f (plain.Refused BadTable) (addWhole i))
     ∙ ap (lentAdds is) (forgets m i t)
-    ∙ ap (λ (x : Table). lentAdds is (inMode m x)) e
-    ∙ adds m is (t ++ (made i ∷ [])) (subst (λ (x : Table). obeys x ≡ true) e (add-keeps i t (number-fits i t (freshTable is) ok) o)) (ap obeys u ∙ ok)
-    ∙ ap (inMode m) u
+    ∙ ap (λ (x : Table). lentAdds is (ofKind m x)) e
+    ∙ adds m is (t ++ (made i ∷ [])) (subst (λ (x : Table). obeys x ≡ true) e (add-keeps i t (number-fits i t (freshTable is) ok) o))
+    (subst (λ (x : Table). profileObeys (m .profile) x ≡ true) e (add-formed (m .profile) i t f)) (ap obeys u ∙ ok)
+    ∙ ap (ofKind m) u
 
 module _ (is : List ℕ) (ok : obeys (freshTable is) ≡ true) where
   -- both tables at the start
-  pub start-made : (p f : Mode) → (lentStart p f is .publisher ≡ lentAdds is (lentNew p)) × (lentStart p f is .follower ≡ lentAdds is (lentNew f))
+  pub start-made : (p f : Kind) → (lentStart p f is .publisher ≡ lentAdds is (lentNew p)) × (lentStart p f is .follower ≡ lentAdds is (lentNew f))
   unfolding lentStart lentNew
-  start-made p f = (sym (adds p is [] none-obeys ok), sym (adds f is [] none-obeys ok))
+  start-made p f = (sym (adds p is [] none-obeys (empty-formed (p .profile)) ok), sym (adds f is [] none-obeys (empty-formed (f .profile)) ok))

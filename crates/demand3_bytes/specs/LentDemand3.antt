@@ -7,16 +7,23 @@ use mathlib.Core.Bool.{Bool, true, false, _&&_}
 use mathlib.Core.List.{List, [], _∷_}
 use mathlib.Core.Option.{some}
 use Rattle.fields.specs.Numbers.{Bytes}
-use Rattle.fields.specs.Choice.{pick}
+use Rattle.fields.specs.Choice.{_∈_, pick}
+use Rattle.rules.specs.Apply.{waysIn, waysOf}
 use Rattle.rules.specs.Node.{Node}
+use Rattle.rules.specs.Profile.{Kind}
 use Rattle.rules.specs.Table.{nodeOf, numbersOf}
 use Rattle.rules.specs.Whole.{validWhole}
-use Rattle.rules.specs.Lent.{lentDigest, lentApply}
-use Rattle.rules.specs.declared.Mode.{Mode}
+use Rattle.rules.specs.Lent.{lentDigest, lentApply, lentApplyAs}
+use Rattle.rules.specs.declared.Applied.the-variants as applied
+use Rattle.rules.specs.declared.Refusal.{Refusal}
+use Rattle.rules.specs.declared.Refusal.the-variants.{NoPlace}
 use Rattle.demand3.specs.Forms.{Order, lentComputeBy}
 use Rattle.demand3.specs.World.{Exchange, Idle, DigestSent, DeltaSent, Event, Writing, Beating, Offering, Removing, Digesting, Computing, Applying, Sending, Arriving, possible}
 use Rattle.demand3.specs.Demand3.{Claims, AllRise, Stage, NotBegun, allQuiet, unlimited, onward, ending, wroteDigest, wroteDelta, noRoom, holdings, SameMax}
-use Rattle.demand3_bytes.specs.LentWorld.{LentWorld, tableIn, waysIn, lentStart, lentHappen, lentAfter}
+use Rattle.exchange_ask.specs.declared.Step.the-variants as step
+use Rattle.exchange.specs.Exchanging.{Lending, lentExchange}
+use Rattle.exchange.specs.declared.Exchanged.the-variants as exchanged
+use Rattle.demand3_bytes.specs.LentWorld.{LentWorld, tableIn, kindIn, lentStart, lentHappen, lentAfter}
 
 -- ---- the claims at a moment
 
@@ -48,7 +55,7 @@ lentGranted (Offering s i h) w = true
 lentGranted (Removing s removal) w = true
 lentGranted (Digesting edition excluded place d) w = wroteDigest (lentDigest edition excluded place d (w .follower) .answer)
 lentGranted (Computing edition excluded order mtu place d) w = lentIsComputed edition excluded order mtu place d (w .publisher) (w .exchange)
-lentGranted (Applying now answers) w = possible (waysIn (w .follower)) (Applying now answers) && lentIsApplied now answers (w .follower) (w .exchange)
+lentGranted (Applying now answers) w = possible (waysIn (kindIn (w .follower))) (Applying now answers) && lentIsApplied now answers (w .follower) (w .exchange)
 lentGranted (Sending edition digest excluded order mtu place d) w = true
 lentGranted (Arriving k now answers) w = true
 
@@ -62,12 +69,12 @@ lentWholes st (e ∷ es) w =
 
 -- ---- the whole demand
 
--- Of the bytes of a publisher's table and a follower's that begin fresh with the nodes `is`, in the modes p and f. At every moment of every run
+-- Of the bytes of a publisher's table and a follower's that begin fresh with the nodes `is`, of the kinds p and f. At every moment of every run
 -- of calls the claims hold; between any two moments no node's pair falls in either table; and when writes, deletes and removals cease after any
--- run, as many whole exchanges as the publisher then holds records and nodes make every max equal, whatever else happens. Where f is fenced, every delta
+-- run, as many whole exchanges as the publisher then holds records and nodes make every max equal, whatever else happens. Where f's mode is fenced or guarded, every delta
 -- that was ever computed may arrive at any moment and any number of times, within the counted exchanges too. The first two claims hold with the digest's
 -- editions confused too: any bytes are a digest there, and may be read in either. A counted exchange uses one edition at both ends (Demand3 of `demand3`).
-pub record LentDemand3 (p f : Mode) (is : List ℕ) : Type 0 where
+pub record LentDemand3 (p f : Kind) (is : List ℕ) : Type 0 where
   pub at-every-moment : (es : List Event) → LentSound is (lentAfter es (lentStart p f is))
   pub between-moments : (es fs : List Event)
       → AllRise (tableIn (lentAfter es (lentStart p f is) .publisher)) (tableIn (lentAfter fs (lentAfter es (lentStart p f is)) .publisher))
@@ -76,3 +83,25 @@ pub record LentDemand3 (p f : Mode) (is : List ℕ) : Type 0 where
       → allQuiet fs ≡ true
       → holdings (tableIn (lentAfter es (lentStart p f is) .publisher)) ≤ lentWholes NotBegun fs (lentAfter es (lentStart p f is))
       → SameMax (tableIn (lentAfter fs (lentAfter es (lentStart p f is)) .publisher)) (tableIn (lentAfter fs (lentAfter es (lentStart p f is)) .follower))
+
+-- ---- tables of one profile
+
+-- Where publisher and follower have the same profile, no delta that was ever computed, in document 01's order or by a plan, is refused with 17, whenever it is applied: answer places
+-- (8) are all that it may lack, and applying it is what applying is in the follower's mode alone. So whether an exchange counts does not hang on profiles. An exchange in
+-- one call is refused at its applying for answer places alone. A meter follower of a free publisher is promised no such thing: there the count asks that nothing be refused.
+pub record LentOneProfile (p f : Kind) (is : List ℕ) : Type 0 where
+  pub only-places : p .profile ≡ f .profile
+      → (es : List Event) (b : Bytes)
+      → b ∈ lentAfter es (lentStart p f is) .sent
+      → (now : ℕ) (answers : Bytes) (why : Refusal) (at : ℕ)
+      → lentApply b now answers (lentAfter es (lentStart p f is) .follower) .answer ≡ applied.Refused why at
+      → why ≡ NoPlace
+  pub as-free : p .profile ≡ f .profile
+      → (es : List Event) (b : Bytes)
+      → b ∈ lentAfter es (lentStart p f is) .sent
+      → (now : ℕ) (answers : Bytes)
+      → lentApply b now answers (lentAfter es (lentStart p f is) .follower) ≡ lentApplyAs (waysOf (f .mode)) b now answers (lentAfter es (lentStart p f is) .follower)
+  pub exchange-places : p .profile ≡ f .profile
+      → (es : List Event) (g : Lending) (why : Refusal)
+      → lentExchange g (lentAfter es (lentStart p f is) .publisher) (lentAfter es (lentStart p f is) .follower) .answer ≡ exchanged.Refused step.Applying why
+      → why ≡ NoPlace

@@ -1,7 +1,8 @@
 -- Demand 3's world in lent bytes: the bytes of a publisher's table and of a follower's, and whatever a hub's calls do to them. What happens is
 -- given by the definitions that the entry points promise (Lent of `rules`) and by nothing else. The events are those of the world of tables
--- (World of `demand3`), and so is what is on its way and what was ever computed: there too it is bytes. Each table has a mode, chosen when it was made and
--- kept in its bytes; the follower applies in the ways of its own (Apply of `rules`), and deltas come late to it where they let them.
+-- (World of `demand3`), and so is what is on its way and what was ever computed: there too it is bytes. Each table has a kind, a mode and a profile, chosen when it was made
+-- and kept in its bytes; the follower applies in the ways of its own (Apply of `rules`), and deltas come late to it where they let them. The publisher writes by its own
+-- profile: a write that this refuses (17, 18) is a call like any other; it leaves the bytes and gives nothing.
 use Prim.Native.Nat.{ℕ}
 use mathlib.Core.List.{List, [], _∷_}
 use lib.Dec.{eqb}
@@ -9,12 +10,12 @@ use Rattle.fields.specs.Numbers.{Bytes}
 use Rattle.fields.specs.Choice.{pick}
 use Rattle.rules.specs.Node.{KeyValue}
 use Rattle.rules.specs.Table.{Table, nodeOf}
-use Rattle.rules.specs.Apply.{Ways, waysOf}
+use Rattle.rules.specs.Apply.{waysIn}
+use Rattle.rules.specs.Profile.{Kind}
 use Rattle.rules.specs.Whole.{encodeWhole, decodeWhole}
 use Rattle.rules.specs.Lent.{lentAdd, lentCall, lentOffer, lentBeat, lentDigest, lentApply}
-use Rattle.rules.specs.declared.Mode.{Mode}
 use Rattle.demand3.specs.Forms.{Order, lentComputeBy, lentRemovedBy}
-use Rattle.demand3.specs.World.{Exchange, Idle, DigestSent, DeltaSent, Side, Publishers, Followers, Event, Writing, Beating, Offering, Removing, Digesting, Computing, Applying, Sending, Arriving, possible, givenIn, afterDigest, afterDelta, sentAfter, nthSent, freshTable}
+use Rattle.demand3.specs.World.{Exchange, Idle, DigestSent, DeltaSent, Side, Publishers, Followers, Event, Writing, Beating, Offering, Removing, Digesting, Computing, Applying, Sending, Arriving, possible, givenAs, afterDigest, afterDelta, sentAfter, nthSent, freshTable}
 
 -- ---- the world
 
@@ -27,20 +28,20 @@ pub record LentWorld : Type 0 where
   pub exchange : Exchange
   pub sent : List Bytes
 
--- the table that stands in bytes, and the ways of its mode
+-- the table that stands in bytes, and its kind
 abbrev pub tableIn : (table : Bytes) → Table
 tableIn l = decodeWhole l .table
 
-abbrev pub waysIn : (table : Bytes) → Ways
-waysIn l = waysOf (decodeWhole l .mode)
+abbrev pub kindIn : (table : Bytes) → Kind
+kindIn l = decodeWhole l .kind
 
--- the bytes of a table in a mode, which remembers nothing: no node comes or goes here
-abbrev pub inMode : (mode : Mode) (table : Table) → Bytes
-inMode m t = encodeWhole (record { mode = m; memory = []; table = t })
+-- the bytes of a table of a kind, which remembers nothing: no node comes or goes here
+abbrev pub ofKind : (kind : Kind) (table : Table) → Bytes
+ofKind k t = encodeWhole (record { kind = k; memory = []; table = t })
 
--- both tables fresh with the same nodes, each in its mode, and nothing given yet
-unfoldable pub lentStart : (publishers followers : Mode) (numbers : List ℕ) → LentWorld
-lentStart p f is = record { publisher = inMode p (freshTable is); follower = inMode f (freshTable is); given = λ i. []; exchange = Idle; sent = [] }
+-- both tables fresh with the same nodes, each of its kind, and nothing given yet
+unfoldable pub lentStart : (publishers followers : Kind) (numbers : List ℕ) → LentWorld
+lentStart p f is = record { publisher = ofKind p (freshTable is); follower = ofKind f (freshTable is); given = λ i. []; exchange = Idle; sent = [] }
 
 -- The bytes that adding these nodes one after the other leaves. So the start is made of new tables (proofs/Start).
 unfoldable pub lentAdds : (numbers : List ℕ) (table : Bytes) → Bytes
@@ -92,7 +93,7 @@ lentCalls (Writing i k c) w =
     record {
       publisher = lentCall c i k (w .publisher) .lent;
       follower = w .follower;
-      given = λ j. pick (eqb j i) (givenIn k c (nodeOf i (tableIn (w .publisher))) (w .given j)) (w .given j);
+      given = λ j. pick (eqb j i) (givenAs (kindIn (w .publisher) .profile) k c (nodeOf i (tableIn (w .publisher))) (w .given j)) (w .given j);
       exchange = w .exchange;
       sent = w .sent;
     }
@@ -108,7 +109,7 @@ lentCalls (Arriving k now answers) w = onLent Followers (lentApplied now answers
 
 -- the world after an event; one that is not possible changes nothing
 unfoldable pub lentHappen : (event : Event) (world : LentWorld) → LentWorld
-lentHappen e w = pick (possible (waysIn (w .follower)) e) (lentCalls e w) w
+lentHappen e w = pick (possible (waysIn (kindIn (w .follower))) e) (lentCalls e w) w
 
 -- the world after a run
 unfoldable pub lentAfter : (events : List Event) (world : LentWorld) → LentWorld

@@ -15,10 +15,10 @@ use Rattle.rules.specs.Given.{Given, given}
 use Rattle.rules.specs.Digest.{Entries, NodeDigest, digestBytes, digestOf, isEdition, readDigest, writeDigest}
 use Rattle.rules.specs.Delta.{Good, Op, deltaBytes, partsOf, readDelta}
 use Rattle.rules.specs.Compute.{deltaFor, written}
-use Rattle.rules.specs.Apply.{apply, waysOf}
+use Rattle.rules.specs.Apply.{apply, waysIn}
 use Rattle.rules.specs.Whole.{areaOf, decodeWhole, validWhole}
 use Rattle.rules.specs.Lent.{fromTable, lentApply, lentApplyAs, lentCompute, lentDigest}
-use Rattle.rules.specs.declared.Refusal.the-variants.{BadEdition, BadTable, NoPlace}
+use Rattle.rules.specs.declared.Refusal.the-variants.{BadEdition, BadForm, BadTable, NoPlace}
 use Rattle.rules.specs.declared.Written.{Written}
 use Rattle.rules.specs.declared.Written.the-variants as written-as
 use Rattle.rules.specs.declared.Computed.{Computed}
@@ -27,13 +27,14 @@ use Rattle.rules.proofs.Accepted.{read-computed, within-mtu}
 use Rattle.rules.proofs.Digests.{read-written}
 use Rattle.table.proofs.Tables.{valid-obeys}
 use Rattle.table.proofs.Wholes.{area-valid}
-use Rattle.apply.proofs.Applied.{reads-is}
+use Rattle.profiles.proofs.Reading.{delta-formed}
+use Rattle.profiles.proofs.Sent.{delta-in-form}
 use Rattle.compute.specs.Asking.{askedOf}
 use Rattle.compute.specs.declared.Asked.{Asked}
 use Rattle.compute.specs.declared.Asked.the-variants as asked
 use Rattle.compute.proofs.Calling.{by-delta, good-table, granted, in-edition}
 use Rattle.exchange.specs.Exchanging.{Lending, afterComputing, afterDigesting, exchangedAs, lentAnswer, roomsOf, threeCalls}
-use Rattle.exchange_ask.specs.Asking.{readyFor, readyOn, roomsFor, unlessRefused}
+use Rattle.exchange_ask.specs.Asking.{formsFit, readyFor, readyOn, roomsFor, takingFor, unlessRefused}
 use Rattle.exchange_ask.specs.declared.Step.the-variants.{Applying, Delta, Digest}
 use Rattle.exchange_ask.specs.declared.Ready.the-variants as ready
 use Rattle.exchange.specs.declared.Exchanged.the-variants as exchanged
@@ -46,15 +47,16 @@ pub record IsReady (g : Lending) (publisher follower : List ℕ) : Type 0 where
   pub publisher-valid : validWhole publisher ≡ true
   pub known : isEdition (g .edition) ≡ true
   pub digest-fits : length (digestBytes (g .edition) (digestOf (g .unasked) (decodeWhole follower .table))) ≤ length (g .digest)
+  pub formed : formsFit publisher follower ≡ true
   pub numbers-good : askedOf (g .mtu) 0 (length (g .delta)) (length (g .ties)) (length (decodeWhole publisher .table)) ≡ asked.Good
   pub places : length (decodeWhole publisher .table) ≤ length (g .answers)
 
 pub is-ready : (g : Lending) (publisher follower : List ℕ) → readyFor (g .edition) (g .unasked) (roomsOf g) publisher follower ≡ ready.Yes → IsReady g publisher follower
-unfolding readyFor readyOn roomsFor
+unfolding readyFor readyOn roomsFor takingFor
 is-ready g publisher follower =
     go (validWhole follower) refl (validWhole publisher) refl (isEdition (g .edition)) refl (leb (length b) (length (g .digest))) refl
     (askedOf (g .mtu) 0 (length (g .delta)) (length (g .ties)) (length (decodeWhole publisher .table))) refl
-    (leb (length (decodeWhole publisher .table)) (length (g .answers))) refl
+    (formsFit publisher follower) refl (leb (length (decodeWhole publisher .table)) (length (g .answers))) refl
   where
     b : List ℕ
     b = digestBytes (g .edition) (digestOf (g .unasked) (decodeWhole follower .table))
@@ -64,17 +66,19 @@ is-ready g publisher follower =
         → (k : Bool) → isEdition (g .edition) ≡ k
         → (d : Bool) → leb (length b) (length (g .digest)) ≡ d
         → (n : Asked) → askedOf (g .mtu) 0 (length (g .delta)) (length (g .ties)) (length (decodeWhole publisher .table)) ≡ n
+        → (x : Bool) → formsFit publisher follower ≡ x
         → (p : Bool) → leb (length (decodeWhole publisher .table)) (length (g .answers)) ≡ p
-        → pick u (pick v (pick k (pick d (unlessRefused n (pick p ready.Yes (ready.No Applying NoPlace))) (ready.No Digest NoPlace)) (ready.No Digest BadEdition)) (ready.No Delta BadTable)) (ready.No Digest BadTable) ≡ ready.Yes
+        → pick u (pick v (pick k (pick d (unlessRefused n (pick x (pick p ready.Yes (ready.No Applying NoPlace)) (ready.No Applying BadForm))) (ready.No Digest NoPlace)) (ready.No Digest BadEdition)) (ready.No Delta BadTable)) (ready.No Digest BadTable) ≡ ready.Yes
         → IsReady g publisher follower
-    go true u true v true k true d asked.Good n true p e =
-        record { follower-valid = u; publisher-valid = v; known = k; digest-fits = leb-true _ _ d; numbers-good = n; places = leb-true _ _ p }
-    go true u true v true k true d asked.Good n false p e = let z : _≡_ {A = ℕ} 0 1 = cc in absurd (omega arith)
-    go true u true v true k true d (asked.Refused r) n p q e = let z : _≡_ {A = ℕ} 0 1 = cc in absurd (omega arith)
-    go true u true v true k false d n m p q e = let z : _≡_ {A = ℕ} 0 1 = cc in absurd (omega arith)
-    go true u true v false k d f n m p q e = let z : _≡_ {A = ℕ} 0 1 = cc in absurd (omega arith)
-    go true u false v k x d f n m p q e = let z : _≡_ {A = ℕ} 0 1 = cc in absurd (omega arith)
-    go false u v w k x d f n m p q e = let z : _≡_ {A = ℕ} 0 1 = cc in absurd (omega arith)
+    go true u true v true k true d asked.Good n true x true p e =
+        record { follower-valid = u; publisher-valid = v; known = k; digest-fits = leb-true _ _ d; formed = x; numbers-good = n; places = leb-true _ _ p }
+    go true u true v true k true d asked.Good n true x false p e = let z : _≡_ {A = ℕ} 0 1 = cc in absurd (omega arith)
+    go true u true v true k true d asked.Good n false x p q e = let z : _≡_ {A = ℕ} 0 1 = cc in absurd (omega arith)
+    go true u true v true k true d (asked.Refused r) n x y p q e = let z : _≡_ {A = ℕ} 0 1 = cc in absurd (omega arith)
+    go true u true v true k false d n m x y p q e = let z : _≡_ {A = ℕ} 0 1 = cc in absurd (omega arith)
+    go true u true v false k d f n m x y p q e = let z : _≡_ {A = ℕ} 0 1 = cc in absurd (omega arith)
+    go true u false v k l d f n m x y p q e = let z : _≡_ {A = ℕ} 0 1 = cc in absurd (omega arith)
+    go false u v w k l d f n m x y p q e = let z : _≡_ {A = ℕ} 0 1 = cc in absurd (omega arith)
 
 -- ---- the three calls
 
@@ -128,7 +132,8 @@ module _ (g : Lending) (publisher follower : List ℕ) (r : IsReady g publisher 
       let p = r .places in
       let b = le-leb (length (partsOf sent)) (length (g .answers)) (omega arith) in
       let d = part 0 (length (deltaBytes sent)) (put 0 (deltaBytes sent) (g .delta)) in
-      let q : waysOf (decodeWhole follower .mode) .reads d ≡ Good sent = reads-is (decodeWhole follower .mode) d ∙ delta-read in
+      let q : waysIn (decodeWhole follower .kind) .reads d ≡ Good sent =
+      delta-formed (decodeWhole follower .kind .profile) d sent (delta-in-form (decodeWhole follower .kind .profile) (g .unsent) (g .ties) ds (decodeWhole publisher .table) (r .formed) (g .mtu)) delta-read in
       rw (r .follower-valid, q, b) refl
 
   -- Nothing is refused.

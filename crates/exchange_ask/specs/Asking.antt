@@ -1,14 +1,16 @@
 -- What refuses an exchange of two lent tables. It is asked before anything is written, in the order in which the three calls would ask it.
 use Prim.Native.Nat.{ℕ}
+use mathlib.Core.Bool.{Bool}
 use mathlib.Core.List.{List}
 use lib.Dec.{leb}
 use lib.ListN.{length}
 use Rattle.fields.specs.Choice.{pick}
 use Rattle.fields.specs.Numbers.{Bytes}
 use Rattle.rules.specs.Digest.{digestBytes, digestOf, isEdition}
+use Rattle.rules.specs.Profile.{profileObeys}
 use Rattle.rules.specs.Whole.{decodeWhole, validWhole}
 use Rattle.rules.specs.Table.{Table}
-use Rattle.rules.specs.declared.Refusal.the-variants.{BadEdition, BadTable, NoPlace}
+use Rattle.rules.specs.declared.Refusal.the-variants.{BadEdition, BadForm, BadTable, NoPlace}
 use Rattle.compute.specs.Asking.{askedOf}
 use Rattle.compute.specs.declared.Asked.{Asked}
 use Rattle.compute.specs.declared.Asked.the-variants as asked
@@ -32,21 +34,29 @@ abbrev pub unlessRefused : (numbers : Asked) (next : Ready) → Ready
 unlessRefused asked.Good next = next
 unlessRefused (asked.Refused r) next = ready.No Delta r
 
--- 8 where the digest does not fit, then 7, 8, 15 of computing, then 8 where there are fewer places for answers than the publisher has nodes.
-unfoldable pub roomsFor : (edition : ℕ) (unasked : List ℕ) (rooms : Rooms) (publisher follower : Table) → Ready
-roomsFor edition unasked k publisher follower =
+-- of applying: 17 where a record of the publisher is not in the follower's form, then 8 where there are fewer places for answers than the publisher has nodes
+unfoldable pub takingFor : (formed : Bool) (answers nodes : ℕ) → Ready
+takingFor formed answers nodes = pick formed (pick (leb nodes answers) ready.Yes (ready.No Applying NoPlace)) (ready.No Applying BadForm)
+
+-- 8 where the digest does not fit, then 7, 8, 15 of computing, then of applying
+unfoldable pub roomsFor : (edition : ℕ) (unasked : List ℕ) (rooms : Rooms) (formed : Bool) (publisher follower : Table) → Ready
+roomsFor edition unasked k formed publisher follower =
     pick (leb (length (digestBytes edition (digestOf unasked follower))) (k .digest))
-    (unlessRefused (askedOf (k .mtu) 0 (k .delta) (k .ties) (length publisher))
-    (pick (leb (length publisher) (k .answers)) ready.Yes (ready.No Applying NoPlace)))
+    (unlessRefused (askedOf (k .mtu) 0 (k .delta) (k .ties) (length publisher)) (takingFor formed (k .answers) (length publisher)))
     (ready.No Digest NoPlace)
 
 -- of two good tables: 20 for another edition, told of the digest, then as above
-unfoldable pub readyOn : (edition : ℕ) (unasked : List ℕ) (rooms : Rooms) (publisher follower : Table) → Ready
-readyOn edition unasked k publisher follower = pick (isEdition edition) (roomsFor edition unasked k publisher follower) (ready.No Digest BadEdition)
+unfoldable pub readyOn : (edition : ℕ) (unasked : List ℕ) (rooms : Rooms) (formed : Bool) (publisher follower : Table) → Ready
+readyOn edition unasked k formed publisher follower = pick (isEdition edition) (roomsFor edition unasked k formed publisher follower) (ready.No Digest BadEdition)
+
+-- Whether every record of the publisher's table is in the form of the follower's profile. It is asked of the table and not of the delta, so that nothing is
+-- written before. Of tables of one profile it is true, and of a free follower.
+abbrev pub formsFit : (publisher follower : Bytes) → Bool
+formsFit publisher follower = profileObeys (decodeWhole follower .kind .profile) (decodeWhole publisher .table)
 
 -- 14 first: of the follower's table, of the publisher's
 unfoldable pub readyFor : (edition : ℕ) (unasked : List ℕ) (rooms : Rooms) (publisher follower : Bytes) → Ready
 readyFor edition unasked k publisher follower =
     pick (validWhole follower)
-    (pick (validWhole publisher) (readyOn edition unasked k (decodeWhole publisher .table) (decodeWhole follower .table)) (ready.No Delta BadTable))
+    (pick (validWhole publisher) (readyOn edition unasked k (formsFit publisher follower) (decodeWhole publisher .table) (decodeWhole follower .table)) (ready.No Delta BadTable))
     (ready.No Digest BadTable)

@@ -1,12 +1,18 @@
-// What is asked before an exchange writes anything: whether both tables, the MTU and all that is lent allow it. Any bytes may be lent.
+// What is asked before an exchange writes anything: whether both tables, the MTU and all that is lent allow it, and whether the follower's profile takes the
+// publisher's records. Any bytes may be lent.
 use compute::Asked;
+use rules::Profile;
 use rules::Refusal;
 use rules::wire;
 use table::layout;
 ghost use mathlib.Core.Path.{_≡_};
+ghost use mathlib.Core.Bool.{true};
 ghost use Rattle.rules.specs.Layout.{decode};
+ghost use Rattle.rules.specs.Profile.{profileObeys};
+ghost use Rattle.rules.specs.Whole.{decodeWhole, validWhole};
+ghost use Rattle.rules.specs.declared.Profile.the-variants.{Meter};
 ghost use Rattle.table.specs.Fits.{LaidTable};
-ghost use Rattle.exchange_ask.specs.Asking.{readyFor, readyOn, rooms, roomsFor};
+ghost use Rattle.exchange_ask.specs.Asking.{formsFit, readyFor, readyOn, rooms, roomsFor, takingFor};
 
 // The step of an exchange that a refusal belongs to: the follower's digest, the publisher's delta, applying it to the follower.
 pub enum Step {
@@ -21,8 +27,49 @@ pub enum Ready {
     No { step: Step, why: Refusal },
 }
 
-// Of good tables, an MTU, so many ties, bytes of the two datagrams and places for answers: 8 for the digest, 7, 8, 15 for the delta, 8 for the answers.
-// A place for each node of the publisher's table is enough, as the delta has no more.
+// Whether the records of a good publisher are in the form of a good follower's profile. They are looked at only where the profiles differ and the follower's is
+// not free.
+fn forms_fit(publisher: &[u8], follower: &[u8]) -> bool
+    requires { ⌜ (validWhole (now publisher) ≡ true) × (validWhole (now follower) ≡ true) ⌝ }
+    ensures { λ r. ⌜ r ≡ formsFit (now (publisher .entry)) (now (follower .entry)) ⌝ }
+{
+    match profile_check::profile_of(follower) {
+        Profile::Free => true,
+        Profile::Meter => meter_fits(publisher),
+    }
+}
+
+// Whether those of a good table are in the form of the meter profile: its own forms say so, or its records do.
+fn meter_fits(publisher: &[u8]) -> bool
+    requires { ⌜ validWhole (now publisher) ≡ true ⌝ }
+    ensures { λ r. ⌜ r ≡ profileObeys Meter (decodeWhole (now (publisher .entry)) .table) ⌝ }
+{
+    match profile_check::profile_of(publisher) {
+        Profile::Free => profile_check::check_forms(&publisher[..layout::AREA]),
+        Profile::Meter => true,
+    }
+}
+
+// What applying would ask: 17, then 8 for the answers. A place for each node of the publisher's table is enough, as the delta has no more.
+fn ask_taking(formed: bool, answers: usize, nodes: usize) -> Ready
+    ensures { λ r. ⌜ r ≡ takingFor formed answers nodes ⌝ }
+{
+    if formed {
+        if answers < nodes {
+            return Ready::No {
+                step: Step::Applying,
+                why: Refusal::NoPlace,
+            };
+        }
+        return Ready::Yes;
+    }
+    Ready::No {
+        step: Step::Applying,
+        why: Refusal::BadForm,
+    }
+}
+
+// Of good tables, an MTU, so many ties, bytes of the two datagrams and places for answers: 8 for the digest, 7, 8, 15 for the delta, then what applying asks.
 fn ask_rooms(
     publisher: &[u8],
     follower: &[u8],
@@ -33,9 +80,10 @@ fn ask_rooms(
     digest: usize,
     delta: usize,
     answers: usize,
+    formed: bool,
 ) -> Ready
     requires { ⌜ LaidTable (now publisher) × LaidTable (now follower) ⌝ }
-    ensures { λ r. ⌜ r ≡ roomsFor edition (now (unasked .entry)) (rooms mtu ties digest delta answers)
+    ensures { λ r. ⌜ r ≡ roomsFor edition (now (unasked .entry)) (rooms mtu ties digest delta answers) formed
         (decode (now (publisher .entry))) (decode (now (follower .entry))) ⌝ }
 {
     if digest < digest_write::digest_size(follower, edition, unasked) {
@@ -52,13 +100,7 @@ fn ask_rooms(
             why,
         };
     }
-    if answers < nodes {
-        return Ready::No {
-            step: Step::Applying,
-            why: Refusal::NoPlace,
-        };
-    }
-    Ready::Yes
+    ask_taking(formed, answers, nodes)
 }
 
 // Of good tables: 20 for another edition, told of the digest, then as above.
@@ -72,9 +114,10 @@ fn ask_good(
     digest: usize,
     delta: usize,
     answers: usize,
+    formed: bool,
 ) -> Ready
     requires { ⌜ LaidTable (now publisher) × LaidTable (now follower) ⌝ }
-    ensures { λ r. ⌜ r ≡ readyOn edition (now (unasked .entry)) (rooms mtu ties digest delta answers)
+    ensures { λ r. ⌜ r ≡ readyOn edition (now (unasked .entry)) (rooms mtu ties digest delta answers) formed
         (decode (now (publisher .entry))) (decode (now (follower .entry))) ⌝ }
 {
     if wire::is_edition(edition) {
@@ -88,6 +131,7 @@ fn ask_good(
             digest,
             delta,
             answers,
+            formed,
         );
     }
     Ready::No {
@@ -112,6 +156,7 @@ pub fn ask(
 {
     if table_check::check_table(follower) {
         if table_check::check_table(publisher) {
+            let formed = forms_fit(publisher, follower);
             return ask_good(
                 &publisher[..layout::AREA],
                 &follower[..layout::AREA],
@@ -122,6 +167,7 @@ pub fn ask(
                 digest,
                 delta,
                 answers,
+                formed,
             );
         }
         return Ready::No {

@@ -23,7 +23,8 @@ use Rattle.rules.specs.declared.Answer.{Answer}
 use Rattle.rules.specs.declared.Answer.the-variants as plain
 use Rattle.rules.specs.declared.Refusal.the-variants.{BadPeer, BadTable, NinthNode, NoNode, NobodyPresent}
 use Rattle.rules.proofs.Calls.{number-from, remove-keeps}
-use Rattle.rules.proofs.Memories.{add-keeps-whole, remove-keeps-whole, same-nodes, whole-table}
+use Rattle.rules.proofs.Formed.{removed-formed}
+use Rattle.rules.proofs.Memories.{add-keeps-whole, remove-keeps-whole, same-nodes, whole-profile, whole-table}
 use Rattle.rules.proofs.Refusing.{whole-bytes}
 use Rattle.rules.proofs.Tables.{numbers-remove}
 use Rattle.table.proofs.Tables.{table-obeys}
@@ -200,7 +201,7 @@ module _ (g t : Bytes) (v : validBoth g t ≡ true) where
       same = numbers-remove (carefulDue x now grace) (w .table)
 
       obeyed : obeysWhole (withTable after w) ≡ true
-      obeyed = let o = whole-obeys t both-table in same-nodes w o after (remove-keeps (carefulDue x now grace) (w .table) (whole-table w o)) same
+      obeyed = let o = whole-obeys t both-table in same-nodes w o after (remove-keeps (carefulDue x now grace) (w .table) (whole-table w o)) (removed-formed (w .kind .profile) (carefulDue x now grace) (w .table) (whole-profile w o)) same
 
       go : (b c : Bool)
           → validBoth g (pick b (pick c (given plain.Done (encodeWhole (withTable after w))) (given (plain.Refused NobodyPresent) t)) (given (plain.Refused BadTable) t) .lent) ≡ true

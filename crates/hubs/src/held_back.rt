@@ -8,6 +8,7 @@ use lookup::Found;
 use rules::Applied;
 use rules::Computed;
 use rules::Mode;
+use rules::Profile;
 use rules::Status;
 use rules::Written;
 use rules::wire;
@@ -26,7 +27,7 @@ const DIGEST: usize = wire::COUNT_WIDTH + wire::ENTRY_WIDTH;
 const LATE: usize = wire::NODE_WIDTH + 25;
 
 fn open(hub: &mut [u8], mode: Mode) {
-    say::done(nodes::new_table(hub, mode));
+    say::done(nodes::new_table(hub, mode, Profile::Free));
     say::done(nodes::add_node(hub, METER));
 }
 

@@ -8,6 +8,7 @@ use inspect::NodeHeader;
 use inspect::RecordRead;
 use inspect_text::Text;
 use rules::Mode;
+use rules::Profile;
 use rules::Status;
 use rules::wire;
 use table::layout;
@@ -19,7 +20,7 @@ const METER: u64 = 7;
 const MTU: usize = 1000;
 
 fn open(hub: &mut [u8], mode: Mode) {
-    say::done(nodes::new_table(hub, mode));
+    say::done(nodes::new_table(hub, mode, Profile::Free));
     say::done(nodes::add_node(hub, METER));
 }
 

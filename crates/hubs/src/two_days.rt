@@ -11,6 +11,7 @@ use inspect::RecordRead;
 use inspect_text::Text;
 use rules::Header;
 use rules::Mode;
+use rules::Profile;
 use rules::Refusal;
 use rules::Status;
 use rules::sizes;
@@ -28,7 +29,7 @@ const MTU: usize = 135;
 // ---- the first hub's readings
 
 fn open(hub: &mut [u8]) {
-    say::done(nodes::new_table(hub, Mode::Plain));
+    say::done(nodes::new_table(hub, Mode::Plain, Profile::Free));
     say::done(nodes::add_node(hub, POWER));
     say::done(nodes::add_node(hub, WATER));
 }

@@ -1,4 +1,4 @@
--- What is told of numbers: a table made in the mode of a number, an override written under the status of a number. Assumes nothing.
+-- What is told of numbers: a table made in the mode and the profile of two numbers, an override written under the status of a number. Assumes nothing.
 use Prim.Native.Nat.{ℕ}
 use mathlib.Core.Path.{_≡_, refl, ap, ap₂, sym, _∙_}
 use mathlib.Core.Bool.{Bool, true, false}
@@ -6,17 +6,17 @@ use mathlib.Core.List.{List}
 use lib.Dec.{eqb}
 use borrow.Author.Tests.{eqb-true, eq-eqb}
 use Rattle.fields.specs.Choice.{pick}
-use Rattle.fields.proofs.Choice.{pick-true, pick-false}
-use Rattle.rules.specs.Answers.{modeOf}
+use Rattle.rules.specs.Answers.{modeOf, profileOf}
 use Rattle.rules.specs.Given.{Given, Gives, given}
 use Rattle.rules.specs.Node.{Node, Setting, SettingTtl}
 use Rattle.rules.specs.Table.{Entry, Table}
 use Rattle.rules.specs.Delta.{statusByte}
 use Rattle.rules.specs.Layout.{decodeNode}
-use Rattle.rules.specs.Whole.{modeOfByte, decodeWhole, validWhole}
-use Rattle.rules.specs.declared.Answer.{Answer}
+use Rattle.rules.specs.Profile.{kind}
+use Rattle.rules.specs.Whole.{modeOfByte, profileOfByte, decodeWhole, validWhole}
 use Rattle.rules.specs.declared.Answer.the-variants.{Refused}
 use Rattle.rules.specs.declared.Mode.{Mode}
+use Rattle.rules.specs.declared.Profile.{Profile}
 use Rattle.rules.specs.declared.Refusal.the-variants.{BadTable, BadTag}
 use Rattle.rules.specs.declared.Status.{Status}
 use Rattle.rules.specs.declared.Status.the-variants.{Set, Delete, Ttl}
@@ -28,26 +28,42 @@ use Rattle.overrides.specs.declared.Which.{Which}
 use Rattle.overrides.proofs.Both.{good-both, good-both-fills}
 use Rattle.library.specs.Numbers.{madeBy}
 
-module _ (n : ℕ) (l : List ℕ) (m : Mode) (e : m ≡ modeOfByte n) (b : ℕ) (q : b ≡ modeOf m) where
+-- a test of two numbers
+same-not : (x n : ℕ) → (x ≡ n → ⊥) → eqb x n ≡ false
+same-not x n h = go (eqb x n) refl
+  where
+    go : (b : Bool) → eqb x n ≡ b → eqb x n ≡ false
+    go true p = absurd (h (eqb-true x n p))
+    go false p = p
+
+module _ (n o : ℕ) (l : List ℕ) (m : Mode) (e : m ≡ modeOfByte n) (b : ℕ) (q : b ≡ modeOf m) where
   back : b ≡ modeOf (modeOfByte n)
   back = q ∙ ap modeOf e
 
-  pub no-mode : (b ≡ n → ⊥) → Gives (madeBy n l) (Refused BadTable) l
+  pub no-mode : (b ≡ n → ⊥) → Gives (madeBy n o l) (Refused BadTable) l
   unfolding madeBy
-  no-mode h =
-      let p : madeBy n l ≡ given (Refused BadTable) l =
-      pick-false (eqb (modeOf (modeOfByte n)) n) (lentMade (modeOfByte n) l) (given (Refused BadTable) l) (go (eqb (modeOf (modeOfByte n)) n) refl) in
-      (ap (λ (o : Given Answer (List ℕ)). o .answer) (sym p), ap (λ (o : Given Answer (List ℕ)). o .lent) (sym p))
-    where
-      go : (x : Bool) → eqb (modeOf (modeOfByte n)) n ≡ x → eqb (modeOf (modeOfByte n)) n ≡ false
-      go true p = absurd (h (back ∙ eqb-true (modeOf (modeOfByte n)) n p))
-      go false p = p
+  no-mode h = let t : eqb (modeOf (modeOfByte n)) n ≡ false = same-not (modeOf (modeOfByte n)) n (λ p. h (back ∙ p)) in (rw (madeBy, t) refl, rw (madeBy, t) refl)
 
-  pub made-in : b ≡ n → lentMade m l ≡ madeBy n l
-  unfolding madeBy
-  made-in h =
-      ap (λ (x : Mode). lentMade x l) e
-      ∙ sym (pick-true (eqb (modeOf (modeOfByte n)) n) (lentMade (modeOfByte n) l) (given (Refused BadTable) l) (eq-eqb (modeOf (modeOfByte n)) n (sym back ∙ h)))
+  module _ (in-mode : b ≡ n) (p : Profile) (i : p ≡ profileOfByte o) (c : ℕ) (f : c ≡ profileOf p) where
+    back-too : c ≡ profileOf (profileOfByte o)
+    back-too = f ∙ ap profileOf i
+
+    mode-is : eqb (modeOf (modeOfByte n)) n ≡ true
+    mode-is = eq-eqb (modeOf (modeOfByte n)) n (sym back ∙ in-mode)
+
+    pub no-profile : (c ≡ o → ⊥) → Gives (madeBy n o l) (Refused BadTable) l
+    unfolding madeBy
+    no-profile h =
+        let s = mode-is in
+        let t : eqb (profileOf (profileOfByte o)) o ≡ false = same-not (profileOf (profileOfByte o)) o (λ y. h (back-too ∙ y)) in
+        (rw (madeBy, s, t) refl, rw (madeBy, s, t) refl)
+
+    pub made-in : c ≡ o → lentMade (kind m p) l ≡ madeBy n o l
+    unfolding madeBy
+    made-in h =
+        let s = mode-is in
+        let t : eqb (profileOf (profileOfByte o)) o ≡ true = eq-eqb (profileOf (profileOfByte o)) o (sym back-too ∙ h) in
+        ap₂ (λ (x : Mode) (y : Profile). lentMade (kind x y) l) e i ∙ (rw (madeBy, s, t) refl)
 
 -- a number stands for its status, or is 10 too, as in a write to a table
 module _ (v : List ℕ) (now : ℕ) (k : List ℕ) (n : ℕ) where

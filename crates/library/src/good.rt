@@ -13,11 +13,7 @@ use answers::KevNode;
 use answers::KevRecord;
 use answers::KevRows;
 use inspect_text::Text;
-use local_node::Kind;
-use rules::Applied;
-use rules::DeltaRead;
 use rules::Heartbeat;
-use rules::Refusal;
 use table::layout;
 ghost use mathlib.Core.Bool.{true};
 ghost use mathlib.Core.Path.{_≡_};
@@ -76,7 +72,7 @@ pub extern "C" fn kev_good_last_heartbeat(table: &[u8], number: u64) -> KevHeart
 
 // ---- local calls
 
-// The key's record takes this value under the wanted status, 0 Set or 2 TTL: 10, 2, 1, 5, 6.
+// The key's record takes this value under the wanted status, 0 Set or 2 TTL: 10, 2, 1, 17, 18, 5, 6.
 #[no_mangle]
 pub extern "C" fn kev_good_write(
     table: &mut [u8],
@@ -90,14 +86,7 @@ pub extern "C" fn kev_good_write(
     ensures { λ r. ⌜ Gives (shownAs answerTold numberShown (lentWrite wanted (now (value .entry)) clock number (now (key .entry)) (now (table .entry))))
         r (now (table .exit)) ⌝ }
 {
-    answers::number(local::write_good(
-        &mut table[..layout::AREA],
-        number,
-        key,
-        value,
-        local::wanted(wanted),
-        clock,
-    ))
+    answers::number(local::write_known(table, number, key, value, local::wanted(wanted), clock))
 }
 
 // The key's record is emptied, hidden and scheduled: 2, 1, 3, 6.
@@ -107,14 +96,7 @@ pub extern "C" fn kev_good_delete(table: &mut [u8], number: u64, key: &[u8], clo
     ensures { λ r. ⌜ Gives (shownAs answerTold numberShown (lentCall (Deleting clock) number (now (key .entry)) (now (table .entry))))
         r (now (table .exit)) ⌝ }
 {
-    answers::number(local::call_good(
-        &mut table[..layout::AREA],
-        number,
-        Kind::Deleting,
-        key,
-        b"",
-        clock,
-    ))
+    answers::number(local::delete_known(table, number, key, clock))
 }
 
 // The key's record keeps its value and is scheduled: 2, 1, 3, 6.
@@ -129,14 +111,7 @@ pub extern "C" fn kev_good_delete_after_ttl(
     ensures { λ r. ⌜ Gives (shownAs answerTold numberShown (lentCall (DeletingAfterTtl clock) number (now (key .entry)) (now (table .entry))))
         r (now (table .exit)) ⌝ }
 {
-    answers::number(local::call_good(
-        &mut table[..layout::AREA],
-        number,
-        Kind::DeletingAfterTtl,
-        key,
-        b"",
-        clock,
-    ))
+    answers::number(local::delete_after_ttl_known(table, number, key, clock))
 }
 
 // The scheduled records whose grace is over go, of all nodes.
@@ -447,7 +422,7 @@ pub extern "C" fn kev_good_plan_fault(
     ))
 }
 
-// A delta taken into the table, an answer for each node delta: 13, 9, 1, 10, 11, 12, 8.
+// A delta taken into the table, an answer for each node delta: 13, 9, 1, 10, 11, 12, 17, 8.
 #[no_mangle]
 pub extern "C" fn kev_good_apply(
     table: &mut [u8],
@@ -459,19 +434,5 @@ pub extern "C" fn kev_good_apply(
     ensures { λ r. ⌜ Gives (shownAs appliedTold appliedShown (lentApply (now (delta .entry)) clock (now (answers .entry)) (now (table .entry))))
         r (both (now (table .exit)) (now (answers .exit))) ⌝ }
 {
-    let read = delta_read::read_delta(delta);
-    match read {
-        DeltaRead::Refused { why, at } => answers::applied(Applied::Refused { why, at }),
-        DeltaRead::Good { ops: _, nodes } => {
-            if answers.len() < nodes {
-                return answers::applied(Applied::Refused {
-                    why: Refusal::NoPlace,
-                    at: 0,
-                });
-            }
-            let mode = apply::mode_of(table);
-            apply::apply_good(&mut table[..layout::AREA], mode, delta, clock, answers);
-            answers::applied(Applied::Nodes(nodes))
-        }
-    }
+    answers::applied(apply::apply_known(table, delta, clock, answers))
 }

@@ -21,6 +21,7 @@ use answers::KevRows;
 use inspect_text::Text;
 use rules::Heartbeat;
 use rules::Mode;
+use rules::Profile;
 use rules::Refusal;
 ghost use mathlib.Core.Path.{_≡_};
 ghost use Rattle.rules.specs.Answers.{answerTold, offeredTold, rememberedTold, listedTold, writtenTold, computedTold, readTold, appliedTold};
@@ -71,16 +72,20 @@ pub extern "C" fn kev_check(table: &[u8]) -> u64
     Refusal::BadTable.number()
 }
 
-// The slice becomes an empty table in the mode of this number: 14 where that is the number of none, or the slice is not as long as a table.
+// The slice becomes an empty table in the mode and the profile of these numbers: 14 where one is the number of none, or the slice is not as long as a table.
 #[no_mangle]
-pub extern "C" fn kev_new_table(table: &mut [u8], mode: usize) -> u64
-    ensures { λ r. ⌜ Gives (shownAs answerTold numberShown (madeBy mode (now (table .entry)))) r (now (table .exit)) ⌝ }
+pub extern "C" fn kev_new_table(table: &mut [u8], mode: usize, profile: usize) -> u64
+    ensures { λ r. ⌜ Gives (shownAs answerTold numberShown (madeBy mode profile (now (table .entry)))) r (now (table .exit)) ⌝ }
 {
     let chosen = Mode::of_byte(mode);
+    let form = Profile::of_byte(profile);
     if chosen.byte() != mode {
         return Refusal::BadTable.number();
     }
-    answers::number(nodes::new_table(table, chosen))
+    if form.byte() != profile {
+        return Refusal::BadTable.number();
+    }
+    answers::number(nodes::new_table(table, chosen, form))
 }
 
 // ---- the table and its nodes
@@ -111,7 +116,7 @@ pub extern "C" fn kev_last_heartbeat(table: &[u8], number: u64) -> KevHeartbeat
 
 // ---- local calls
 
-// The key's record takes this value under the wanted status, 0 Set or 2 TTL: 14, 10, 2, 1, 5, 6.
+// The key's record takes this value under the wanted status, 0 Set or 2 TTL: 14, 10, 2, 1, 17, 18, 5, 6.
 #[no_mangle]
 pub extern "C" fn kev_write(
     table: &mut [u8],
@@ -470,7 +475,7 @@ pub extern "C" fn kev_plan_fault(
     answers::judged(compute_plan::plan_fault(table, edition, digest, mtu, excluded, nodes, counts))
 }
 
-// A delta taken into the table, an answer for each node delta: 14, 13, 9, 1, 10, 11, 12, 8.
+// A delta taken into the table, an answer for each node delta: 14, 13, 9, 1, 10, 11, 12, 17, 8.
 #[no_mangle]
 pub extern "C" fn kev_apply(
     table: &mut [u8],

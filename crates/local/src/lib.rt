@@ -1,14 +1,18 @@
 // The local calls that give a version, on a lent table: the write, delete, delete after TTL. The write takes the wanted status, Set or TTL. The entry points
 // take any bytes and refuse in document 01's order: 14, for the write then 10, then 2, then what the node's rules say (crate `local_node`): 1, 3, nothing
-// to change, 5, 6. A refused call changes no byte. A name with `good` in it is for a table known to be good, so that a caller need not pay for the check again.
+// to change, 5, 6. In a table of the meter profile (crate `local_guard`) a write is refused with 17 straight behind 1, and with 18 before 5. A refused call
+// changes no byte. A name with `known` in it is for a table known to be good, so that a caller need not pay for the check again.
+use local_guard::Guarded;
 use local_node::Kind;
 use rules::Answer;
+use rules::Profile;
 use rules::Refusal;
 use rules::Status;
 use table::layout;
 use table_read::Span;
 ghost use mathlib.Core.Path.{_≡_};
 ghost use mathlib.Core.Bool.{true};
+ghost use mathlib.Core.Option.{none};
 ghost use Rattle.rules.specs.Answers.{answerTold};
 ghost use Rattle.rules.specs.Given.{Gives, Tells};
 ghost use Rattle.rules.specs.Node.{Deleting, DeletingAfterTtl};
@@ -16,11 +20,14 @@ ghost use Rattle.rules.specs.Local as rule;
 ghost use Rattle.rules.specs.Delta.{statusByte};
 ghost use Rattle.rules.specs.Lent.{stored, lentCall, lentWrite};
 ghost use Rattle.rules.specs.Layout.{decode, valid};
+ghost use Rattle.rules.specs.Whole.{areaOf, decodeWhole, validWhole};
+ghost use Rattle.rules.specs.Profile.{guardIn};
+ghost use Rattle.rules.specs.Table.{nodeOf};
 ghost use Rattle.local_node.specs.Writes.{callOf};
 ghost use Rattle.local.specs.Wanted.{askedBy, wantedOf};
 
 // One of document 01's four calls at a key of a node of a good table: 2, then what the node's rules say.
-pub fn call_good(
+fn call_good(
     table: &mut [u8],
     number: u64,
     kind: Kind,
@@ -40,13 +47,66 @@ pub fn call_good(
     }
 }
 
+// The same on a whole table whose profile lets the call through.
+fn call_let(
+    table: &mut [u8],
+    number: u64,
+    kind: Kind,
+    key: &[u8],
+    value: &[u8],
+    clock: u64,
+) -> Answer
+    requires { ⌜ (validWhole (now table) ≡ true)
+        × (guardIn (decodeWhole (now table) .kind .profile) (callOf kind (now value) clock) (now key) (nodeOf number (decode (areaOf (now table)))) ≡ none) ⌝ }
+    ensures { λ r. ⌜ Gives (lentCall (callOf kind (now (value .entry)) clock) number (now (key .entry)) (now (table .entry))) r (now (table .exit)) ⌝ }
+{
+    call_good(&mut table[..layout::AREA], number, kind, key, value, clock)
+}
+
+// The same in the table's profile: what this refuses, then the call.
+fn call_guarded(
+    table: &mut [u8],
+    number: u64,
+    kind: Kind,
+    key: &[u8],
+    value: &[u8],
+    clock: u64,
+) -> Answer
+    requires { ⌜ validWhole (now table) ≡ true ⌝ }
+    ensures { λ r. ⌜ Gives (lentCall (callOf kind (now (value .entry)) clock) number (now (key .entry)) (now (table .entry))) r (now (table .exit)) ⌝ }
+{
+    let profile = profile_check::profile_of(table);
+    match local_guard::guard(&table[..layout::AREA], profile, number, kind, key, value) {
+        Guarded::Passed => call_good(&mut table[..layout::AREA], number, kind, key, value, clock),
+        Guarded::Refused(why) => Answer::Refused(why),
+    }
+}
+
+// The same. A free table lets all through, and pays one compare.
+fn call_known(
+    table: &mut [u8],
+    number: u64,
+    kind: Kind,
+    key: &[u8],
+    value: &[u8],
+    clock: u64,
+) -> Answer
+    requires { ⌜ validWhole (now table) ≡ true ⌝ }
+    ensures { λ r. ⌜ Gives (lentCall (callOf kind (now (value .entry)) clock) number (now (key .entry)) (now (table .entry))) r (now (table .exit)) ⌝ }
+{
+    match profile_check::profile_of(table) {
+        Profile::Free => call_let(table, number, kind, key, value, clock),
+        Profile::Meter => call_guarded(table, number, kind, key, value, clock),
+    }
+}
+
 // One of the four calls on any bytes.
 fn call(table: &mut [u8], number: u64, kind: Kind, key: &[u8], value: &[u8], clock: u64) -> Answer
     ensures { λ r. ⌜ Tells answerTold (lentCall (callOf kind (now (value .entry)) clock) number (now (key .entry)) (now (table .entry)))
         r (now (table .exit)) ⌝ }
 {
     if table_check::check_table(table) {
-        return call_good(&mut table[..layout::AREA], number, kind, key, value, clock);
+        return call_guarded(table, number, kind, key, value, clock);
     }
     Answer::Refused(Refusal::BadTable)
 }
@@ -83,7 +143,7 @@ pub fn wanted(n: u64) -> Status
 }
 
 // The write on a good table: 10, then as the call that it asks for.
-pub fn write_good(
+fn write_guarded(
     table: &mut [u8],
     number: u64,
     key: &[u8],
@@ -91,13 +151,31 @@ pub fn write_good(
     wanted: Status,
     clock: u64,
 ) -> Answer
-    requires { ⌜ valid (now table) ≡ true ⌝ }
-    ensures { λ r. ⌜ Gives
-        (stored (rule.write (statusByte wanted) (now (value .entry)) clock number (now (key .entry)) (decode (now (table .entry)))))
+    requires { ⌜ validWhole (now table) ≡ true ⌝ }
+    ensures { λ r. ⌜ Gives (lentWrite (statusByte wanted) (now (value .entry)) clock number (now (key .entry)) (now (table .entry)))
         r (now (table .exit)) ⌝ }
 {
     match asked_call(wanted) {
-        Asked::Call(kind) => call_good(table, number, kind, key, value, clock),
+        Asked::Call(kind) => call_guarded(table, number, kind, key, value, clock),
+        Asked::Nothing => Answer::Refused(Refusal::BadTag),
+    }
+}
+
+// The same, without a step aside where the table is free.
+pub fn write_known(
+    table: &mut [u8],
+    number: u64,
+    key: &[u8],
+    value: &[u8],
+    wanted: Status,
+    clock: u64,
+) -> Answer
+    requires { ⌜ validWhole (now table) ≡ true ⌝ }
+    ensures { λ r. ⌜ Gives (lentWrite (statusByte wanted) (now (value .entry)) clock number (now (key .entry)) (now (table .entry)))
+        r (now (table .exit)) ⌝ }
+{
+    match asked_call(wanted) {
+        Asked::Call(kind) => call_known(table, number, kind, key, value, clock),
         Asked::Nothing => Answer::Refused(Refusal::BadTag),
     }
 }
@@ -117,19 +195,27 @@ pub fn write(
         r (now (table .exit)) ⌝ }
 {
     if table_check::check_table(table) {
-        return write_good(
-            &mut table[..layout::AREA],
-            number,
-            key,
-            value,
-            wanted,
-            clock,
-        );
+        return write_guarded(table, number, key, value, wanted, clock);
     }
     Answer::Refused(Refusal::BadTable)
 }
 
 // ---- the deletes
+
+// The two on a good table. Every profile lets them through.
+pub fn delete_known(table: &mut [u8], number: u64, key: &[u8], clock: u64) -> Answer
+    requires { ⌜ validWhole (now table) ≡ true ⌝ }
+    ensures { λ r. ⌜ Gives (lentCall (Deleting clock) number (now (key .entry)) (now (table .entry))) r (now (table .exit)) ⌝ }
+{
+    call_let(table, number, Kind::Deleting, key, b"", clock)
+}
+
+pub fn delete_after_ttl_known(table: &mut [u8], number: u64, key: &[u8], clock: u64) -> Answer
+    requires { ⌜ validWhole (now table) ≡ true ⌝ }
+    ensures { λ r. ⌜ Gives (lentCall (DeletingAfterTtl clock) number (now (key .entry)) (now (table .entry))) r (now (table .exit)) ⌝ }
+{
+    call_let(table, number, Kind::DeletingAfterTtl, key, b"", clock)
+}
 
 // Delete: the key's record is emptied and hidden, and scheduled from this time on.
 pub fn delete(table: &mut [u8], number: u64, key: &[u8], clock: u64) -> Answer

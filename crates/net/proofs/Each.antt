@@ -13,11 +13,13 @@ use Rattle.rules.proofs.Obeys.{Ascending}
 use Rattle.rules.proofs.Tables.{applied-table, node-set-other, node-set-same, partAt, taking}
 use Rattle.rules.specs.Apply.{Lawful, Taken, Ways, apply, applyEach, applyNode}
 use Rattle.rules.specs.Delta.{Good, NodeDelta, Op, nothingRead, partsOf}
-use Rattle.rules.specs.Local.{add, call, callOn, localBeat, offer, removeNode}
+use Rattle.rules.specs.Local.{add, call, callAs, callOn, localBeat, offer, removeNode}
 use Rattle.rules.specs.Node.{Call, Decision, KeyValue, Node, Rec, act, decide, fresh, remove, withHeartbeat}
 use Rattle.rules.specs.Table.{Table, nodeOf, numbersOf, setNode}
 use Rattle.rules.specs.declared.Heartbeat.{Heartbeat}
+use Rattle.rules.specs.declared.Profile.{Profile}
 use Rattle.demand3.proofs.EachNode.{Beaten, beaten-local, beaten-offer, node-taken, nodeAt, orFresh}
+use Rattle.demand3.proofs.Formed.{by-guard}
 use Rattle.demand3.proofs.Forms.{removed-node}
 use Rattle.demand3.proofs.Moments.{read-once}
 use Rattle.demand3.specs.Forms.{Removal, removedBy}
@@ -47,9 +49,10 @@ module _ (w : Net) (R : ℕ → ℕ → Node → Node → Type 0) (same : (x i :
           subst (R x i (nodeAt i t)) is (subst (λ (y : Node). R x i y m) was (subst (λ (y : ℕ). R x y n m) (sym k) r))
       go false q = subst (R x i (nodeAt i t)) (sym (ap orFresh (node-set-other i j m t q))) (same x i (nodeAt i t))
 
-  pub each-call : (c : Call) (x j : ℕ) (k : List ℕ) → ((n : Node) (z : Decision) → R x j n (act k z n)) → Each x (call c j k (w .hubs x) .table)
+  -- in any profile
+  pub each-call : (p : Profile) (c : Call) (x j : ℕ) (k : List ℕ) → ((n : Node) (z : Decision) → R x j n (act k z n)) → Each x (callAs p c j k (w .hubs x) .table)
   unfolding call
-  each-call c x j k f = go (nodeOf j (w .hubs x)) refl
+  each-call p c x j k f = by-guard p c j k (w .hubs x) (λ u g. Each x u) (each-same x) (go (nodeOf j (w .hubs x)) refl)
     where
       go : (o : Option Node) → nodeOf j (w .hubs x) ≡ o → Each x (callOn c j k o (w .hubs x) .table)
       go none q = each-same x

@@ -20,22 +20,24 @@ use Rattle.rules.proofs.Taking.{Applies}
 use Rattle.rules.specs.Apply.{Lawful, Taken, Ways, apply, applyEach, applyNode}
 use Rattle.rules.specs.Delta.{Good, NodeDelta, Op, deltaBytes, nothingRead, partsOf}
 use Rattle.rules.specs.Given.{Given}
-use Rattle.rules.specs.Local.{add, call, callOn, removeNode}
+use Rattle.rules.specs.Local.{add, call, callAs, callOn, removeNode}
 use Rattle.rules.specs.Node.{Call, Decision, Give, KeyValue, Leave, Node, Rec, Refuse, act, decide, due, fresh}
 use Rattle.rules.specs.Sizes.{numbers}
 use Rattle.rules.specs.Table.{Entry, Table, nodeOf, removeAll, setNode}
 use Rattle.rules.specs.declared.Computed.{Computed}
+use Rattle.rules.specs.declared.Profile.{Profile}
 use Rattle.demand3.proofs.Computing.{computed-honest}
 use Rattle.demand3.proofs.EachNode.{Beaten, beaten-local, beaten-offer, node-taken, nodeAt, orFresh, removed}
 use Rattle.demand3.proofs.History.{Numbered}
 use Rattle.demand3.proofs.Honest.{HonestDelta, HonestNode, delta-grows, fresh-honest, node-beat, node-grows, node-remove}
 use Rattle.demand3.proofs.Moments.{ReadsWell, clock-fits, kept, nth-sent, read-once}
+use Rattle.demand3.proofs.Formed.{by-guard}
 use Rattle.demand3.proofs.Forms.{Comes, comes, refuses, removal-is, writes}
 use Rattle.demand3.proofs.OnTheWay.{Sendable}
 use Rattle.demand3.proofs.Publisher.{Publisher, next-version, publisher-beat, publisher-fresh, publisher-remove, publisher-write}
 use Rattle.demand3.proofs.Step.{node-apply}
 use Rattle.demand3.specs.Forms.{Order}
-use Rattle.demand3.specs.World.{appliedTo, givenAfter, givenBy, givenIn, nthSent, sentAfter, timeOf}
+use Rattle.demand3.specs.World.{appliedTo, givenAfter, givenAs, givenBy, givenIn, nthSent, sentAfter, timeOf}
 use Rattle.net.proofs.Coming.{node-added, node-dropped}
 use Rattle.net.proofs.Owners.{owner-again, owner-stays}
 use Rattle.net.specs.Net.{Adding, Arriving, Beating, Computing, Dropping, Event, Net, Offering, Plan, Ready, Removing, Restoring, Saving, Writing, after, begin, calls, happen, hasMax, nothingLost, placed, possible, restored, withTable}
@@ -234,7 +236,7 @@ module _ (owner : ℕ → ℕ) (w : Net) (ok : Moment owner w) where
         more j true q = adds z (h j) (owns j q)
         more j false q = as-long
 
-    -- on a node that it does not have
+    -- on a node that it does not have, or out of its profile
     nowhere : Moment owner (record { hubs = λ y. pick (eqb y x) t (w .hubs y); given = λ j. pick (eqb j i) (h j) (h j); sent = w .sent; saved = w .saved })
     nowhere = grown x t (λ j. pick (eqb j i) (h j) (h j)) (ok .tables x .obeyed) (λ j. fits j (eqb j i)) (λ j f. same j (eqb j i)) (λ j. more j (eqb j i))
       where
@@ -250,13 +252,19 @@ module _ (owner : ℕ → ℕ) (w : Net) (ok : Moment owner w) where
         fits j true = fits-now x j
         fits j false = fits-now x j
 
-    moment-writing : (c : Call) → timeOf c < numbers → Moment owner (record { hubs = λ y. pick (eqb y x) (call c i k t .table) (w .hubs y); given = λ j. pick (eqb j i) (givenIn k c (nodeOf i t) (h j)) (h j); sent = w .sent; saved = w .saved })
+    abbrev Written : Table → (List KeyValue → List KeyValue) → Type 0
+    Written u g = Moment owner (record { hubs = λ y. pick (eqb y x) u (w .hubs y); given = λ j. pick (eqb j i) (g (h j)) (h j); sent = w .sent; saved = w .saved })
+
+    called : (c : Call) → timeOf c < numbers → Written (call c i k t .table) (givenIn k c (nodeOf i t))
     unfolding call
-    moment-writing c clock = go (nodeOf i t) refl (kept t _ (call-keeps c i k t (clock-fits c clock)) (ok .tables x .obeyed))
+    called c clock = go (nodeOf i t) refl (kept t _ (call-keeps c i k t (clock-fits c clock)) (ok .tables x .obeyed))
       where
         go : (o : Option Node) → nodeOf i t ≡ o → OkTable (callOn c i k o t .table) → Moment owner (record { hubs = λ y. pick (eqb y x) (callOn c i k o t .table) (w .hubs y); given = λ j. pick (eqb j i) (givenIn k c o (h j)) (h j); sent = w .sent; saved = w .saved })
         go none q okay = nowhere
         go (some p) q okay = decided (decide c k p) p q okay
+
+    moment-writing : (p : Profile) (c : Call) → timeOf c < numbers → Written (callAs p c i k t .table) (givenAs p k c (nodeOf i t))
+    moment-writing p c clock = by-guard p c i k t Written nowhere (called c clock)
 
   -- ---- computing
 
@@ -415,7 +423,7 @@ ready-for plan ready (Restoring x k) = tt
 
 module _ (plan : Plan) (w : Net) (ok : Moment (plan .owner) w) where
   pub moment-calls : (e : Event) → MayCome plan e → possible (plan .owner) e w ≡ true → Moment (plan .owner) (calls plan e w)
-  moment-calls (Writing x i k c) law p = moment-writing (plan .owner) w ok x i k (eqb-true _ _ (and-left _ _ p)) c (ltb-true _ _ (and-right (eqb (plan .owner i) x) _ p))
+  moment-calls (Writing x i k c) law p = moment-writing (plan .owner) w ok x i k (eqb-true _ _ (and-left _ _ p)) (plan .profiles x) c (ltb-true _ _ (and-right (eqb (plan .owner i) x) _ p))
   moment-calls (Beating x j) law p =
       changed (plan .owner) w ok x _ (kept (w .hubs x) _ (beat-keeps j (w .hubs x)) (ok .tables x .obeyed)) (fits-beaten (plan .owner) w ok x _ (λ i. beaten-local i (w .hubs x) j))
   moment-calls (Offering x j b) law p =

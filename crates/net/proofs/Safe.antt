@@ -10,6 +10,7 @@ use Rattle.rules.specs.Apply.{Lawful, fencedWays}
 use Rattle.rules.specs.Delta.{Good, Op, nothingRead, partsOf}
 use Rattle.rules.specs.Node.{Node}
 use Rattle.rules.specs.Table.{nodeOf}
+use Rattle.rules.specs.declared.Profile.{Profile}
 use Rattle.demand3.proofs.EachNode.{orFresh}
 use Rattle.demand3.proofs.Honest.{HonestNode}
 use Rattle.demand3.proofs.Moments.{read-once}
@@ -54,6 +55,6 @@ net-safe plan ready =
       between-moments = λ es fs g x. pairs-rise plan fs (after plan es begin) g x;
     }
 
--- every hub fenced
-pub fenced-net : (owner : ℕ → ℕ) → NetSafe (record { owner = owner; ways = λ x. fencedWays })
-fenced-net owner = net-safe _ (record { lawful = λ x. fenced-lawful; late = λ x. refl })
+-- every hub fenced, in any profiles
+pub fenced-net : (owner : ℕ → ℕ) (profiles : ℕ → Profile) → NetSafe (record { owner = owner; ways = λ x. fencedWays; profiles = profiles })
+fenced-net owner profiles = net-safe _ (record { lawful = λ x. fenced-lawful; late = λ x. refl })

@@ -1,6 +1,6 @@
 -- A net in lent bytes: the bytes of every hub's table, and whatever the hubs' calls do to them. What happens is given by the definitions that the entry points
--- promise (Lent of `rules`) and by nothing else. The events are those of a net of tables (Net). Each table has a mode, chosen when it was made and
--- kept in its bytes; a delta that arrives is applied in the ways of that mode. The theorem is in proofs/LentNet.
+-- promise (Lent of `rules`) and by nothing else. The events are those of a net of tables (Net). Each table has a kind, a mode and a profile, chosen when it was made and
+-- kept in its bytes; a delta that arrives is applied in the ways of that kind, and a write goes by its profile. The theorem is in proofs/LentNet.
 use Prim.Native.Nat.{ℕ}
 use mathlib.Core.Path.{_≡_}
 use mathlib.Core.Bool.{true}
@@ -8,15 +8,19 @@ use mathlib.Core.List.{List, [], _∷_}
 use mathlib.Core.Option.{Option, none, some}
 use lib.Dec.{eqb}
 use Rattle.fields.specs.Numbers.{Bytes}
-use Rattle.fields.specs.Choice.{pick}
+use Rattle.fields.specs.Choice.{_∈_, pick}
 use Rattle.rules.specs.Node.{KeyValue}
 use Rattle.rules.specs.Table.{Table, nodeOf}
-use Rattle.rules.specs.Apply.{waysOf}
+use Rattle.rules.specs.Apply.{waysIn}
 use Rattle.rules.specs.Whole.{decodeWhole, validWhole}
 use Rattle.rules.specs.Lent.{lentAdd, lentRemoveNode, lentCall, lentOffer, lentBeat, lentApply, lentNew}
-use Rattle.rules.specs.declared.Mode.{Mode}
+use Rattle.rules.specs.Profile.{Kind}
+use Rattle.rules.specs.declared.Applied.the-variants as applied
+use Rattle.rules.specs.declared.Profile.{Profile}
+use Rattle.rules.specs.declared.Refusal.{Refusal}
+use Rattle.rules.specs.declared.Refusal.the-variants.{NoPlace}
 use Rattle.demand3.specs.Forms.{lentComputeBy, lentRemovedBy}
-use Rattle.demand3.specs.World.{Exchange, Idle, DigestSent, DeltaSent, givenIn, sentAfter, nthSent}
+use Rattle.demand3.specs.World.{Exchange, Idle, DigestSent, DeltaSent, givenAs, sentAfter, nthSent}
 use Rattle.demand3.specs.Demand3.{AllRise}
 use Rattle.net.specs.Net.{Plan, Net, NetSound, Event, Writing, Beating, Offering, Removing, Adding, Dropping, Computing, Arriving, Saving, Restoring, placed, possible, allGoOn}
 
@@ -28,9 +32,9 @@ pub record LentNet : Type 0 where
   pub sent : List Bytes
   pub saved : ℕ → List Bytes
 
--- new tables, each in its mode
-abbrev pub lentBegin : (modes : ℕ → Mode) → LentNet
-lentBegin modes = record { hubs = λ x. lentNew (modes x); given = λ i. []; sent = []; saved = λ x. [] }
+-- new tables, each of its kind
+abbrev pub lentBegin : (kinds : ℕ → Kind) → LentNet
+lentBegin kinds = record { hubs = λ x. lentNew (kinds x); given = λ i. []; sent = []; saved = λ x. [] }
 
 -- ---- the tables that stand in the bytes
 
@@ -62,7 +66,7 @@ abbrev pub lentCalls : (event : Event) (net : LentNet) → LentNet
 lentCalls (Writing x i k c) w =
     record {
       hubs = λ y. pick (eqb y x) (lentCall c i k (w .hubs x) .lent) (w .hubs y);
-      given = λ j. pick (eqb j i) (givenIn k c (nodeOf i (decodeWhole (w .hubs x) .table)) (w .given j)) (w .given j);
+      given = λ j. pick (eqb j i) (givenAs (decodeWhole (w .hubs x) .kind .profile) k c (nodeOf i (decodeWhole (w .hubs x) .table)) (w .given j)) (w .given j);
       sent = w .sent;
       saved = w .saved;
     }
@@ -92,19 +96,30 @@ lentAfter owner (e ∷ es) w = lentAfter owner es (lentHappen owner e w)
 
 -- ---- what is claimed
 
--- whoever owns which node, and the ways of each hub's mode
-abbrev pub planIn : (owner : ℕ → ℕ) (modes : ℕ → Mode) → Plan
-planIn owner modes = record { owner = owner; ways = λ x. waysOf (modes x) }
+-- whoever owns which node, and the ways and the profile of each hub's kind
+abbrev pub planIn : (owner : ℕ → ℕ) (kinds : ℕ → Kind) → Plan
+planIn owner kinds = record { owner = owner; ways = λ x. waysIn (kinds x); profiles = λ x. kinds x .profile }
 
--- every hub's bytes are a valid table (no call is answered 14) in the mode that it began with, and the tables are as claimed of a net
-pub record LentSound (owner : ℕ → ℕ) (modes : ℕ → Mode) (w : LentNet) : Type 0 where
+-- Where all hubs have one profile, no delta that was ever computed, in document 01's order or by a plan, is refused by any of them with 17: answer places (8) are all that it may lack.
+abbrev pub OneProfile : (kinds : ℕ → Kind) (net : LentNet) → Type 0
+OneProfile kinds w = (p : Profile)
+    → ((x : ℕ) → kinds x .profile ≡ p)
+    → (b : Bytes)
+    → b ∈ w .sent
+    → (x now : ℕ) (answers : Bytes) (why : Refusal) (at : ℕ)
+    → lentApply b now answers (w .hubs x) .answer ≡ applied.Refused why at
+    → why ≡ NoPlace
+
+-- every hub's bytes are a valid table (no call is answered 14) of the kind that it began with, and the tables are as claimed of a net
+pub record LentSound (owner : ℕ → ℕ) (kinds : ℕ → Kind) (w : LentNet) : Type 0 where
   pub valid : (x : ℕ) → validWhole (w .hubs x) ≡ true
-  pub mode-stays : (x : ℕ) → decodeWhole (w .hubs x) .mode ≡ modes x
-  pub sound : NetSound (planIn owner modes) (tablesIn w)
+  pub kind-stays : (x : ℕ) → decodeWhole (w .hubs x) .kind ≡ kinds x
+  pub sound : NetSound (planIn owner kinds) (tablesIn w)
+  pub one-profile : OneProfile kinds w
 
-pub record LentSafe (owner : ℕ → ℕ) (modes : ℕ → Mode) : Type 0 where
-  pub at-every-moment : (es : List Event) → LentSound owner modes (lentAfter owner es (lentBegin modes))
+pub record LentSafe (owner : ℕ → ℕ) (kinds : ℕ → Kind) : Type 0 where
+  pub at-every-moment : (es : List Event) → LentSound owner kinds (lentAfter owner es (lentBegin kinds))
   pub between-moments : (es fs : List Event)
       → allGoOn fs ≡ true
       → (x : ℕ)
-      → AllRise (decodeWhole (lentAfter owner es (lentBegin modes) .hubs x) .table) (decodeWhole (lentAfter owner fs (lentAfter owner es (lentBegin modes)) .hubs x) .table)
+      → AllRise (decodeWhole (lentAfter owner es (lentBegin kinds) .hubs x) .table) (decodeWhole (lentAfter owner fs (lentAfter owner es (lentBegin kinds)) .hubs x) .table)

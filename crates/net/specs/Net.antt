@@ -1,6 +1,6 @@
 -- A net of hubs. Each node has an owner, the one hub that writes it; every other hub may follow it and pass on what it has. Deltas of all of them go to all
 -- of them, late, twice or never, for any digest. Here are the net, what may happen in it, and what is claimed of it. Whatever happens is a call of
--- document 01, as `rules` defines it. That the claims hold where no hub is plain is proved in proofs/Safe; that they fail of plain hubs in
+-- document 01, as `rules` defines it; each hub writes in a profile of its own (document 02, ticket 8). That the claims hold where no hub is plain is proved in proofs/Safe; that they fail of plain hubs in
 -- proofs/Witnesses.
 use Prim.Native.Nat.{ℕ, zero, suc}
 use mathlib.Core.Path.{_≡_}
@@ -13,21 +13,23 @@ use Rattle.fields.specs.Choice.{_∈_, pick, all}
 use Rattle.rules.specs.Sizes.{numbers}
 use Rattle.rules.specs.Node.{KeyValue, Node, Call}
 use Rattle.rules.specs.Table.{Entry, Table, nodeOf, obeys}
-use Rattle.rules.specs.Local.{call, add, removeNode, offer, localBeat}
+use Rattle.rules.specs.Local.{callAs, add, removeNode, offer, localBeat}
 use Rattle.rules.specs.Delta.{Op, Good, Part, partsOf, readDelta}
 use Rattle.rules.specs.Apply.{Ways, Lawful, takenAs, applyNode}
 use Rattle.rules.specs.declared.Heartbeat.{Heartbeat}
 use Rattle.rules.specs.declared.NodeAnswer.the-variants as node
+use Rattle.rules.specs.declared.Profile.{Profile}
 use Rattle.demand3.specs.Forms.{Order, Removal, removedBy}
-use Rattle.demand3.specs.World.{timeOf, givenIn, sentFor, nthSent, appliedTo}
+use Rattle.demand3.specs.World.{timeOf, givenAs, sentFor, nthSent, appliedTo}
 use Rattle.demand3.specs.Demand3.{Claims, AllRise}
 
 -- ---- the net
 
--- the hub that owns each node, and the ways in which each hub applies deltas
+-- the hub that owns each node, the ways in which each hub applies deltas, and the profile in which it writes
 pub record Plan : Type 0 where
   pub owner : ℕ → ℕ
   pub ways : ℕ → Ways
+  pub profiles : ℕ → Profile
 
 -- no hub is plain: each applies in lawful ways in which deltas may come late (fenced, guarded)
 pub record Ready (plan : Plan) : Type 0 where
@@ -107,11 +109,12 @@ abbrev pub restored : (old : Option Table) (table : Table) → Table
 restored none t = t
 restored (some old) t = old
 
+-- a write that the hub's profile refuses (17, 18) changes nothing and gives nothing
 abbrev pub calls : (plan : Plan) (event : Event) (net : Net) → Net
 calls plan (Writing x i k c) w =
     record {
-      hubs = λ y. pick (eqb y x) (call c i k (w .hubs x) .table) (w .hubs y);
-      given = λ j. pick (eqb j i) (givenIn k c (nodeOf i (w .hubs x)) (w .given j)) (w .given j);
+      hubs = λ y. pick (eqb y x) (callAs (plan .profiles x) c i k (w .hubs x) .table) (w .hubs y);
+      given = λ j. pick (eqb j i) (givenAs (plan .profiles x) k c (nodeOf i (w .hubs x)) (w .given j)) (w .given j);
       sent = w .sent;
       saved = w .saved;
     }

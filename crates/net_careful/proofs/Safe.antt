@@ -22,7 +22,7 @@ use Rattle.rules.proofs.Taking.{Came, came, left, reset, took}
 use Rattle.rules.specs.Apply.{Lawful, Ways, answered, applyNode, deltaStatus, newerOf, outcome, plainWays, statusOf, takenAs}
 use Rattle.rules.specs.Delta.{Good, NodeDelta, Op, Ops, deltaBytes, nothingRead, partsOf, readDelta}
 use Rattle.rules.specs.Given.{Given}
-use Rattle.rules.specs.Local.{call}
+use Rattle.rules.specs.Local.{callAs}
 use Rattle.rules.specs.Node.{Decision, Give, Leave, Node, Rec, Refuse, act, due, goes, lastGc, remove, scheduled, write}
 use Rattle.rules.specs.Table.{Table, nodeOf, removeAll}
 use Rattle.rules.specs.declared.Computed.{Computed}
@@ -30,6 +30,7 @@ use Rattle.rules.specs.declared.DeltaStatus.{DeltaStatus}
 use Rattle.rules.specs.declared.DeltaStatus.the-variants.{Apply, ApplyAfterReset, Fenced, Reject}
 use Rattle.rules.specs.declared.NodeAnswer.{NodeAnswer}
 use Rattle.rules.specs.declared.NodeAnswer.the-variants as node
+use Rattle.rules.specs.declared.Profile.{Profile}
 use Rattle.grid.specs.Grid.{Grid, columnAt, columns, maxesTold, ofPresent, placeOf, somebody}
 use Rattle.fields.specs.Widths.{offset}
 use Rattle.grid.specs.GridLayout.{decodeGrid, gridWidths, rowsWidth, validGrid}
@@ -259,7 +260,7 @@ module _ (plan : Plan) (law : (x : ℕ) → Lawful (plan .ways x)) (ms : List �
   eventful : (e : Event) → CarefulEvent ms e v → possible (plan .owner) e v ≡ true → Keeps (calls plan e v)
   unfolding act write
   eventful (Writing x i key c) m p =
-      let each = each-hub v R same x (call c i key (v .hubs x) .table) (each-call v R same c x i key (λ n z. acted key n z)) in
+      let each = each-hub v R same x (callAs (plan .profiles x) c i key (v .hubs x) .table) (each-call v R same (plan .profiles x) c x i key (λ n z. acted key n z)) in
       going _ (moment-calls plan v ok (Writing x i key c) tt p) (record { max-up = λ y i. each y i .0; gc-same = λ y i m. each y i .1 }) (k .sent-low)
     where
       acted : (key : List ℕ) (n : Node) (z : Decision) → R 0 0 n (act key z n)
@@ -362,5 +363,5 @@ careful-safe plan law ms =
     alike a b e = cc
 
 -- every hub plain, as in the Rust
-pub careful-plain : (owner : ℕ → ℕ) (ms : List ℕ) → CarefulSafe (record { owner = owner; ways = λ x. plainWays }) ms
-careful-plain owner ms = careful-safe _ (λ x. plain-lawful) ms
+pub careful-plain : (owner : ℕ → ℕ) (profiles : ℕ → Profile) (ms : List ℕ) → CarefulSafe (record { owner = owner; ways = λ x. plainWays; profiles = profiles }) ms
+careful-plain owner profiles ms = careful-safe _ (λ x. plain-lawful) ms

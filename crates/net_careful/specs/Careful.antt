@@ -1,5 +1,5 @@
 -- Careful nets: every hub removes only carefully (ticket 12), and only while every other hub of the net is among its peers present, with rows that tell
--- nothing which the peer has not. Nobody restores a table or removes a node. Hubs may be in any mode, plain ones too, and every delta ever computed may come
+-- nothing which the peer has not. Nobody restores a table or removes a node. Hubs may be of any kind, plain ones too, and every delta ever computed may come
 -- to any of them, late, twice, in any order. What is claimed of such a net stands here; it is proved in proofs/Safe, of lent bytes in proofs/LentSafe. That a
 -- row which a digest of the peer told, however old, tells nothing which the peer has not, is proved in proofs/Telling.
 use Prim.Native.Nat.{ℕ, _≤_}
@@ -13,7 +13,7 @@ use Rattle.rules.specs.Table.{Table, nodeOf}
 use Rattle.rules.specs.Delta.{Op, Good, Part, partsOf, readDelta}
 use Rattle.rules.specs.Apply.{applyNode}
 use Rattle.rules.specs.Whole.{decodeWhole}
-use Rattle.rules.specs.declared.Mode.{Mode}
+use Rattle.rules.specs.Profile.{Kind}
 use Rattle.rules.specs.declared.NodeAnswer.the-variants as node
 use Rattle.grid.specs.Grid.{Grid, columns, placeOf}
 use Rattle.grid.specs.GridLayout.{decodeGrid}
@@ -85,7 +85,7 @@ pub record CarefulSafe (plan : Plan) (ms : List ℕ) : Type 0 where
       → maxAt i (after plan es begin .hubs x) ≤ maxAt i (after plan fs (after plan es begin) .hubs x)
 
 -- The same of lent bytes: every event is what an entry point promises. The run is told by the tables that stand in the bytes.
-pub record LentCarefulSafe (owner : ℕ → ℕ) (modes : ℕ → Mode) (ms : List ℕ) : Type 0 where
-  pub lent-at-every-moment : (es : List Event) → CarefulRun (planIn owner modes) ms es begin → LentSound owner modes (lentAfter owner es (lentBegin modes))
-  pub lent-same : (es : List Event) → CarefulRun (planIn owner modes) ms es begin → (x : ℕ)
-      → decodeWhole (lentAfter owner es (lentBegin modes) .hubs x) .table ≡ after (planIn owner modes) es begin .hubs x
+pub record LentCarefulSafe (owner : ℕ → ℕ) (kinds : ℕ → Kind) (ms : List ℕ) : Type 0 where
+  pub lent-at-every-moment : (es : List Event) → CarefulRun (planIn owner kinds) ms es begin → LentSound owner kinds (lentAfter owner es (lentBegin kinds))
+  pub lent-same : (es : List Event) → CarefulRun (planIn owner kinds) ms es begin → (x : ℕ)
+      → decodeWhole (lentAfter owner es (lentBegin kinds) .hubs x) .table ≡ after (planIn owner kinds) es begin .hubs x

@@ -11,11 +11,11 @@ use Rattle.fields.proofs.Choice.{and-left, and-right}
 use Rattle.fields.specs.Choice.{_∈_, pick}
 use Rattle.rules.proofs.Records.{gc-rises}
 use Rattle.rules.proofs.Taking.{Came, came, left, reset, took}
-use Rattle.rules.specs.Apply.{outcome, waysOf}
+use Rattle.rules.specs.Apply.{outcome, waysIn}
 use Rattle.rules.specs.Delta.{NodeDelta}
 use Rattle.rules.specs.Node.{Decision, Give, KeyValue, Leave, Node, Refuse, act, remove, write}
 use Rattle.rules.specs.Whole.{decodeWhole}
-use Rattle.rules.specs.declared.Mode.{Mode}
+use Rattle.rules.specs.Profile.{Kind}
 use Rattle.demand3.proofs.EachNode.{nodeAt, orFresh}
 use Rattle.demand3.proofs.Honest.{Current}
 use Rattle.demand3.proofs.Moments.{nth-sent}
@@ -59,7 +59,7 @@ acts x i k n (Give c) = omega arith
 module _ (plan : Plan) (ready : Ready plan) (w : Net) (ok : Moment (plan .owner) w) where
   farther-calls : (e : Event) → goesOn e ≡ true → (y i : ℕ) → Farther y i (nodeAt i (w .hubs y)) (nodeAt i (calls plan e w .hubs y))
   unfolding remove outcome
-  farther-calls (Writing x j k c) g = each-hub w Farther no-farther x _ (each-call w Farther no-farther c x j k (acts x j k))
+  farther-calls (Writing x j k c) g = each-hub w Farther no-farther x _ (each-call w Farther no-farther (plan .profiles x) c x j k (acts x j k))
   farther-calls (Beating x j) g = each-hub w Farther no-farther x _ (each-beat w Farther no-farther x j (λ i n b. omega arith))
   farther-calls (Offering x j b) g = each-hub w Farther no-farther x _ (each-offer w Farther no-farther x j b (λ i n c. omega arith))
   farther-calls (Removing x removal) g =
@@ -111,16 +111,16 @@ never-back plan ready es fs g i x m n p q t told last far s y k =
     at-last (plan .owner) v (moments plan ready fs w ok) i x t told last (omega arith) s (subst (λ (z : Node). Holds z s) (sym (ap orFresh q)) y) k
 
 -- of lent bytes
-pub lent-never-back : (owner : ℕ → ℕ) (modes : ℕ → Mode) → ((x : ℕ) → waysOf (modes x) .late ≡ true) → (es fs : List Event) → allGoOn fs ≡ true → (i x : ℕ)
-    → NeverBack i (lentAfter owner fs (lentAfter owner es (lentBegin modes)) .given i)
-    (decodeWhole (lentAfter owner es (lentBegin modes) .hubs x) .table)
-    (decodeWhole (lentAfter owner fs (lentAfter owner es (lentBegin modes)) .hubs x) .table)
-lent-never-back owner modes late es fs g i x =
-    let plan : Plan = planIn owner modes in
-    let l : LentNet = lentAfter owner es (lentBegin modes) in
-    let r = lent-run owner modes late es in
-    let s = after-lent owner modes late fs l (r .0) (subst (Moment owner) (sym (r .1)) (moments plan (ready owner modes late) es begin (moment-begin owner))) in
+pub lent-never-back : (owner : ℕ → ℕ) (kinds : ℕ → Kind) → ((x : ℕ) → waysIn (kinds x) .late ≡ true) → (es fs : List Event) → allGoOn fs ≡ true → (i x : ℕ)
+    → NeverBack i (lentAfter owner fs (lentAfter owner es (lentBegin kinds)) .given i)
+    (decodeWhole (lentAfter owner es (lentBegin kinds) .hubs x) .table)
+    (decodeWhole (lentAfter owner fs (lentAfter owner es (lentBegin kinds)) .hubs x) .table)
+lent-never-back owner kinds late es fs g i x =
+    let plan : Plan = planIn owner kinds in
+    let l : LentNet = lentAfter owner es (lentBegin kinds) in
+    let r = lent-run owner kinds late es in
+    let s = after-lent owner kinds late fs l (r .0) (subst (Moment owner) (sym (r .1)) (moments plan (ready owner kinds late) es begin (moment-begin owner))) in
     let v : Net = after plan fs (after plan es begin) in
     let e : tablesIn (lentAfter owner fs l) ≡ v = s .1 ∙ ap (after plan fs) (r .1) in
     subst (λ (u : Net). NeverBack i (u .given i) (tablesIn l .hubs x) (u .hubs x)) (sym e)
-    (subst (λ (u : Net). NeverBack i (v .given i) (u .hubs x) (v .hubs x)) (sym (r .1)) (never-back plan (ready owner modes late) es fs g i x))
+    (subst (λ (u : Net). NeverBack i (v .given i) (u .hubs x) (v .hubs x)) (sym (r .1)) (never-back plan (ready owner kinds late) es fs g i x))

@@ -20,20 +20,22 @@ use Rattle.rules.proofs.Tables.{applied-table, node-set-other, node-set-same}
 use Rattle.rules.specs.Apply.{Lawful, Ways, apply, applyEach, applyNode}
 use Rattle.rules.specs.Delta.{Good, Op, deltaBytes, nothingRead, partsOf}
 use Rattle.rules.specs.Given.{Given}
-use Rattle.rules.specs.Local.{call, callOn}
+use Rattle.rules.specs.Local.{call, callAs, callOn}
 use Rattle.rules.specs.Node.{Call, Decision, Give, KeyValue, Leave, Node, Refuse, act, decide, fresh}
 use Rattle.rules.specs.Sizes.{numbers}
 use Rattle.rules.specs.Table.{Entry, Table, nodeOf, setNode}
 use Rattle.rules.specs.declared.Computed.{Computed}
+use Rattle.rules.specs.declared.Profile.{Profile}
 use Rattle.demand3.proofs.Computing.{computed-honest}
 use Rattle.demand3.proofs.EachNode.{nodeAt, orFresh}
+use Rattle.demand3.proofs.Formed.{by-guard}
 use Rattle.demand3.proofs.Forms.{Comes, refuses, writes}
 use Rattle.demand3.proofs.Honest.{HonestDelta, HonestNode}
 use Rattle.demand3.proofs.Moments.{clock-fits, kept, nth-sent}
 use Rattle.demand3.proofs.OnTheWay.{Sendable}
 use Rattle.demand3.proofs.Publisher.{Publisher, next-version, publisher-fresh, publisher-write}
 use Rattle.demand3.specs.Forms.{Order}
-use Rattle.demand3.specs.World.{appliedTo, givenAfter, givenBy, givenIn, nthSent, sentAfter, timeOf}
+use Rattle.demand3.specs.World.{appliedTo, givenAfter, givenAs, givenBy, givenIn, nthSent, sentAfter, timeOf}
 use Rattle.net.proofs.Each.{Each, each-hub, each-same, each-set, each-taken}
 use Rattle.net.proofs.Moments.{Carries, Longer, as-long, longer, one-more, placed-in}
 use Rattle.net.specs.Net.{Net, hasMax, nothingLost, placed, withTable}
@@ -292,7 +294,7 @@ module _ (owner : ℕ → ℕ) (w : Losing) (ok : Firm owner w) where
           saved = ok .saved;
         }
 
-    -- on a node that it does not have
+    -- on a node that it does not have, or out of its profile
     nowhere : Written t (λ j. pick (eqb j i) (h j) (h j))
     nowhere = wrote t (λ j. pick (eqb j i) (h j) (h j)) (ok .obeyed x) (λ y j. fits y j (eqb y x) refl (eqb j i)) (λ j. more j (eqb j i))
       where
@@ -308,9 +310,9 @@ module _ (owner : ℕ → ℕ) (w : Losing) (ok : Firm owner w) where
         more j true = ok .gives j
         more j false = ok .gives j
 
-    pub firm-writing : (c : Call) → timeOf c < numbers → caughtUp (o i) (nodeOf i t) ≡ true → Written (call c i k t .table) (λ j. pick (eqb j i) (givenIn k c (nodeOf i t) (h j)) (h j))
+    called : (c : Call) → timeOf c < numbers → caughtUp (o i) (nodeOf i t) ≡ true → Written (call c i k t .table) (λ j. pick (eqb j i) (givenIn k c (nodeOf i t) (h j)) (h j))
     unfolding call
-    firm-writing c clock up = go (nodeOf i t) refl (kept t _ (call-keeps c i k t (clock-fits c clock)) (ok .obeyed x)) up
+    called c clock up = go (nodeOf i t) refl (kept t _ (call-keeps c i k t (clock-fits c clock)) (ok .obeyed x)) up
       where
         go : (a : Option Node) → nodeOf i t ≡ a → OkTable (callOn c i k a t .table) → caughtUp (o i) a ≡ true → Written (callOn c i k a t .table) (λ j. pick (eqb j i) (givenIn k c a (h j)) (h j))
         go none q okay up = nowhere
@@ -318,6 +320,10 @@ module _ (owner : ℕ → ℕ) (w : Losing) (ok : Firm owner w) where
             let z : Decision = decide c k p in
             let b : length (o i) ≤ p .max = leb-true _ _ up in
             wrote (setNode i (act k z p) t) _ okay (fits p q b z) (more p q b z)
+
+    -- in its profile
+    pub firm-writing : (p : Profile) (c : Call) → timeOf c < numbers → caughtUp (o i) (nodeOf i t) ≡ true → Written (callAs p c i k t .table) (λ j. pick (eqb j i) (givenAs p k c (nodeOf i t) (h j)) (h j))
+    firm-writing p c clock up = by-guard p c i k t (λ u g. Written u (λ j. pick (eqb j i) (g (h j)) (h j))) nowhere (called c clock up)
 
   -- ---- computing, by a hub that has stored what it gave
 

@@ -15,22 +15,23 @@ use Rattle.rules.proofs.Obeys.{facts-table}
 use Rattle.rules.proofs.Tables.{part-in, partAt}
 use Rattle.rules.proofs.Taking.{Applies}
 use Rattle.rules.specs.Compute.{stale}
-use Rattle.rules.specs.Apply.{waysOf}
+use Rattle.rules.specs.Apply.{waysIn}
 use Rattle.rules.specs.Delta.{Good, NodeDelta, Op, Part, deltaBytes, partsOf}
 use Rattle.rules.specs.Given.{Given}
 use Rattle.rules.specs.Node.{Call, Decision, Give, KeyValue, Leave, Node, Refuse, act, decide}
 use Rattle.rules.specs.Table.{Table, nodeOf}
 use Rattle.rules.specs.Whole.{decodeWhole}
 use Rattle.rules.specs.declared.Computed.{Computed}
-use Rattle.rules.specs.declared.Mode.{Mode}
+use Rattle.rules.specs.Profile.{Kind}
 use Rattle.demand3.proofs.EachNode.{nodeAt, orFresh}
+use Rattle.demand3.proofs.Formed.{by-guard}
 use Rattle.demand3.proofs.Forms.{Comes, comes, refuses, writes}
 use Rattle.demand3.proofs.Moments.{ReadsWell, nth-sent}
 use Rattle.demand3.proofs.OnTheWay.{PartFor}
 use Rattle.demand3.proofs.Publisher.{Publisher, all-current, next-version}
 use Rattle.demand3.specs.Demand3.{Holds}
 use Rattle.demand3.specs.Forms.{Order, opsBy}
-use Rattle.demand3.specs.World.{appliedTo, givenAfter, givenBy, givenIn, sentAfter}
+use Rattle.demand3.specs.World.{appliedTo, givenAfter, givenAs, givenBy, givenIn, sentAfter}
 use Rattle.net.proofs.Each.{Each, each-add, each-beat, each-call, each-drop, each-hub, each-offer, each-remove, each-same, each-taken}
 use Rattle.net.proofs.LentNet.{after-lent, lent-run, ready}
 use Rattle.net.proofs.Moments.{Longer, Moment, as-long, longer, moment-begin, moment-event, moments, one-more, placed-in}
@@ -75,7 +76,7 @@ module _ (plan : Plan) (ready : Ready plan) (w : Net) (ok : Moment (plan .owner)
 
   module _ (x i : ℕ) (k : List ℕ) (c : Call) where
     abbrev given : ℕ → List KeyValue
-    given j = pick (eqb j i) (givenIn k c (nodeOf i (w .hubs x)) (w .given j)) (w .given j)
+    given j = pick (eqb j i) (givenAs (plan .profiles x) k c (nodeOf i (w .hubs x)) (w .given j)) (w .given j)
 
     adds : own i ≡ x → (j : ℕ) → Longer (w .given j) (given j)
     adds mine j = go (eqb j i) refl
@@ -92,8 +93,11 @@ module _ (plan : Plan) (ready : Ready plan) (w : Net) (ok : Moment (plan .owner)
             by Leave = as-long
             by (Give a) = longer (givenBy k a p) (next-version (w .given i) p publishes k a)
 
-        go : (b : Bool) → eqb j i ≡ b → Longer (w .given j) (pick b (givenIn k c (nodeOf i (w .hubs x)) (w .given j)) (w .given j))
-        go true q = subst (λ (l : ℕ). Longer (w .given l) (givenIn k c (nodeOf i (w .hubs x)) (w .given l))) (sym (eqb-true _ _ q)) (in-it (nodeOf i (w .hubs x)) refl)
+        in-profile : Longer (w .given i) (givenAs (plan .profiles x) k c (nodeOf i (w .hubs x)) (w .given i))
+        in-profile = by-guard (plan .profiles x) c i k (w .hubs x) (λ u g. Longer (w .given i) (g (w .given i))) as-long (in-it (nodeOf i (w .hubs x)) refl)
+
+        go : (b : Bool) → eqb j i ≡ b → Longer (w .given j) (pick b (givenAs (plan .profiles x) k c (nodeOf i (w .hubs x)) (w .given j)) (w .given j))
+        go true q = subst (λ (l : ℕ). Longer (w .given l) (givenAs (plan .profiles x) k c (nodeOf i (w .hubs x)) (w .given l))) (sym (eqb-true _ _ q)) in-profile
         go false q = as-long
 
     -- the newest record stands
@@ -123,10 +127,10 @@ module _ (plan : Plan) (ready : Ready plan) (w : Net) (ok : Moment (plan .owner)
         hubs = calls plan (Writing x i k c) w .hubs
 
         newest : (z j : ℕ) → Newest (nodeAt j (hubs z))
-        newest z j = each-hub w T (λ z j n t. t) x _ (each-call w T (λ z j n t. t) c x i k (acts x)) z j (y .nodes z j .top)
+        newest z j = each-hub w T (λ z j n t. t) x _ (each-call w T (λ z j n t. t) (plan .profiles x) c x i k (acts x)) z j (y .nodes z j .top)
 
         stays : (z j : ℕ) → (own j ≡ z → ⊥) → nodeAt j (w .hubs z) ≡ nodeAt j (hubs z)
-        stays z j f = each-hub w S (λ z j n e. refl) x _ (each-call w S (λ z j n e. refl) c x i k (λ n e g. absurd (g mine))) z j f
+        stays z j f = each-hub w S (λ z j n e. refl) x _ (each-call w S (λ z j n e. refl) (plan .profiles x) c x i k (λ n e g. absurd (g mine))) z j f
 
         node : (z j : ℕ) (b : Bool) → eqb (own j) z ≡ b → Exact (given j) (nodeAt j (hubs z))
         node z j true q =
@@ -220,7 +224,7 @@ module _ (plan : Plan) (ready : Ready plan) (w : Net) (ok : Moment (plan .owner)
     kept x j n e f a = a
 
     past-calls : (e : Event) → goesOn e ≡ true → possible own e w ≡ true → (z : ℕ) → Each w P kept z (calls plan e w .hubs z)
-    past-calls (Writing x j k c) g p = each-hub w P kept x _ (each-call w P kept c x j k (λ n d e f. absurd (f (eqb-true _ _ (and-left _ _ p)))))
+    past-calls (Writing x j k c) g p = each-hub w P kept x _ (each-call w P kept (plan .profiles x) c x j k (λ n d e f. absurd (f (eqb-true _ _ (and-left _ _ p)))))
     past-calls (Beating x j) g p = each-hub w P kept x _ (each-beat w P kept x j (λ l n b e f a. past-beat s n a b))
     past-calls (Offering x j b) g p = each-hub w P kept x _ (each-offer w P kept x j b (λ l n b e f a. past-beat s n a b))
     past-calls (Removing x removal) g p = each-hub w P kept x _ (each-remove w P kept x removal (λ l due e f a. past-remove s (nodeAt l (w .hubs x)) a due))
@@ -328,17 +332,17 @@ module _ (plan : Plan) (ready : Ready plan) where
           past-run i s fs w ok y v g told x (eqb-false _ _ e) (past-held (w .given i) (nodeAt i (w .hubs x)) (ok .tables x .honest i) s held) .none-older t now k
 
 -- of lent bytes
-pub lent-no-key-falls-uncut : (owner : ℕ → ℕ) (modes : ℕ → Mode) → ((x : ℕ) → waysOf (modes x) .late ≡ true) → (es fs : List Event)
-    → Uncut (planIn owner modes) es begin
-    → Uncut (planIn owner modes) fs (after (planIn owner modes) es begin)
+pub lent-no-key-falls-uncut : (owner : ℕ → ℕ) (kinds : ℕ → Kind) → ((x : ℕ) → waysIn (kinds x) .late ≡ true) → (es fs : List Event)
+    → Uncut (planIn owner kinds) es begin
+    → Uncut (planIn owner kinds) fs (after (planIn owner kinds) es begin)
     → allGoOn fs ≡ true
     → (x : ℕ)
-    → NoKeyFalls (decodeWhole (lentAfter owner es (lentBegin modes) .hubs x) .table) (decodeWhole (lentAfter owner fs (lentAfter owner es (lentBegin modes)) .hubs x) .table)
-lent-no-key-falls-uncut owner modes late es fs u v g x =
-    let plan : Plan = planIn owner modes in
-    let l : LentNet = lentAfter owner es (lentBegin modes) in
-    let r = lent-run owner modes late es in
-    let s = after-lent owner modes late fs l (r .0) (subst (Moment owner) (sym (r .1)) (moments plan (ready owner modes late) es begin (moment-begin owner))) in
+    → NoKeyFalls (decodeWhole (lentAfter owner es (lentBegin kinds) .hubs x) .table) (decodeWhole (lentAfter owner fs (lentAfter owner es (lentBegin kinds)) .hubs x) .table)
+lent-no-key-falls-uncut owner kinds late es fs u v g x =
+    let plan : Plan = planIn owner kinds in
+    let l : LentNet = lentAfter owner es (lentBegin kinds) in
+    let r = lent-run owner kinds late es in
+    let s = after-lent owner kinds late fs l (r .0) (subst (Moment owner) (sym (r .1)) (moments plan (ready owner kinds late) es begin (moment-begin owner))) in
     let e : tablesIn (lentAfter owner fs l) ≡ after plan fs (after plan es begin) = s .1 ∙ ap (after plan fs) (r .1) in
     subst (λ (n : Net). NoKeyFalls (tablesIn l .hubs x) (n .hubs x)) (sym e)
-    (subst (λ (n : Net). NoKeyFalls (n .hubs x) (after plan fs (after plan es begin) .hubs x)) (sym (r .1)) (no-key-falls-uncut plan (ready owner modes late) es fs u v g x))
+    (subst (λ (n : Net). NoKeyFalls (n .hubs x) (after plan fs (after plan es begin) .hubs x)) (sym (r .1)) (no-key-falls-uncut plan (ready owner kinds late) es fs u v g x))

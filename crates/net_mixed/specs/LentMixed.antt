@@ -1,12 +1,12 @@
 -- Mixed nets in lent bytes: the bytes of every hub's table, and whatever the hubs' calls do to them, by the definitions that the entry points promise (Lent of
--- `rules`). What may happen is what may happen in a mixed net of tables (Mixed). A hub is plain where its table's mode is.
+-- `rules`). What may happen is what may happen in a mixed net of tables (Mixed). A hub is plain where its table's mode is; it writes and reads deltas in its table's profile.
 use Prim.Native.Nat.{ℕ}
 use mathlib.Core.Bool.{Bool, not, _&&_}
 use mathlib.Core.List.{List, [], _∷_}
 use lib.Dec.{ltb, eqb}
 use Rattle.fields.specs.Choice.{pick}
 use Rattle.rules.specs.Sizes.{numbers}
-use Rattle.rules.specs.declared.Mode.{Mode}
+use Rattle.rules.specs.Profile.{Kind}
 use Rattle.demand3.specs.Forms.{lentComputeBy}
 use Rattle.demand3.specs.World.{Exchange, Idle, afterDelta}
 use Rattle.net.specs.Net.{Computing}
@@ -17,17 +17,17 @@ pub record LentMixed : Type 0 where
   pub net : LentNet
   pub flights : ℕ → Exchange
 
--- new tables, each in its mode
-abbrev pub lentStart : (modes : ℕ → Mode) → LentMixed
-lentStart modes = record { net = lentBegin modes; flights = λ x. Idle }
+-- new tables, each of its kind
+abbrev pub lentStart : (kinds : ℕ → Kind) → LentMixed
+lentStart kinds = record { net = lentBegin kinds; flights = λ x. Idle }
 
 -- the tables that stand in the bytes
 abbrev pub mixedIn : (mixed : LentMixed) → Mixed
 mixedIn w = record { net = tablesIn (w .net); flights = w .flights }
 
--- the ways of each hub are those of its mode
-abbrev pub castIn : (owner : ℕ → ℕ) (modes : ℕ → Mode) (source : (hub node : ℕ) → ℕ) (steady : (hub node : ℕ) → Bool) → Cast
-castIn owner modes source steady = record { plan = planIn owner modes; source = source; steady = steady }
+-- the ways and the profile of each hub are those of its kind
+abbrev pub castIn : (owner : ℕ → ℕ) (kinds : ℕ → Kind) (source : (hub node : ℕ) → ℕ) (steady : (hub node : ℕ) → Bool) → Cast
+castIn owner kinds source steady = record { plan = planIn owner kinds; source = source; steady = steady }
 
 unfoldable pub lentDoing : (cast : Cast) (doing : Doing) (mixed : LentMixed) → LentMixed
 lentDoing c (Ordinary e) w =

@@ -7,14 +7,15 @@ use Rattle.rules.specs.Apply.{Ways, plainWays}
 use Rattle.rules.specs.Digest.{NodeDigest, digestBytes}
 use Rattle.rules.specs.Node.{Deleting, KeyValue, Setting, SettingTtl, beats}
 use Rattle.rules.specs.Table.{versions}
+use Rattle.rules.specs.declared.Profile.the-variants.{Free}
 use Rattle.rules.specs.declared.Status.the-variants.{Set}
 use Rattle.demand3.proofs.EachNode.{nodeAt}
 use Rattle.demand3.specs.Forms.{ByClock, InLine}
 use Rattle.net.specs.Net.{Adding, Arriving, Computing, Dropping, Event, Net, Plan, Removing, Restoring, Saving, Writing, after, begin, withTable}
 
--- hub 0 owns every node, and all hubs apply in the same ways
+-- hub 0 owns every node, and all hubs apply in the same ways, in the free profile
 abbrev pub alike : Ways → Plan
-alike ways = record { owner = λ i. 0; ways = λ x. ways }
+alike ways = record { owner = λ i. 0; ways = λ x. ways; profiles = λ x. Free }
 
 -- keys of one letter, and a value
 abbrev pub a : List ℕ
@@ -90,7 +91,7 @@ waysBut ways (suc zero) = plainWays
 waysBut ways (suc (suc x)) = ways
 
 abbrev pub relay : Ways → Plan
-relay ways = record { owner = λ i. 0; ways = waysBut ways }
+relay ways = record { owner = λ i. 0; ways = waysBut ways; profiles = λ x. Free }
 
 -- Hub 2 hears hub 0. The owner deletes b and removes it. The plain hub 1 hears hub 0, hub 2 and hub 0. Hub 3 hears hub 1 alone, twice.
 abbrev pub poison : List Event
@@ -152,7 +153,7 @@ leafWays ways (suc zero) = ways
 leafWays ways (suc (suc x)) = plainWays
 
 abbrev pub leafPlan : Ways → Plan
-leafPlan ways = record { owner = λ i. 0; ways = leafWays ways }
+leafPlan ways = record { owner = λ i. 0; ways = leafWays ways; profiles = λ x. Free }
 
 -- Hub 1 hears hub 0. The owner deletes b and removes it; hub 1 hears that and is at (3,1), and so is the leaf, which hears it.
 abbrev leafBegan : List Event → List Event

@@ -16,9 +16,10 @@ use Rattle.rules.specs.Apply.{Ways, apply, applyEach, applyNode, codes, deltaSt
 use Rattle.rules.specs.Compute.{allOps, byVersion, compute, cut, deltaFor, fromOf, keyValueOps, ordered, queue, sooner, stale, staleNodes, toldOf}
 use Rattle.rules.specs.Delta.{deltaBytes, follow, maxOf, opBytes, partsOf, readDelta, readKeyValue, readNode, readOp, readOps, readSetMaxVersion, recsOf, sizeOf, textBytes}
 use Rattle.rules.specs.Digest.{digestBytes, entryBytes, entryOf, headWidth, readDigest, readEntries, tell, tellAll}
-use Rattle.rules.specs.Local.{add, call, gc, removeNode}
+use Rattle.rules.specs.Local.{add, call, callAs, gc, removeNode}
 use Rattle.rules.specs.Node.{KeyValue, Node, Rec, act, decide, find, lastGc, remove, store, wish, write}
 use Rattle.rules.specs.Table.{Table, addNode, among, dropNode, nodeOf, numbersOf, removeAll, setNode, versions}
+use Rattle.rules.specs.declared.Profile.the-variants.{Free}
 use Rattle.demand3.proofs.EachNode.{nodeAt, orFresh}
 use Rattle.demand3.specs.Demand3.{Holds}
 use Rattle.demand3.specs.World.{nthSent}
@@ -38,7 +39,7 @@ max-of x w g m e = cc
 -- hub 0 owns node 7; hub x is at its max and holds a Set record that hub 0 does not hold
 module _ (ways : ℕ → Ways) (w : Net) (x g h m : ℕ) where
   abbrev plan : Plan
-  plan = record { owner = λ i. 0; ways = ways }
+  plan = record { owner = λ i. 0; ways = ways; profiles = λ x. Free }
 
   pub failed : 0 < m → pairAt 0 w ≡ g ∷ m ∷ [] → pairAt x w ≡ h ∷ m ∷ [] → Holds (nodeAt 7 (w .hubs x)) dead → (Holds (nodeAt 7 (w .hubs 0)) dead → ⊥) → NetSound plan w → ⊥
   failed some-version p q there gone s =
@@ -63,15 +64,15 @@ abbrev pub There : Net → ℕ → Type 0
 There w x = Holds (nodeAt 7 (w .hubs x)) dead
 
 there-triangle : There (after (alike plainWays) triangle begin) 2
-unfolding after happen nthSent add addNode numbersOf call gc nodeOf setNode removeAll decide wish find act write store remove lastGc keep all sameBytes lessBytes among digestBytes headWidth entryBytes entryOf readEntries readDigest tell tellAll compute deltaFor cut allOps ordered queue sooner staleNodes toldOf fromOf stale byVersion keyValueOps sizeOf deltaBytes opBytes textBytes bytesOf natOf part put flat unblock apply applyEach applyNode deltaStatus statusOf newerOf outcome takeAll takes codes readDelta readOps readOp readNode readKeyValue readSetMaxVersion follow partsOf recsOf maxOf versions
+unfolding after happen nthSent add addNode numbersOf callAs call gc nodeOf setNode removeAll decide wish find act write store remove lastGc keep all sameBytes lessBytes among digestBytes headWidth entryBytes entryOf readEntries readDigest tell tellAll compute deltaFor cut allOps ordered queue sooner staleNodes toldOf fromOf stale byVersion keyValueOps sizeOf deltaBytes opBytes textBytes bytesOf natOf part put flat unblock apply applyEach applyNode deltaStatus statusOf newerOf outcome takeAll takes codes readDelta readOps readOp readNode readKeyValue readSetMaxVersion follow partsOf recsOf maxOf versions
 there-triangle = (record { kv = dead; start = 0 }, later (here refl), refl)
 
 there-line : There (after (alike plainWays) line begin) 1
-unfolding after happen nthSent add addNode numbersOf call gc nodeOf setNode removeAll decide wish find act write store remove lastGc keep all sameBytes lessBytes among digestBytes headWidth entryBytes entryOf readEntries readDigest tell tellAll compute deltaFor cut allOps ordered queue sooner staleNodes toldOf fromOf stale byVersion keyValueOps sizeOf deltaBytes opBytes textBytes bytesOf natOf part put flat unblock apply applyEach applyNode deltaStatus statusOf newerOf outcome takeAll takes codes readDelta readOps readOp readNode readKeyValue readSetMaxVersion follow partsOf recsOf maxOf versions
+unfolding after happen nthSent add addNode numbersOf callAs call gc nodeOf setNode removeAll decide wish find act write store remove lastGc keep all sameBytes lessBytes among digestBytes headWidth entryBytes entryOf readEntries readDigest tell tellAll compute deltaFor cut allOps ordered queue sooner staleNodes toldOf fromOf stale byVersion keyValueOps sizeOf deltaBytes opBytes textBytes bytesOf natOf part put flat unblock apply applyEach applyNode deltaStatus statusOf newerOf outcome takeAll takes codes readDelta readOps readOp readNode readKeyValue readSetMaxVersion follow partsOf recsOf maxOf versions
 there-line = (record { kv = dead; start = 0 }, later (here refl), refl)
 
 there-poison : There (after (relay fencedWays) poison begin) 3 × There (after (relay guardedWays) poison begin) 3
-unfolding after happen nthSent add addNode numbersOf call gc nodeOf setNode removeAll decide wish find act write store remove lastGc keep all sameBytes lessBytes among digestBytes headWidth entryBytes entryOf readEntries readDigest tell tellAll compute deltaFor cut allOps ordered queue sooner staleNodes toldOf fromOf stale byVersion keyValueOps sizeOf deltaBytes opBytes textBytes bytesOf natOf part put flat unblock apply applyEach applyNode deltaStatus statusOf newerOf outcome takeAll takes codes readDelta readOps readOp readNode readKeyValue readSetMaxVersion follow partsOf recsOf maxOf versions
+unfolding after happen nthSent add addNode numbersOf callAs call gc nodeOf setNode removeAll decide wish find act write store remove lastGc keep all sameBytes lessBytes among digestBytes headWidth entryBytes entryOf readEntries readDigest tell tellAll compute deltaFor cut allOps ordered queue sooner staleNodes toldOf fromOf stale byVersion keyValueOps sizeOf deltaBytes opBytes textBytes bytesOf natOf part put flat unblock apply applyEach applyNode deltaStatus statusOf newerOf outcome takeAll takes codes readDelta readOps readOp readNode readKeyValue readSetMaxVersion follow partsOf recsOf maxOf versions
 there-poison = ((record { kv = dead; start = 0 }, later (here refl), refl), (record { kv = dead; start = 0 }, later (here refl), refl))
 
 -- three plain hubs: what was deleted and removed is back at hub 2, for ever
@@ -100,7 +101,7 @@ relay-poisons-guarded s =
 -- ---- a plain leaf whose neighbour is not steady
 
 there-leaf : There (after (leafPlan guardedWays) leafRestored begin) 2 × There (after (leafPlan guardedWays) leafReadded begin) 2
-unfolding after happen nthSent add addNode numbersOf call gc nodeOf setNode removeAll decide wish find act write store remove lastGc keep all sameBytes lessBytes among digestBytes headWidth entryBytes entryOf readEntries readDigest tell tellAll compute deltaFor cut allOps ordered queue sooner staleNodes toldOf fromOf stale byVersion keyValueOps sizeOf deltaBytes opBytes textBytes bytesOf natOf part put flat unblock apply applyEach applyNode deltaStatus statusOf newerOf outcome takeAll takes codes readDelta readOps readOp readNode readKeyValue readSetMaxVersion follow partsOf recsOf maxOf versions removeNode dropNode placed
+unfolding after happen nthSent add addNode numbersOf callAs call gc nodeOf setNode removeAll decide wish find act write store remove lastGc keep all sameBytes lessBytes among digestBytes headWidth entryBytes entryOf readEntries readDigest tell tellAll compute deltaFor cut allOps ordered queue sooner staleNodes toldOf fromOf stale byVersion keyValueOps sizeOf deltaBytes opBytes textBytes bytesOf natOf part put flat unblock apply applyEach applyNode deltaStatus statusOf newerOf outcome takeAll takes codes readDelta readOps readOp readNode readKeyValue readSetMaxVersion follow partsOf recsOf maxOf versions removeNode dropNode placed
 there-leaf = ((record { kv = dead; start = 0 }, later (here refl), refl), (record { kv = dead; start = 0 }, later (here refl), refl))
 
 -- hub 2 is plain and hears hub 1 alone, at once; hub 1 is restored, or removes the node and adds it
@@ -128,7 +129,7 @@ letter-in (later m) = later (letter-in m)
 
 -- a and c stand at the owner
 letters-are : (letters (nodeAt 7 (lost fencedWays .hubs 0) .recs) ≡ 97 ∷ 99 ∷ []) × (letters (nodeAt 7 (lost guardedWays .hubs 0) .recs) ≡ 97 ∷ 99 ∷ [])
-unfolding after happen nthSent add addNode numbersOf call gc nodeOf setNode removeAll decide wish find act write store remove lastGc keep all sameBytes lessBytes among digestBytes headWidth entryBytes entryOf readEntries readDigest tell tellAll compute deltaFor cut allOps ordered queue sooner staleNodes toldOf fromOf stale byVersion keyValueOps sizeOf deltaBytes opBytes textBytes bytesOf natOf part put flat unblock apply applyEach applyNode deltaStatus statusOf newerOf outcome takeAll takes codes readDelta readOps readOp readNode readKeyValue readSetMaxVersion follow partsOf recsOf maxOf versions letters
+unfolding after happen nthSent add addNode numbersOf callAs call gc nodeOf setNode removeAll decide wish find act write store remove lastGc keep all sameBytes lessBytes among digestBytes headWidth entryBytes entryOf readEntries readDigest tell tellAll compute deltaFor cut allOps ordered queue sooner staleNodes toldOf fromOf stale byVersion keyValueOps sizeOf deltaBytes opBytes textBytes bytesOf natOf part put flat unblock apply applyEach applyNode deltaStatus statusOf newerOf outcome takeAll takes codes readDelta readOps readOp readNode readKeyValue readSetMaxVersion follow partsOf recsOf maxOf versions letters
 letters-are = (refl, refl)
 
 gone-letter : (t : Table) → letters (nodeAt 7 t .recs) ≡ 97 ∷ 99 ∷ [] → Holds (nodeAt 7 t) dead → ⊥
@@ -138,7 +139,7 @@ gone-letter t e x =
     among-not 98 (97 ∷ 99 ∷ []) refl (subst (λ (l : List ℕ). 98 ∈ l) e v)
 
 there-lost : There (lost fencedWays) 1 × There (lost guardedWays) 1
-unfolding after happen nthSent add addNode numbersOf call gc nodeOf setNode removeAll decide wish find act write store remove lastGc keep all sameBytes lessBytes among digestBytes headWidth entryBytes entryOf readEntries readDigest tell tellAll compute deltaFor cut allOps ordered queue sooner staleNodes toldOf fromOf stale byVersion keyValueOps sizeOf deltaBytes opBytes textBytes bytesOf natOf part put flat unblock apply applyEach applyNode deltaStatus statusOf newerOf outcome takeAll takes codes readDelta readOps readOp readNode readKeyValue readSetMaxVersion follow partsOf recsOf maxOf versions
+unfolding after happen nthSent add addNode numbersOf callAs call gc nodeOf setNode removeAll decide wish find act write store remove lastGc keep all sameBytes lessBytes among digestBytes headWidth entryBytes entryOf readEntries readDigest tell tellAll compute deltaFor cut allOps ordered queue sooner staleNodes toldOf fromOf stale byVersion keyValueOps sizeOf deltaBytes opBytes textBytes bytesOf natOf part put flat unblock apply applyEach applyNode deltaStatus statusOf newerOf outcome takeAll takes codes readDelta readOps readOp readNode readKeyValue readSetMaxVersion follow partsOf recsOf maxOf versions
 there-lost = ((record { kv = dead; start = 0 }, later (here refl), refl), (record { kv = dead; start = 0 }, later (here refl), refl))
 
 -- version 2 was given twice, and the two hubs differ for ever

@@ -19,16 +19,16 @@ use Rattle.rules.specs.Digest.{DigestRead, Entries, digestBytes, digestOf, fits
 use Rattle.rules.specs.Apply.{Lawful}
 use Rattle.rules.specs.Given.{Given, given}
 use Rattle.rules.specs.Lent.{fromTable, lentDigest}
+use Rattle.rules.specs.Profile.{Kind}
 use Rattle.rules.specs.Sizes.{numbers}
 use Rattle.rules.specs.Table.{Table, among, nodeOf, rising}
 use Rattle.rules.specs.Whole.{decodeWhole}
 use Rattle.rules.specs.declared.Answer.the-variants as plain
-use Rattle.rules.specs.declared.Mode.{Mode}
 use Rattle.rules.specs.declared.Refusal.the-variants.{BadEdition, BadPeer, BadTable, NoPlace}
 use Rattle.rules.specs.declared.Written.{Written}
 use Rattle.rules.specs.declared.Written.the-variants as written
 use Rattle.rules.proofs.Digests.{read-written}
-use Rattle.rules.proofs.Keeps.{mode-lawful}
+use Rattle.profiles.proofs.Lawful.{kind-lawful}
 use Rattle.rules.proofs.Obeys.{OkTable, among-in, facts-table}
 use Rattle.grid.specs.Grid.{Grid, maxPeers, newGrid, takeOut, tellRow}
 use Rattle.grid.specs.GridLayout.{decodeGrid, encodeGrid, validGrid}
@@ -37,7 +37,7 @@ use Rattle.grid_kept.proofs.Encoded.{decode-encode}
 use Rattle.grid_kept.proofs.Keeps.{new-sound, out-sound, tell-sound}
 use Rattle.grid_kept.proofs.Sound.{Sound, valid-sound}
 use Rattle.demand3.specs.Forms.{Carefully}
-use Rattle.net.proofs.LentNet.{Same, begin-lent}
+use Rattle.net.proofs.LentNet.{Same, begin-lent, one-profile}
 use Rattle.net.proofs.Moments.{Moment, moment-begin, placed-in}
 use Rattle.net.specs.LentNet.{lentAfter, planIn}
 use Rattle.net.specs.Net.{Adding, Arriving, Beating, Computing, Dropping, Event, Net, NetSound, Offering, Plan, Removing, Restoring, Saving, Writing, after, begin, happen, placed}
@@ -76,12 +76,12 @@ found f y (p ∷ ps) g e = go (eqb (f p) y && eqb (getD (g .present) p 0) 1) ref
 
 -- ---- what is known of a moment
 
-module _ (owner : ℕ → ℕ) (modes : ℕ → Mode) (peer : ℕ → ℕ → ℕ) (ms : List ℕ) where
+module _ (owner : ℕ → ℕ) (kinds : ℕ → Kind) (peer : ℕ → ℕ → ℕ) (ms : List ℕ) where
   abbrev plan : Plan
-  plan = planIn owner modes
+  plan = planIn owner kinds
 
   law : (x : ℕ) → Lawful (plan .ways x)
-  law x = mode-lawful (modes x)
+  law x = kind-lawful (kinds x)
 
   -- what a digest tells, the hub that wrote it has
   record WroteOf (y : ℕ) (v : Net) (d : Wrote) : Type 0 where
@@ -95,7 +95,7 @@ module _ (owner : ℕ → ℕ) (modes : ℕ → Mode) (peer : ℕ → ℕ → �
   RowsTell gs v = (x p i : ℕ) → getD (decodeGrid (gs x) .present) p 0 ≡ 1 → toldMax p i (decodeGrid (gs x)) ≤ maxAt i (v .hubs (peer x p))
 
   record Now (w : Watch) (v : Net) : Type 0 where
-    same : Same owner modes v (w .net)
+    same : Same owner kinds v (w .net)
     moment : Moment owner v
     lows : Low ms v
     rows : RowsTell (w .grids) v
@@ -107,7 +107,7 @@ module _ (owner : ℕ → ℕ) (modes : ℕ → Mode) (peer : ℕ → ℕ → �
         → Now (record { net = lentAfter owner es (w .net); grids = gs; wrote = ws }) (after plan es v)
     goes-on es c gs ws rs ds =
         record {
-          same = after-lent owner modes ms es v (w .net) (n .same .0) (n .same .1) (n .moment) (n .lows) c;
+          same = after-lent owner kinds ms es v (w .net) (n .same .0) (n .same .1) (n .moment) (n .lows) c;
           moment = keeps-run plan law ms es v (n .moment) (n .lows) c .moment;
           lows = keeps-run plan law ms es v (n .moment) (n .lows) c .lows;
           rows = λ x p i e. let a = rs x p i e in let b = up (peer x p) i in omega arith;
@@ -367,11 +367,11 @@ module _ (owner : ℕ → ℕ) (modes : ℕ → Mode) (peer : ℕ → ℕ → �
         now = subst (Now (watched owner peer ms l (doing owner peer ms a w))) (sym (after-append plan es (eventsIn owner peer ms l (doing owner peer ms a w)) v)) (r .now);
       }
 
-  start : Now (watchBegin modes) begin
+  start : Now (watchBegin kinds) begin
   unfolding rising newGrid zeros
   start =
       record {
-        same = begin-lent owner modes;
+        same = begin-lent owner kinds;
         moment = moment-begin owner;
         lows = low-begin ms;
         rows = λ x p i e. absurd (omega (arith, subst (λ (g : Grid). getD (g .present) p 0 ≡ 1) is e, none-present p));
@@ -384,10 +384,10 @@ module _ (owner : ℕ → ℕ) (modes : ℕ → Mode) (peer : ℕ → ℕ → �
       none-present : (p : ℕ) → getD (newGrid [] .present) p 0 ≡ 0
       none-present p = behind maxPeers p
 
-  pub watched-careful : (acts : List Act) → CarefulRun (planIn owner modes) ms (eventsIn owner peer ms acts (watchBegin modes)) begin
-  watched-careful acts = ran acts (watchBegin modes) begin start .run
+  pub watched-careful : (acts : List Act) → CarefulRun (planIn owner kinds) ms (eventsIn owner peer ms acts (watchBegin kinds)) begin
+  watched-careful acts = ran acts (watchBegin kinds) begin start .run
 
-  pub watched-safe : WatchedSafe owner modes peer ms
+  pub watched-safe : WatchedSafe owner kinds peer ms
   watched-safe =
       record {
         at-every-moment =
@@ -395,8 +395,9 @@ module _ (owner : ℕ → ℕ) (modes : ℕ → Mode) (peer : ℕ → ℕ → �
             let n = r acts .now .same in
             record {
               valid = λ x. n .0 .hubs x .valid;
-              mode-stays = λ x. n .0 .hubs x .mode-is;
+              kind-stays = λ x. n .0 .hubs x .kind-is;
               sound = subst (NetSound plan) (sym (n .1)) (safe .at-every-moment (es acts) (r acts .run));
+              one-profile = one-profile owner kinds (watched owner peer ms acts (watchBegin kinds) .net) (n .0);
             };
         never-reset =
             λ acts b m ops q y z x k t e now h.
@@ -409,8 +410,8 @@ module _ (owner : ℕ → ℕ) (modes : ℕ → Mode) (peer : ℕ → ℕ → �
         maxes-rise =
             λ acts more x i.
             let a = r acts in
-            let b = ran more (watched owner peer ms acts (watchBegin modes)) (after plan (es acts) begin) (a .now) in
-            let up = safe .maxes-rise (es acts) (eventsIn owner peer ms more (watched owner peer ms acts (watchBegin modes))) (a .run) (b .run) x i in
+            let b = ran more (watched owner peer ms acts (watchBegin kinds)) (after plan (es acts) begin) (a .now) in
+            let up = safe .maxes-rise (es acts) (eventsIn owner peer ms more (watched owner peer ms acts (watchBegin kinds))) (a .run) (b .run) x i in
             omega (arith, up, ap (λ (u : Net). maxAt i (u .hubs x)) (a .now .same .1), ap (λ (u : Net). maxAt i (u .hubs x)) (b .now .same .1));
       }
     where
@@ -418,7 +419,7 @@ module _ (owner : ℕ → ℕ) (modes : ℕ → Mode) (peer : ℕ → ℕ → �
       safe = careful-safe plan law ms
 
       es : List Act → List Event
-      es acts = eventsIn owner peer ms acts (watchBegin modes)
+      es acts = eventsIn owner peer ms acts (watchBegin kinds)
 
-      r : (acts : List Act) → Ran acts (watchBegin modes) begin
-      r acts = ran acts (watchBegin modes) begin start
+      r : (acts : List Act) → Ran acts (watchBegin kinds) begin
+      r acts = ran acts (watchBegin kinds) begin start

@@ -1,7 +1,7 @@
 -- A careful net as its hubs run it: each keeps a grid beside its table (ticket 12), tells it the digests that its peers really wrote, old ones and the same
 -- ones again, and removes by that grid alone, and only while every other hub of the net is present in it. Nodes are added through the grid. Nobody restores a
 -- table or removes a node. Tables and grids are lent bytes, and what happens to them is what the entry points promise. That such a net is careful (Careful of
--- `net_careful`), and so safe in any mode, is proved in proofs/Watched.
+-- `net_careful`), and so safe whatever the hubs' kinds, is proved in proofs/Watched.
 use Prim.Native.Nat.{ℕ, _≤_}
 use mathlib.Core.Path.{_≡_}
 use mathlib.Core.Bool.{Bool, true, false, _&&_}
@@ -12,13 +12,13 @@ use lib.ListN.{getD}
 use Rattle.fields.specs.Numbers.{Bytes}
 use Rattle.fields.specs.Parts.{part}
 use Rattle.fields.specs.Choice.{_∈_, pick, all}
+use Rattle.rules.specs.Profile.{Kind}
 use Rattle.rules.specs.Sizes.{numbers}
 use Rattle.rules.specs.Node.{Node}
 use Rattle.rules.specs.Table.{among, nodeOf}
 use Rattle.rules.specs.Delta.{Op, Good, Part, partsOf, readDelta}
-use Rattle.rules.specs.Apply.{applyNode, waysOf}
+use Rattle.rules.specs.Apply.{applyNode, waysIn}
 use Rattle.rules.specs.Lent.{lentDigest}
-use Rattle.rules.specs.declared.Mode.{Mode}
 use Rattle.rules.specs.declared.NodeAnswer.the-variants as node
 use Rattle.rules.specs.declared.Written.{Written}
 use Rattle.rules.specs.declared.Written.the-variants as written
@@ -44,8 +44,8 @@ pub record Watch : Type 0 where
   pub wrote : ℕ → List Wrote
 
 -- new tables, and their grids
-abbrev pub watchBegin : (modes : ℕ → Mode) → Watch
-watchBegin modes = record { net = lentBegin modes; grids = λ x. encodeGrid (newGrid []); wrote = λ x. [] }
+abbrev pub watchBegin : (kinds : ℕ → Kind) → Watch
+watchBegin kinds = record { net = lentBegin kinds; grids = λ x. encodeGrid (newGrid []); wrote = λ x. [] }
 
 -- ---- what may happen
 
@@ -152,21 +152,21 @@ module _ (owner : ℕ → ℕ) (peer : ℕ → ℕ → ℕ) (ms : List ℕ) wher
 
 -- ---- what is claimed
 
--- At every moment, whatever modes the hubs have, plain ones too: every table is valid, in its mode, and demand 3's claims hold between each node's owner and
+-- At every moment, whatever kinds the hubs are of, plain ones too: every table is valid, of its kind, and demand 3's claims hold between each node's owner and
 -- every hub; no hub of the net is reset by anything that was ever computed; what any hub has removed, every hub has seen; and from one moment to another no
 -- max falls.
-pub record WatchedSafe (owner : ℕ → ℕ) (modes : ℕ → Mode) (peer : ℕ → ℕ → ℕ) (ms : List ℕ) : Type 0 where
-  pub at-every-moment : (acts : List Act) → LentSound owner modes (watched owner peer ms acts (watchBegin modes) .net)
-  pub never-reset : (acts : List Act) → (b : List ℕ) → b ∈ watched owner peer ms acts (watchBegin modes) .net .sent
+pub record WatchedSafe (owner : ℕ → ℕ) (kinds : ℕ → Kind) (peer : ℕ → ℕ → ℕ) (ms : List ℕ) : Type 0 where
+  pub at-every-moment : (acts : List Act) → LentSound owner kinds (watched owner peer ms acts (watchBegin kinds) .net)
+  pub never-reset : (acts : List Act) → (b : List ℕ) → b ∈ watched owner peer ms acts (watchBegin kinds) .net .sent
       → (ops : List Op) → readDelta b ≡ Good ops
       → (y : Part) → y ∈ partsOf ops
       → (x : ℕ) → x ∈ ms
-      → (n : Node) → nodeOf (y .number) (tablesIn (watched owner peer ms acts (watchBegin modes) .net) .hubs x) ≡ some n
-      → (now : ℕ) → applyNode (waysOf (modes x)) now (y .delta) n .answer ≡ node.ApplyAfterReset → ⊥
+      → (n : Node) → nodeOf (y .number) (tablesIn (watched owner peer ms acts (watchBegin kinds) .net) .hubs x) ≡ some n
+      → (now : ℕ) → applyNode (waysIn (kinds x)) now (y .delta) n .answer ≡ node.ApplyAfterReset → ⊥
   pub seen-by-all : (acts : List Act) (i x y : ℕ) → x ∈ ms → y ∈ ms
-      → (n m : Node) → nodeOf i (tablesIn (watched owner peer ms acts (watchBegin modes) .net) .hubs x) ≡ some n
-      → nodeOf i (tablesIn (watched owner peer ms acts (watchBegin modes) .net) .hubs y) ≡ some m
+      → (n m : Node) → nodeOf i (tablesIn (watched owner peer ms acts (watchBegin kinds) .net) .hubs x) ≡ some n
+      → nodeOf i (tablesIn (watched owner peer ms acts (watchBegin kinds) .net) .hubs y) ≡ some m
       → n .last-gc ≤ m .max
   pub maxes-rise : (acts more : List Act) (x i : ℕ)
-      → maxAt i (tablesIn (watched owner peer ms acts (watchBegin modes) .net) .hubs x)
-      ≤ maxAt i (tablesIn (watched owner peer ms more (watched owner peer ms acts (watchBegin modes)) .net) .hubs x)
+      → maxAt i (tablesIn (watched owner peer ms acts (watchBegin kinds) .net) .hubs x)
+      ≤ maxAt i (tablesIn (watched owner peer ms more (watched owner peer ms acts (watchBegin kinds)) .net) .hubs x)

@@ -21,7 +21,7 @@ use Rattle.rules.specs.Lent.{addWhole, forgetOn, lentRemoved, rememberOn, remem
 use Rattle.rules.specs.declared.Answer.{Answer}
 use Rattle.rules.specs.declared.Answer.the-variants as plain
 use Rattle.rules.specs.declared.Heartbeat.{Heartbeat}
-use Rattle.rules.specs.declared.Mode.{Mode}
+use Rattle.rules.specs.Profile.{Kind}
 use Rattle.rules.specs.declared.Refusal.{Refusal}
 use Rattle.rules.specs.declared.Refusal.the-variants.{BadTable, NoNode}
 use Rattle.rules.specs.declared.Remembered.{Remembered}
@@ -32,7 +32,7 @@ use Rattle.rules.proofs.Refusing.{add-refused, remove-node-refused}
 use Rattle.rules.proofs.Tables.{node-there}
 use Rattle.table.specs.Fits.{LaidTail}
 use Rattle.table.proofs.Memories.{laid-tail, tail-laid}
-use Rattle.table.proofs.Wholes.{length-tail, length-whole, tail-memory, tail-mode, tail-put, whole-obeys, whole-tail}
+use Rattle.table.proofs.Wholes.{length-tail, length-whole, tail-memory, tail-kind, tail-put, whole-obeys, whole-tail}
 use Rattle.table_check.proofs.Entry.{area-back}
 use Rattle.nodes.specs.Coming.{beatOf, storedWhole}
 
@@ -41,7 +41,7 @@ abbrev pub lentTail : List ℕ → List ℕ
 lentTail l = take (wholeWidth - tableWidth) (drop tableWidth l)
 
 -- one that comes back is as long
-pub lent-long : (ys : List ℕ) (m : Mode) (mem : Memory) → ys ≡ encodeTail m mem → length ys ≡ tailWidth
+pub lent-long : (ys : List ℕ) (m : Kind) (mem : Memory) → ys ≡ encodeTail m mem → length ys ≡ tailWidth
 lent-long ys m mem e = ap length e ∙ length-tail m mem
 
 -- ---- the tail behind an area that came back
@@ -62,19 +62,19 @@ module _ (l : List ℕ) (v : validWhole l ≡ true) (t : Table) (s : List ℕ) (
   pub came-long : length came ≡ wholeWidth
   came-long = ap length came-is ∙ length-whole (withTable t w)
 
-  lent-is : lentTail came ≡ encodeTail (w .mode) (w .memory)
+  lent-is : lentTail came ≡ encodeTail (w .kind) (w .memory)
   lent-is = seen tableWidth tailWidth came ∙ ap tailOf came-is ∙ whole-tail (withTable t w)
 
   pub came-laid : LaidTail (lentTail came)
-  came-laid = subst LaidTail (sym lent-is) (laid-tail (w .mode) (w .memory) (known .few) (known .each))
+  came-laid = subst LaidTail (sym lent-is) (laid-tail (w .kind) (w .memory) (known .few) (known .each))
 
   -- another memory in it
   pub tail-back : (f : Memory → Memory) (ys : List ℕ) → ys ≡ encodeTail (decodeTail (lentTail came)) (f (decodeMemory (lentTail came)))
       → (r : List ℕ) → r ≡ put tableWidth ys came → r ≡ encodeWhole (withMemory (f (w .memory)) (withTable t w))
   tail-back f ys q r p =
-      let mode : decodeTail (lentTail came) ≡ w .mode = ap decodeTail lent-is ∙ tail-mode (w .mode) (w .memory) in
-      let memory : decodeMemory (lentTail came) ≡ w .memory = ap decodeMemory lent-is ∙ tail-memory (w .mode) (w .memory) (known .few) (known .each) in
-      let is : ys ≡ encodeTail (w .mode) (f (w .memory)) = q ∙ (λ z. encodeTail (mode z) (f (memory z))) in
+      let kind-is : decodeTail (lentTail came) ≡ w .kind = ap decodeTail lent-is ∙ tail-kind (w .kind) (w .memory) in
+      let memory : decodeMemory (lentTail came) ≡ w .memory = ap decodeMemory lent-is ∙ tail-memory (w .kind) (w .memory) (known .few) (known .each) in
+      let is : ys ≡ encodeTail (w .kind) (f (w .memory)) = q ∙ (λ z. encodeTail (kind-is z) (f (memory z))) in
       p ∙ (λ z. put tableWidth (is z) (came-is z)) ∙ tail-put (f (w .memory)) (withTable t w)
 
 -- ---- adding
@@ -89,7 +89,7 @@ module _ (l : List ℕ) (v : validWhole l ≡ true) (n : ℕ) (a : Answer) (s : 
   add-done q r p =
       let d : added .answer ≡ plain.Done = sym (h .0) ∙ q in (
         sym d,
-        p ∙ ap (λ (x : Answer). encodeWhole (record { mode = decodeWhole l .mode; memory = forgetOn x n (decodeWhole l .memory); table = added .table })) (sym d),
+        p ∙ ap (λ (x : Answer). encodeWhole (record { kind = decodeWhole l .kind; memory = forgetOn x n (decodeWhole l .memory); table = added .table })) (sym d),
       )
 
   pub add-not : (why : Refusal) → a ≡ plain.Refused why → Gives (storedWhole (addWhole n (decodeWhole l))) (plain.Refused why) (s ++ drop tableWidth l)

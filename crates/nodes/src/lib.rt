@@ -5,6 +5,7 @@
 use rules::Answer;
 use rules::Heartbeat;
 use rules::Mode;
+use rules::Profile;
 use rules::Refusal;
 use rules::Remembered;
 use rules::sizes;
@@ -18,20 +19,22 @@ ghost use Rattle.rules.specs.Local.{add, removeNode};
 ghost use Rattle.rules.specs.Lent.{stored, addWhole, removeWhole, rememberedAs, lentAdd, lentRemoveNode, lentRemoved};
 ghost use Rattle.rules.specs.Layout.{decode, valid};
 ghost use Rattle.rules.specs.Memory.{heartbeatOf};
+ghost use Rattle.rules.specs.Profile.{kind};
 ghost use Rattle.rules.specs.Table.{nodeOf};
 ghost use Rattle.rules.specs.Whole.{decodeWhole, validWhole};
 ghost use Rattle.nodes.specs.New.{lentMade};
 ghost use Rattle.nodes.specs.Coming.{storedWhole, beatOf};
 
-// The slice becomes an empty table in this mode, whatever stood there; one of another length is refused with 14.
-pub fn new_table(table: &mut [u8], mode: Mode) -> Answer
-    ensures { λ r. ⌜ Tells answerTold (lentMade mode (now (table .entry))) r (now (table .exit)) ⌝ }
+// The slice becomes an empty table of this mode and this profile, whatever stood there; one of another length is refused with 14.
+pub fn new_table(table: &mut [u8], mode: Mode, profile: Profile) -> Answer
+    ensures { λ r. ⌜ Tells answerTold (lentMade (kind mode profile) (now (table .entry))) r (now (table .exit)) ⌝ }
 {
     if table.len() != layout::TABLE {
         return Answer::Refused(Refusal::BadTable);
     }
     fields::clear(table, 0, layout::TABLE);
     fields::write_byte(table, layout::AREA + layout::MODE, mode.byte());
+    fields::write_byte(table, layout::AREA + layout::PROFILE, profile.byte());
     Answer::Done
 }
 

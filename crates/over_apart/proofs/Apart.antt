@@ -10,7 +10,7 @@ use Rattle.fields.specs.Choice.{pick, _∈_}
 use Rattle.fields.specs.Numbers.{Bytes}
 use Rattle.fields.proofs.Choice.{in-none, in-cons}
 use Rattle.rules.specs.Answers.{appliedTold, computedTold, writtenTold}
-use Rattle.rules.specs.Apply.{apply, waysOf}
+use Rattle.rules.specs.Apply.{apply, waysIn}
 use Rattle.rules.specs.Compute as computing
 use Rattle.rules.specs.Digest.{writeDigest}
 use Rattle.rules.specs.Given.{Given, given}
@@ -23,7 +23,7 @@ use Rattle.rules.specs.declared.Refusal.the-variants.{BadTable}
 use Rattle.rules.specs.declared.Written.{Written}
 use Rattle.rules.specs.declared.Written.the-variants as written
 use Rattle.exchange.specs.Exchanging.{Lending, afterAsking, exchangedTold, lending, lentExchange, roomsOf}
-use Rattle.exchange_ask.specs.Asking.{readyFor, readyOn}
+use Rattle.exchange_ask.specs.Asking.{formsFit, readyFor, readyOn}
 use Rattle.exchange_ask.specs.declared.Ready.{Ready}
 use Rattle.exchange_ask.specs.declared.Ready.the-variants as ready
 use Rattle.exchange_ask.specs.declared.Step.the-variants.{Delta, Digest}
@@ -61,7 +61,7 @@ unfolding lentExchange readyFor exchangedTold
 not-exchanged g publisher follower h = go (validWhole follower) refl (validWhole publisher) refl h
   where
     next : Ready
-    next = readyOn (g .edition) (g .unasked) (roomsOf g) (decodeWhole publisher .table) (decodeWhole follower .table)
+    next = readyOn (g .edition) (g .unasked) (roomsOf g) (formsFit publisher follower) (decodeWhole publisher .table) (decodeWhole follower .table)
 
     go : (f : Bool) → validWhole follower ≡ f → (p : Bool) → validWhole publisher ≡ p → (p ≡ false) ⊎ (f ≡ false)
         → exchangedTold (afterAsking g publisher follower (pick f (pick p next (ready.No Delta BadTable)) (ready.No Digest BadTable)) .answer) .number ≡ 14
@@ -82,7 +82,7 @@ fourteen k plans (calls.compute-plan t edition digest excluded nodes counts data
     ap (λ (b : Bool). computedTold (pick {X = Given Computed Bytes} b (planning.computePlan edition excluded nodes counts mtu place digest (decodeWhole t .table) datagram) (given (computed.Refused BadTable) datagram) .answer) .number)
     (no-table o t v (only o t m))
 fourteen k applies (calls.apply t delta answers now) o v m =
-    ap (λ (b : Bool). appliedTold (pick b (storedApply (decodeWhole t) (apply (waysOf (decodeWhole t .mode)) (delta .bytes) (now .value) (decodeWhole t .table) answers)) (given (applied.Refused BadTable 0) (both t answers)) .answer) .number)
+    ap (λ (b : Bool). appliedTold (pick b (storedApply (decodeWhole t) (apply (waysIn (decodeWhole t .kind)) (delta .bytes) (now .value) (decodeWhole t .table) answers)) (given (applied.Refused BadTable 0) (both t answers)) .answer) .number)
     (no-table o t v (only o t m))
 fourteen k exchanges (calls.exchange publisher follower edition unasked unsent ties digest delta answers mtu now) o v m =
     not-exchanged (lending edition unasked unsent ties mtu (now .value) digest delta answers) publisher follower (which (either o publisher follower m))

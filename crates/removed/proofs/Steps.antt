@@ -22,7 +22,7 @@ use Rattle.rules.specs.declared.Heartbeat.{Heartbeat}
 use Rattle.table.specs.Fits.{LaidTail}
 use Rattle.table.specs.Tests.{removedIn}
 use Rattle.table.proofs.Memories.{laid-tail, length-memory, tail-append, tail-remove}
-use Rattle.table.proofs.Wholes.{tail-memory, tail-mode}
+use Rattle.table.proofs.Wholes.{tail-memory, tail-kind}
 use Rattle.table_write.specs.Rows.{lessBlock, withoutBlock}
 use Rattle.table_write.proofs.Steps.{less-suc}
 use Rattle.removed.specs.Find.{indexOf}
@@ -124,4 +124,4 @@ module _ (b : List ℕ) (o : LaidTail b) where
 
     pub room-then : (k : ℕ) (h : Heartbeat) (t : List ℕ) → t ≡ encodeTail (decodeTail s) (decodeMemory s ++ (removed k h ∷ [])) → t ≡ left (remember k h mem)
     unfolding remember
-    room-then k h t q = q ∙ (λ z. encodeTail ((ap decodeTail e ∙ tail-mode (decodeTail b) (makeRoom mem)) z) (back z ++ (removed k h ∷ [])))
+    room-then k h t q = q ∙ (λ z. encodeTail ((ap decodeTail e ∙ tail-kind (decodeTail b) (makeRoom mem)) z) (back z ++ (removed k h ∷ [])))

@@ -141,6 +141,7 @@ fn call(
             peer_call(desk, verb, table, digest, delta, line, out)
         }
         verbs::OVERRIDES => replay_desk::new_overrides(desk, room, read::word(line, 1), out),
+        verbs::KIND => replay_desk::make_kind(desk, room, line, out),
         verbs::LABEL..=verbs::GC_LABELS => {
             let table = read::front_mut(room, desk.lent());
             desk.with_out(replay_over::label_call(table, verb, line, out, at))

@@ -7,6 +7,7 @@ use replay_words::read::Numeral;
 use replay_words::verbs;
 use rules::Answer;
 use rules::Mode;
+use rules::Profile;
 use rules::Refusal;
 use table::layout;
 
@@ -204,26 +205,49 @@ fn hub(desk: Desk, line: &[u8], out: &mut [u8]) -> Desk {
     desk
 }
 
-// An empty table in this mode in the first bytes of the room.
-fn new_table(desk: Desk, mode: Mode, room: &mut [u8], out: &mut [u8]) -> Desk {
-    let answer = nodes::new_table(read::front_mut(room, layout::TABLE), mode);
+// An empty table in this mode, of this profile, in the first bytes of the room.
+fn new_table(desk: Desk, mode: Mode, profile: Profile, room: &mut [u8], out: &mut [u8]) -> Desk {
+    let answer = nodes::new_table(read::front_mut(room, layout::TABLE), mode, profile);
     let next = replay_tell::answer(out, desk.out, answer);
     desk.with_lent(layout::TABLE).with_out(next)
 }
 
-// The same in the mode that the word names by its number. A number that names none is 14, and the table stays.
-fn make_table(desk: Desk, room: &mut [u8], word: &[u8], out: &mut [u8]) -> Desk {
-    let Numeral::Is(n) = read::number(word) else {
+// The same in the mode that has this number. One that names none is 14, and the table stays.
+fn make_table(desk: Desk, mode: u64, profile: Profile, room: &mut [u8], out: &mut [u8]) -> Desk {
+    if mode == 0 {
+        return new_table(desk, Mode::Plain, profile, room, out);
+    }
+    if mode == 1 {
+        return new_table(desk, Mode::Fenced, profile, room, out);
+    }
+    if mode == 2 {
+        return new_table(desk, Mode::Guarded, profile, room, out);
+    }
+    let next = replay_tell::answer(out, desk.out, Answer::Refused(Refusal::BadTable));
+    desk.with_out(next)
+}
+
+// A free one in the mode that the word names.
+fn make_free(desk: Desk, room: &mut [u8], word: &[u8], out: &mut [u8]) -> Desk {
+    match read::number(word) {
+        Numeral::Is(mode) => make_table(desk, mode, Profile::Free, room, out),
+        Numeral::Not => desk,
+    }
+}
+
+// One in the mode and of the profile that two words of the line name. A profile's number that names none is 14 too.
+pub fn make_kind(desk: Desk, room: &mut [u8], line: &[u8], out: &mut [u8]) -> Desk {
+    let Numeral::Is(mode) = read::number(read::word(line, 1)) else {
+        return desk;
+    };
+    let Numeral::Is(n) = read::number(read::word(line, 2)) else {
         return desk;
     };
     if n == 0 {
-        return new_table(desk, Mode::Plain, room, out);
+        return make_table(desk, mode, Profile::Free, room, out);
     }
     if n == 1 {
-        return new_table(desk, Mode::Fenced, room, out);
-    }
-    if n == 2 {
-        return new_table(desk, Mode::Guarded, room, out);
+        return make_table(desk, mode, Profile::Meter, room, out);
     }
     let next = replay_tell::answer(out, desk.out, Answer::Refused(Refusal::BadTable));
     desk.with_out(next)
@@ -282,8 +306,8 @@ pub fn shelf_call(
     out: &mut [u8],
 ) -> Desk {
     match verb {
-        verbs::NEW => new_table(desk, Mode::Plain, room, out),
-        verbs::MAKE => make_table(desk, room, read::word(line, 1), out),
+        verbs::NEW => new_table(desk, Mode::Plain, Profile::Free, room, out),
+        verbs::MAKE => make_free(desk, room, read::word(line, 1), out),
         verbs::HUB => hub(desk, line, out),
         verbs::DUMP => dump(desk, room, out),
         _ => take_table(desk, room, digest, delta, read::word(line, 1), out),

@@ -172,14 +172,20 @@ pub fn grid_call(
     }
 }
 
+// Whether the word is a number below a bound.
+fn is_below(word: &[u8], bound: u64) -> bool {
+    match read::number(word) {
+        Numeral::Is(n) => n < bound,
+        Numeral::Not => false,
+    }
+}
+
 // Whether the line makes a table.
 fn makes(verb: usize, line: &[u8]) -> bool {
     match verb {
         verbs::NEW => true,
-        verbs::MAKE => match read::number(read::word(line, 1)) {
-            Numeral::Is(mode) => mode < 3,
-            Numeral::Not => false,
-        },
+        verbs::MAKE => is_below(read::word(line, 1), 3),
+        verbs::KIND => is_below(read::word(line, 1), 3) && is_below(read::word(line, 2), 2),
         _ => false,
     }
 }

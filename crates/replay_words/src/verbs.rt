@@ -1,5 +1,5 @@
 // Which call a line asks for, by number: those at a key of a node, those that take numbers alone, those of the desk itself, those of an exchange, those of
-// overrides, those of a grid.
+// overrides, those of a grid, a table of a kind.
 use crate::read;
 
 pub const WRITE: usize = 0;
@@ -82,10 +82,12 @@ pub const CAREFUL: usize = 38;
 
 pub const TELL: usize = 39;
 
-pub const NOTHING: usize = 40;
+pub const KIND: usize = 40;
+
+pub const NOTHING: usize = 41;
 
 // How many words a line of each call has.
-const WORDS: [usize; 40] = [
+const WORDS: [usize; 41] = [
     6,
     4,
     4,
@@ -126,6 +128,7 @@ const WORDS: [usize; 40] = [
     3,
     3,
     4,
+    3,
 ];
 
 // The call of the line. One with another count of words than its call has asks for none.
@@ -133,7 +136,7 @@ pub fn asked(line: &[u8]) -> usize {
     let names =
         b"write delete deletettl get list add remove removed beat offer gc new make hub table dump digest readdigest readdelta compute plan planfault apply \
         overrides label unlabel unlabelttl gclabels getover listover newgrid grid dumpgrid \
-        gridadd gridremove takeout least told careful tell";
+        gridadd gridremove takeout least told careful tell kind";
     let verb = read::place_of(names, read::word(line, 0));
     if NOTHING <= verb {
         return NOTHING;

@@ -20,9 +20,11 @@ use Rattle.rules.specs.Table.{Entry, Table, addNode, dropNode, numbersOf
 use Rattle.rules.specs.Memory.{Memory, forget, makeRoom, remember}
 use Rattle.rules.specs.Memory.{removed as gone}
 use Rattle.rules.specs.Local.{Outcome, add, call, removeNode, write}
+use Rattle.rules.specs.Profile.{kind}
 use Rattle.rules.specs.Whole.{Whole}
 use Rattle.rules.specs.Lent.{addWhole, removeWhole}
 use Rattle.rules.specs.declared.Mode.the-variants.{Plain}
+use Rattle.rules.specs.declared.Profile.the-variants.{Free}
 use Rattle.rules.specs.Digest.{NodeDigest}
 use Rattle.rules.specs.Delta.{Op, sizeOf, statusByte, NodeDelta, Part, deltaBytes, partsOf, maxOf, opBytes, recsOf, textBytes}
 use Rattle.rules.specs.Compute.{fromOf, deltaFor, allOps, byVersion, cut, keyValueOps, ordered, queue, sooner, stale, staleNodes, toldOf, written}
@@ -178,12 +180,12 @@ memoryOf (r ∷ m) = r .number ∷ r .heartbeat .0 ∷ memoryOf m
 -- afterwards.
 abbrev removing : ℕ → List ℕ → List ℕ
 removing i is =
-    let o : Given Answer Whole = removeWhole i (record { mode = Plain; memory = plainly is; table = entry 7 1 [] ∷ [] }) in
+    let o : Given Answer Whole = removeWhole i (record { kind = kind Plain Free; memory = plainly is; table = entry 7 1 [] ∷ [] }) in
     answerTold (o .answer) .number ∷ memoryOf (o .lent .memory)
 
 abbrev adding : ℕ → Table → List ℕ → List ℕ
 adding i t is =
-    let o : Given Answer Whole = addWhole i (record { mode = Plain; memory = plainly is; table = t }) in
+    let o : Given Answer Whole = addWhole i (record { kind = kind Plain Free; memory = plainly is; table = t }) in
     answerTold (o .answer) .number ∷ memoryOf (o .lent .memory)
 
 -- news of three offers to one who holds 0

@@ -1,4 +1,5 @@
 pub mod Cases
+pub mod MeterCases
 pub mod Records
 pub mod Taking
 pub mod Stale
@@ -18,5 +19,6 @@ pub mod Calls
 pub mod Unique
 pub mod Told
 pub mod Numbers
+pub mod Formed
 pub mod Refusing
 pub mod Memories

@@ -1,6 +1,6 @@
 -- The memory of removed nodes: adding and removing keep its rules, a refused call leaves it, and adding a node that is held forgets nothing. Assumes nothing.
 use Prim.Native.Nat.{ℕ, suc, _≤_, _<_}
-use mathlib.Core.Bool.{Bool, true, false, not}
+use mathlib.Core.Bool.{Bool, _&&_, true, false, not}
 use mathlib.Core.List.{List, [], _∷_, _++_}
 use mathlib.Core.Logic.{_⊎_, inl, inr}
 use mathlib.Core.Option.{Option, none, some}
@@ -17,6 +17,7 @@ use Rattle.rules.specs.Node.{Node, fresh}
 use Rattle.rules.specs.Table.{Entry, Table, addNode, among, differ, dropNode, nodeOf, numbersOf, obeys}
 use Rattle.rules.specs.Local.{Outcome, add, gives, removeNode}
 use Rattle.rules.specs.Memory.{Memory, Removed, apart, forget, makeRoom, memoryObeys, remember, removed, removedNumbers, removedObeys}
+use Rattle.rules.specs.Profile.{profileObeys}
 use Rattle.rules.specs.Whole.{Whole, decodeWhole, encodeWhole, obeysWhole, validWhole, withTable}
 use Rattle.rules.specs.Lent.{addWhole, forgetOn, onWhole, rememberOn, removeWhole}
 use Rattle.rules.specs.declared.Heartbeat.{Heartbeat}
@@ -26,6 +27,7 @@ use Rattle.rules.specs.declared.Refusal.{Refusal}
 use Rattle.rules.specs.declared.Refusal.the-variants.{NinthNode, NoNode}
 use Rattle.rules.proofs.Obeys.{Ascending, among-in, among-not, in-among, not-among, number-in, table-facts}
 use Rattle.rules.proofs.Calls.{add-from, add-keeps, drop-from, node-in, number-from, remove-node-keeps}
+use Rattle.rules.proofs.Formed.{add-formed, drop-formed}
 use Rattle.rules.proofs.Refusing.{add-refused, remove-node-refused, whole-bytes}
 
 -- ---- the rules as facts
@@ -267,24 +269,35 @@ dropped i (a ∷ t) s m = go (eqb i (a .number)) refl m (dropped i t (s .1))
 module _ (w : Whole) (o : obeysWhole w ≡ true) where
   pub whole-table : obeys (w .table) ≡ true
   unfolding obeysWhole
-  whole-table = and-left (obeys (w .table)) (memoryObeys (numbersOf (w .table)) (w .memory)) o
+  whole-table = and-left (obeys (w .table)) (memoryObeys (numbersOf (w .table)) (w .memory) && profileObeys (w .kind .profile) (w .table)) o
+
+  behind : (memoryObeys (numbersOf (w .table)) (w .memory) && profileObeys (w .kind .profile) (w .table)) ≡ true
+  unfolding obeysWhole
+  behind = and-right (obeys (w .table)) (memoryObeys (numbersOf (w .table)) (w .memory) && profileObeys (w .kind .profile) (w .table)) o
 
   pub whole-memory : OkMemory (numbersOf (w .table)) (w .memory)
-  unfolding obeysWhole
-  whole-memory = memory-facts _ _ (and-right (obeys (w .table)) (memoryObeys (numbersOf (w .table)) (w .memory)) o)
+  whole-memory = memory-facts _ _ (and-left (memoryObeys (numbersOf (w .table)) (w .memory)) (profileObeys (w .kind .profile) (w .table)) behind)
+
+  -- its records are in form
+  pub whole-profile : profileObeys (w .kind .profile) (w .table) ≡ true
+  whole-profile = and-right (memoryObeys (numbersOf (w .table)) (w .memory)) (profileObeys (w .kind .profile) (w .table)) behind
 
   -- with other records, heartbeats and versions, but the same nodes
-  pub same-nodes : (t : Table) → obeys t ≡ true → numbersOf t ≡ numbersOf (w .table) → obeysWhole (withTable t w) ≡ true
+  pub same-nodes : (t : Table) → obeys t ≡ true → profileObeys (w .kind .profile) t ≡ true → numbersOf t ≡ numbersOf (w .table) → obeysWhole (withTable t w) ≡ true
   unfolding obeysWhole
-  same-nodes t p e =
-      and-intro (obeys t) (memoryObeys (numbersOf t) (w .memory)) p
-      (ap (λ (l : List ℕ). memoryObeys l (w .memory)) e ∙ and-right (obeys (w .table)) (memoryObeys (numbersOf (w .table)) (w .memory)) o)
+  same-nodes t p f e =
+      and-intro (obeys t) (memoryObeys (numbersOf t) (w .memory) && profileObeys (w .kind .profile) t) p
+      (and-intro (memoryObeys (numbersOf t) (w .memory)) (profileObeys (w .kind .profile) t)
+      (ap (λ (l : List ℕ). memoryObeys l (w .memory)) e ∙ and-left (memoryObeys (numbersOf (w .table)) (w .memory)) (profileObeys (w .kind .profile) (w .table)) behind)
+      f)
 
   pub add-keeps-whole : (i : ℕ) → i < numbers → obeysWhole (addWhole i w .lent) ≡ true
   unfolding obeysWhole addWhole add
   add-keeps-whole i h =
-      and-intro (obeys (add i t .table)) (memoryObeys (numbersOf (add i t .table)) (forgetOn (add i t .answer) i (w .memory))) (add-keeps i t h whole-table)
+      and-intro (obeys (add i t .table)) (memoryObeys (numbersOf (add i t .table)) (forgetOn (add i t .answer) i (w .memory)) && profileObeys (w .kind .profile) (add i t .table)) (add-keeps i t h whole-table)
+      (and-intro (memoryObeys (numbersOf (add i t .table)) (forgetOn (add i t .answer) i (w .memory))) (profileObeys (w .kind .profile) (add i t .table))
       (facts-memory _ _ (go (among i (numbersOf t)) (ltb (length t) maxNodes)))
+      (add-formed (w .kind .profile) i t whole-profile))
     where
       t : Table
       t = w .table
@@ -309,16 +322,18 @@ module _ (w : Whole) (o : obeysWhole w ≡ true) where
   unfolding addWhole add
   held-stays i h =
       ap (λ (a : Bool). put (pick a (gives plain.Done (w .table)) (pick (ltb (length (w .table)) maxNodes) (gives plain.Done (addNode i (w .table))) (gives (plain.Refused NinthNode) (w .table))))) h
-      ∙ ap (λ (m : Memory). record { mode = w .mode; memory = m; table = w .table }) (forget-none i (w .memory) (whole-memory .none-held i (among-in i (numbersOf (w .table)) h)))
+      ∙ ap (λ (m : Memory). record { kind = w .kind; memory = m; table = w .table }) (forget-none i (w .memory) (whole-memory .none-held i (among-in i (numbersOf (w .table)) h)))
     where
       put : Outcome Answer → Whole
-      put x = record { mode = w .mode; memory = forgetOn (x .answer) i (w .memory); table = x .table }
+      put x = record { kind = w .kind; memory = forgetOn (x .answer) i (w .memory); table = x .table }
 
   pub remove-keeps-whole : (i : ℕ) → obeysWhole (removeWhole i w .lent) ≡ true
   unfolding obeysWhole removeWhole removedObeys removeNode
   remove-keeps-whole i =
-      and-intro (obeys (removeNode i t .table)) (memoryObeys (numbersOf (removeNode i t .table)) (rememberOn (nodeOf i t) i (w .memory))) (remove-node-keeps i t whole-table)
+      and-intro (obeys (removeNode i t .table)) (memoryObeys (numbersOf (removeNode i t .table)) (rememberOn (nodeOf i t) i (w .memory)) && profileObeys (w .kind .profile) (removeNode i t .table)) (remove-node-keeps i t whole-table)
+      (and-intro (memoryObeys (numbersOf (removeNode i t .table)) (rememberOn (nodeOf i t) i (w .memory))) (profileObeys (w .kind .profile) (removeNode i t .table))
       (facts-memory _ _ (go (nodeOf i t) refl))
+      (drop-formed (w .kind .profile) i t whole-profile))
     where
       t : Table
       t = w .table
@@ -356,12 +371,12 @@ module _ (w : Whole) (o : obeysWhole w ≡ true) where
 pub add-whole-refused : (i : ℕ) (w : Whole) (r : Refusal) → addWhole i w .answer ≡ plain.Refused r → addWhole i w .lent ≡ w
 unfolding addWhole
 add-whole-refused i w r e =
-    ap₂ (λ (a : Answer) (t : Table). record { mode = w .mode; memory = forgetOn a i (w .memory); table = t }) e (add-refused i (w .table) r e)
+    ap₂ (λ (a : Answer) (t : Table). record { kind = w .kind; memory = forgetOn a i (w .memory); table = t }) e (add-refused i (w .table) r e)
 
 pub remove-whole-refused : (i : ℕ) (w : Whole) (r : Refusal) → removeWhole i w .answer ≡ plain.Refused r → removeWhole i w .lent ≡ w
 unfolding removeWhole removeNode
 remove-whole-refused i w r e =
-    ap₂ (λ (x : Option Node) (t : Table). record { mode = w .mode; memory = rememberOn x i (w .memory); table = t })
+    ap₂ (λ (x : Option Node) (t : Table). record { kind = w .kind; memory = rememberOn x i (w .memory); table = t })
     (not-found i (w .table) (absent (among i (numbersOf (w .table))) refl e)) (remove-node-refused i (w .table) r e)
   where
     absent : (a : Bool) → among i (numbersOf (w .table)) ≡ a → removeNode i (w .table) .answer ≡ plain.Refused r → among i (numbersOf (w .table)) ≡ false

@@ -18,11 +18,13 @@ use Rattle.rules.specs.Layout.{decode, encode}
 use Rattle.rules.specs.Memory.{apart, memoryObeys, removedNumbers}
 use Rattle.rules.specs.Whole.{decodeMemory, encodeWhole, obeysWhole, validWhole}
 use Rattle.rules.specs.Lent.{lentAdd, onWhole}
-use Rattle.rules.specs.Local.{add, call, localBeat, offer, prefixed, removeNode}
+use Rattle.rules.specs.Profile.{meterKey, meterValue, numeral, profileObeys, smaller, totalKey}
+use Rattle.rules.specs.Local.{add, call, callAs, localBeat, offer, prefixed, removeNode}
 use Rattle.rules.specs.Node.{Deleting, Node, Rec, Setting, act, beats, decide, find, fresh, hitsFrom, offerOf, wish}
 use Rattle.rules.specs.Sizes.{top}
 use Rattle.rules.specs.Table.{Table, addNode, among, differ, dropNode, nodeOf, numbersOf, obeys, rising, setNode}
 use Rattle.rules.specs.declared.NodeAnswer.the-variants as node
+use Rattle.rules.specs.declared.Profile.the-variants.{Meter}
 use Rattle.rules.specs.declared.Status.the-variants.{Set}
 
 -- what a call tells, and what the paper has
@@ -119,6 +121,9 @@ rows =
     ∷ row (answerTold (lentAdd 7 [] .answer)) 14 []
     -- 15: tie list not one a node
     ∷ row (computedTold (compute 0 [] (0 ∷ []) 100 0 [] [] (zeros 100) .answer)) 15 []
+    -- 17: a write out of form, 18: a smaller total
+    ∷ row (answerTold (callAs Meter (Setting []) 7 totalKey (holding fresh) .answer)) 17 []
+    ∷ row (answerTold (callAs Meter (Setting (54 ∷ [])) 7 totalKey (holding (at 0 1 (record { kv = record { key = totalKey; value = 55 ∷ []; version = 1; status = Set }; start = 0 } ∷ []))) .answer)) 18 []
     -- 20: no such edition, before all that is asked of the datagram and the MTU
     ∷ row (writtenTold (writeDigest 2 [] 0 [] [] .answer)) 20 []
     ∷ row (computedTold (compute 2 [] [] 99 0 [] [] [] .answer)) 20 []
@@ -141,7 +146,7 @@ rows =
     ∷ []
 
 pub as-the-paper : inCalls rows ≡ inPaper rows
-unfolding inCalls inPaper rows zeros records nodes answerTold computedTold writtenTold readTold appliedTold offeredTold listedTold call removeNode add localBeat compute writeDigest deltaRead apply offer prefixed decide act find wish among numbersOf nodeOf setNode addNode dropNode readDelta readOps readOp readNode readKeyValue readSetMaxVersion follow deltaBytes opBytes bytesOf flat partsOf applyEach codes readDigest readEntries tell tellAll digestOf digestBytes headWidth entryBytes offerOf hitsFrom sameBytes allOps byVersion cut deltaFor fromOf keyValueOps ordered queue sooner stale staleNodes toldOf sizeOf natOf startsWith unblock onWhole validWhole obeysWhole memoryObeys removedNumbers differ apart obeys decode part rising all encode encodeWhole decodeMemory joined
+unfolding inCalls inPaper rows zeros records nodes answerTold computedTold writtenTold readTold appliedTold offeredTold listedTold call callAs meterKey meterValue smaller numeral profileObeys removeNode add localBeat compute writeDigest deltaRead apply offer prefixed decide act find wish among numbersOf nodeOf setNode addNode dropNode readDelta readOps readOp readNode readKeyValue readSetMaxVersion follow deltaBytes opBytes bytesOf flat partsOf applyEach codes readDigest readEntries tell tellAll digestOf digestBytes headWidth entryBytes offerOf hitsFrom sameBytes allOps byVersion cut deltaFor fromOf keyValueOps ordered queue sooner stale staleNodes toldOf sizeOf natOf startsWith unblock onWhole validWhole obeysWhole memoryObeys removedNumbers differ apart obeys decode part rising all encode encodeWhole decodeMemory joined
 as-the-paper = refl
 
 -- the answers of nodes in a lent list

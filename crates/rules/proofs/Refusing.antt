@@ -12,7 +12,7 @@ use Rattle.fields.proofs.Ordered.{same-true}
 use Rattle.fields.specs.Choice.{pick}
 use Rattle.fields.specs.Order.{sameBytes}
 use Rattle.fields.specs.Parts.{put}
-use Rattle.rules.proofs.Writing.{write-is}
+use Rattle.rules.proofs.Writing.{call-as, write-as, write-is}
 use Rattle.rules.specs.Given.{Given, given}
 use Rattle.rules.specs.Apply.{ApplyOutcome, apply, applyEach, applyNode, applyOps, codes, Ways}
 use Rattle.rules.specs.Compute.{compute, computeFor, onDigest, written}
@@ -20,7 +20,7 @@ use Rattle.rules.specs.Delta.{Faulty, Good, Ops, Part, partsOf}
 use Rattle.rules.specs.Digest.{DigestRead, Entries, Refused, digestBytes, digestOf, fitsAt, isEdition, readDigest, writeBytes, writeDigest}
 use Rattle.rules.specs.Whole.{decodeWhole, encodeWhole, obeysWhole, validWhole, withTable}
 use Rattle.rules.specs.Lent.{TableAndList, both, onTable, storedIn, storedApply, lentApplyAs}
-use Rattle.rules.specs.Local.{Outcome, add, answerOf, beatOn, call, callOn, gives, listInto, localBeat, offer, offerOn, prefixOn, prefixed, removeNode, write, yesNo}
+use Rattle.rules.specs.Local.{Outcome, add, answerOf, beatOn, call, callAs, callOn, gives, listInto, localBeat, offer, offerOn, prefixOn, prefixed, removeNode, write, writeAs, yesNo}
 use Rattle.rules.specs.Node.{Call, Decision, Give, Leave, Node, Refuse, Setting, SettingTtl, act, beats, decide, hitsFrom, offerOf, withHeartbeat}
 use Rattle.rules.specs.Sizes.{leastMtu, maxDelta, maxKey, maxNodes, top}
 use Rattle.rules.specs.Table.{Table, addNode, among, dropNode, nodeOf, numbersOf, setNode}
@@ -28,6 +28,7 @@ use Rattle.rules.specs.declared.Answer.{Answer}
 use Rattle.rules.specs.declared.Computed.{Computed}
 use Rattle.rules.specs.declared.Heartbeat.{Heartbeat}
 use Rattle.rules.specs.declared.Listed.{Listed}
+use Rattle.rules.specs.declared.Profile.{Profile}
 use Rattle.rules.specs.declared.Refusal.{Refusal}
 use Rattle.rules.specs.declared.Refusal.the-variants.{BadEdition, BadMtu, BadTable, BadTies, Exhausted, NinthNode, NoNode, NoPlace, TooLong}
 use Rattle.rules.specs.declared.Written.{Written}
@@ -93,6 +94,14 @@ call-refused c i k t r = go (nodeOf i t) refl
 pub write-refused : (wanted : ℕ) (v : List ℕ) (now i : ℕ) (k : List ℕ) (t : Table) (r : Refusal) → write wanted v now i k t .answer ≡ plain.Refused r → write wanted v now i k t .table ≡ t
 write-refused wanted v now i k t r =
     write-is wanted v now i k t (λ o. o .answer ≡ plain.Refused r → o .table ≡ t) (call-refused (Setting v) i k t r) (call-refused (SettingTtl v now) i k t r) (λ e. refl)
+
+-- and in a profile
+pub call-as-refused : (p : Profile) (c : Call) (i : ℕ) (k : List ℕ) (t : Table) (r : Refusal) → callAs p c i k t .answer ≡ plain.Refused r → callAs p c i k t .table ≡ t
+call-as-refused p c i k t r = call-as p c i k t (λ o. o .answer ≡ plain.Refused r → o .table ≡ t) (call-refused c i k t r) (λ e. refl) (λ e. refl)
+
+pub write-as-refused : (p : Profile) (wanted : ℕ) (v : List ℕ) (now i : ℕ) (k : List ℕ) (t : Table) (r : Refusal) → writeAs p wanted v now i k t .answer ≡ plain.Refused r → writeAs p wanted v now i k t .table ≡ t
+write-as-refused p wanted v now i k t r =
+    write-as p wanted v now i k t (λ o. o .answer ≡ plain.Refused r → o .table ≡ t) (call-as-refused p (Setting v) i k t r) (call-as-refused p (SettingTtl v now) i k t r) (λ e. refl)
 
 pub beat-refused : (i : ℕ) (t : Table) (r : Refusal) → localBeat i t .answer ≡ plain.Refused r → localBeat i t .table ≡ t
 unfolding localBeat

@@ -7,6 +7,8 @@ use Rattle.rules.specs.declared.Refusal.the-variants.{TooLong, NoNode, N
 use Rattle.rules.specs.declared.NodeAnswer.{NodeAnswer}
 use Rattle.rules.specs.declared.NodeAnswer.the-variants as node
 use Rattle.rules.specs.declared.Mode.{Mode}
+use Rattle.rules.specs.declared.Profile.{Profile}
+use Rattle.rules.specs.declared.Profile.the-variants as profile
 use Rattle.rules.specs.declared.Mode.the-variants as mode
 use Rattle.rules.specs.declared.Answer.{Answer}
 use Rattle.rules.specs.declared.Answer.the-variants as plain
@@ -89,6 +91,11 @@ abbrev pub modeOf : Mode → ℕ
 modeOf mode.Plain = 0
 modeOf mode.Fenced = 1
 modeOf mode.Guarded = 2
+
+-- the number of its profile
+abbrev pub profileOf : Profile → ℕ
+profileOf profile.Free = 0
+profileOf profile.Meter = 1
 
 -- the number and the values of an answer, and with 9 the bytes that are lacking
 pub record Told : Type 0 where

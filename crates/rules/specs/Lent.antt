@@ -9,14 +9,14 @@ use Rattle.rules.specs.Given.{Given, given}
 use Rattle.rules.specs.Node.{Node, Call}
 use Rattle.rules.specs.Table.{Table, nodeOf}
 use Rattle.rules.specs.Memory.{Memory, heartbeatOf, forget, remember}
-use Rattle.rules.specs.Local.{Outcome, Found, NotFound, add, removeNode, call, write, gc, offer, localBeat, lookup, prefixed}
+use Rattle.rules.specs.Local.{Outcome, Found, NotFound, add, removeNode, callAs, writeAs, gc, offer, localBeat, lookup, prefixed}
 use Rattle.rules.specs.Digest.{writeDigest}
 use Rattle.rules.specs.Compute.{compute}
-use Rattle.rules.specs.Apply.{Ways, waysOf, ApplyOutcome, apply}
+use Rattle.rules.specs.Profile.{Kind}
+use Rattle.rules.specs.Apply.{Ways, waysIn, ApplyOutcome, apply}
 use Rattle.rules.specs.Layout.{encode}
 use Rattle.rules.specs.Whole.{Whole, withTable, encodeWhole, decodeWhole, validWhole}
 use Rattle.rules.specs.declared.Heartbeat.{Heartbeat}
-use Rattle.rules.specs.declared.Mode.{Mode}
 use Rattle.rules.specs.declared.Refusal.the-variants.{BadTable}
 use Rattle.rules.specs.declared.Answer.{Answer}
 use Rattle.rules.specs.declared.Answer.the-variants as plain
@@ -63,7 +63,7 @@ forgetOn (plain.Refused r) i m = m
 unfoldable pub addWhole : (number : ℕ) (whole : Whole) → Given Answer Whole
 addWhole i w =
     given (add i (w .table) .answer)
-    (record { mode = w .mode; memory = forgetOn (add i (w .table) .answer) i (w .memory); table = add i (w .table) .table })
+    (record { kind = w .kind; memory = forgetOn (add i (w .table) .answer) i (w .memory); table = add i (w .table) .table })
 
 -- Removing remembers the node with the heartbeat that it had, if it was held.
 abbrev pub rememberOn : (held : Option Node) (number : ℕ) (memory : Memory) → Memory
@@ -73,7 +73,7 @@ rememberOn (some n) i m = remember i (n .heartbeat) m
 unfoldable pub removeWhole : (number : ℕ) (whole : Whole) → Given Answer Whole
 removeWhole i w =
     given (removeNode i (w .table) .answer)
-    (record { mode = w .mode; memory = rememberOn (nodeOf i (w .table)) i (w .memory); table = removeNode i (w .table) .table })
+    (record { kind = w .kind; memory = rememberOn (nodeOf i (w .table)) i (w .memory); table = removeNode i (w .table) .table })
 
 abbrev pub lentAdd : (number : ℕ) (table : Bytes) → Given Answer Bytes
 lentAdd number table = onWhole (plain.Refused BadTable) (addWhole number) table
@@ -91,11 +91,12 @@ lentRemoved number table = pick (validWhole table) (rememberedAs (heartbeatOf nu
 
 -- ---- calls that change the table
 
+-- in the profile of the table
 abbrev pub lentCall : (call : Call) (number : ℕ) (key table : Bytes) → Given Answer Bytes
-lentCall c number k table = onTable (plain.Refused BadTable) (call c number k) table
+lentCall c number k table = onTable (plain.Refused BadTable) (callAs (decodeWhole table .kind .profile) c number k) table
 
 abbrev pub lentWrite : (wanted : ℕ) (value : Bytes) (now number : ℕ) (key table : Bytes) → Given Answer Bytes
-lentWrite wanted v now number k table = onTable (plain.Refused BadTable) (write wanted v now number k) table
+lentWrite wanted v now number k table = onTable (plain.Refused BadTable) (writeAs (decodeWhole table .kind .profile) wanted v now number k) table
 
 abbrev pub lentGc : (now grace : ℕ) (table : Bytes) → Given Answer Bytes
 lentGc now grace table = onTable (plain.Refused BadTable) (gc now grace) table
@@ -141,10 +142,10 @@ lentApplyAs ways delta now list table =
     (storedApply (decodeWhole table) (apply ways delta now (decodeWhole table .table) list))
     (given (applied.Refused BadTable 0) (both table list))
 
--- in those of the table's mode
+-- in those of the table's kind
 abbrev pub lentApply : (delta : Bytes) (now : ℕ) (list table : Bytes) → Given Applied TableAndList
-lentApply delta now list table = lentApplyAs (waysOf (decodeWhole table .mode)) delta now list table
+lentApply delta now list table = lentApplyAs (waysIn (decodeWhole table .kind)) delta now list table
 
--- an empty table in a mode, which remembers nothing
-unfoldable pub lentNew : (mode : Mode) → Bytes
-lentNew m = encodeWhole (record { mode = m; memory = []; table = [] })
+-- an empty table of a kind, which remembers nothing
+unfoldable pub lentNew : (kind : Kind) → Bytes
+lentNew k = encodeWhole (record { kind = k; memory = []; table = [] })

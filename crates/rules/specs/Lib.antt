@@ -5,9 +5,10 @@ pub mod Given
 pub mod Node
 pub mod Table
 pub mod Memory
-pub mod Local
 pub mod Digest
 pub mod Delta
+pub mod Profile
+pub mod Local
 pub mod Apply
 pub mod Compute
 pub mod Listing

@@ -15,8 +15,10 @@ use Rattle.rules.specs.Given.{Given, given}
 use Rattle.rules.specs.Node.{Node, Call, Setting, SettingTtl, Decision, Refuse, Leave, Give, decide, act, find, shown, hitsFrom, due, offerOf, beats, withHeartbeat}
 use Rattle.rules.specs.Table.{Table, nodeOf, setNode, addNode, dropNode, removeAll, numbersOf, among}
 use Rattle.rules.specs.Delta.{statusByte}
+use Rattle.rules.specs.Profile.{guardIn}
 use Rattle.rules.specs.declared.Status.the-variants.{Set, Ttl}
 use Rattle.rules.specs.declared.Heartbeat.{Heartbeat}
+use Rattle.rules.specs.declared.Profile.{Profile}
 use Rattle.rules.specs.declared.Refusal.{Refusal}
 use Rattle.rules.specs.declared.Refusal.the-variants.{TooLong, NoNode, NinthNode, Exhausted, NoPlace, BadTag}
 use Rattle.rules.specs.declared.Answer.{Answer}
@@ -67,6 +69,19 @@ unfoldable pub write : (wanted : ℕ) (value : Bytes) (now number : ℕ) (key : 
 write wanted v now i k t =
     pick (eqb wanted (statusByte Set)) (call (Setting v) i k t)
     (pick (eqb wanted (statusByte Ttl)) (call (SettingTtl v now) i k t) (gives (Refused BadTag) t))
+
+-- In a profile: what it refuses (behind 2 and 1) leaves the table, and what it lets through is document 01's call.
+abbrev pub unlessGuarded : (refused : Option Refusal) (outcome : Outcome Answer) (table : Table) → Outcome Answer
+unlessGuarded none o t = o
+unlessGuarded (some r) o t = gives (Refused r) t
+
+unfoldable pub callAs : (profile : Profile) (call : Call) (number : ℕ) (key : Bytes) (table : Table) → Outcome Answer
+callAs p c i k t = unlessGuarded (guardIn p c k (nodeOf i t)) (call c i k t) t
+
+unfoldable pub writeAs : (profile : Profile) (wanted : ℕ) (value : Bytes) (now number : ℕ) (key : Bytes) (table : Table) → Outcome Answer
+writeAs p wanted v now i k t =
+    pick (eqb wanted (statusByte Set)) (callAs p (Setting v) i k t)
+    (pick (eqb wanted (statusByte Ttl)) (callAs p (SettingTtl v now) i k t) (gives (Refused BadTag) t))
 
 -- removal over all nodes by the clock
 unfoldable pub gc : (now grace : ℕ) (table : Table) → Outcome Answer

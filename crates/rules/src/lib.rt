@@ -1,10 +1,10 @@
 // The types of document 01 that code and definitions share. What they mean stands in specs/.
 ghost use mathlib.Core.Path.{_≡_};
-ghost use Rattle.rules.specs.Answers.{numberOf, needOf, codeOf, modeOf};
+ghost use Rattle.rules.specs.Answers.{numberOf, needOf, codeOf, modeOf, profileOf};
 ghost use Rattle.rules.specs.Node.{freshHeader, offerOf};
 ghost use Rattle.rules.specs.Delta.{statusByte};
 ghost use Rattle.rules.specs.Layout.{statusOfByte};
-ghost use Rattle.rules.specs.Whole.{modeOfByte};
+ghost use Rattle.rules.specs.Whole.{modeOfByte, profileOfByte};
 
 pub mod sizes;
 pub mod wire;
@@ -148,6 +148,40 @@ impl Mode {
             1 => Mode::Fenced,
             2 => Mode::Guarded,
             _ => Mode::Guarded,
+        }
+    }
+}
+
+// Which records a table may have. It is chosen when the table is made, and kept in its bytes; it does not hang on the mode.
+pub enum Profile {
+    // Document 01's: any record.
+    Free,
+    // Readings alone: keys of small letters, digits and dots, values of decimal digits.
+    Meter,
+}
+
+impl Profile {
+    // The largest byte that stands for one.
+    pub const LAST: usize = 1;
+
+    // The byte that stands for it in a table.
+    pub fn byte(self) -> usize
+        ensures { λ r. ⌜ r ≡ profileOf self ⌝ }
+    {
+        match self {
+            Profile::Free => 0,
+            Profile::Meter => 1,
+        }
+    }
+
+    // The profile that a byte stands for; one above 1 is read as meter, and who can meet it looks at it first.
+    pub fn of_byte(n: usize) -> Self
+        ensures { λ r. ⌜ r ≡ profileOfByte n ⌝ }
+    {
+        match n {
+            0 => Profile::Free,
+            1 => Profile::Meter,
+            _ => Profile::Meter,
         }
     }
 }

@@ -1,11 +1,11 @@
--- Calls on the bytes of a table that obeys, in any mode (Lent of `rules`): nothing is refused with 14, and the call does to the table what its rule says. Assumes
+-- Calls on the bytes of a table that obeys, of any kind (Lent of `rules`): nothing is refused with 14, and the call does to the table what its rule says. Assumes
 -- nothing.
 use Prim.Native.Nat.{ℕ}
 use mathlib.Core.Bool.{Bool, true}
 use mathlib.Core.List.{List}
 use mathlib.Core.Path.{_∙_, _≡_, ap}
 use Rattle.fields.specs.Choice.{pick}
-use Rattle.rules.specs.Apply.{apply, waysOf}
+use Rattle.rules.specs.Apply.{apply, waysIn}
 use Rattle.rules.specs.Given.{Given, given}
 use Rattle.rules.specs.Lent.{both, fromTable, lentApply, lentApplyAs, onTable, onWhole, storedApply, storedIn}
 use Rattle.rules.specs.Local.{Outcome}
@@ -35,9 +35,9 @@ module _ (w : Whole) (o : obeysWhole w ≡ true) where
       ap (λ (b : Bool). pick b (given (rule (decodeWhole l) .answer) (encodeWhole (rule (decodeWhole l) .lent))) (given bad l)) (valid-encode-whole w o)
       ∙ ap (λ (u : Whole). given (rule u .answer) (encodeWhole (rule u .lent))) (decode-encode-whole w o)
 
-  pub apply-whole : (delta : List ℕ) (now : ℕ) (list : List ℕ) → lentApply delta now list (encodeWhole w) ≡ storedApply w (apply (waysOf (w .mode)) delta now (w .table) list)
+  pub apply-whole : (delta : List ℕ) (now : ℕ) (list : List ℕ) → lentApply delta now list (encodeWhole w) ≡ storedApply w (apply (waysIn (w .kind)) delta now (w .table) list)
   unfolding lentApplyAs
   apply-whole delta now list =
-      ap (λ (b : Bool). pick b (storedApply (decodeWhole l) (apply (waysOf (decodeWhole l .mode)) delta now (decodeWhole l .table) list)) (given (applied.Refused BadTable 0) (both l list)))
+      ap (λ (b : Bool). pick b (storedApply (decodeWhole l) (apply (waysIn (decodeWhole l .kind)) delta now (decodeWhole l .table) list)) (given (applied.Refused BadTable 0) (both l list)))
       (valid-encode-whole w o)
-      ∙ ap (λ (u : Whole). storedApply u (apply (waysOf (u .mode)) delta now (u .table) list)) (decode-encode-whole w o)
+      ∙ ap (λ (u : Whole). storedApply u (apply (waysIn (u .kind)) delta now (u .table) list)) (decode-encode-whole w o)

@@ -18,13 +18,13 @@ use Rattle.fields.proofs.Blocks.{unblock-drop, length-unblock}
 use Rattle.rules.specs.Sizes.{maxRemoved}
 use Rattle.rules.specs.Memory.{Memory, Removed, removedObeys}
 use Rattle.rules.specs.Whole.{decodeMemory, decodeRemoved, decodeWhole, encodeRemoved, encodeTail, removedPlace, removedWidth, removedWidths, tailFields, tailOf, tailWidth, tailWidths, validWhole}
-use Rattle.rules.specs.declared.Mode.{Mode}
+use Rattle.rules.specs.Profile.{Kind}
 use Rattle.rules.proofs.Refusing.{whole-bytes}
 use Rattle.rules.proofs.Memories.{whole-memory}
 use Rattle.table.specs.Fits.{LaidTail}
 use Rattle.table.specs.Tests.{removedIn}
 use Rattle.table.proofs.Rows.{row-insert, row-remove}
-use Rattle.table.proofs.Wholes.{length-removed, length-tail, removed-in, tail-memory, tail-mode, tail-widths, whole-obeys, whole-tail}
+use Rattle.table.proofs.Wholes.{length-removed, length-tail, removed-in, tail-memory, tail-kind, tail-widths, whole-obeys, whole-tail}
 
 -- ---- at a place
 
@@ -54,14 +54,14 @@ module _ (i : ℕ) (b : List ℕ) (e : length b ≡ tailWidth) (h : i < maxRemov
 
 -- ---- laid out
 
-pub laid-tail : (m : Mode) (mem : Memory) → length mem ≤ maxRemoved → ((r : Removed) → r ∈ mem → removedObeys r ≡ true) → LaidTail (encodeTail m mem)
+pub laid-tail : (m : Kind) (mem : Memory) → length mem ≤ maxRemoved → ((r : Removed) → r ∈ mem → removedObeys r ≡ true) → LaidTail (encodeTail m mem)
 laid-tail m mem few each =
     let back = tail-memory m mem few each in
     record {
       long = length-tail m mem;
       few = subst (λ (n : ℕ). n ≤ maxRemoved) (sym (removed-in m mem few)) few;
       fits = subst (λ (l : Memory). (r : Removed) → r ∈ l → removedObeys r ≡ true) (sym back) each;
-      is = λ z. encodeTail (tail-mode m mem z) (back z);
+      is = λ z. encodeTail (tail-kind m mem z) (back z);
     }
 
 -- the tail of a valid table is
@@ -69,11 +69,11 @@ pub tail-laid : (l : List ℕ) → validWhole l ≡ true → LaidTail (tailOf l)
 tail-laid l v =
     let w = decodeWhole l in
     let k = whole-memory w (whole-obeys l v) in
-    subst LaidTail (sym (whole-tail w) ∙ ap tailOf (whole-bytes l v)) (laid-tail (w .mode) (w .memory) (k .few) (k .each))
+    subst LaidTail (sym (whole-tail w) ∙ ap tailOf (whole-bytes l v)) (laid-tail (w .kind) (w .memory) (k .few) (k .each))
 
 -- ---- one more, one less
 
-module _ (m : Mode) (mem : Memory) (few : length mem ≤ maxRemoved) where
+module _ (m : Kind) (mem : Memory) (few : length mem ≤ maxRemoved) where
   -- one more behind the last
   pub tail-append : (r : Removed) → length mem < maxRemoved
       → put (offset tailWidths 2) (bytesOf 1 (length mem + 1)) (put (removedPlace (length mem)) (encodeRemoved r) (encodeTail m mem)) ≡ encodeTail m (mem ++ (r ∷ []))

@@ -1,7 +1,7 @@
 -- The whole of a lent table, area and tail, and back: a whole that obeys and its bytes determine each other (`decode-encode-whole`,
 -- `encode-decode-whole`), the area of a valid whole is valid, what is put over the area leaves the tail (`area-changed`), and the tests of the bytes come
 -- to `validWhole` (`whole-is`). Assumes nothing.
-use Prim.Native.Nat.{ℕ, zero, suc, _*_, _-_, _≤_, _<_}
+use Prim.Native.Nat.{ℕ, zero, suc, _+_, _*_, _-_, _≤_, _<_}
 use mathlib.Core.Path.{_≡_, refl, ap, ap₂, sym, _∙_}
 use mathlib.Core.Bool.{Bool, true, false, _&&_}
 use mathlib.Core.List.{List, [], _∷_, append-nil}
@@ -20,21 +20,24 @@ use Rattle.fields.proofs.Choice.{every-at, same-test, and-left, and-right, and-
 use Rattle.fields.proofs.Numbers.{length-bytesOf, nat-bytes, nat-part, part-back, bytes-part, bytes-drop}
 use Rattle.fields.proofs.Parts.{length-part, part-drop}
 use Rattle.fields.proofs.Lent.{seen-first}
-use Rattle.fields.proofs.Blocks.{length-zeros, zeros-add, bytes-zero, zero-all, all-zero, fit-zeros, blocks-is, blocks-read, blocks-back, length-blocks, length-flat, length-unblock, unblock-at}
+use Rattle.fields.proofs.Blocks.{zeros-add, bytes-zero, fit-zeros, blocks-is, blocks-read, blocks-back, length-blocks, length-flat, length-unblock, unblock-at}
 use Rattle.fields.proofs.Widths.{field, field-put, field-set, length-joined, joined-whole}
 use Rattle.fields.proofs.Ordered.{same-self}
-use Rattle.rules.specs.Answers.{modeOf}
+use Rattle.rules.specs.Answers.{modeOf, profileOf}
 use Rattle.rules.specs.Sizes.{maxRemoved, numbers}
 use Rattle.rules.specs.Node.{beats}
 use Rattle.rules.specs.Table.{Table, differ, numbersOf, obeys}
 use Rattle.rules.specs.Memory.{Memory, Removed, apart, memoryObeys, removed, removedNumbers, removedObeys}
 use Rattle.rules.specs.Layout.{tableWidth, encode, decode, valid}
-use Rattle.rules.specs.Whole.{Whole, withTable, withMemory, obeysWhole, modeOfByte, removedWidths, removedWidth, removedPlace, removedFields, encodeRemoved, decodeRemoved, tailWidths, tailWidth, tailFields, encodeTail, decodeTail, decodeMemory, wholeWidths, wholeWidth, wholeFields, areaOf, tailOf, encodeWhole, decodeWhole, validWhole}
+use Rattle.rules.specs.Profile.{Kind, kind, profileObeys}
+use Rattle.rules.specs.Whole.{Whole, withTable, withMemory, obeysWhole, modeOfByte, profileOfByte, removedWidths, removedWidth, removedPlace, removedFields, encodeRemoved, decodeRemoved, tailWidths, tailWidth, tailFields, encodeTail, decodeTail, decodeMemory, wholeWidths, wholeWidth, wholeFields, areaOf, tailOf, encodeWhole, decodeWhole, validWhole}
 use Rattle.rules.specs.declared.Mode.{Mode}
 use Rattle.rules.specs.declared.Mode.the-variants.{Plain, Fenced, Guarded}
+use Rattle.rules.specs.declared.Profile.{Profile}
+use Rattle.rules.specs.declared.Profile.the-variants.{Free, Meter}
 use Rattle.rules.proofs.Refusing.{whole-bytes}
-use Rattle.rules.proofs.Memories.{OkMemory, facts-memory, no-memory, whole-memory, whole-table}
-use Rattle.table.specs.Tests.{modeIn, removedIn, tailTests, tailGood, wholeGood}
+use Rattle.rules.proofs.Memories.{OkMemory, facts-memory, no-memory, whole-memory, whole-profile, whole-table}
+use Rattle.table.specs.Tests.{modeIn, profileIn, removedIn, tailTests, tailGood, wholeGood}
 use Rattle.table.proofs.Tables.{length-table, decode-encode, valid-encode, valid-obeys, encode-decode}
 
 -- ---- the rules of the memory
@@ -81,10 +84,10 @@ removed-is b h e = (
 
 -- ---- the tail
 
-module _ (m : Mode) (mem : Memory) where
+module _ (m : Kind) (mem : Memory) where
   pub tail-widths : Widths tailWidths (tailFields m mem)
   tail-widths =
-      (length-bytesOf 1 _, (length-zeros 1, (length-bytesOf 1 _, (length-blocks encodeRemoved removedWidth length-removed maxRemoved mem, tt))))
+      (length-bytesOf 1 _, (length-bytesOf 1 _, (length-bytesOf 1 _, (length-blocks encodeRemoved removedWidth length-removed maxRemoved mem, tt))))
 
   pub length-tail : length (encodeTail m mem) ≡ tailWidth
   unfolding encodeTail
@@ -95,21 +98,33 @@ module _ (m : Mode) (mem : Memory) where
   tail-field k h = field tailWidths (tailFields m mem) tail-widths k h
 
   -- its mode is read again
-  mode-in : modeIn (encodeTail m mem) ≡ modeOf m
-  mode-in = ap natOf (tail-field 0 (omega arith)) ∙ nat-bytes 1 (modeOf m) (small m)
+  mode-in : modeIn (encodeTail m mem) ≡ modeOf (m .mode)
+  mode-in = ap natOf (tail-field 0 (omega arith)) ∙ nat-bytes 1 (modeOf (m .mode)) (small (m .mode))
     where
       small : (m : Mode) → modeOf m < 256
       small Plain = omega arith
       small Fenced = omega arith
       small Guarded = omega arith
 
-  pub tail-mode : decodeTail (encodeTail m mem) ≡ m
-  tail-mode = ap modeOfByte mode-in ∙ back m
+  -- and its profile
+  profile-in : profileIn (encodeTail m mem) ≡ profileOf (m .profile)
+  profile-in = ap natOf (tail-field 1 (omega arith)) ∙ nat-bytes 1 (profileOf (m .profile)) (small (m .profile))
+    where
+      small : (p : Profile) → profileOf p < 256
+      small Free = omega arith
+      small Meter = omega arith
+
+  pub tail-kind : decodeTail (encodeTail m mem) ≡ m
+  tail-kind = ap₂ kind (ap modeOfByte mode-in ∙ back (m .mode)) (ap profileOfByte profile-in ∙ again (m .profile))
     where
       back : (m : Mode) → modeOfByte (modeOf m) ≡ m
       back Plain = refl
       back Fenced = refl
       back Guarded = refl
+
+      again : (p : Profile) → profileOfByte (profileOf p) ≡ p
+      again Free = refl
+      again Meter = refl
 
   module _ (few : length mem ≤ maxRemoved) where
     pub removed-in : removedIn (encodeTail m mem) ≡ length mem
@@ -138,12 +153,16 @@ module _ (m : Mode) (mem : Memory) where
   tail-good held o =
       let back = tail-memory (o .few) (o .each) in
       let none-held : apart held (removedNumbers mem) ≡ true = memory-apart held mem (facts-memory held mem o) in
-      rw (tailGood, mode-in, modes m, ap allZero (tail-field 1 (omega arith)) ∙ all-zero 1, removed-in (o .few), le-leb (length mem) maxRemoved (o .few), tail-free (o .few), back, o .differs, none-held)
+      rw (tailGood, mode-in, modes (m .mode), profile-in, profiles (m .profile), removed-in (o .few), le-leb (length mem) maxRemoved (o .few), tail-free (o .few), back, o .differs, none-held)
     where
       modes : (m : Mode) → leb (modeOf m) 2 ≡ true
       modes Plain = refl
       modes Fenced = refl
       modes Guarded = refl
+
+      profiles : (p : Profile) → leb (profileOf p) 1 ≡ true
+      profiles Free = refl
+      profiles Meter = refl
 
 -- a number that stands for a mode
 mode-back : (n : ℕ) → n ≤ 2 → modeOf (modeOfByte n) ≡ n
@@ -152,10 +171,16 @@ mode-back (suc zero) h = refl
 mode-back (suc (suc zero)) h = refl
 mode-back (suc (suc (suc n))) h = absurd (omega arith)
 
+-- and one that stands for a profile
+profile-back : (n : ℕ) → n ≤ 1 → profileOf (profileOfByte n) ≡ n
+profile-back zero h = refl
+profile-back (suc zero) h = refl
+profile-back (suc (suc n)) h = absurd (omega arith)
+
 -- ---- the whole
 
 whole-widths : (w : Whole) → Widths wholeWidths (wholeFields w)
-whole-widths w = (length-table (w .table), (length-tail (w .mode) (w .memory), tt))
+whole-widths w = (length-table (w .table), (length-tail (w .kind) (w .memory), tt))
 
 pub length-whole : (w : Whole) → length (encodeWhole w) ≡ wholeWidth
 unfolding encodeWhole
@@ -165,7 +190,7 @@ pub whole-area : (w : Whole) → areaOf (encodeWhole w) ≡ encode (w .table)
 unfolding encodeWhole
 whole-area w = seen-first tableWidth (encodeWhole w) ∙ field wholeWidths (wholeFields w) (whole-widths w) 0 (omega arith)
 
-pub whole-tail : (w : Whole) → tailOf (encodeWhole w) ≡ encodeTail (w .mode) (w .memory)
+pub whole-tail : (w : Whole) → tailOf (encodeWhole w) ≡ encodeTail (w .kind) (w .memory)
 unfolding encodeWhole
 whole-tail w = field wholeWidths (wholeFields w) (whole-widths w) 1 (omega arith)
 
@@ -175,24 +200,34 @@ unfolding encodeWhole
 area-put t w = field-set wholeWidths (wholeFields w) (whole-widths w) 0 (encode t) (omega arith) (length-table t)
 
 -- and what is put over the mode leaves all else
-pub mode-put : (m : Mode) (w : Whole) → put tableWidth (bytesOf 1 (modeOf m)) (encodeWhole w) ≡ encodeWhole (record { mode = m; memory = w .memory; table = w .table })
+pub mode-put : (m : Mode) (w : Whole)
+    → put tableWidth (bytesOf 1 (modeOf m)) (encodeWhole w) ≡ encodeWhole (record { kind = kind m (w .kind .profile); memory = w .memory; table = w .table })
 unfolding encodeWhole encodeTail
 mode-put m w =
     field-put wholeWidths (wholeFields w) (whole-widths w) 1 0 (bytesOf 1 (modeOf m)) (omega arith) (rw length-bytesOf (omega arith))
     ∙ ap (λ (b : List ℕ). joined (encode (w .table) ∷ b ∷ []))
-    (field-set tailWidths (tailFields (w .mode) (w .memory)) (tail-widths (w .mode) (w .memory)) 0 (bytesOf 1 (modeOf m)) (omega arith) (length-bytesOf 1 (modeOf m)))
+    (field-set tailWidths (tailFields (w .kind) (w .memory)) (tail-widths (w .kind) (w .memory)) 0 (bytesOf 1 (modeOf m)) (omega arith) (length-bytesOf 1 (modeOf m)))
+
+-- or over the profile
+pub profile-put : (p : Profile) (w : Whole)
+    → put (tableWidth + 1) (bytesOf 1 (profileOf p)) (encodeWhole w) ≡ encodeWhole (record { kind = kind (w .kind .mode) p; memory = w .memory; table = w .table })
+unfolding encodeWhole encodeTail
+profile-put p w =
+    field-put wholeWidths (wholeFields w) (whole-widths w) 1 1 (bytesOf 1 (profileOf p)) (omega arith) (rw length-bytesOf (omega arith))
+    ∙ ap (λ (b : List ℕ). joined (encode (w .table) ∷ b ∷ []))
+    (field-set tailWidths (tailFields (w .kind) (w .memory)) (tail-widths (w .kind) (w .memory)) 1 (bytesOf 1 (profileOf p)) (omega arith) (length-bytesOf 1 (profileOf p)))
 
 -- and what is put over the tail leaves the area
-pub tail-put : (mem : Memory) (w : Whole) → put tableWidth (encodeTail (w .mode) mem) (encodeWhole w) ≡ encodeWhole (withMemory mem w)
+pub tail-put : (mem : Memory) (w : Whole) → put tableWidth (encodeTail (w .kind) mem) (encodeWhole w) ≡ encodeWhole (withMemory mem w)
 unfolding encodeWhole
-tail-put mem w = field-set wholeWidths (wholeFields w) (whole-widths w) 1 (encodeTail (w .mode) mem) (omega arith) (length-tail (w .mode) mem)
+tail-put mem w = field-set wholeWidths (wholeFields w) (whole-widths w) 1 (encodeTail (w .kind) mem) (omega arith) (length-tail (w .kind) mem)
 
 -- a plain tail without a memory is zeros
 no-removed : blocks maxRemoved removedWidth encodeRemoved [] ≡ zeros (maxRemoved * removedWidth)
 unfolding flat
 no-removed = blocks-is encodeRemoved removedWidth length-removed maxRemoved maxRemoved [] refl
 
-pub plain-tail : encodeTail Plain [] ≡ zeros tailWidth
+pub plain-tail : encodeTail (kind Plain Free) [] ≡ zeros tailWidth
 unfolding encodeTail joined
 plain-tail = rw (encodeTail, joined, no-removed, bytes-zero 1, append-nil) (simp zeros-add)
 
@@ -201,10 +236,10 @@ module _ (w : Whole) (o : obeysWhole w ≡ true) where
   pub decode-encode-whole : decodeWhole (encodeWhole w) ≡ w
   decode-encode-whole =
       let k = whole-memory w o in
-      let m = ap decodeTail (whole-tail w) ∙ tail-mode (w .mode) (w .memory) in
-      let mem = ap decodeMemory (whole-tail w) ∙ tail-memory (w .mode) (w .memory) (k .few) (k .each) in
+      let m = ap decodeTail (whole-tail w) ∙ tail-kind (w .kind) (w .memory) in
+      let mem = ap decodeMemory (whole-tail w) ∙ tail-memory (w .kind) (w .memory) (k .few) (k .each) in
       let t = ap decode (whole-area w) ∙ decode-encode (w .table) (whole-table w o) in
-      λ z. record { mode = m z; memory = mem z; table = t z }
+      λ z. record { kind = m z; memory = mem z; table = t z }
 
   -- and they are valid
   pub valid-encode-whole : validWhole (encodeWhole w) ≡ true
@@ -215,9 +250,11 @@ module _ (w : Whole) (o : obeysWhole w ≡ true) where
       (ap (λ (u : Whole). sameBytes (encodeWhole u) (encodeWhole w)) decode-encode-whole ∙ same-self (encodeWhole w))
 
 -- one that remembers nothing obeys where its table does
-pub without-memory : (m : Mode) (t : Table) → obeys t ≡ true → obeysWhole (record { mode = m; memory = []; table = t }) ≡ true
+pub without-memory : (k : Kind) (t : Table) → obeys t ≡ true → profileObeys (k .profile) t ≡ true → obeysWhole (record { kind = k; memory = []; table = t }) ≡ true
 unfolding obeysWhole
-without-memory m t o = and-intro (obeys t) (memoryObeys (numbersOf t) []) o (no-memory (numbersOf t))
+without-memory k t o f =
+    and-intro (obeys t) (memoryObeys (numbersOf t) [] && profileObeys (k .profile) t) o
+    (and-intro (memoryObeys (numbersOf t) []) (profileObeys (k .profile) t) (no-memory (numbersOf t)) f)
 
 -- ---- valid bytes
 
@@ -233,13 +270,17 @@ module _ (l : List ℕ) (v : validWhole l ≡ true) where
   pub area-valid : valid (areaOf l) ≡ true
   area-valid = ap (λ (x : List ℕ). valid (areaOf x)) (sym (whole-bytes l v)) ∙ ap valid (whole-area (decodeWhole l)) ∙ valid-encode (decodeWhole l .table) (whole-table (decodeWhole l) whole-obeys)
 
+  -- their records are in form
+  pub area-formed : profileObeys (decodeWhole l .kind .profile) (decode (areaOf l)) ≡ true
+  area-formed = whole-profile (decodeWhole l) whole-obeys
+
   -- other nodes in them: what the area becomes, and the tail stays
   pub area-changed : (t : Table) → put 0 (encode t) l ≡ encodeWhole (withTable t (decodeWhole l))
   area-changed t = ap (put 0 (encode t)) (sym (whole-bytes l v)) ∙ area-put t (decodeWhole l)
 
 -- ---- the tests
 
--- a tail that passes them is that of its mode and its memory
+-- a tail that passes them is that of its kind and its memory
 module _ (held b : List ℕ) (h : AreBytes b) (e : length b ≡ tailWidth) (g : tailGood held b ≡ true) where
   at : (k : ℕ) → getD (tailTests held b) k true ≡ true
   unfolding tailGood
@@ -263,9 +304,10 @@ module _ (held b : List ℕ) (h : AreBytes b) (e : length b ≡ tailWidth) (g : 
   unfolding encodeTail decodeMemory
   tail-back =
       let n : ℕ = removedIn b in
-      let mode : bytesOf 1 (modeOf (decodeTail b)) ≡ part 0 1 b =
+      let mode : bytesOf 1 (modeOf (decodeTail b .mode)) ≡ part 0 1 b =
       ap (bytesOf 1) (mode-back (modeIn b) (leb-true _ _ (at 0))) ∙ part-back 0 1 b h (omega (arith, e)) in
-      let profile : zeros 1 ≡ part 1 1 b = ap zeros (sym (length-part 1 1 b (omega (arith, e)))) ∙ sym (zero-all (part 1 1 b) (at 1)) in
+      let profile : bytesOf 1 (profileOf (decodeTail b .profile)) ≡ part 1 1 b =
+      ap (bytesOf 1) (profile-back (profileIn b) (leb-true _ _ (at 1))) ∙ part-back 1 1 b h (omega (arith, e)) in
       let count : bytesOf 1 (length (unblock removedWidth decodeRemoved n room)) ≡ part 2 1 b =
       ap (bytesOf 1) (length-unblock removedWidth decodeRemoved n room) ∙ part-back 2 1 b h (omega (arith, e)) in
       let free : allZero (part (n * removedWidth) ((maxRemoved - n) * removedWidth) room) ≡ true =
@@ -300,24 +342,31 @@ whole-is l h = same-test (validWhole l) (wholeGood l) passes comes
     tail : Bool
     tail = tailGood held (tailOf l)
 
+    forms : Bool
+    forms = profileObeys (decodeWhole l .kind .profile) (decode (areaOf l))
+
     passes : validWhole l ≡ true → wholeGood l ≡ true
     passes v =
         let good : tail ≡ true =
         ap (λ (x : List ℕ). tailGood held (tailOf x)) (sym (whole-bytes l v))
         ∙ ap (tailGood held) (whole-tail (decodeWhole l))
-        ∙ tail-good (decodeWhole l .mode) (decodeWhole l .memory) held (whole-memory (decodeWhole l) (whole-obeys l v)) in
-        and-intro (eqb (length l) wholeWidth) (area && tail) (eq-eqb (length l) wholeWidth (whole-long l v)) (and-intro area tail (area-valid l v) good)
+        ∙ tail-good (decodeWhole l .kind) (decodeWhole l .memory) held (whole-memory (decodeWhole l) (whole-obeys l v)) in
+        and-intro (eqb (length l) wholeWidth) (area && (tail && forms)) (eq-eqb (length l) wholeWidth (whole-long l v))
+        (and-intro area (tail && forms) (area-valid l v) (and-intro tail forms good (area-formed l v)))
 
     comes : wholeGood l ≡ true → validWhole l ≡ true
     comes g =
-        let long : length l ≡ wholeWidth = eqb-true (length l) wholeWidth (and-left _ (area && tail) g) in
-        let both : (area && tail) ≡ true = and-right (eqb (length l) wholeWidth) (area && tail) g in
-        let v : area ≡ true = and-left area tail both in
+        let long : length l ≡ wholeWidth = eqb-true (length l) wholeWidth (and-left _ (area && (tail && forms)) g) in
+        let both : (area && (tail && forms)) ≡ true = and-right (eqb (length l) wholeWidth) (area && (tail && forms)) g in
+        let v : area ≡ true = and-left area (tail && forms) both in
+        let rest : (tail && forms) ≡ true = and-right area (tail && forms) both in
+        let good : tail ≡ true = and-left tail forms rest in
         let bs = bytes-part tableWidth tailWidth l h in
         let wide = length-part tableWidth tailWidth l (omega (arith, long)) in
-        let tail-is : encodeTail (decodeTail (tailOf l)) (decodeMemory (tailOf l)) ≡ tailOf l = tail-back held (tailOf l) bs wide (and-right area tail both) in
+        let tail-is : encodeTail (decodeTail (tailOf l)) (decodeMemory (tailOf l)) ≡ tailOf l = tail-back held (tailOf l) bs wide good in
         let fine : obeysWhole (decodeWhole l) ≡ true =
-        and-intro (obeys (decode (areaOf l))) (memoryObeys held (decodeMemory (tailOf l))) (valid-obeys (areaOf l) v) (tail-obeys held (tailOf l) bs wide (and-right area tail both)) in
+        and-intro (obeys (decode (areaOf l))) (memoryObeys held (decodeMemory (tailOf l)) && forms) (valid-obeys (areaOf l) v)
+        (and-intro (memoryObeys held (decodeMemory (tailOf l))) forms (tail-obeys held (tailOf l) bs wide good) (and-right tail forms rest)) in
         let back : encodeWhole (decodeWhole l) ≡ l =
         ap₂ (λ (a b : List ℕ). joined (a ∷ b ∷ [])) (encode-decode (areaOf l) v ∙ seen-first tableWidth l) tail-is ∙ joined-whole wholeWidths l long in
         ap validWhole (sym back) ∙ valid-encode-whole (decodeWhole l) fine
@@ -343,6 +392,12 @@ module _ (l : List ℕ) (h : AreBytes l) where
       never false = refl
 
   -- where the area is good, the tail decides
-  pub tail-decides : length l ≡ wholeWidth → valid (areaOf l) ≡ true → (t : Bool) → t ≡ tailGood (numbersOf (decode (areaOf l))) (tailOf l) → t ≡ validWhole l
+  pub tail-stop : length l ≡ wholeWidth → valid (areaOf l) ≡ true → tailGood (numbersOf (decode (areaOf l))) (tailOf l) ≡ false → false ≡ validWhole l
   unfolding wholeGood
-  tail-decides e v t q = q ∙ sym (whole-is l h ∙ rw (wholeGood, eq-eqb (length l) wholeWidth e, v))
+  tail-stop e v q = sym (whole-is l h ∙ rw (wholeGood, eq-eqb (length l) wholeWidth e, v, q))
+
+  -- and where both are good, the forms
+  pub forms-decide : length l ≡ wholeWidth → valid (areaOf l) ≡ true → tailGood (numbersOf (decode (areaOf l))) (tailOf l) ≡ true
+      → (t : Bool) → t ≡ profileObeys (decodeWhole l .kind .profile) (decode (areaOf l)) → t ≡ validWhole l
+  unfolding wholeGood
+  forms-decide e v g t q = q ∙ sym (whole-is l h ∙ rw (wholeGood, eq-eqb (length l) wholeWidth e, v, g))

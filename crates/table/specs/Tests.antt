@@ -15,7 +15,8 @@ use Rattle.rules.specs.Node.{Rec}
 use Rattle.rules.specs.Table.{keysRise, versions, differ, rising, numbersOf}
 use Rattle.rules.specs.Layout.{recWidths, recWidth, nodeWidths, nodeWidth, tableWidths, tableWidth, decodeNode, decode, valid}
 use Rattle.rules.specs.Memory.{removedNumbers, apart}
-use Rattle.rules.specs.Whole.{tailWidths, removedWidth, removedPlace, wholeWidth, areaOf, tailOf, decodeMemory}
+use Rattle.rules.specs.Profile.{profileObeys}
+use Rattle.rules.specs.Whole.{tailWidths, removedWidth, removedPlace, wholeWidth, areaOf, tailOf, profileOfByte, decodeMemory}
 
 -- ---- a record's bytes, in a node with this max
 
@@ -94,15 +95,18 @@ tableGood l = eqb (length l) tableWidth && every (tableTests l)
 abbrev pub modeIn : (tail : Bytes) → ℕ
 modeIn b = natOf (part (offset tailWidths 0) 1 b)
 
+abbrev pub profileIn : (tail : Bytes) → ℕ
+profileIn b = natOf (part (offset tailWidths 1) 1 b)
+
 -- how many removed nodes the tail says that there are
 abbrev pub removedIn : (tail : Bytes) → ℕ
 removedIn b = natOf (part (offset tailWidths 2) 1 b)
 
--- a mode of the three, no profile, at most 16 removed nodes, zeros behind them, no node twice, none that is held
+-- a mode of the three, a profile of the two, at most 16 removed nodes, zeros behind them, no node twice, none that is held
 abbrev pub tailTests : (held : List ℕ) (tail : Bytes) → List Bool
 tailTests held b =
     leb (modeIn b) 2
-    ∷ allZero (part (offset tailWidths 1) 1 b)
+    ∷ leb (profileIn b) 1
     ∷ leb (removedIn b) maxRemoved
     ∷ allZero (part (removedPlace (removedIn b)) ((maxRemoved - removedIn b) * removedWidth) b)
     ∷ differ (removedNumbers (decodeMemory b))
@@ -113,4 +117,6 @@ unfoldable pub tailGood : (held : List ℕ) (tail : Bytes) → Bool
 tailGood held b = every (tailTests held b)
 
 unfoldable pub wholeGood : (bytes : Bytes) → Bool
-wholeGood l = eqb (length l) wholeWidth && (valid (areaOf l) && tailGood (numbersOf (decode (areaOf l))) (tailOf l))
+wholeGood l =
+    eqb (length l) wholeWidth
+    && (valid (areaOf l) && (tailGood (numbersOf (decode (areaOf l))) (tailOf l) && profileObeys (profileOfByte (profileIn (tailOf l))) (decode (areaOf l))))

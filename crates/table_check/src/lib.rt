@@ -1,5 +1,5 @@
 // The check behind number 14: whether lent bytes are a table that obeys the rules. It makes one pass over them: the records by `record_check`, their
-// versions by `numbers_differ`, the bytes behind the nodes by `tail_check`.
+// versions by `numbers_differ`, the bytes behind the nodes by `tail_check`. Where the table has a profile, `profile_check` looks at its records once more.
 use rules::Header;
 use rules::sizes;
 use table::layout;
@@ -142,7 +142,9 @@ pub fn check_table(table: &[u8]) -> bool
         return false;
     }
     if check_area(&table[..layout::AREA]) {
-        return tail_check::check_tail(&table[..layout::AREA], &table[layout::AREA..layout::TABLE]);
+        if tail_check::check_tail(&table[..layout::AREA], &table[layout::AREA..layout::TABLE]) {
+            return profile_check::check_profile(table);
+        }
     }
     false
 }

@@ -13,7 +13,7 @@ use Rattle.rules.specs.Sizes.{maxRemoved}
 use Rattle.rules.specs.Table.{differ}
 use Rattle.rules.specs.Memory.{apart, removedNumbers}
 use Rattle.rules.specs.Whole.{removedPlace, removedWidth, tailWidth, decodeMemory}
-use Rattle.table.specs.Tests.{modeIn, removedIn, tailTests, tailGood}
+use Rattle.table.specs.Tests.{modeIn, profileIn, removedIn, tailTests, tailGood}
 use Rattle.table.proofs.Records.{every-no}
 
 module _ (held b : List ℕ) where
@@ -24,9 +24,8 @@ module _ (held b : List ℕ) where
   pub no-mode : (n : ℕ) → n ≡ modeIn b → 2 < n → false ≡ tailGood held b
   no-mode n e h = tail-stop 0 (rw (← e) (lt-leb n 2 h))
 
-  pub a-profile : (t : Bool) → t ≡ allZero (take 1 (drop 1 b)) → t ≡ false → false ≡ tailGood held b
-  unfolding part
-  a-profile t e q = tail-stop 1 (sym e ∙ q)
+  pub no-profile : (n : ℕ) → n ≡ profileIn b → 1 < n → false ≡ tailGood held b
+  no-profile n e h = tail-stop 1 (rw (← e) (lt-leb n 1 h))
 
   pub too-many : (n : ℕ) → n ≡ removedIn b → maxRemoved < n → false ≡ tailGood held b
   too-many n e h = tail-stop 2 (rw (← e) (lt-leb n maxRemoved h))
@@ -44,14 +43,14 @@ module _ (held b : List ℕ) where
       → false ≡ tailGood held b
   not-free a n t e h p z q = tail-stop 3 (sym (z ∙ free-is a n e h p) ∙ q)
 
-  pub numbers-decide : (m n a : ℕ) (s t u : Bool) → m ≡ modeIn b → m ≤ 2 → s ≡ allZero (take 1 (drop 1 b)) → s ≡ true → n ≡ removedIn b → n ≤ maxRemoved
+  pub numbers-decide : (m p n a : ℕ) (t u : Bool) → m ≡ modeIn b → m ≤ 2 → p ≡ profileIn b → p ≤ 1 → n ≡ removedIn b → n ≤ maxRemoved
       → a ≡ removedPlace n → t ≡ allZero (take (tailWidth - a) (drop a b)) → t ≡ true
       → u ≡ (differ (removedNumbers (decodeMemory b)) && apart held (removedNumbers (decodeMemory b)))
       → u ≡ tailGood held b
   unfolding tailGood part
-  numbers-decide m n a s t u em hm es hs en hn ea ez hz eu =
+  numbers-decide m p n a t u em hm ep hp en hn ea ez hz eu =
       let p0 : getD (tailTests held b) 0 true ≡ true = rw (← em) (le-leb m 2 hm) in
-      let p1 : getD (tailTests held b) 1 true ≡ true = sym es ∙ hs in
+      let p1 : getD (tailTests held b) 1 true ≡ true = rw (← ep) (le-leb p 1 hp) in
       let p2 : getD (tailTests held b) 2 true ≡ true = rw (← en) (le-leb n maxRemoved hn) in
       let p3 : getD (tailTests held b) 3 true ≡ true = sym (ez ∙ free-is a n en hn ea) ∙ hz in
       let d : Bool = differ (removedNumbers (decodeMemory b)) in

@@ -1,6 +1,7 @@
 // The check of what stands behind a table's area: the mode, the profile, and the memory of removed nodes. Where nothing is remembered, the memory costs no
 // more than its zeros.
 use rules::Mode;
+use rules::Profile;
 use rules::sizes;
 use table::layout;
 ghost use mathlib.Core.Path.{_≡_};
@@ -62,7 +63,7 @@ fn check_numbers(area: &[u8], tail: &[u8], n: usize) -> bool
     false
 }
 
-// Whether the bytes are those of a tail behind this area: a mode, no profile, at most 16 removed nodes, zeros behind them, none twice, none that is held.
+// Whether the bytes are those of a tail behind this area: a mode, a profile, at most 16 removed nodes, zeros behind them, none twice, none that is held.
 pub fn check_tail(area: &[u8], tail: &[u8]) -> bool
     requires { ⌜ (length (now area) ≡ tableWidth) × (nodesOf (now area) ≤ maxNodes) × (length (now tail) ≡ tailWidth) ⌝ }
     ensures { λ r. ⌜ r ≡ tailGood (numbersOf (decode (now (area .entry)))) (now (tail .entry)) ⌝ }
@@ -70,15 +71,16 @@ pub fn check_tail(area: &[u8], tail: &[u8]) -> bool
     if Mode::LAST < fields::byte_at(tail, layout::MODE) {
         return false;
     }
-    if fields::is_zero(&tail[layout::PROFILE..layout::REMOVED_COUNT]) {
-        let n = fields::byte_at(tail, layout::REMOVED_COUNT);
-        if sizes::REMOVED < n {
-            return false;
-        }
-        let a = table::removed_place(n);
-        if fields::is_zero(&tail[a..layout::TAIL]) {
-            return check_numbers(area, tail, n);
-        }
+    if Profile::LAST < fields::byte_at(tail, layout::PROFILE) {
+        return false;
+    }
+    let n = fields::byte_at(tail, layout::REMOVED_COUNT);
+    if sizes::REMOVED < n {
+        return false;
+    }
+    let a = table::removed_place(n);
+    if fields::is_zero(&tail[a..layout::TAIL]) {
+        return check_numbers(area, tail, n);
     }
     false
 }

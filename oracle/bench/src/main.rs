@@ -12,6 +12,7 @@
 mod grid;
 mod inputs;
 mod local;
+mod meter;
 mod port;
 mod stack;
 
@@ -686,6 +687,7 @@ fn main() {
     applying(&mut rows, "apply 16,384 bytes to a half full table", &half, &newer, APPLY, false, Aim::None);
     applying(&mut rows, "apply 16,384 bytes to a half full table, owned table", &half, &newer, APPLY, true, OWNED);
     grid::rows(&mut rows);
+    meter::rows(&mut rows);
     println!("An owned table:\n");
     rows.print(BOTH, |aim| matches!(aim, Aim::Owned));
     println!("\nNodes that come and go in an owned table:\n");

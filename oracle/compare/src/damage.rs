@@ -1,7 +1,7 @@
 //! Damaged copies of good bytes. Texts stay valid UTF-8, because the original can be asked about nothing else; beyond it they need not.
 
 use script::table::{
-    self, AREA_BYTES, KEY, NODE_BYTES, NODE_HEAD_BYTES, Node, RECORD_BYTES, REMOVED, REMOVED_BYTES, Removed, TABLE_BYTES, VALUE,
+    self, AREA_BYTES, KEY, NODE_BYTES, NODE_HEAD_BYTES, Node, RECORD_BYTES, REMOVED, REMOVED_BYTES, Record, Removed, TABLE_BYTES, VALUE,
 };
 
 use crate::random::Random;
@@ -69,29 +69,31 @@ pub fn texts_are_utf8(mut bytes: &[u8]) -> bool {
     true
 }
 
-/// Table bytes that break one of document 01's rules or of the layout.
-pub fn table(random: &mut Random, nodes: &[Node]) -> Vec<u8> {
+/// Table bytes that break one of document 01's rules, of the profile's or of the layout.
+pub fn table(random: &mut Random, nodes: &[Node], profile: u8) -> Vec<u8> {
     loop {
-        if let Some(bytes) = break_table(random, nodes) {
+        if let Some(bytes) = break_table(random, nodes, profile) {
             return bytes;
         }
     }
 }
 
 /// None where the table has nothing that could be broken in the way that chance asked for.
-fn break_table(random: &mut Random, nodes: &[Node]) -> Option<Vec<u8>> {
+fn break_table(random: &mut Random, nodes: &[Node], profile: u8) -> Option<Vec<u8>> {
     let mut nodes = nodes.to_vec();
     let mode = random.below(3) as u8;
     let at = if nodes.is_empty() { 0 } else { random.place(nodes.len()) };
     let record_at = nodes.get(at).map_or(0, |node| random.place(node.records.len().max(1)));
     let node_start = 1 + at * NODE_BYTES;
     let record_start = node_start + NODE_HEAD_BYTES + record_at * RECORD_BYTES;
+    let encode_with = |nodes: &[Node], removed: &[Removed]| table::encode_as(nodes, mode, profile, removed);
+    let encode = |nodes: &[Node]| encode_with(nodes, &[]);
     let set = |nodes: &[Node], place: usize, byte: u8| {
-        let mut bytes = table::encode(nodes, mode);
+        let mut bytes = encode(nodes);
         bytes[place] = byte;
         bytes
     };
-    match random.below(23) {
+    match random.below(25) {
         0 => Some(set(&nodes, 0, over(random, 9))),
         1 => nodes.get(at).map(|_| set(&nodes, node_start + NODE_HEAD_BYTES - 1, over(random, 33))),
         2 => has_record(&nodes, at).then(|| set(&nodes, record_start, over(random, 33))),
@@ -99,44 +101,44 @@ fn break_table(random: &mut Random, nodes: &[Node]) -> Option<Vec<u8>> {
         4 => has_record(&nodes, at).then(|| set(&nodes, record_start + RECORD_BYTES - 9, over(random, 3))),
         5 => {
             nodes.get_mut(at)?.records.get_mut(record_at)?.version = 0;
-            Some(table::encode(&nodes, mode))
+            Some(encode(&nodes))
         }
         6 => {
             let max = nodes.get(at)?.max.checked_add(1)?;
             nodes[at].records.get_mut(record_at)?.version = max;
-            Some(table::encode(&nodes, mode))
+            Some(encode(&nodes))
         }
         7 => {
             let other = nodes.get(at)?.records.iter().map(|record| record.version).next()?;
             nodes[at].records.last_mut()?.version = other;
-            (nodes[at].records.len() > 1).then(|| table::encode(&nodes, mode))
+            (nodes[at].records.len() > 1).then(|| encode(&nodes))
         }
         8 => {
             let records = &mut nodes.get_mut(at)?.records;
             (records.len() > 1).then(|| records.swap(0, 1))?;
-            Some(table::encode(&nodes, mode))
+            Some(encode(&nodes))
         }
         9 => {
             let records = &mut nodes.get_mut(at)?.records;
             (records.len() > 1).then(|| records[1].key = records[0].key.clone())?;
-            Some(table::encode(&nodes, mode))
+            Some(encode(&nodes))
         }
         10 => (nodes.len() > 1).then(|| {
             nodes.swap(0, 1);
-            table::encode(&nodes, mode)
+            encode(&nodes)
         }),
         11 => (nodes.len() > 1).then(|| {
             nodes[1].number = nodes[0].number;
-            table::encode(&nodes, mode)
+            encode(&nodes)
         }),
         12 => {
-            let mut bytes = table::encode(&nodes, mode);
+            let mut bytes = encode(&nodes);
             let used = 1 + nodes.len() * NODE_BYTES;
             soil(random, bytes.get_mut(used..AREA_BYTES)?)?;
             Some(bytes)
         }
         13 => {
-            let mut bytes = table::encode(&nodes, mode);
+            let mut bytes = encode(&nodes);
             let records = nodes.get(at)?.records.len();
             let used = node_start + NODE_HEAD_BYTES + records * RECORD_BYTES;
             soil(random, &mut bytes[used..node_start + NODE_BYTES])?;
@@ -156,36 +158,55 @@ fn break_table(random: &mut Random, nodes: &[Node]) -> Option<Vec<u8>> {
         }
         15 => Some(set(&nodes, AREA_BYTES, over(random, 2))),
         16 => {
-            let mut bytes = table::encode(&nodes, mode);
+            let mut bytes = encode(&nodes);
             bytes[AREA_BYTES + 1] = random.below(2) as u8;
             soil(random, &mut bytes[AREA_BYTES + 3..])?;
             Some(bytes)
         }
-        17 => Some(set(&nodes, AREA_BYTES + 1, over(random, 1))),
+        17 => Some(set(&nodes, AREA_BYTES + 1, over(random, table::METER as u64 + 1))),
         18 => Some(set(&nodes, AREA_BYTES + 2, over(random, REMOVED as u64 + 1))),
         19 => {
             let mut removed = removed(random, &nodes);
             let (one, other) = (random.place(removed.len().max(1)), random.place(removed.len().max(1)));
             let number = removed.get(one)?.0;
             removed[other].0 = number;
-            (one != other).then(|| table::encode_with(&nodes, mode, &removed))
+            (one != other).then(|| encode_with(&nodes, &removed))
         }
         20 => {
             let mut removed = removed(random, &nodes);
             let place = random.place(removed.len().max(1));
             removed.get_mut(place)?.0 = nodes.get(at)?.number;
-            Some(table::encode_with(&nodes, mode, &removed))
+            Some(encode_with(&nodes, &removed))
         }
         21 => {
             let removed = removed(random, &nodes);
-            let mut bytes = table::encode_with(&nodes, mode, &removed);
+            let mut bytes = encode_with(&nodes, &removed);
             soil(random, &mut bytes[AREA_BYTES + 3 + removed.len() * REMOVED_BYTES..])?;
             Some(bytes)
         }
+        22 | 23 if profile == table::METER => {
+            let record = nodes.get_mut(at)?.records.get_mut(record_at)?;
+            out_of_form(random, record);
+            Some(encode(&nodes))
+        }
         _ => {
-            let mut bytes = table::encode(&nodes, mode);
+            let mut bytes = encode(&nodes);
             bytes.resize(*random.pick(&[0, 1, AREA_BYTES, TABLE_BYTES - 1, TABLE_BYTES + 1]), 0);
             Some(bytes)
+        }
+    }
+}
+
+/// A record of a meter table, no longer in its form.
+fn out_of_form(random: &mut Random, record: &mut Record) {
+    match random.below(5) {
+        0 => record.key.clear(),
+        1 => *record.key.last_mut().expect("a key in form") = *random.pick(b"A/:`{ "),
+        2 => record.value = b"00000000001".to_vec(),
+        3 => record.value = vec![*random.pick(b"a/:. -")],
+        _ => {
+            record.value.clear();
+            (record.status, record.start) = (table::SET, 0);
         }
     }
 }

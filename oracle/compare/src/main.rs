@@ -16,6 +16,7 @@ mod maker;
 mod pieces;
 mod plans;
 mod random;
+mod readings;
 mod scripts;
 mod shrink;
 mod sides;

@@ -23,6 +23,8 @@ pub struct Maker {
     clock: u64,
     /// Of both hubs' tables.
     mode: u8,
+    /// Of each hub's: free, meter, or one of each.
+    profiles: [u8; 2],
     /// The edition of the last digest.
     told: u64,
 }
@@ -37,11 +39,34 @@ fn list(numbers: &[u64]) -> String {
 impl Maker {
     pub fn new(mut random: Random, nodes: u64, keys: u64) -> Maker {
         let nodes = (0..nodes).map(|_| pieces::node(&mut random)).collect();
-        let keys = (0..keys).map(|_| pieces::key(&mut random)).collect();
-        let values = (0..4).map(|_| pieces::value(&mut random)).collect();
         let mode = *random.pick(&[table::PLAIN, table::PLAIN, table::FENCED, table::GUARDED]);
-        let lines = ["hub 1".to_string(), format!("make {mode}"), "hub 0".to_string(), format!("make {mode}")];
-        Maker { random, lines: lines.to_vec(), hub: 0, held: Default::default(), nodes, keys, values, clock: 10, mode, told: 0 }
+        let profiles = match random.below(12) {
+            0 | 1 => [table::METER, table::METER],
+            2 => [table::FREE, table::METER],
+            3 => [table::METER, table::FREE],
+            _ => [table::FREE, table::FREE],
+        };
+        let readings = profiles.contains(&table::METER);
+        let (key, value): (fn(&mut Random) -> _, fn(&mut Random) -> _) =
+            if readings { (pieces::meter_key, pieces::meter_value) } else { (pieces::key, pieces::value) };
+        let keys = (0..keys).map(|_| key(&mut random)).collect();
+        let values = (0..4).map(|_| value(&mut random)).collect();
+        let mut maker =
+            Maker { random, lines: Vec::new(), hub: 0, held: Default::default(), nodes, keys, values, clock: 10, mode, profiles, told: 0 };
+        for hub in [1, 0] {
+            maker.hub(hub);
+            maker.empty();
+        }
+        maker
+    }
+
+    /// The profile of the current hub's table.
+    pub fn profile(&self) -> u8 {
+        self.profiles[self.hub]
+    }
+
+    pub fn is_meter(&self) -> bool {
+        self.profile() == table::METER
     }
 
     pub fn finish(self) -> Vec<String> {
@@ -93,7 +118,8 @@ impl Maker {
 
     pub fn empty(&mut self) {
         self.held[self.hub].clear();
-        self.line(format!("make {}", self.mode));
+        let (mode, profile) = (self.mode, self.profile());
+        self.line(if profile == table::FREE { format!("make {mode}") } else { format!("kind {mode} {profile}") });
     }
 
     pub fn add(&mut self, node: u64) {
@@ -344,6 +370,9 @@ impl Maker {
                     let status = if self.random.once_in(60) { 3 } else { self.random.below(3) as u8 };
                     // A tombstone mostly comes without a value, but a peer may send one.
                     let value = if status == 1 && !self.random.once_in(4) { Vec::new() } else { self.value() };
+                    // A reading under Set mostly comes with one.
+                    let bare = status == table::SET && value.is_empty() && self.is_meter() && !self.random.once_in(8);
+                    let value = if bare { b"5".to_vec() } else { value };
                     ops.push(Op::KeyValue { key: self.key(), value, version: running, status });
                 }
             }
@@ -364,7 +393,9 @@ impl Maker {
             version += self.random.within(1, 2);
             let key = if reset { place } else { self.random.below(36) };
             let key = format!("k{key}").into_bytes();
-            ops.push(Op::KeyValue { key, value: Vec::new(), version, status: self.random.below(3) as u8 });
+            let status = self.random.below(3) as u8;
+            let value = if status == table::SET && self.is_meter() { b"5".to_vec() } else { Vec::new() };
+            ops.push(Op::KeyValue { key, value, version, status });
         }
     }
 
@@ -384,10 +415,12 @@ impl Maker {
     }
 
     fn good_node(&mut self, number: u64, records: u64, long: bool) -> Node {
-        let mut keys: BTreeSet<Vec<u8>> = self.keys.iter().filter(|key| key.len() <= table::KEY).cloned().collect();
+        let meter = self.is_meter();
+        let fits = |key: &&Vec<u8>| key.len() <= table::KEY && (!meter || pieces::is_name(key));
+        let mut keys: BTreeSet<Vec<u8>> = self.keys.iter().filter(fits).cloned().collect();
         while keys.len() < RECORDS {
             let len = self.random.within(if long { 24 } else { 1 }, 32) as usize;
-            keys.insert(pieces::text(&mut self.random, len));
+            keys.insert(if meter { pieces::name(&mut self.random, len) } else { pieces::text(&mut self.random, len) });
         }
         let mut keys: Vec<Vec<u8>> = keys.into_iter().collect();
         while keys.len() > records as usize {
@@ -405,11 +438,15 @@ impl Maker {
             let status = self.random.below(3) as u8;
             let start = if status == table::SET && !self.random.beyond { 0 } else { pieces::moment(&mut self.random) };
             let len = match status {
+                _ if long && meter => 10,
                 _ if long => self.random.within(48, 64),
                 table::DELETE if !self.random.once_in(5) => 0,
+                table::SET if meter => self.random.within(1, 10),
+                _ if meter => self.random.below(11),
                 _ => self.random.below(65),
             };
-            Record { key, value: pieces::text(&mut self.random, len as usize), version, status, start }
+            let value = if meter { pieces::digits(&mut self.random, len as usize) } else { pieces::text(&mut self.random, len as usize) };
+            Record { key, value, version, status, start }
         });
         let records = records.collect();
         let last_gc = if self.random.once_in(2) { 0 } else { pieces::version(&mut self.random) };
@@ -419,7 +456,7 @@ impl Maker {
     pub fn give(&mut self, nodes: &[Node]) {
         self.held[self.hub] = nodes.iter().map(|node| node.number).collect();
         let removed = if self.random.once_in(2) { damage::removed(&mut self.random, nodes) } else { Vec::new() };
-        let bytes = table::encode_with(nodes, self.mode, &removed);
+        let bytes = table::encode_as(nodes, self.mode, self.profile(), &removed);
         self.line(format!("table {}", hex(&bytes)));
     }
 

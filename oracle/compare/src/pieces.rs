@@ -40,6 +40,48 @@ pub fn value(random: &mut Random) -> Vec<u8> {
     }
 }
 
+/// What keys of a meter table are made of.
+const NAMES: &[u8] = b"abz059.";
+
+/// A key of a meter table, of exactly `len` bytes.
+pub fn name(random: &mut Random, len: usize) -> Vec<u8> {
+    (0..len).map(|_| *random.pick(NAMES)).collect()
+}
+
+/// Its value, of exactly `len` digits.
+pub fn digits(random: &mut Random, len: usize) -> Vec<u8> {
+    (0..len).map(|_| *random.pick(b"0019")).collect()
+}
+
+/// Whether a meter table may have such a key. Only to aim.
+pub fn is_name(key: &[u8]) -> bool {
+    !key.is_empty() && key.iter().all(|byte| byte.is_ascii_lowercase() || byte.is_ascii_digit() || *byte == b'.')
+}
+
+/// A key for a meter table: `total` above all, now and then one out of form.
+pub fn meter_key(random: &mut Random) -> Vec<u8> {
+    const ODD: [&str; 10] = ["", "A", "Total", "a/b", "a b", "a`", "a{", "-", "é", "total\0"];
+    match random.below(12) {
+        0 => random.pick(&ODD).as_bytes().to_vec(),
+        1 => name(random, 32),
+        2 | 3 => name(random, 3),
+        4..=8 => b"total".to_vec(),
+        _ => random.pick(&["a", "0", ".", "tota", "total.", "total0"]).as_bytes().to_vec(),
+    }
+}
+
+/// A value for a meter table: small numbers with zeros before them, the longest ones, now and then one out of form.
+pub fn meter_value(random: &mut Random) -> Vec<u8> {
+    const ODD: [&str; 9] = ["x", "1.5", "-1", "+1", " 1", "1 ", "0x1", "٣", "12345678901"];
+    match random.below(10) {
+        0 => random.pick(&ODD).as_bytes().to_vec(),
+        1 => digits(random, 10),
+        2 => Vec::new(),
+        3 => random.pick(&["9999999999", "0000000000", "999999999", "4294967296"]).as_bytes().to_vec(),
+        _ => random.pick(&["0", "00", "7", "007", "8", "9", "10", "010", "41"]).as_bytes().to_vec(),
+    }
+}
+
 /// A node's number: small ones, ones whose bytes order otherwise than they do, the last ones.
 pub fn node(random: &mut Random) -> u64 {
     *random.pick(&[0, 1, 2, 3, 255, 256, 257, 65_536, 1 << 32, 1 << 63, LAST - 1, LAST, 7, 8, 9, 10])

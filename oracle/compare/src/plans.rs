@@ -130,7 +130,10 @@ fn spoil(random: &mut Random, plan: &mut Plan, up_to_date: &[u64]) {
             plan.excluded = vec![pieces::node(random), number];
         }
         6 if lines > 0 => counts[random.place(lines)] = 0,
-        7 if lines > 0 => counts[random.place(lines)] += 1,
+        7 if lines > 0 => {
+            let count = &mut counts[random.place(lines)];
+            *count = count.saturating_add(1);
+        }
         8 if lines > 0 => counts[random.place(lines)] = *random.pick(&[33, 1 << 32, u64::MAX]),
         9 => {
             while nodes.len() < 9 {

@@ -221,7 +221,7 @@ fn crowded(random: Random) -> Vec<String> {
     for number in 0..held {
         let line = match m.random.below(3) {
             0 => format!("write {} {} x 2 {}", nodes[0], hex(format!("k{number}").as_bytes()), m.now()),
-            _ => format!("write {} {} x 0 9", nodes[0], hex(format!("k{number}").as_bytes())),
+            _ => format!("write {} {} x31 0 9", nodes[0], hex(format!("k{number}").as_bytes())),
         };
         m.line(line);
     }
@@ -421,7 +421,8 @@ fn broken(mut random: Random) -> Vec<String> {
     let records = *m.random.pick(&[1, 3, 32]);
     let good = m.good_nodes(nodes, records, false);
     for _ in 0..3 {
-        let bytes = damage::table(&mut m.random, &good);
+        let profile = m.profile();
+        let bytes = damage::table(&mut m.random, &good, profile);
         m.give_broken(&bytes);
         for _ in 0..m.random.within(1, 6) {
             anything_local(&mut m);

@@ -6,8 +6,9 @@ use script::table::{self, Node, RECORDS, Record, SET};
 
 use crate::damage::texts_are_utf8;
 use crate::pieces::{Op, delta, digest};
+use crate::readings;
 
-const SWEEPS: [(&str, fn() -> Vec<String>); 24] = [
+const SWEEPS: [(&str, fn() -> Vec<String>); 31] = [
     ("bench", bench),
     ("writes", writes),
     ("wanted", wanted),
@@ -32,6 +33,13 @@ const SWEEPS: [(&str, fn() -> Vec<String>); 24] = [
     ("damaged-digest", damaged_digest),
     ("two-faults", two_faults),
     ("many-nodes", many_nodes),
+    ("meter-kinds", readings::kinds),
+    ("meter-keys", readings::keys),
+    ("meter-values", readings::values),
+    ("meter-totals", readings::totals),
+    ("meter-writes", readings::writes),
+    ("meter-streams", readings::streams),
+    ("meter-exchanges", readings::exchanges),
 ];
 
 pub fn names() -> Vec<String> {

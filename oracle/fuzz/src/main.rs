@@ -7,14 +7,17 @@
 //! - where it is refused, no lent byte has changed,
 //! - where it is accepted, the check accepts the table that it leaves, and what was not to be written is as it was,
 //! - on a good table, the same call without the check tells and leaves the same,
+//! - on a good meter table, where it is answered neither 17 nor 18, it tells and leaves what it does on the free table of the same records,
 //! - where a delta was applied, its two parts do the same in either order, cut at a Node; cut elsewhere, the second is refused with 11,
 //! - now and then, the readings by place give the very table again.
 //!
-//! A call on a grid is made by the crate's `Watched` too (`grid.rs`). One script in sixteen is followed by a walk over overrides (`over.rs`).
+//! A call on a grid is made by the crate's `Watched` too (`grid.rs`). Each script is followed by an exchange in one call between the tables that it left (`exchange.rs`), and one in sixteen by a walk
+//! over overrides (`over.rs`).
 
 #[allow(dead_code)]
 #[path = "../../compare/src/damage.rs"]
 mod damage;
+mod exchange;
 #[allow(dead_code)]
 #[path = "../../../rust/kevdarosh/src/ffi.rs"]
 mod ffi;
@@ -82,11 +85,11 @@ struct Run {
 impl Run {
     /// One script: the words of a difference, and the line that shows it.
     fn script(&mut self, lines: &[String], port: &mut [Port; HUBS]) -> Result<(), String> {
-        let mut plain = [(); HUBS].map(|()| Lent::new(0));
+        let mut plain = [(); HUBS].map(|()| Lent::new(0, 0));
         let mut grids = [(); HUBS].map(|()| script::grid::empty());
         let (mut current, mut digest, mut delta) = (0, Vec::new(), Vec::new());
         let calls = all(port);
-        *port = [(); HUBS].map(|()| Port::new(0));
+        *port = [(); HUBS].map(|()| Port::new());
         port[0].calls += calls;
         for line in lines {
             let mut call = Call::parse(line).ok_or_else(|| format!("not a call: {line}"))?;
@@ -105,10 +108,10 @@ impl Run {
             self.lines += 1;
             match &call {
                 Call::Hub(hub) => current = *hub,
-                Call::New { mode } => {
-                    let refused = port[current].remake(*mode)?;
+                Call::New { mode, profile } => {
+                    let refused = port[current].remake(*mode, *profile)?;
                     if !refused {
-                        plain[current] = Lent::new(*mode as u8);
+                        plain[current] = Lent::new(*mode as u8, *profile as u8);
                         grids[current] = script::grid::empty();
                     }
                 }
@@ -152,6 +155,12 @@ impl Run {
                 port[current].read_all().map_err(|what| format!("{line}\n  {what}"))?;
             }
         }
+        let mut random = random::Random::new(self.scripts, self.lines);
+        for (publisher, follower) in [(0, 1), (1, 0)] {
+            let (calls, number) = exchange::once(&mut random, &port[publisher].table, &port[follower].table)?;
+            *self.answers.entry(format!("exchange{number:02}")).or_default() += 1;
+            port[0].calls += calls;
+        }
         self.scripts += 1;
         Ok(())
     }
@@ -177,7 +186,7 @@ fn main() -> ExitCode {
         return ExitCode::from(2);
     };
     let mut run = Run::default();
-    let mut port = [(); HUBS].map(|()| Port::new(0));
+    let mut port = [(); HUBS].map(|()| Port::new());
     let mut told = 0;
     for index in 0.. {
         let calls = all(&port);

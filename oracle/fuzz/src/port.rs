@@ -1,7 +1,7 @@
 //! The library's side: each call by its C function, what was lent to it looked at afterwards, and the same call without the check.
 
 use kevdarosh::{Status, TableView};
-use script::table::{AREA_BYTES, DELETE, KEY, NODE_BYTES, NODE_HEAD_BYTES, Node, RECORD_BYTES, REMOVED_BYTES, Record, VALUE, encode_with};
+use script::table::{AREA_BYTES, DELETE, FREE, KEY, METER, NODE_BYTES, NODE_HEAD_BYTES, Node, RECORD_BYTES, REMOVED_BYTES, Record, VALUE, encode_as};
 use script::{Answer, Bytes, Call, DigestEntry, Fault, Verdict};
 
 use crate::ffi::{self, Kept};
@@ -10,6 +10,8 @@ use crate::ffi::{self, Kept};
 const MARK: u8 = 0xEE;
 /// Where the status stands in a record.
 const STATUS_AT: usize = 1 + KEY + 1 + VALUE + 8;
+/// Where the profile stands in a table.
+const PROFILE_AT: usize = AREA_BYTES + 1;
 /// More places than a call can want.
 const PLACES: u64 = 64;
 
@@ -201,26 +203,43 @@ pub fn or(number: u64, answer: Answer) -> (u64, Answer) {
 }
 
 impl Port {
-    pub fn new(mode: usize) -> Port {
+    pub fn new() -> Port {
         let mut port = Port { table: vec![MARK; crate::TABLE], grid: script::grid::empty(), calls: 1 };
-        assert_eq!(ffi::new_table(&mut port.table, mode), 0);
+        assert_eq!(ffi::new_table(&mut port.table, 0, 0), 0);
         port
     }
 
-    /// A table made in a mode: whether it was refused.
-    pub fn remake(&mut self, mode: u64) -> Result<bool, String> {
+    /// A table made in a mode, of a profile: whether it was refused.
+    pub fn remake(&mut self, mode: u64, profile: u64) -> Result<bool, String> {
         // A table that was given may have another length; making wants a table's.
         let mut table = vec![MARK; crate::TABLE];
         self.calls += 1;
-        match ffi::new_table(&mut table, mode as usize) {
+        match ffi::new_table(&mut table, mode as usize, profile as usize) {
             0 => {
                 self.table = table;
                 self.grid = script::grid::empty();
                 Ok(false)
             }
             14 if marked(&table) => Ok(true),
-            number => Err(format!("make {mode}: {number}")),
+            number => Err(format!("kind {mode} {profile}: {number}")),
         }
+    }
+
+    /// Document 02's demand of the meter profile: a call on a good table that is answered neither 17 nor 18 tells what it tells on the free table of the same records, and
+    /// leaves the same.
+    fn as_free(&mut self, before: &[u8], call: &Call, told: &Told) -> Result<(), String> {
+        if before[PROFILE_AT] != METER || told.number == 17 || told.number == 18 {
+            return Ok(());
+        }
+        let mut free = before.to_vec();
+        free[PROFILE_AT] = FREE;
+        let other = ask(&mut &mut free[..], call);
+        self.calls += 1;
+        free[PROFILE_AT] = METER;
+        if other.answer == told.answer && other.list == told.list && free == self.table {
+            return Ok(());
+        }
+        Err(format!("{call:?}: a free table gives {}, and a meter table {}", other.answer, told.answer))
     }
 
     pub fn answer(&mut self, call: &Call) -> Result<Answer, String> {
@@ -249,6 +268,9 @@ impl Port {
             if other.answer != told.answer || other.list != told.list || ffi::Bytes::bytes(&kept) != &self.table[..] {
                 return Err(format!("{call:?}: without the check it gives {}, and {} with it", other.answer, told.answer));
             }
+        }
+        if good {
+            self.as_free(&before, call, &told)?;
         }
         if let (Call::Apply { bytes, now, .. }, Answer::Applied(verdicts)) = (call, &told.answer) {
             self.cut(&before, given(bytes), *now, &told.list[..verdicts.len()])?;
@@ -386,6 +408,6 @@ impl Port {
             .map(|node| (node, ffi::last_heartbeat(&table, node).heartbeat))
             .collect();
         self.calls += removed.len() as u64;
-        if encode_with(&nodes, tail[0], &removed) == table { Ok(()) } else { Err("the readings are not those of the table".into()) }
+        if encode_as(&nodes, tail[0], tail[1], &removed) == table { Ok(()) } else { Err("the readings are not those of the table".into()) }
     }
 }

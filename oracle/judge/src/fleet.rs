@@ -38,7 +38,7 @@ pub fn set_ties(ties: &[u64]) {
 
 impl Old {
     pub fn new() -> Old {
-        let mut old = Old(Hub::new(script::table::PLAIN));
+        let mut old = Old(Hub::new(script::table::PLAIN, script::table::FREE));
         for node in 1..=8 {
             old.cluster().node_state_mut_or_init(name(node));
         }
@@ -47,7 +47,7 @@ impl Old {
 
     /// The table of these bytes, which must be good.
     pub fn of(table: &[u8]) -> Old {
-        let mut hub = Hub::new(script::table::PLAIN);
+        let mut hub = Hub::new(script::table::PLAIN, script::table::FREE);
         hub.take_table(table);
         Old(hub)
     }

@@ -19,7 +19,7 @@ use crate::message::ProtocolVersion;
 use crate::serialize::{Deserializable, Serializable};
 use crate::state::{ClusterState, NodeState, Status};
 use crate::types::{ChitchatId, DeletionStatus, Heartbeat, VersionedValue};
-use crate::wire;
+use crate::{meter, wire};
 
 const MTU_LEAST: u64 = 100;
 const MTU_MOST: u64 = 16_384;
@@ -33,8 +33,9 @@ pub struct Hub {
     pub(crate) cluster: ClusterState,
     /// The lent bytes where they are no good table. The original is never asked then.
     bad: Option<Vec<u8>>,
-    /// The table's mode, of which the original knows nothing.
+    /// The table's mode and its profile, of which the original knows nothing.
     mode: u8,
+    profile: u8,
     /// The removed nodes in the order of their removal, the last 16; the heartbeats are the original's. And those that went by a seventeenth: the
     /// original has room for more and remembers them still.
     removed: Vec<u64>,
@@ -131,9 +132,9 @@ enum Fault {
     Originals(u8),
 }
 
-/// Layer: 13 for length, 1, SetMaxVersion below the running max (11), 13 for a ninth Node, where the fault is, and what 9 lacks.
+/// Layer: 13 for length, 1, SetMaxVersion below the running max (11), 17, 13 for a ninth Node, where the fault is, and what 9 lacks.
 /// Original: 9, 10, the other 11, 12, and what an accepted delta says.
-fn read_delta(bytes: &[u8]) -> Outcome<ReadDelta> {
+fn read_delta(bytes: &[u8], profile: u8) -> Outcome<ReadDelta> {
     if bytes.len() > DELTA_MOST {
         return Err(Answer::RefusedAt(13, 0));
     }
@@ -146,7 +147,7 @@ fn read_delta(bytes: &[u8]) -> Outcome<ReadDelta> {
             return Err(Answer::RefusedAt(1, at));
         }
         stream.extend(&cut.bytes);
-        if let Err(fault) = read_operation(&mut reader, &cut.bytes)? {
+        if let Err(fault) = read_operation(&mut reader, &cut.bytes, profile)? {
             return Err(match same_in_stream(fault, at, &stream) {
                 Answer::RefusedAt(9, at) => Answer::Cut { at: Some(at), need: wire::operation_lacks(&bytes[at..]) },
                 answer => answer,
@@ -164,7 +165,7 @@ fn read_delta(bytes: &[u8]) -> Outcome<ReadDelta> {
 }
 
 /// The inner error is the fault.
-fn read_operation(reader: &mut Reader, bytes: &[u8]) -> Outcome<Result<(), Fault>> {
+fn read_operation(reader: &mut Reader, bytes: &[u8], profile: u8) -> Outcome<Result<(), Fault>> {
     let originals = |error: anyhow::Error| number_of(&error).map(|number| Err(Fault::Originals(number)));
     let taken = match Reader::read(bytes) {
         Ok(taken) => taken,
@@ -175,8 +176,12 @@ fn read_operation(reader: &mut Reader, bytes: &[u8]) -> Outcome<Result<(), Fault
             return Ok(Err(Fault::Layers(11)));
         }
     }
+    let formed = taken.record().is_none_or(|(key, value, status)| meter::in_form(profile, key.as_bytes(), value.as_bytes(), status));
     if let Err(error) = reader.take(taken) {
         return originals(error);
+    }
+    if !formed {
+        return Ok(Err(Fault::Layers(17)));
     }
     Ok(if reader.nodes() > NODES { Err(Fault::Layers(13)) } else { Ok(()) })
 }
@@ -284,12 +289,19 @@ impl Hub {
         }
     }
 
-    /// Layer: 2, 1, 5. Number 5 asks only for a key that is not held, so "nothing to change" is never in its way.
-    fn may_set(&mut self, number: u64, key: &[u8], value: &[u8]) -> Outcome<()> {
+    /// Layer: 2, 1, 17, 18, 5. Number 5 asks only for a key that is not held, and 18 for another value, so "nothing to change" is never in their way.
+    fn may_set(&mut self, number: u64, key: &[u8], value: &[u8], status: u8) -> Outcome<()> {
+        let profile = self.profile;
         let node = self.node(number)?;
         within(key.len(), KEY)?;
         within(value.len(), VALUE)?;
-        let (key, _) = (text(key)?, text(value)?);
+        if !meter::in_form(profile, key, value, status) {
+            return Err(Answer::Refused(17));
+        }
+        let (key, value) = (text(key)?, text(value)?);
+        if meter::falls(profile, key, value, node.get(key)) {
+            return Err(Answer::Refused(18));
+        }
         let full = node.key_values_including_deleted().count() == RECORDS;
         if full && node.get_versioned(key).is_none() { Err(Answer::Refused(5)) } else { Ok(()) }
     }
@@ -505,7 +517,7 @@ impl Hub {
             Ok(sent) => {
                 let bytes = sent.concat();
                 // The original reads what it never wrote in this order.
-                read_delta(&bytes)?;
+                read_delta(&bytes, table::FREE)?;
                 Ok(Answer::DeltaWritten { ops: sent.len(), bytes })
             }
             Err(_) => Err(Answer::Refused(23)),
@@ -539,15 +551,15 @@ impl Hub {
         self.mode != table::PLAIN && !future && older && !reaches
     }
 
-    /// Layer: Unknown where the original passes over a node in silence, Room, Fenced, 8. Original: status and change.
+    /// Layer: 17, Unknown where the original passes over a node in silence, Room, Fenced, 8. Original: status and change.
     fn apply(&mut self, bytes: &[u8], now: u64, places: u64) -> Outcome<Answer> {
-        let mut delta = read_delta(bytes)?.delta;
+        let mut delta = read_delta(bytes, self.profile)?.delta;
         if delta.node_deltas.len() as u64 > places {
             return Err(Answer::Refused(8));
         }
         set_clock(now);
         let mut verdicts = Vec::new();
-        for tried in read_delta(bytes)?.delta.node_deltas {
+        for tried in read_delta(bytes, self.profile)?.delta.node_deltas {
             verdicts.push(match self.cluster.node_state(&tried.chitchat_id) {
                 None => Verdict::Unknown,
                 Some(node) if self.fences(node, &tried) => Verdict::Fenced,
@@ -577,7 +589,7 @@ impl Hub {
             Call::Removed { node } => self.last_heartbeat(*node),
             Call::Write { node, key, value, status, now } => {
                 let ttl = with_ttl(*status)?;
-                self.may_set(*node, key, value)?;
+                self.may_set(*node, key, value, if ttl { table::TTL } else { table::SET })?;
                 let (key, value) = (text(key)?, text(value)?);
                 set_clock(*now);
                 self.write(*node, |state| if ttl { state.set_with_ttl(key, value) } else { state.set(key, value) })
@@ -619,17 +631,19 @@ impl Hub {
         }
     }
 
-    /// The nodes, the mode and the removed nodes of the table that these bytes are, if they are one that obeys the rules. Layer: number 14.
-    fn load(bytes: &[u8]) -> Option<(Vec<table::Node>, u8, Vec<table::Removed>)> {
+    /// The nodes, the mode, the profile and the removed nodes of the table that these bytes are, if they are one that obeys the rules. Layer: number 14.
+    fn load(bytes: &[u8]) -> Option<(Vec<table::Node>, u8, u8, Vec<table::Removed>)> {
         let nodes = decode(bytes)?;
         let removed = decode_removed(&bytes[table::AREA_BYTES..])?;
-        let mode = bytes[table::AREA_BYTES];
+        let (mode, profile) = (bytes[table::AREA_BYTES], bytes[table::AREA_BYTES + 1]);
+        let formed = |node: &table::Node| node.records.iter().all(|held| meter::in_form(profile, &held.key, &held.value, held.status));
         let ascending = nodes.windows(2).all(|pair| pair[0].number < pair[1].number);
         let all: HashSet<u64> =
             nodes.iter().map(|node| node.number).chain(removed.iter().map(|&(number, _)| number)).collect();
         let apart = all.len() == nodes.len() + removed.len();
-        let good = ascending && apart && nodes.iter().all(obeys) && mode <= table::GUARDED;
-        (good && table::encode_with(&nodes, mode, &removed) == bytes).then_some((nodes, mode, removed))
+        let kind = mode <= table::GUARDED && profile <= table::METER;
+        let good = ascending && apart && nodes.iter().all(|node| obeys(node) && formed(node)) && kind;
+        (good && table::encode_as(&nodes, mode, profile, &removed) == bytes).then_some((nodes, mode, profile, removed))
     }
 }
 
@@ -681,11 +695,12 @@ fn obeys(node: &table::Node) -> bool {
 }
 
 impl Side for Hub {
-    fn new(mode: u8) -> Hub {
+    fn new(mode: u8, profile: u8) -> Hub {
         Hub {
             cluster: ClusterState::with_seed_addrs(watch::Receiver::holding(HashSet::new())),
             bad: None,
             mode,
+            profile,
             removed: Vec::new(),
             gone: HashSet::new(),
         }
@@ -707,7 +722,7 @@ impl Side for Hub {
                     .collect(),
                 rest,
             }),
-            Call::ReadDelta { bytes } => read_delta(given(bytes)).map(|read| Answer::DeltaRead {
+            Call::ReadDelta { bytes } => read_delta(given(bytes), table::FREE).map(|read| Answer::DeltaRead {
                 ops: read.ops,
                 nodes: read.delta.node_deltas.len(),
                 bytes: given(bytes).len(),
@@ -724,12 +739,13 @@ impl Side for Hub {
 
     /// Builds the table with the original's own setters.
     fn take_table(&mut self, bytes: &[u8]) -> Answer {
-        *self = Hub::new(table::PLAIN);
-        let Some((nodes, mode, removed)) = Hub::load(bytes) else {
+        *self = Hub::new(table::PLAIN, table::FREE);
+        let Some((nodes, mode, profile, removed)) = Hub::load(bytes) else {
             self.bad = Some(bytes.to_vec());
             return Answer::Done;
         };
         self.mode = mode;
+        self.profile = profile;
         for (number, heartbeat) in removed {
             let id = wire::chitchat_id(number);
             self.cluster.node_state_mut_or_init(&id).with_numbers(Heartbeat(heartbeat), 0, 0);
@@ -788,6 +804,6 @@ impl Side for Hub {
             .collect();
         let removed: Vec<table::Removed> =
             self.removed.iter().map(|&number| (number, self.originals(number).expect("a removed node"))).collect();
-        table::encode_with(&nodes, self.mode, &removed)
+        table::encode_as(&nodes, self.mode, self.profile, &removed)
     }
 }

@@ -42,6 +42,7 @@ mod types {
 pub mod fleet;
 mod grid;
 pub mod hub;
+mod meter;
 pub mod raw;
 pub mod timed;
 mod wire;

@@ -77,7 +77,7 @@ pub struct Timed(Hub);
 impl Timed {
     /// The original with what stands in the bytes of a lent table.
     pub fn of(table: &[u8]) -> Timed {
-        let mut hub = Hub::new(script::table::PLAIN);
+        let mut hub = Hub::new(script::table::PLAIN, script::table::FREE);
         hub.take_table(table);
         let numbers: Vec<u64> = hub.cluster.nodes().map(|id| id.generation_id).collect();
         rand::set_ties(numbers.into_iter().map(|number| (number, 0)));

@@ -1,6 +1,6 @@
 //! What stands in the bytes of a table and of a delta, read after docs/FORMAT.md.
 
-use script::table::{KEY, NODE_BYTES, NODE_HEAD_BYTES, RECORD_BYTES, SET, VALUE};
+use script::table::{AREA_BYTES, DELETE, KEY, METER, NODE_BYTES, NODE_HEAD_BYTES, RECORD_BYTES, SET, VALUE};
 
 fn number(bytes: &[u8], at: usize) -> u64 {
     u64::from_le_bytes(bytes[at..at + 8].try_into().expect("eight bytes"))
@@ -18,6 +18,25 @@ pub struct Record<'a> {
     pub value: &'a [u8],
     pub version: u64,
     pub set: bool,
+    pub hidden: bool,
+}
+
+impl Record<'_> {
+    /// Whether a meter table may have it.
+    pub fn is_reading(&self) -> bool {
+        is_reading(self.key, self.value, self.set)
+    }
+}
+
+/// Keys are 1 to 32 of small letters, digits and dots, values 1 to 10 digits, or empty where the status is not Set.
+pub fn is_reading(key: &[u8], value: &[u8], set: bool) -> bool {
+    let name = !key.is_empty() && key.iter().all(|&byte| byte.is_ascii_lowercase() || byte.is_ascii_digit() || byte == b'.');
+    name && value.len() <= 10 && value.iter().all(u8::is_ascii_digit) && !(set && value.is_empty())
+}
+
+/// Whether a table has the meter profile.
+pub fn is_meter(table: &[u8]) -> bool {
+    table[AREA_BYTES + 1] == METER
 }
 
 fn slot(table: &[u8], place: usize) -> &[u8] {
@@ -41,6 +60,7 @@ pub fn records(table: &[u8], place: usize) -> impl Iterator<Item = Record<'_>> {
             value: &record[2 + KEY..2 + KEY + value],
             version: number(record, behind),
             set: record[behind + 8] == SET,
+            hidden: record[behind + 8] == DELETE,
         }
     })
 }
@@ -61,12 +81,13 @@ pub fn tell_most(digest: &mut [u8], place: usize) {
     digest[2 + 32 * place + 24..2 + 32 * (place + 1)].fill(0xFF);
 }
 
-/// A node delta's numbers.
+/// A node delta's numbers, and whether a meter table would take all its records.
 pub struct Part {
     pub number: u64,
     pub last_gc: u64,
     pub from: u64,
     pub max: u64,
+    pub readings: bool,
 }
 
 /// The parts of a delta that the port wrote.
@@ -77,14 +98,17 @@ pub fn parts(delta: &[u8]) -> Vec<Part> {
         match delta[at] {
             0 => {
                 let [number, last_gc, from] = [1, 9, 17].map(|place| number(delta, at + place));
-                parts.push(Part { number, last_gc, from, max: 0 });
+                parts.push(Part { number, last_gc, from, max: 0, readings: true });
                 at += 25;
             }
             1 => {
                 let len = |at: usize| usize::from(delta[at]) + 256 * usize::from(delta[at + 1]);
-                at += 3 + len(at + 1);
-                at += 2 + len(at);
-                parts.last_mut().expect("a Node first").max = number(delta, at);
+                let text = |at: usize| &delta[at + 2..at + 2 + len(at)];
+                let (key, value) = (text(at + 1), text(at + 3 + len(at + 1)));
+                at += 3 + key.len() + 2 + value.len();
+                let part = parts.last_mut().expect("a Node first");
+                part.max = number(delta, at);
+                part.readings &= is_reading(key, value, delta[at + 8] == SET);
                 at += 9;
             }
             _ => {

@@ -3,7 +3,7 @@
 use std::collections::BTreeMap;
 
 use script::grid::PRESENT;
-use script::table::{self, AREA_BYTES, FENCED, GUARDED, PLAIN};
+use script::table::{self, AREA_BYTES, FENCED, FREE, GUARDED, METER, PLAIN};
 
 use crate::bytes::{self, Pair, Part};
 use crate::port;
@@ -127,9 +127,15 @@ pub struct Counts {
     pub told: u64,
     pub waited: u64,
     pub gone: u64,
+    pub meters: u64,
+    pub unformed: u64,
+    pub smaller: u64,
+    pub refused: u64,
 }
 
-const KEYS: [&[u8]; 4] = [b"a", b"b", b"c", b"d"];
+const KEYS: [&[u8]; 4] = [b"a", b"total", b"c", b"d"];
+const UNFORMED: u64 = 17;
+const SMALLER: u64 = 18;
 const RESET_CODE: u8 = 2;
 const FENCED_CODE: u8 = 5;
 const WHOLE: usize = 16_384;
@@ -144,6 +150,8 @@ pub struct Net<'a> {
     clocks: Vec<u64>,
     /// How many keys are used.
     keys: usize,
+    /// Whether free hubs and hubs of the meter profile are side by side. Then a delta may be refused, and hubs may stay behind.
+    mixed: bool,
     /// The owner of each node. Node number n stands in slot n - 1 of every table.
     owners: Vec<usize>,
     /// What was given to each node and not lost; what of it is on its owner's disk; what of it was let out.
@@ -197,7 +205,17 @@ impl<'a> Net<'a> {
         let fresh = |number| table::Node { number, heartbeat: 0, max: 0, last_gc: 0, records: vec![] };
         let fresh: Vec<_> = (1..=nodes as u64).map(fresh).collect();
         counts.nets += 1;
-        let tables: Vec<Vec<u8>> = modes.iter().map(|&mode| table::encode(&fresh, mode)).collect();
+        // Where a kind must be found out, and where grids are told, all hubs are of one profile.
+        let profiles: Vec<u8> = match random.below(5) {
+            _ if !SAFE.contains(&kind) => vec![FREE; hubs],
+            0 | 1 => vec![METER; hubs],
+            2 if !kind.has_grids() => (0..hubs).map(|_| *random.pick(&[FREE, METER])).collect(),
+            _ => vec![FREE; hubs],
+        };
+        counts.meters += u64::from(profiles.contains(&METER));
+        let mixed = profiles.iter().any(|&profile| profile != profiles[0]);
+        let kinds = modes.iter().zip(&profiles);
+        let tables: Vec<Vec<u8>> = kinds.map(|(&mode, &profile)| table::encode_as(&fresh, mode, profile, &[])).collect();
         let grids = tables.iter().map(|table| if kind.has_grids() { port::grid(table) } else { Vec::new() }).collect();
         let mute = (0..hubs).map(|_| (0..hubs).map(|_| kind == Kind::Whoever && random.once_in(2)).collect()).collect();
         Net {
@@ -209,6 +227,7 @@ impl<'a> Net<'a> {
             saved: vec![Vec::new(); hubs],
             clocks: vec![10; hubs],
             keys,
+            mixed,
             owners,
             given: vec![History::default(); nodes],
             kept: vec![History::default(); nodes],
@@ -424,22 +443,44 @@ impl<'a> Net<'a> {
         let hub = self.owners[place];
         let before = self.pair(hub, place);
         let key = KEYS[self.random.below(self.keys)];
-        let long = self.random.once_in(4);
+        let long = if bytes::is_meter(&self.tables[hub]) && !self.random.once_in(6) { 10 } else { 40 };
         let value = [b"12345678"[self.random.below(8)]; 40];
-        let value = if long { &value[..] } else { &value[..1] };
+        let value = if self.random.once_in(4) { &value[..long] } else { &value[..1] };
         let (number, clock) = (place as u64 + 1, self.clock(hub));
-        let table = &mut self.tables[hub];
         // Where hubs have grids, `spread` deletes.
-        match if self.kind.has_grids() { self.random.below(4) } else { self.random.below(6) } {
-            0..=2 => port::write(table, number, key, value, table::SET.into(), clock),
-            3 => port::write(table, number, key, value, table::TTL.into(), clock),
-            _ => port::delete(table, number, key, clock),
+        let wanted = match if self.kind.has_grids() { self.random.below(4) } else { self.random.below(6) } {
+            0..=2 => Some(table::SET),
+            3 => Some(table::TTL),
+            _ => None,
         };
+        match wanted {
+            Some(status) => {
+                let foreseen = self.judged(hub, place, key, value);
+                let told = port::write(&mut self.tables[hub], number, key, value, status.into(), clock);
+                self.counts.unformed += u64::from(told == UNFORMED);
+                self.counts.smaller += u64::from(told == SMALLER);
+                ensure(!self.look.rule || told == foreseen, || format!("a write is answered {told} and not {foreseen}"))?;
+            }
+            None => drop(port::delete(&mut self.tables[hub], number, key, clock)),
+        }
         let max = self.pair(hub, place).max;
         if max > before.max {
             self.gave(place, key);
         }
         ensure(max <= before.max + 1, || "a write gives one version".into())
+    }
+
+    /// What the profile says to a write of digits: 17, 18, or nothing.
+    fn judged(&self, hub: usize, place: usize, key: &[u8], value: &[u8]) -> u64 {
+        let table = &self.tables[hub];
+        let number = |digits: &[u8]| digits.iter().fold(0u64, |number, digit| number * 10 + u64::from(digit - b'0'));
+        let shown = bytes::records(table, place).find(|record| record.key == key && !record.hidden);
+        match shown {
+            _ if !bytes::is_meter(table) => 0,
+            _ if value.len() > 10 => UNFORMED,
+            Some(record) if key == b"total" && number(value) < number(record.value) => SMALLER,
+            _ => 0,
+        }
     }
 
     /// An owner deletes a key, and removes all that is scheduled: where that key was written last, its last_gc is its max.
@@ -675,6 +716,9 @@ impl<'a> Net<'a> {
         }
         self.counts.recalled += 1;
         let table = self.random.pick(&self.saved[saver]).clone();
+        if bytes::is_meter(&self.tables[hub]) && !bytes::records(&table, place).all(|record| record.is_reading()) {
+            return;
+        }
         bytes::copy_node(&table, &mut self.tables[hub], place);
     }
 
@@ -695,7 +739,17 @@ impl<'a> Net<'a> {
         let clock = self.clock(hub);
         let answers = port::apply(&mut self.tables[hub], delta, clock);
         let parts = bytes::parts(delta);
-        ensure(answers.len() == parts.len(), || "a computed delta is taken".into())?;
+        let odd = bytes::is_meter(&self.tables[hub]) && !parts.iter().all(|part| part.readings);
+        ensure(self.mixed || !odd, || "between tables of one profile every delta is in form".into())?;
+        let answers = match answers {
+            Ok(answers) => answers,
+            Err(number) => {
+                self.counts.refused += 1;
+                ensure(odd && number == UNFORMED, || format!("a computed delta is refused with {number}"))?;
+                return self.no_fall(hub, &before);
+            }
+        };
+        ensure(!odd && answers.len() == parts.len(), || "a computed delta is taken".into())?;
         for (part, &answer) in parts.iter().zip(&answers) {
             self.counts.answers[usize::from(answer)] += 1;
             if answer == RESET_CODE {
@@ -743,6 +797,9 @@ impl<'a> Net<'a> {
             return Ok(());
         }
         for place in 0..self.owners.len() {
+            let meters = self.tables.iter().filter(|table| bytes::is_meter(table));
+            let readings = meters.flat_map(|table| bytes::records(table, place)).all(|record| record.is_reading());
+            ensure(readings, || "a meter table has readings alone".into())?;
             if self.kind.is_careful() {
                 let pairs: Vec<Pair> = (0..self.tables.len()).map(|hub| self.pair(hub, place)).collect();
                 let least = pairs.iter().map(|pair| pair.max).min().unwrap_or(0);
@@ -851,7 +908,7 @@ impl<'a> Net<'a> {
             self.claims()?;
             for (place, fed) in fed.iter().enumerate() {
                 let all = (0..hubs).all(|hub| !fed[hub] || self.pair(hub, place).max == self.given[place].versions);
-                ensure(!self.look.claims || all, || {
+                ensure(!self.look.claims || self.mixed || all, || {
                     "two exchanges in which it was not reset between bring a hub up".into()
                 })?;
             }
@@ -882,7 +939,7 @@ impl<'a> Net<'a> {
             self.claims()?;
             let quiet = self.tables == before;
             if self.kind == Kind::Guarded && (quiet || round == 2 * (hubs - 1)) {
-                ensure(!self.look.claims || self.level(), || "a guarded net agrees after two rounds a step".into())?;
+                ensure(!self.look.claims || self.mixed || self.level(), || "a guarded net agrees after two rounds a step".into())?;
             }
             if self.kind.is_careful() && (quiet || round == hubs - 1) {
                 ensure(!self.look.claims || self.level(), || "a careful net agrees after one round a step".into())?;
@@ -961,6 +1018,10 @@ impl Counts {
             "{kind:?}: {} nets, {} steps; reject {reject}, apply {apply}, reset {reset}, fenced {fenced}; late {}, restored {}, wiped {}, removals {}; \
              equal {}; left behind {} nets",
             self.nets, self.steps, self.late, self.restored, self.wiped, self.removals, self.equal, self.behind
+        );
+        println!(
+            "  nets with meter tables {}: writes out of form {}, of a smaller total {}; deltas refused between unlike profiles {}",
+            self.meters, self.unformed, self.smaller, self.refused
         );
         if self.crashed > 0 {
             println!(

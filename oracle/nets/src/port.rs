@@ -75,12 +75,15 @@ pub fn compute(table: &[u8], digest: &[u8], mtu: usize, excluded: &[u64], ties: 
     datagram
 }
 
-/// The answers, one for each node of the delta.
-pub fn apply(table: &mut [u8], delta: &[u8], clock: u64) -> Vec<u8> {
+/// The answers, one for each node of the delta, or the number of the refusal.
+pub fn apply(table: &mut [u8], delta: &[u8], clock: u64) -> Result<Vec<u8>, u64> {
     let mut answers = vec![0xEE; 8];
     let nodes = unsafe { c::kev_apply(&lent_mut(table), &lent(delta), clock, &lent_mut(&mut answers)) };
+    if nodes >= 256 {
+        return Err(nodes as u64 - 256);
+    }
     answers.truncate(nodes);
-    answers
+    Ok(answers)
 }
 
 /// The grid of a table: nobody is present.

@@ -1,6 +1,7 @@
 //! Delta operations: writing and reading, document 01's "Bytes".
 
 use crate::local::{Refused, Unread};
+use crate::meter::Profile;
 use crate::table::{MOST_KEY, MOST_NODES, MOST_VALUE, Status};
 
 pub const MOST_BYTES: usize = 16_384;
@@ -61,8 +62,8 @@ pub struct Delta {
     pub operations: usize,
 }
 
-/// The error: why, and the place of the faulty operation's tag.
-pub fn read(bytes: &[u8]) -> Result<Delta, (Unread, usize)> {
+/// The error: why, and the place of the faulty operation's tag. For a table of a profile a record has to be in its form.
+pub fn read(bytes: &[u8], profile: Profile) -> Result<Delta, (Unread, usize)> {
     if bytes.len() > MOST_BYTES {
         return Err((Unread::Refused(13), 0));
     }
@@ -71,7 +72,7 @@ pub fn read(bytes: &[u8]) -> Result<Delta, (Unread, usize)> {
     while !rest.0.is_empty() {
         let at = bytes.len() - rest.0.len();
         let operation = rest.operation().map_err(|why| (why, at))?;
-        delta.take(operation).map_err(|number| (Unread::Refused(number), at))?;
+        delta.take(operation, profile).map_err(|number| (Unread::Refused(number), at))?;
         delta.operations += 1;
     }
     Ok(delta)
@@ -120,7 +121,7 @@ impl<'a> Fields<'a> {
 }
 
 impl Delta {
-    fn take(&mut self, operation: Operation) -> Result<(), Refused> {
+    fn take(&mut self, operation: Operation, profile: Profile) -> Result<(), Refused> {
         match operation {
             Operation::Node { number, last_gc, from } => {
                 if self.nodes.iter().any(|node| node.number == number) {
@@ -135,6 +136,9 @@ impl Delta {
                 let node = self.nodes.last_mut().ok_or(11)?;
                 if sent.version <= node.max {
                     return Err(11);
+                }
+                if !profile.takes(&sent.key, &sent.value, sent.status) {
+                    return Err(17);
                 }
                 node.max = sent.version;
                 node.records.push(sent);

@@ -7,6 +7,7 @@ mod delta;
 mod digest;
 pub mod grid;
 pub mod local;
+mod meter;
 pub mod over;
 mod plan;
 pub mod side;

@@ -68,12 +68,19 @@ impl Table {
             2 => (Status::Ttl, now),
             _ => return Err(10),
         };
+        let profile = self.profile;
         let node = self.node_mut(number)?;
         check_text(key.len(), MOST_KEY)?;
         check_text(value.len(), MOST_VALUE)?;
+        if !profile.takes(key, value, status) {
+            return Err(17);
+        }
         let held = node.records.get(key);
         if held.is_some_and(|record| record.value == value && record.status == status) {
             return Ok(());
+        }
+        if profile.falls(key, value, held) {
+            return Err(18);
         }
         if held.is_none() && node.records.len() == MOST_RECORDS {
             return Err(5);

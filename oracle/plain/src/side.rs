@@ -4,6 +4,7 @@ use script::{Answer, Bytes, Call, DigestEntry, Side};
 
 use crate::grid::Grid;
 use crate::local::{Refused, Scheduled, Unread};
+use crate::meter::Profile;
 use crate::table::Table;
 use crate::{apply, compute, delta, digest, plan};
 
@@ -48,8 +49,8 @@ fn read_digest(bytes: &[u8], edition: u64) -> Result<Answer, Answer> {
     Ok(Answer::Digest { entries: entries.collect(), rest: rest.len() })
 }
 
-fn read_delta(bytes: &[u8]) -> Result<delta::Delta, Answer> {
-    delta::read(bytes).map_err(|(why, at)| match why {
+fn read_delta(bytes: &[u8], profile: Profile) -> Result<delta::Delta, Answer> {
+    delta::read(bytes, profile).map_err(|(why, at)| match why {
         Unread::Refused(number) => Answer::RefusedAt(number, at),
         Unread::Cut(need) => Answer::Cut { at: Some(at), need },
     })
@@ -130,7 +131,7 @@ fn plan_fault(
 }
 
 fn apply_delta(table: &mut Table, bytes: &[u8], now: u64, places: u64) -> Result<Answer, Answer> {
-    let delta = read_delta(bytes)?;
+    let delta = read_delta(bytes, table.profile)?;
     if delta.nodes.len() as u64 > places {
         return Err(Answer::Refused(8));
     }
@@ -215,14 +216,14 @@ fn answer_grid(lent: &mut Lent, bytes: &mut Vec<u8>, call: &Call) -> Result<Answ
 }
 
 impl Side for Lent {
-    fn new(mode: u8) -> Lent {
-        Lent::Good(Table::in_mode(mode))
+    fn new(mode: u8, profile: u8) -> Lent {
+        Lent::Good(Table::made(mode, profile))
     }
 
     fn answer(&mut self, call: &Call) -> Answer {
         let outcome = match (call, self) {
             (Call::ReadDigest { bytes, edition }, _) => read_digest(given(bytes), *edition),
-            (Call::ReadDelta { bytes }, _) => read_delta(given(bytes)).map(|delta| Answer::DeltaRead {
+            (Call::ReadDelta { bytes }, _) => read_delta(given(bytes), Profile::Free).map(|delta| Answer::DeltaRead {
                 ops: delta.operations,
                 nodes: delta.nodes.len(),
                 bytes: given(bytes).len(),

@@ -4,6 +4,8 @@ use std::collections::BTreeMap;
 
 use script::table as layout;
 
+use crate::meter::Profile;
+
 pub const MOST_NODES: usize = 8;
 pub const MOST_RECORDS: usize = 32;
 pub const MOST_KEY: usize = 32;
@@ -95,18 +97,21 @@ impl Mode {
 pub struct Table {
     pub nodes: BTreeMap<u64, Node>,
     pub mode: Mode,
+    pub profile: Profile,
     /// Ticket 2's removed nodes with their last heartbeats, the longest remembered first.
     pub removed: Vec<(u64, u64)>,
 }
 
 impl Table {
-    pub fn in_mode(mode: u8) -> Table {
-        Table { mode: Mode::of_byte(mode).expect("the runner asks for modes alone"), ..Table::default() }
+    pub fn made(mode: u8, profile: u8) -> Table {
+        let mode = Mode::of_byte(mode).expect("the runner asks for modes alone");
+        let profile = Profile::of_byte(profile).expect("the runner asks for profiles alone");
+        Table { mode, profile, ..Table::default() }
     }
 
     pub fn to_bytes(&self) -> Vec<u8> {
         let nodes: Vec<_> = self.nodes.iter().map(|(&number, node)| laid_out(number, node)).collect();
-        layout::encode_with(&nodes, self.mode.byte(), &self.removed)
+        layout::encode_as(&nodes, self.mode.byte(), self.profile.byte(), &self.removed)
     }
 
     /// The bytes of a node alone: a slot of a table.
@@ -135,7 +140,10 @@ impl Table {
         }
         walk.zeros((MOST_NODES - count) * layout::NODE_BYTES)?;
         table.mode = Mode::of_byte(walk.byte()?)?;
-        walk.zeros(1)?;
+        table.profile = Profile::of_byte(walk.byte()?)?;
+        if table.nodes.values().any(|node| !node.records.iter().all(|(key, held)| table.profile.takes(key, &held.value, held.status))) {
+            return None;
+        }
         let count = walk.count(MOST_REMOVED)?;
         for _ in 0..count {
             let (number, heartbeat) = (walk.number()?, walk.number()?);

@@ -13,8 +13,8 @@ pub enum Bytes {
 
 #[derive(Clone, Debug, PartialEq, Eq)]
 pub enum Call {
-    /// A number that names no mode is refused with 14.
-    New { mode: u64 },
+    /// A number that names no mode or no profile is refused with 14.
+    New { mode: u64, profile: u64 },
     Hub(usize),
     Add { node: u64 },
     Remove { node: u64 },
@@ -142,8 +142,9 @@ impl Call {
         let verb = words.0.next()?;
         let w = &mut words;
         let call = match verb {
-            "new" => Call::New { mode: 0 },
-            "make" => Call::New { mode: w.number()? },
+            "new" => Call::New { mode: 0, profile: 0 },
+            "make" => Call::New { mode: w.number()?, profile: 0 },
+            "kind" => Call::New { mode: w.number()?, profile: w.number()? },
             "hub" => Call::Hub(w.hub()?),
             "add" => Call::Add { node: w.number()? },
             "remove" => Call::Remove { node: w.number()? },

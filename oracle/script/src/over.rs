@@ -3,7 +3,7 @@
 
 use std::collections::BTreeMap;
 
-use crate::table::{AREA_BYTES, NODE_BYTES, NODE_HEAD_BYTES, PLAIN, RECORD_BYTES, TABLE_BYTES};
+use crate::table::{AREA_BYTES, FREE, NODE_BYTES, NODE_HEAD_BYTES, PLAIN, RECORD_BYTES, TABLE_BYTES};
 use crate::{Answer, Call, Side};
 
 /// Overrides as a table of one node, and the node's number; none where the bytes are no overrides: 14.
@@ -15,7 +15,7 @@ fn alone<S: Side>(bytes: &[u8]) -> Option<(S, u64)> {
     table[0] = 1;
     table[1..=NODE_BYTES].copy_from_slice(bytes);
     table[AREA_BYTES] = PLAIN;
-    let mut side = S::new(PLAIN);
+    let mut side = S::new(PLAIN, FREE);
     side.take_table(&table);
     let number = u64::from_le_bytes(bytes[..8].try_into().ok()?);
     (side.answer(&Call::Removed { node: number }) == Answer::None).then_some((side, number))

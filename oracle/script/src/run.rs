@@ -3,15 +3,15 @@
 use std::io::{BufRead, Write};
 
 use crate::call::HUBS;
-use crate::table::{GUARDED, PLAIN, checksum};
+use crate::table::{FREE, GUARDED, METER, PLAIN, checksum};
 use crate::{Answer, Bytes, Call, grid, over};
 
 /// One lent table and who answers for it. Calls come with their bytes written out; `new`, `hub`, `table` and
 /// `dump` are answered by the runner through `take_table` and `table_bytes`, and so are the calls on overrides (`over`).
 /// The lent grid beside the table is the runner's, which answers `grid` and `dumpgrid`.
 pub trait Side {
-    /// An empty table in a mode.
-    fn new(mode: u8) -> Self;
+    /// An empty table in a mode, of a profile.
+    fn new(mode: u8, profile: u8) -> Self;
     fn answer(&mut self, call: &Call) -> Answer;
     /// A call on a grid and this table.
     fn answer_grid(&mut self, grid: &mut Vec<u8>, call: &Call) -> Answer;
@@ -30,7 +30,7 @@ struct Desk<S> {
 
 impl<S: Side> Desk<S> {
     fn new() -> Self {
-        let hubs = [(); HUBS].map(|()| S::new(PLAIN));
+        let hubs = [(); HUBS].map(|()| S::new(PLAIN, FREE));
         let grids = [(); HUBS].map(|()| grid::empty());
         Desk { hubs, grids, current: 0, last_digest: Vec::new(), last_delta: Vec::new() }
     }
@@ -57,9 +57,9 @@ impl<S: Side> Desk<S> {
             _ => {}
         }
         let answer = match &call {
-            Call::New { mode } if *mode > u64::from(GUARDED) => Answer::Refused(14),
-            Call::New { mode } => {
-                self.hubs[self.current] = S::new(*mode as u8);
+            Call::New { mode, profile } if *mode > u64::from(GUARDED) || *profile > u64::from(METER) => Answer::Refused(14),
+            Call::New { mode, profile } => {
+                self.hubs[self.current] = S::new(*mode as u8, *profile as u8);
                 self.grids[self.current] = grid::empty();
                 Answer::Done
             }

@@ -13,7 +13,7 @@ pub const NODE_HEAD_BYTES: usize = 8 + 8 + 8 + 8 + 1;
 pub const NODE_BYTES: usize = NODE_HEAD_BYTES + RECORDS * RECORD_BYTES;
 /// A table's area: count of nodes, nodes.
 pub const AREA_BYTES: usize = 1 + NODES * NODE_BYTES;
-/// The tail behind it: mode, profile (zero), count of removed nodes, room for them (number, heartbeat), the longest remembered first.
+/// The tail behind it: mode, profile, count of removed nodes, room for them (number, heartbeat), the longest remembered first.
 pub const REMOVED: usize = 16;
 pub const REMOVED_BYTES: usize = 8 + 8;
 pub const TAIL_BYTES: usize = 1 + 1 + 1 + REMOVED * REMOVED_BYTES;
@@ -23,6 +23,10 @@ pub const TABLE_BYTES: usize = AREA_BYTES + TAIL_BYTES;
 pub const PLAIN: u8 = 0;
 pub const FENCED: u8 = 1;
 pub const GUARDED: u8 = 2;
+
+/// Its profiles (document 02, ticket 8).
+pub const FREE: u8 = 0;
+pub const METER: u8 = 1;
 
 /// Status bytes, in the table and in a delta.
 pub const SET: u8 = 0;
@@ -55,8 +59,13 @@ pub fn encode(nodes: &[Node], mode: u8) -> Vec<u8> {
     encode_with(nodes, mode, &[])
 }
 
-/// Nodes, records and removed nodes stand in the order given.
+/// Those of a free table.
 pub fn encode_with(nodes: &[Node], mode: u8, removed: &[Removed]) -> Vec<u8> {
+    encode_as(nodes, mode, FREE, removed)
+}
+
+/// Nodes, records and removed nodes stand in the order given.
+pub fn encode_as(nodes: &[Node], mode: u8, profile: u8, removed: &[Removed]) -> Vec<u8> {
     assert!(nodes.len() <= NODES && removed.len() <= REMOVED);
     let mut bytes = Vec::with_capacity(TABLE_BYTES);
     bytes.push(nodes.len() as u8);
@@ -64,7 +73,7 @@ pub fn encode_with(nodes: &[Node], mode: u8, removed: &[Removed]) -> Vec<u8> {
         encode_node(node, &mut bytes);
     }
     bytes.resize(AREA_BYTES, 0);
-    bytes.extend([mode, 0, removed.len() as u8]);
+    bytes.extend([mode, profile, removed.len() as u8]);
     for (number, heartbeat) in removed {
         bytes.extend(number.to_le_bytes());
         bytes.extend(heartbeat.to_le_bytes());

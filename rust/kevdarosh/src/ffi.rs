@@ -252,10 +252,10 @@ mod sealed {
 pub struct Kept([u8; TABLE]);
 
 impl Kept {
-    /// An empty table, or 14 where the number is that of no mode.
-    pub fn new(mode: usize) -> Result<Kept, u64> {
+    /// An empty table, or 14 where a number is that of no mode or no profile.
+    pub fn new(mode: usize, profile: usize) -> Result<Kept, u64> {
         let mut bytes = [0; TABLE];
-        match new_table(&mut bytes, mode) {
+        match new_table(&mut bytes, mode, profile) {
             0 => Ok(Kept(bytes)),
             number => Err(number),
         }
@@ -340,7 +340,7 @@ impl BytesMut for &mut [u8] {}
 
 unsafe extern "C" {
     fn kev_check(table: *const u8, table_len: Size) -> u64;
-    fn kev_new_table(table: *mut u8, table_len: Size, mode: Size) -> u64;
+    fn kev_new_table(table: *mut u8, table_len: Size, mode: Size, profile: Size) -> u64;
     fn kev_add_node(table: *mut u8, table_len: Size, node: u64) -> u64;
     fn kev_good_add_node(table: *mut u8, table_len: Size, node: u64) -> u64;
     fn kev_remove_node(table: *mut u8, table_len: Size, node: u64) -> u64;
@@ -427,8 +427,8 @@ pub fn check(table: &[u8]) -> u64 {
     unsafe { kev_check(table.as_ptr(), len(table)) }
 }
 
-pub fn new_table(table: &mut [u8], mode: usize) -> u64 {
-    unsafe { kev_new_table(table.as_mut_ptr(), len(table), Size::of(mode)) }
+pub fn new_table(table: &mut [u8], mode: usize, profile: usize) -> u64 {
+    unsafe { kev_new_table(table.as_mut_ptr(), len(table), Size::of(mode), Size::of(profile)) }
 }
 
 pub fn add_node<S: BytesMut>(store: &mut S, node: u64) -> u64 {

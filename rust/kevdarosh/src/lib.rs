@@ -99,6 +99,23 @@
 //! # }
 //! ```
 //!
+//! A table for readings alone, in which a total does not go backwards:
+//!
+//! ```
+//! # use kevdarosh::{Mode, OwnedTable, Profile, Refusal, Wanted};
+//! # fn main() -> Result<(), kevdarosh::Refusal> {
+//! let mut table = OwnedTable::with_profile(Mode::Guarded, Profile::Meter);
+//! table.add_node(7)?;
+//! table.write(7, b"total", b"0041823", Wanted::Set)?;
+//! assert_eq!(table.write(7, b"total", b"41283", Wanted::Set), Err(Refusal::SmallerTotal));
+//! assert_eq!(table.write(7, b"total", b"41 832", Wanted::Set), Err(Refusal::BadForm));
+//!
+//! table.delete(7, b"total", 1_000)?; // a new meter, which begins at 0
+//! table.write(7, b"total", b"0", Wanted::Set)?;
+//! # Ok(())
+//! # }
+//! ```
+//!
 //! docs/MOVING.md of the repository takes an engineer from each call of chitchat's `NodeState` and `ClusterState` to its own here.
 
 #![no_std]
@@ -120,7 +137,7 @@ mod wire;
 pub use over::{Merged, Overrides};
 pub use refusal::{ExchangeRefused, Fault, LineFault, ListingRefused, PlanFault, Refusal, Step};
 pub use row::Records;
-pub use table::{Answer, Answers, Computed, Header, LentTable, Mode, NodeState, OwnedTable, Record, Status, Table, TableView, Wanted};
+pub use table::{Answer, Answers, Computed, Header, LentTable, Mode, NodeState, OwnedTable, Profile, Record, Status, Table, TableView, Wanted};
 pub use watch::{Pair, Watched};
 pub use wire::{Datagrams, DeltaRead, Digest, Edition, Exchanged, NodeDigest, exchange, list_delta, make_delta, read_delta};
 
@@ -153,3 +170,5 @@ pub const PEERS: usize = 8;
 
 /// The byte of a table that says its mode.
 const MODE_AT: usize = 29_705;
+/// And its profile.
+const PROFILE_AT: usize = 29_706;

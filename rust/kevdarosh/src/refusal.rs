@@ -59,6 +59,8 @@ refusals! {
     13 TooMany "over eight nodes, or a delta over 16,384 bytes";
     14 BadTable "the bytes are not a table, overrides or a grid that obey the rules, or the grid is not the table's";
     15 BadTies "not one tie for each node of the table";
+    17 BadForm "a key or a value that a meter table does not take";
+    18 SmallerTotal "a smaller total than the one there";
     20 BadEdition "no such edition of a digest";
     21 BadPeer "a peer's number above 7";
     22 NobodyPresent "no peer is present";

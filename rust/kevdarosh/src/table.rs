@@ -30,6 +30,28 @@ impl Mode {
     }
 }
 
+/// Which records a table may have. It is chosen when the table is made, and stays in its bytes; it does not hang on the mode. Choose one for all hubs of a net: a meter
+/// table refuses a whole delta for one record that it may not have.
+#[derive(Clone, Copy, Debug, Default, PartialEq, Eq)]
+#[non_exhaustive]
+pub enum Profile {
+    /// Any record.
+    #[default]
+    Free,
+    /// Readings alone. A key is 1 to 32 of `a` to `z`, `0` to `9` and `.`; a value is 1 to 10 decimal digits, or empty where the record is deleted or has a TTL. What is not
+    /// so is [`Refusal::BadForm`], and a write to the key `total` that states a smaller number than the record there, unless that is deleted, [`Refusal::SmallerTotal`].
+    Meter,
+}
+
+impl Profile {
+    const fn number(self) -> usize {
+        match self {
+            Profile::Free => 0,
+            Profile::Meter => 1,
+        }
+    }
+}
+
 /// How a record stands to deletion.
 #[derive(Clone, Copy, Debug, PartialEq, Eq)]
 pub enum Status {
@@ -176,12 +198,17 @@ pub type LentTable<'a> = Table<&'a mut [u8]>;
 pub type TableView<'a> = Table<&'a [u8]>;
 
 impl OwnedTable {
-    /// An empty table.
+    /// An empty table, free in its records.
     pub fn new(mode: Mode) -> OwnedTable {
-        match Kept::new(mode.number()) {
+        OwnedTable::with_profile(mode, Profile::Free)
+    }
+
+    /// An empty table of this profile.
+    pub fn with_profile(mode: Mode, profile: Profile) -> OwnedTable {
+        match Kept::new(mode.number(), profile.number()) {
             Ok(store) => Table { store },
-            // A mode of ours has a number that the library knows.
-            Err(_) => unreachable!("the library knows every mode"),
+            // Ours have numbers that the library knows.
+            Err(_) => unreachable!("the library knows every mode and every profile"),
         }
     }
 
@@ -197,9 +224,14 @@ impl<'a> LentTable<'a> {
         Table { store: bytes }
     }
 
-    /// Makes these [`TABLE`] bytes an empty table.
+    /// Makes these [`TABLE`] bytes an empty table, free in its records.
     pub fn new_in(bytes: &'a mut [u8], mode: Mode) -> Result<LentTable<'a>, Refusal> {
-        accepted(ffi::new_table(bytes, mode.number()))?;
+        LentTable::with_profile_in(bytes, mode, Profile::Free)
+    }
+
+    /// Makes these [`TABLE`] bytes an empty table of this profile.
+    pub fn with_profile_in(bytes: &'a mut [u8], mode: Mode, profile: Profile) -> Result<LentTable<'a>, Refusal> {
+        accepted(ffi::new_table(bytes, mode.number(), profile.number()))?;
         Ok(Table { store: bytes })
     }
 }
@@ -225,6 +257,15 @@ impl<S: Bytes> Table<S> {
             0 => Mode::Plain,
             1 => Mode::Fenced,
             _ => Mode::Guarded,
+        })
+    }
+
+    /// Which records the table may have.
+    pub fn profile(&self) -> Result<Profile, Refusal> {
+        accepted(if S::GOOD { 0 } else { ffi::check(self.store.bytes()) })?;
+        Ok(match self.store.bytes()[crate::PROFILE_AT] {
+            0 => Profile::Free,
+            _ => Profile::Meter,
         })
     }
 

@@ -14,7 +14,7 @@ use Rattle.rules.specs.declared.Mode.{Mode}
 use Rattle.apply.proofs.mode_of.Statement.{statement}
 use Rattle.apply.proofs.mode_of.Tie as tie
 
-first : (l : List ℕ) → length l ≡ wholeWidth → (n : ℕ) → n ≡ natOf (part tableWidth 1 l) → (m : Mode) → m ≡ modeOfByte n → m ≡ decodeWhole l .mode
+first : (l : List ℕ) → length l ≡ wholeWidth → (n : ℕ) → n ≡ natOf (part tableWidth 1 l) → (m : Mode) → m ≡ modeOfByte n → m ≡ decodeWhole l .kind .mode
 first l e n q m p =
     p ∙ ap modeOfByte (q ∙ ap natOf (sym (part-part 0 1 tableWidth tailWidth l (omega arith) (omega (arith, e)))))
 

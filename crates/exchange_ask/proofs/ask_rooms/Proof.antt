@@ -6,7 +6,7 @@ use lib.ListN.{length}
 use Rattle.rules.specs.Layout.{decode}
 use Rattle.table.proofs.Tables.{length-decode}
 use Rattle.exchange_ask.specs.Asking.{Rooms, rooms}
-use Rattle.exchange_ask.proofs.Asking.{no-answer-room, no-delta, no-digest-room, room-for-all}
+use Rattle.exchange_ask.proofs.Asking.{asked-all, no-delta, no-digest-room}
 use borrow.Author.Needs.{needs}
 use Rattle.exchange_ask.proofs.ask_rooms.Statement.{statement}
 use Rattle.exchange_ask.proofs.ask_rooms.Tie as tie
@@ -24,7 +24,7 @@ returns : tie.Need-returns
 returns c =
     let sized = c .before in
     let a = entry sized .args in
-    no-digest-room (a .edition) (a .unasked .now) (room (entry sized)) (decode (a .publisher .now)) (decode (a .follower .now)) _ (sized .digest-size .ensures) (c .if1 .taken)
+    no-digest-room (a .edition) (a .unasked .now) (room (entry sized)) (a .formed) (decode (a .publisher .now)) (decode (a .follower .now)) _ (sized .digest-size .ensures) (c .if1 .taken)
 
 -- once the digest fits and the numbers of the delta are asked
 abbrev sized : tie.After-ask → tie.After-digest-size
@@ -49,27 +49,22 @@ returns-2 : tie.Need-returns-2
 returns-2 c =
     let call = c .before .before .before in
     let s = entry (sized call) in
-    no-delta (s .args .edition) (s .args .unasked .now) (room s) (decode (s .args .publisher .now)) (decode (s .args .follower .now)) _ (sized call .digest-size .ensures) (fits call) _ (nodes-are call) _
+    no-delta (s .args .edition) (s .args .unasked .now) (room s) (s .args .formed) (decode (s .args .publisher .now)) (decode (s .args .follower .now)) _ (sized call .digest-size .ensures) (fits call) _ (nodes-are call) _
     (sym (call .ask .ensures) ∙ c .before .asked .given .1)
 
 enum-told : tie.Need-enum-told
 enum-told c = search needs
+
+ask-taking-requires : tie.Need-ask-taking-requires
+ask-taking-requires c κs = search needs
 
 returns-3 : tie.Need-returns-3
 returns-3 c =
     let good = c .before in
     let call = good .before .before in
     let s = entry (sized call) in
-    no-answer-room (s .args .edition) (s .args .unasked .now) (room s) (decode (s .args .publisher .now)) (decode (s .args .follower .now)) _ (sized call .digest-size .ensures) (fits call) _ (nodes-are call)
-    (sym (call .ask .ensures) ∙ good .enum-told .given .1) (c .if2 .taken)
-
-returns-4 : tie.Need-returns-4
-returns-4 c =
-    let good = c .before in
-    let call = good .before .before in
-    let s = entry (sized call) in
-    room-for-all (s .args .edition) (s .args .unasked .now) (room s) (decode (s .args .publisher .now)) (decode (s .args .follower .now)) _ (sized call .digest-size .ensures) (fits call) _ (nodes-are call)
-    (sym (call .ask .ensures) ∙ good .enum-told .given .1) (omega (arith, c .if2 .left))
+    asked-all (s .args .edition) (s .args .unasked .now) (room s) (s .args .formed) (decode (s .args .publisher .now)) (decode (s .args .follower .now)) _ (sized call .digest-size .ensures) (fits call) _ (nodes-are call)
+    (sym (call .ask .ensures) ∙ good .enum-told .given .1) _ (c .ask-taking .ensures)
 
 pub ask-rooms-spec : {M : Type 1} → statement M
 ask-rooms-spec =
@@ -82,5 +77,5 @@ ask-rooms-spec =
     enum-known-asked
     returns-2
     enum-told
-    returns-3
-    returns-4)
+    ask-taking-requires
+    returns-3)

@@ -1,4 +1,4 @@
--- `table_check::check_table` meets its contract: the length, the area, then the tail. Assumes nothing.
+-- `table_check::check_table` meets its contract: the length, the area, the tail, then the forms. Assumes nothing.
 use Prim.Native.Nat.{ℕ, _-_}
 use mathlib.Core.Path.{_≡_, ap, sym, _∙_}
 use mathlib.Core.List.{List}
@@ -12,10 +12,10 @@ use Rattle.fields.proofs.Lent.{seen}
 use Rattle.fields.proofs.Parts.{length-part}
 use Rattle.rules.specs.Table.{numbersOf}
 use Rattle.rules.specs.Layout.{tableWidth, decode}
-use Rattle.rules.specs.Whole.{areaOf, tailWidth, wholeWidth}
+use Rattle.rules.specs.Whole.{areaOf, tailOf, tailWidth, wholeWidth}
 use Rattle.table.specs.Tests.{tailGood}
-use Rattle.table.proofs.Tables.{valid-long, valid-few}
-use Rattle.table.proofs.Wholes.{other-length, area-stop, tail-decides}
+use Rattle.table.proofs.Tables.{valid-laid, valid-long, valid-few}
+use Rattle.table.proofs.Wholes.{other-length, area-stop, tail-stop, forms-decide}
 use Rattle.table_check.proofs.check_table.Statement.{statement}
 use Rattle.table_check.proofs.check_table.Tie as tie
 
@@ -56,16 +56,37 @@ check-tail-requires c κs =
     let v = sym (t .before .check-area .ensures) ∙ t .if2 .taken in
     (valid-long (areaOf l) v, valid-few (areaOf l) v, behind l (e .if1 .left))
 
-returns-2 : tie.Need-returns-2
-returns-2 c =
-    let t = c .before .before .before in
+-- what the tail's check says
+tail : (c : tie.After-check-tail) → let l = c .before .before .before .before .before .before .before .before .args .table .now in
+    c .check-tail .result ≡ tailGood (numbersOf (decode (areaOf l))) (tailOf l)
+tail c =
+    let l = c .before .before .before .before .before .before .before .before .args .table .now in
+    c .check-tail .ensures ∙ ap (tailGood (numbersOf (decode (areaOf l)))) (seen tableWidth tailWidth l)
+
+check-profile-requires : tie.Need-check-profile-requires
+check-profile-requires c κs =
+    let t = c .before .before .before .before in
     let e = t .before .before .before in
     let l = e .before .before .args .table .now in
-    tail-decides l (bytes (e .before)) (e .if1 .left) (sym (t .before .check-area .ensures) ∙ t .if2 .taken) _
-    (c .check-tail .ensures ∙ ap (tailGood (numbersOf (decode (areaOf l)))) (seen tableWidth tailWidth l))
+    (e .if1 .left, valid-laid (areaOf l) (sym (t .before .check-area .ensures) ∙ t .if2 .taken))
+
+returns-2 : tie.Need-returns-2
+returns-2 c =
+    let g = c .before in
+    let t = g .before .before .before .before in
+    let e = t .before .before .before in
+    let l = e .before .before .args .table .now in
+    forms-decide l (bytes (e .before)) (e .if1 .left) (sym (t .before .check-area .ensures) ∙ t .if2 .taken) (sym (tail (g .before)) ∙ g .if3 .taken) _ (c .check-profile .ensures)
 
 returns-3 : tie.Need-returns-3
 returns-3 c =
+    let t = c .before .before .before .before in
+    let e = t .before .before .before in
+    let l = e .before .before .args .table .now in
+    tail-stop l (bytes (e .before)) (e .if1 .left) (sym (t .before .check-area .ensures) ∙ t .if2 .taken) (sym (tail (c .before)) ∙ c .if3 .left)
+
+returns-4 : tie.Need-returns-4
+returns-4 c =
     let q = c .before .before .before .before in
     area-stop (q .before .args .table .now) (bytes q) (sym (c .before .check-area .ensures) ∙ c .if2 .left)
 
@@ -81,5 +102,7 @@ check-table-spec =
     part-check-tail-start
     part-check-tail-end
     check-tail-requires
+    check-profile-requires
     returns-2
-    returns-3)
+    returns-3
+    returns-4)

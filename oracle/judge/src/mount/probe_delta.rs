@@ -14,6 +14,14 @@ impl Taken {
             _ => None,
         }
     }
+
+    /// Key, value and status of a record.
+    pub(crate) fn record(&self) -> Option<(&str, &str, u8)> {
+        match &self.0 {
+            DeltaOp::KeyValue(sent) => Some((&sent.key, &sent.value, sent.status as u8)),
+            _ => None,
+        }
+    }
 }
 
 impl Reader {

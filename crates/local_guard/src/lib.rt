@@ -1,0 +1,141 @@
+// What the meter profile refuses of a local call, behind 2 and 1: a write out of form (17), and one to `total` that states a smaller number than the unhidden
+// record there (18). What it lets through is document 01's call. It changes nothing. A free table pays one compare.
+use local_node::Kind;
+use rules::Profile;
+use rules::Record;
+use rules::Refusal;
+use rules::Status;
+use table_read::Place;
+use table_read::Span;
+ghost use mathlib.Core.Path.{_≡_};
+ghost use mathlib.Core.Bool.{true, not, _&&_};
+ghost use mathlib.Core.Option.{none, some};
+ghost use Prim.Native.Nat.{_≤_};
+ghost use lib.Dec.{leb, ltb};
+ghost use lib.ListN.{length};
+ghost use Rattle.fields.specs.Choice.{pick};
+ghost use Rattle.rules.specs.Sizes.{maxKey, maxValue};
+ghost use Rattle.rules.specs.Node.{hidden, find};
+ghost use Rattle.rules.specs.Table.{keysRise, nodeOf};
+ghost use Rattle.rules.specs.Profile.{guardAt, guardIn, inForm, meterGuard, meterValue, numeral, profileObeys, recsFormed, smaller};
+ghost use Rattle.rules.specs.Layout.{decode, decodeRec, recWidth, valid};
+ghost use Rattle.rules.specs.declared.Profile.the-variants.{Meter};
+ghost use Rattle.rules.specs.declared.Refusal.the-variants.{SmallerTotal};
+ghost use Rattle.table.specs.Tests.{keyLength, recsIn, valueLength};
+ghost use Rattle.table.specs.Fits.{LaidNode};
+ghost use Rattle.local_node.specs.Writes.{callOf};
+ghost use Rattle.local_guard.specs.Guarding.{bringing, guardedBy};
+
+// Whether the profile lets a call through.
+pub enum Guarded {
+    Passed,
+    Refused(Refusal),
+}
+
+// Whether a record of this status is hidden.
+fn is_hidden(status: Status) -> bool
+    ensures { λ r. ⌜ r ≡ hidden status ⌝ }
+{
+    match status {
+        Status::Set => false,
+        Status::Delete => true,
+        Status::Ttl => false,
+    }
+}
+
+// A value in form against that of a record in form: 18 where it states a smaller number, unless the record is hidden.
+fn guard_held(record: &[u8], value: &[u8], status: Status) -> Guarded
+    requires { ⌜ (length (now «record») ≡ recWidth) × (keyLength (now «record») ≤ maxKey) × (valueLength (now «record») ≤ maxValue)
+        × (inForm Meter (decodeRec (now «record») .kv) ≡ true) × (meterValue status (now value) ≡ true) ⌝ }
+    ensures { λ r. ⌜ r ≡ guardedBy (pick
+        (not (hidden (decodeRec (now («record» .entry)) .kv .status))
+        && ltb (numeral 0 (now (value .entry))) (numeral 0 (decodeRec (now («record» .entry)) .kv .value)))
+        (some SmallerTotal) none) ⌝ }
+{
+    let held = table_read::read_record(record);
+    let before = held.status;
+    if is_hidden(before) {
+        return Guarded::Passed;
+    }
+    if meter_form::number_of(value) < meter_form::number_of(table::value_of(record)) {
+        return Guarded::Refused(Refusal::SmallerTotal);
+    }
+    Guarded::Passed
+}
+
+// A write in form: 18.
+fn guard_total(node: &[u8], key: &[u8], value: &[u8], status: Status) -> Guarded
+    requires { ⌜ LaidNode (now node) × (keysRise (recsIn (now node)) ≡ true) × (recsFormed Meter (recsIn (now node)) ≡ true)
+        × (meterValue status (now value) ≡ true) ⌝ }
+    ensures { λ r. ⌜ r ≡ guardedBy
+        (pick (smaller (bringing (now (key .entry)) (now (value .entry)) status)
+        (find (now (key .entry)) (recsIn (now (node .entry))))) (some SmallerTotal) none) ⌝ }
+{
+    if fields::same(key, b"total") {
+        return match table_read::search_key(node, key) {
+            Place::At(j) => guard_held(table::record_of(node, j), value, status),
+            Place::Free(_) => Guarded::Passed,
+        };
+    }
+    Guarded::Passed
+}
+
+// A write, of which 1 is asked before: 17, 18.
+fn guard_write(node: &[u8], key: &[u8], value: &[u8], status: Status) -> Guarded
+    requires { ⌜ LaidNode (now node) × (keysRise (recsIn (now node)) ≡ true) × (recsFormed Meter (recsIn (now node)) ≡ true) ⌝ }
+    ensures { λ r. ⌜ r ≡ guardedBy (pick (leb (length (now (key .entry))) maxKey && leb (length (now (value .entry))) maxValue)
+        (meterGuard (some (bringing (now (key .entry)) (now (value .entry)) status)) (find (now (key .entry)) (recsIn (now (node .entry))))) none) ⌝ }
+{
+    if Record::KEY < key.len() {
+        return Guarded::Passed;
+    }
+    if Record::VALUE < value.len() {
+        return Guarded::Passed;
+    }
+    if meter_form::is_formed(key, value, status) {
+        return guard_total(node, key, value, status);
+    }
+    Guarded::Refused(Refusal::BadForm)
+}
+
+// One of the four calls at a key of a node: the deletes pass.
+fn guard_node(node: &[u8], kind: Kind, key: &[u8], value: &[u8]) -> Guarded
+    requires { ⌜ LaidNode (now node) × (keysRise (recsIn (now node)) ≡ true) × (recsFormed Meter (recsIn (now node)) ≡ true) ⌝ }
+    ensures { λ r. ⌜ r ≡ guardedBy (guardAt Meter (callOf kind (now (value .entry)) 0) (now (key .entry)) (recsIn (now (node .entry)))) ⌝ }
+{
+    match kind {
+        Kind::Setting => guard_write(node, key, value, Status::Set),
+        Kind::SettingTtl => guard_write(node, key, value, Status::Ttl),
+        Kind::Deleting => Guarded::Passed,
+        Kind::DeletingAfterTtl => Guarded::Passed,
+    }
+}
+
+// On a good meter table: a node that is not held passes, as 2 comes first.
+fn guard_meter(table: &[u8], number: u64, kind: Kind, key: &[u8], value: &[u8]) -> Guarded
+    requires { ⌜ (valid (now table) ≡ true) × (profileObeys Meter (decode (now table)) ≡ true) ⌝ }
+    ensures { λ r. ⌜ r ≡ guardedBy (guardIn Meter (callOf kind (now (value .entry)) 0) (now (key .entry)) (nodeOf number (decode (now (table .entry))))) ⌝ }
+{
+    match table_read::node_span(table, number) {
+        Span::Held { start, end } => guard_node(&table[start..end], kind, key, value),
+        Span::Missing => Guarded::Passed,
+    }
+}
+
+// Whether the profile of a good table lets a call through.
+pub fn guard(
+    table: &[u8],
+    profile: Profile,
+    number: u64,
+    kind: Kind,
+    key: &[u8],
+    value: &[u8],
+) -> Guarded
+    requires { ⌜ (valid (now table) ≡ true) × (profileObeys profile (decode (now table)) ≡ true) ⌝ }
+    ensures { λ r. ⌜ r ≡ guardedBy (guardIn profile (callOf kind (now (value .entry)) 0) (now (key .entry)) (nodeOf number (decode (now (table .entry))))) ⌝ }
+{
+    match profile {
+        Profile::Free => Guarded::Passed,
+        Profile::Meter => guard_meter(table, number, kind, key, value),
+    }
+}
