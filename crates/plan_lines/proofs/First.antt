@@ -1,19 +1,22 @@
 -- The first of some places in their order, one after the other; the bytes of the records at them. Assumes nothing.
-use Prim.Native.Nat.{ℕ, suc, _+_, _-_, _≤_, _<_}
+use Rattle.rules.proofs.Stale.{length-by-version, stale-from, stale-length}
+use native.Mathlib.Numerals.{add-one}
+use Rattle.rules.specs.Node.{KeyValue, Rec}
+use Prim.Native.Nat.{_*_, _+_, _-_, _<_, _≤_, suc, ℕ}
 use mathlib.Core.Bool.{Bool, false, true}
 use mathlib.Core.List.{List, [], _∷_}
 use mathlib.Core.Path.{_∙_, _≡_, ap, refl, subst, sym}
 use native.Mathlib.Omega.{arith}
-use lib.Dec.{ltb}
-use lib.ListN.{getD, length, length-append, take}
-use lib.Seq.{length-take-le, take-all}
-use borrow.Author.Tests.{ltb-false, ltb-true}
-use Rattle.fields.proofs.Choice.{in-at}
+use lib.Dec.{leb, ltb}
+use lib.ListN.{drop, drop-of-length-le, getD, length, length-append, take}
+use lib.Seq.{drop-cons, length-take-le, take-all}
+use borrow.Author.Tests.{le-ltb, lt-ltb, ltb-false, ltb-true}
+use Rattle.fields.proofs.Choice.{in-at, pick-false, pick-true}
 use Rattle.fields.specs.Blocks.{flat}
-use Rattle.fields.specs.Choice.{pick}
+use Rattle.fields.specs.Choice.{_∈_, here, later, pick}
 use Rattle.fields.specs.Numbers.{Bytes}
-use Rattle.rules.proofs.Sending.{size-max, size-node, size-record}
-use Rattle.rules.specs.Compute.{keyValueOps}
+use Rattle.rules.proofs.Sending.{recordSize, size-max, size-node, size-record}
+use Rattle.rules.specs.Compute.{bodyOps, byVersion, keyValueOps, stale}
 use Rattle.rules.specs.Delta.{KeyValueOp, Op, SetMaxVersionOp, deltaBytes, sizeOf}
 use Rattle.rules.specs.Layout.{decode, decodeRec}
 use Rattle.rules.specs.Table.{Table}
@@ -25,7 +28,7 @@ use Rattle.table_read.specs.Find.{entryAt}
 use Rattle.compute_stale.proofs.Arranged.{length-span, listed-first}
 use Rattle.compute_stale.specs.Arranged.{listed}
 use Rattle.compute_write.specs.Sending.{nodeOpAt, recordAt}
-use Rattle.plan_lines.specs.Lines.{opsAt, recordsAt, taken}
+use Rattle.plan_lines.specs.Lines.{lineAt, opsAt, recordsAt, taken}
 
 -- ---- places
 
@@ -110,3 +113,97 @@ record-low l o p h q g =
     let a = r .key-fits in
     let b = r .value-fits in
     subst (λ (n : ℕ). n ≤ 110) (sym (size-record (recordAt (decode l) p q))) (omega arith)
+
+-- ---- all of a node's stale records, in any order
+
+bytes-by-version : (s : KeyValue) (l : List KeyValue)
+    → length (deltaBytes (keyValueOps (byVersion s l))) ≡ sizeOf (KeyValueOp s) + length (deltaBytes (keyValueOps l))
+unfolding byVersion keyValueOps
+bytes-by-version s [] = bytes-cons (KeyValueOp s) []
+bytes-by-version s (a ∷ l) = go (leb (s .version) (a .version)) (bytes-by-version s l)
+  where
+    go : (b : Bool) → length (deltaBytes (keyValueOps (byVersion s l))) ≡ sizeOf (KeyValueOp s) + length (deltaBytes (keyValueOps l))
+        → length (deltaBytes (keyValueOps (pick b (s ∷ a ∷ l) (a ∷ byVersion s l)))) ≡ sizeOf (KeyValueOp s) + length (deltaBytes (KeyValueOp a ∷ keyValueOps l))
+    go true h = bytes-cons (KeyValueOp s) (KeyValueOp a ∷ keyValueOps l)
+    go false h =
+        let x = bytes-cons (KeyValueOp a) (keyValueOps (byVersion s l)) in
+        let y = bytes-cons (KeyValueOp a) (keyValueOps l) in
+        omega arith
+
+-- of the records from i on, so many are stale, in so many bytes
+abbrev pub manyFrom : (from i : ℕ) (recs : List Rec) → ℕ
+manyFrom from i recs = length (stale from (drop i recs))
+
+abbrev pub bytesFrom : (from i : ℕ) (recs : List Rec) → ℕ
+bytesFrom from i recs = length (deltaBytes (keyValueOps (stale from (drop i recs))))
+
+module _ (from i : ℕ) (recs : List Rec) (h : i < length recs) where
+  abbrev kv : KeyValue
+  kv = getD recs i (decodeRec []) .kv
+
+  here-first : stale from (drop i recs) ≡ pick (ltb from (kv .version)) (byVersion kv (stale from (drop (i + 1) recs))) (stale from (drop (i + 1) recs))
+  unfolding stale
+  here-first = ap (stale from) (drop-cons recs i (decodeRec []) h) ∙ rw add-one refl
+
+  pub is-above : from < kv .version → (manyFrom from i recs ≡ suc (manyFrom from (i + 1) recs)) × (bytesFrom from i recs ≡ sizeOf (KeyValueOp kv) + bytesFrom from (i + 1) recs)
+  is-above g =
+      let e : stale from (drop i recs) ≡ byVersion kv (stale from (drop (i + 1) recs)) = here-first ∙ pick-true (ltb from (kv .version)) _ _ (lt-ltb from (kv .version) g) in (
+        ap length e ∙ length-by-version kv (stale from (drop (i + 1) recs)),
+        ap (λ (kvs : List KeyValue). length (deltaBytes (keyValueOps kvs))) e ∙ bytes-by-version kv (stale from (drop (i + 1) recs)),
+      )
+
+  pub is-below : kv .version ≤ from → (manyFrom from i recs ≡ manyFrom from (i + 1) recs) × (bytesFrom from i recs ≡ bytesFrom from (i + 1) recs)
+  is-below g =
+      let e : stale from (drop i recs) ≡ stale from (drop (i + 1) recs) = here-first ∙ pick-false (ltb from (kv .version)) _ _ (le-ltb from (kv .version) g) in
+      (ap length e, ap (λ (kvs : List KeyValue). length (deltaBytes (keyValueOps kvs))) e)
+
+pub none-from : (from i : ℕ) (recs : List Rec) → length recs ≤ i → (manyFrom from i recs ≡ 0) × (bytesFrom from i recs ≡ 0)
+unfolding stale keyValueOps
+none-from from i recs h =
+    let e = drop-of-length-le recs {i = i} h in
+    (ap (λ (l : List Rec). length (stale from l)) e, ap (λ (l : List Rec). length (deltaBytes (keyValueOps (stale from l)))) e ∙ bytes-none)
+
+-- a line of all of them
+pub all-size : (t : Table) (p from count : ℕ) → let all : List KeyValue = stale from (entryAt t p .node .recs) in
+    0 < count → count ≡ length all → 25 + length (deltaBytes (keyValueOps all)) ≡ length (deltaBytes (lineAt t p from count))
+all-size t p from count h e = go (stale from (entryAt t p .node .recs)) e
+  where
+    own : ℕ
+    own = entryAt t p .node .max
+
+    go : (all : List KeyValue) → count ≡ length all → 25 + length (deltaBytes (keyValueOps all)) ≡ length (deltaBytes (nodeOpAt t p from ∷ bodyOps own (take count all)))
+    go [] e = absurd (omega arith)
+    go (a ∷ l) e =
+        let whole : take count (a ∷ l) ≡ a ∷ l = take-all count (a ∷ l) (omega arith) in
+        let x = bytes-cons (nodeOpAt t p from) (keyValueOps (a ∷ l)) in
+        let y = size-node (entryAt t p .number) (entryAt t p .node .last-gc) from in
+        let z : length (deltaBytes (nodeOpAt t p from ∷ bodyOps own (take count (a ∷ l)))) ≡ length (deltaBytes (nodeOpAt t p from ∷ keyValueOps (a ∷ l))) =
+        ap (λ (kvs : List KeyValue). length (deltaBytes (nodeOpAt t p from ∷ bodyOps own kvs))) whole in
+        omega (arith, x, y, z)
+
+-- the stale records of a node of a table that is laid out take at most 110 bytes each
+ops-most : (kvs : List KeyValue) → ((r : KeyValue) → r ∈ kvs → recordSize r ≤ 110) → length (deltaBytes (keyValueOps kvs)) ≤ 110 * length kvs
+unfolding keyValueOps
+ops-most [] f = let z = bytes-none in omega arith
+ops-most (r ∷ rs) f =
+    let a = bytes-cons (KeyValueOp r) (keyValueOps rs) in
+    let b = size-record r in
+    let c = f r (here refl) in
+    let d = ops-most rs (λ x m. f x (later m)) in
+    omega arith
+
+pub all-low : (l : Bytes) → LaidTable l → (p : ℕ) → p < nodesOf l → (from : ℕ) → length (deltaBytes (keyValueOps (stale from (entryAt (decode l) p .node .recs)))) ≤ 3520
+all-low l o p h from =
+    let e = o .fits .each (entryAt (decode l) p) (in-at (decode l) p (freshEntry 0) (rw length-decode h)) in
+    let kvs : List KeyValue = stale from (entryAt (decode l) p .node .recs) in
+    let small : (r : KeyValue) → r ∈ kvs → recordSize r ≤ 110 =
+    λ r m.
+    let y = stale-from from (entryAt (decode l) p .node .recs) m in
+    let k = e .each (y .0) (y .1) in
+    let a = k .key-fits in
+    let b = k .value-fits in
+    subst (λ (x : KeyValue). recordSize x ≤ 110) (y .2) (omega arith) in
+    let most = ops-most kvs small in
+    let few = stale-length from (entryAt (decode l) p .node .recs) in
+    let n = e .few in
+    omega (arith, most, few, n)

@@ -3,14 +3,16 @@ use Prim.Native.Nat.{ℕ}
 use mathlib.Core.List.{List, _∷_, map}
 use mathlib.Core.Option.{Option, none, some}
 use lib.Dec.{ltb}
-use lib.ListN.{take}
+use lib.ListN.{length, take}
 use Rattle.fields.specs.Choice.{pick}
 use Rattle.rules.specs.Compute.{bodyOps, keyValueOps, stale}
-use Rattle.rules.specs.Delta.{Op}
+use Rattle.rules.specs.Delta.{Op, deltaBytes}
+use Rattle.rules.specs.Node.{KeyValue}
 use Rattle.rules.specs.Table.{Table}
 use Rattle.table_read.specs.Find.{entryAt}
 use Rattle.compute_write.specs.Sending.{nodeOpAt, recordAt}
 use Rattle.plan.specs.declared.Fault.{Fault}
+use Rattle.plan_lines.specs.declared.Above.{Above}
 use Rattle.plan_lines.specs.declared.Line.{Line}
 use Rattle.plan_lines.specs.declared.Line.the-variants as line
 
@@ -29,6 +31,10 @@ opsAt t p from qs = nodeOpAt t p from ∷ bodyOps (entryAt t p .node .max) (map 
 -- the line with this count: its lowest versions
 abbrev pub lineAt : (table : Table) (p from count : ℕ) → List Op
 lineAt t p from c = nodeOpAt t p from ∷ bodyOps (entryAt t p .node .max) (take c (stale from (entryAt t p .node .recs)))
+
+-- so many records, and their bytes as operations
+abbrev pub aboveOf : (stale : List KeyValue) → Above
+aboveOf kvs = record { count = length kvs; bytes = length (deltaBytes (keyValueOps kvs)) }
 
 -- the smaller of the count and the stale records
 abbrev pub taken : (count stale : ℕ) → ℕ

@@ -8,6 +8,7 @@ use digest_read::Digest;
 use plan::Fault;
 use plan::Judged;
 use rules::wire;
+use table::layout;
 use table_read::Place;
 ghost use mathlib.Core.Path.{_≡_};
 ghost use mathlib.Core.Bool.{true};
@@ -24,16 +25,23 @@ ghost use Rattle.table.specs.Tests.{nodesOf};
 ghost use Rattle.table_read.specs.Find.{entryAt};
 ghost use Rattle.digest_read.specs.Held.{entriesIn};
 ghost use Rattle.compute.specs.Lined.{atFront};
+ghost use Rattle.delta_write.specs.Written.{writeOp};
 ghost use Rattle.compute_stale.specs.Arranged.{listed, AllBelow};
 ghost use Rattle.compute_write.specs.Sending.{recordAt, sending};
 ghost use Rattle.plan.specs.Faults.{countFault, judge, lineFault, lineSize};
 ghost use Rattle.plan.specs.Plan.{lineOps, named, planOps, staleFor};
-ghost use Rattle.plan_lines.specs.Lines.{asLine, lineAt, opsAt, recordsAt, taken};
+ghost use Rattle.plan_lines.specs.Lines.{aboveOf, asLine, lineAt, opsAt, recordsAt, taken};
 
 // What a line comes to: how many bytes its operations take, or why it cannot be sent.
 pub enum Line {
     Bytes(usize),
     Fault(Fault),
+}
+
+// Stale records of a node: how many, and how many bytes they take as operations.
+pub struct Above {
+    pub count: usize,
+    pub bytes: usize,
 }
 
 // The bytes of record `q` of the node at `p`, as an operation.
@@ -65,6 +73,50 @@ fn size_of(table: &[u8], p: usize, from: u64, at: &[usize], n: usize, count: usi
     size
 }
 
+// The version of record `q` of the node at `p`.
+fn version_at(table: &[u8], p: usize, q: usize) -> u64
+    requires { ⌜ LaidTable (now table) × (p < nodesOf (now table)) × (q < length (entryAt (decode (now table)) p .node .recs)) ⌝ }
+    ensures { λ r. ⌜ r ≡ recordAt (decode (now (table .entry))) p q .version ⌝ }
+{
+    let b = table::record_of(table::node_of(table, p), q);
+    fields::read_u64(b, layout::VERSION)
+}
+
+// The stale records of the node at `p`, all of them: how many, and their bytes. A sum needs no order.
+fn weigh_all(table: &[u8], p: usize, from: u64) -> Above
+    requires { ⌜ LaidTable (now table) × (p < nodesOf (now table)) ⌝ }
+    ensures { λ r. ⌜ r ≡ aboveOf (stale from (entryAt (decode (now (table .entry))) p .node .recs)) ⌝ }
+{
+    let n = fields::byte_at(table::node_of(table, p), layout::RECORD_COUNT);
+    let mut count = 0;
+    let mut bytes = 0;
+    let mut i = 0;
+    while i < n {
+        if from < version_at(table, p, i) {
+            count += 1;
+            bytes += record_size(table, p, i);
+        }
+        i += 1;
+    }
+    Above { count, bytes }
+}
+
+// The bytes of a line that takes the `count` lowest versions of a node's stale records; only where that is a part of them they are put in order.
+fn line_size(table: &[u8], p: usize, from: u64, count: usize, all: Above) -> usize
+    requires { ⌜ LaidTable (now table) × (p < nodesOf (now table)) × (all ≡ aboveOf (stale from (entryAt (decode (now table)) p .node .recs)))
+        × (count ≤ all .count) ⌝ }
+    ensures { λ r. ⌜ r ≡ length (deltaBytes (lineAt (decode (now (table .entry))) p from count)) ⌝ }
+{
+    if 0 < count {
+        if count == all.count {
+            return wire::NODE_WIDTH + all.bytes;
+        }
+    }
+    let stale = compute_stale::stale_places(table::node_of(table, p), from);
+    let at = stale.at;
+    size_of(table, p, from, &at, stale.count, count)
+}
+
 // A line about the node at `p`, so many bytes being left of the MTU: its count, then its bytes.
 fn weigh(table: &[u8], p: usize, from: u64, count: u64, left: usize) -> Line
     requires { ⌜ LaidTable (now table) × (p < nodesOf (now table)) ⌝ }
@@ -72,9 +124,8 @@ fn weigh(table: &[u8], p: usize, from: u64, count: u64, left: usize) -> Line
         (length (deltaBytes (lineAt (decode (now (table .entry))) p from count))) left)
         (length (deltaBytes (lineAt (decode (now (table .entry))) p from count))) ⌝ }
 {
-    let stale = compute_stale::stale_places(table::node_of(table, p), from);
-    let at = stale.at;
-    let n = stale.count;
+    let all = weigh_all(table, p, from);
+    let n = all.count;
     if (n as u64) < count {
         return Line::Fault(Fault::TooMany);
     }
@@ -83,7 +134,7 @@ fn weigh(table: &[u8], p: usize, from: u64, count: u64, left: usize) -> Line
             return Line::Fault(Fault::TooFew);
         }
     }
-    let size = size_of(table, p, from, &at, n, count as usize);
+    let size = line_size(table, p, from, count as usize, all);
     if left < size {
         return Line::Fault(Fault::NoFit);
     }
@@ -174,6 +225,18 @@ fn taken(count: u64, stale: usize) -> usize
     stale
 }
 
+// Writes record `q` of the node at `p`, where it fits; its texts are copied by words.
+fn write_record(table: &[u8], p: usize, q: usize, datagram: &mut [u8]) -> Wrote
+    requires { ⌜ LaidTable (now table) × (p < nodesOf (now table)) × (q < length (entryAt (decode (now table)) p .node .recs)) ⌝ }
+    ensures { λ r. ⌜ Gives (writeOp (KeyValueOp (recordAt (decode (now (table .entry))) p q)) (now (datagram .entry))) r (now (datagram .exit)) ⌝ }
+{
+    if datagram.len() < record_size(table, p, q) {
+        return Wrote::NoFit;
+    }
+    let b = table::record_of(table::node_of(table, p), q);
+    Wrote::Bytes(record_write::store_record(b, datagram))
+}
+
 // Writes the records of the node at `p` that stand behind the first `end` of the `n` places, while they fit; the first of the order stands last.
 fn write_records(
     table: &[u8],
@@ -194,8 +257,7 @@ fn write_records(
     while end < k {
         k -= 1;
         let q = at[k];
-        let Wrote::Bytes(size) = compute_write::write_record(table, p, q, &mut datagram[used..])
-        else {
+        let Wrote::Bytes(size) = write_record(table, p, q, &mut datagram[used..]) else {
             break;
         };
         ops += 1;
