@@ -16,11 +16,13 @@
  * value, and a value that an answer has not is 0.
  *
  * What the caller owes. A pointer with its length is that many bytes or numbers which may be read, and written where it is not const;
- * with a length of 0 the pointer may be anything that is not null. Parts lent to one call do not overlap if one of them is written.
+ * with a length of 0 the pointer may be anything, NULL too. Parts lent to one call do not overlap if one of them is written.
  * Nobody else writes to them while the call runs. Calls on different memory may run at the same time.
  *
- * The functions kev_good_.. are the same calls without the check of 14, for a table that every call kept: it was made by kev_new_table,
- * or kev_check accepted it, and nothing but these functions wrote to it since. On other bytes they promise nothing.
+ * The functions kev_good_.. stand in a part of their own at the end: the same calls without the check of 14. On bytes that are no good table
+ * they may read and write anywhere. Take them only where the check is too slow, and for a table that nobody else can write to.
+ *
+ * Linking. Each function is in a section of its own: with -Wl,--gc-sections a program has what it calls and no more. kevdarosh.pc is for pkg-config.
  */
 #ifndef KEVDAROSH_H
 #define KEVDAROSH_H
@@ -76,14 +78,14 @@ typedef uint64_t kev_size;
 #define KEV_DELETE 1
 #define KEV_TTL 2
 
-/* ---- answers to a node delta */
+/* ---- answers to a node delta, by the names that they have everywhere */
 
-#define KEV_REJECT 0  /* from the future, or nothing new */
-#define KEV_APPLY 1   /* taken */
-#define KEV_RESET 2   /* the node began afresh, then taken */
-#define KEV_ROOM 3    /* over 32 keys: the node stays as it is */
-#define KEV_UNKNOWN 4 /* the table has no such node */
-#define KEV_LATE 5    /* older than the reset that a fenced or guarded node is in: it stays as it is */
+#define KEV_ANSWER_REJECT 0            /* from the future, or nothing new */
+#define KEV_ANSWER_APPLY 1             /* taken */
+#define KEV_ANSWER_APPLY_AFTER_RESET 2 /* the node began afresh, then taken */
+#define KEV_ANSWER_ROOM 3              /* over 32 keys: the node stays as it is */
+#define KEV_ANSWER_UNKNOWN 4           /* the table has no such node */
+#define KEV_ANSWER_FENCED 5            /* older than the reset that a fenced or guarded node is in: it stays as it is */
 
 /* ---- what is wrong with a line of a plan */
 
@@ -512,8 +514,8 @@ struct kev_judged kev_plan_fault(
  * Numbers: 13, 9, 1, 10, 11, 12. */
 struct kev_delta kev_read_delta(const uint8_t *delta, kev_size delta_len);
 
-/* Takes a peer's delta into the table, at the receiver's clock. For each node delta an answer (KEV_REJECT and on), a byte each, at
- * the front of answers; nodes is how many. KEV_NODES places are always enough. A meter table refuses the whole delta with 17 for one
+/* Takes a peer's delta into the table, at the receiver's clock. For each node delta an answer (KEV_ANSWER_REJECT and on), a byte
+ * each, at the front of answers; nodes is how many. KEV_NODES places are always enough. A meter table refuses the whole delta with 17 for one
  * record that has not its form, also where that record would be skipped or its node is not held; a total may be smaller here.
  * Numbers: 14, 13, 9, 1, 10, 11, 17, 12, 8. */
 struct kev_applied kev_apply(
@@ -591,7 +593,12 @@ struct kev_seen kev_seen_by(const uint8_t *grid, kev_size grid_len, uint64_t pee
 uint64_t kev_remove_carefully(
     const uint8_t *grid, kev_size grid_len, uint8_t *table, kev_size table_len, uint64_t clock, uint64_t grace);
 
-/* ---- the same calls on a table that every call kept: no check, and so no 14 */
+/* ==== WITHOUT THE CHECK
+ *
+ * The same calls on a table that every call kept: no check, and so no 14. What is promised of them is promised for such a table alone: it was made by kev_new_table, or
+ * kev_check accepted it, and since then nothing but functions of this header wrote to it. ON OTHER BYTES THEY MAY READ AND WRITE ANYWHERE, and a length that is not KEV_TABLE is
+ * not found either: one wrong byte of a count or a length is enough to leave the table. So not on bytes out of a file, a mapped page, a peer or another program, as long as
+ * kev_check has not accepted them, and not on memory that another thread or a stray pointer may reach. If in doubt, take the call without good in its name. */
 
 /* Numbers: 4. */
 uint64_t kev_good_add_node(uint8_t *table, kev_size table_len, uint64_t node);

@@ -37,13 +37,11 @@ static bool same(struct lent l) { return memcmp(l.was, l.at, l.len) == 0; }
 static void give_back(struct lent l) { free(l.at); free(l.was); }
 
 #define T(l) (l).at, (l).len
-static const uint64_t none[1] = {0};
-static const uint8_t nothing[1] = {0};
-static uint8_t unwritten[1];
 #define TEXT(s) (const uint8_t *)(s), sizeof(s) - 1
-#define NO_NUMBERS none, 0
-#define NO_BYTES nothing, 0
-#define NO_OUT unwritten, 0
+/* A length of 0 comes with NULL. */
+#define NO_NUMBERS NULL, 0
+#define NO_BYTES NULL, 0
+#define NO_OUT NULL, 0
 static const char long_key[] = "123456789012345678901234567890123";
 static const char long_value[] = "12345678901234567890123456789012345678901234567890123456789012345";
 
@@ -352,7 +350,7 @@ static void local_calls(void) {
     GIVES(KEV_BAD_TABLE, kev_compute_plan(T(table), KEV_V0, NO_BYTES, 0, NO_NUMBERS, NO_NUMBERS, NO_NUMBERS, T(out), 0).number);
     GIVES(KEV_BAD_TABLE, kev_plan_fault(T(table), KEV_V0, NO_BYTES, 0, NO_NUMBERS, NO_NUMBERS, NO_NUMBERS).number);
     GIVES(KEV_BAD_TABLE, kev_apply(T(table), NO_BYTES, 0, T(out)).number);
-    GIVES(KEV_BAD_TABLE, kev_check(nothing, 0));
+    GIVES(KEV_BAD_TABLE, kev_check(NO_BYTES));
     CHECK(same(table) && same(out));
     give_back(table), give_back(brief), give_back(places), give_back(few), give_back(out);
 }
@@ -443,14 +441,14 @@ static void peers(void) {
     FAULT(0, KEV_COUNT_ABOVE, kev_plan_fault(T(a), KEV_V0, PLAN(1400, eight_seven, 1, two, 1)));
     FAULT(1, KEV_COUNT_ZERO, kev_plan_fault(T(a), KEV_V0, PLAN(1400, eight_seven, 2, eight_zero, 2)));
     FAULT(1, KEV_ALONE, kev_good_plan_fault(T(a), KEV_V0, PLAN(1400, eight_seven, 2, ones, 1)));
-    FAULT(0, KEV_ALONE, kev_plan_fault(T(a), KEV_V0, PLAN(1400, none, 0, ones, 1)));
+    FAULT(0, KEV_ALONE, kev_plan_fault(T(a), KEV_V0, PLAN(1400, NULL, 0, ones, 1)));
     struct kev_judged said = kev_good_plan_fault(T(a), KEV_V0, PLAN(1400, eight_seven, 2, ones, 2));
     CHECK(said.number == 0 && said.line == 0 && said.why == 0 && said.need == 0);
     struct kev_computed by_plan = kev_good_compute_plan(T(a), KEV_V0, PLAN(1000, eight_seven, 1, ones, 1), T(planned), 400);
     CHECK(by_plan.number == 0 && by_plan.ops == 2 && by_plan.bytes > 0);
     by_plan = kev_compute_plan(T(a), KEV_V0, PLAN(1400, eight_seven, 2, ones, 2), T(planned), 0);
     CHECK(by_plan.number == 0 && by_plan.ops == 4 && by_plan.bytes == c.bytes && planned.at[1] == 8);
-    CHECK(kev_compute_plan(T(a), KEV_V0, PLAN(1400, none, 0, none, 0), T(planned), 0).bytes == 0);
+    CHECK(kev_compute_plan(T(a), KEV_V0, PLAN(1400, NULL, 0, NULL, 0), T(planned), 0).bytes == 0);
     give_back(planned);
 
     struct kev_delta v = kev_read_delta(delta.at, c.bytes);
@@ -508,9 +506,9 @@ static void peers(void) {
     GIVES(KEV_NO_PLACE, kev_good_apply(T(b), delta.at, c.bytes, 5, answers.at, 1).number);
     CHECK(same(b) && same(answers));
     BOTH(b, kev_apply(T(t), delta.at, c.bytes, 5, T(answers)).number, kev_good_apply(T(t), delta.at, c.bytes, 5, T(answers)).number);
-    CHECK(answers.at[0] == KEV_APPLY && answers.at[1] == KEV_APPLY && answers.at[2] == 0xEE);
+    CHECK(answers.at[0] == KEV_ANSWER_APPLY && answers.at[1] == KEV_ANSWER_APPLY && answers.at[2] == 0xEE);
     struct kev_applied again = kev_apply(T(b), delta.at, c.bytes, 5, T(answers));
-    CHECK(again.number == 0 && again.nodes == 2 && answers.at[0] == KEV_REJECT);
+    CHECK(again.number == 0 && again.nodes == 2 && answers.at[0] == KEV_ANSWER_REJECT);
 
     /* a version of 2^64-1 cannot rise */
     static uint8_t highest[25 + 9] = {0};
@@ -518,7 +516,7 @@ static void peers(void) {
     put64(highest + 17, 1);
     highest[25] = 2;
     put64(highest + 26, UINT64_MAX);
-    CHECK(kev_apply(T(b), highest, sizeof highest, 5, T(answers)).number == 0 && answers.at[0] == KEV_APPLY);
+    CHECK(kev_apply(T(b), highest, sizeof highest, 5, T(answers)).number == 0 && answers.at[0] == KEV_ANSWER_APPLY);
     GIVES(KEV_EXHAUSTED, kev_write(T(b), 7, TEXT("new"), TEXT("1"), KEV_SET, 0));
     GIVES(KEV_EXHAUSTED, kev_good_delete(T(b), 7, TEXT("total"), 0));
 
@@ -540,7 +538,7 @@ static void peers(void) {
     CHECK(given(x.number) == KEV_BAD_EDITION);
     CHECK(same(c2) && same(digest) && same(delta) && same(answers));
     x = kev_exchange(T(a), T(c2), KEV_V0, 1400, NO_NUMBERS, NO_NUMBERS, ties, 2, 5, T(digest), T(delta), T(answers));
-    CHECK(x.number == 0 && x.nodes == 2 && x.ops == 4 && x.step == 0 && answers.at[0] == KEV_APPLY && answers.at[1] == KEV_UNKNOWN);
+    CHECK(x.number == 0 && x.nodes == 2 && x.ops == 4 && x.step == 0 && answers.at[0] == KEV_ANSWER_APPLY && answers.at[1] == KEV_ANSWER_UNKNOWN);
     CHECK(kev_check(T(c2)) == 0);
     give_back(a), give_back(b), give_back(digest), give_back(delta), give_back(answers), give_back(listing), give_back(brief), give_back(bad), give_back(c2);
 }
@@ -602,7 +600,7 @@ static void meters(void) {
 #define EXCHANGE(from, to, ties_len) \
     kev_exchange(T(from), T(to), KEV_V0, 1400, NO_NUMBERS, NO_NUMBERS, ties, ties_len, 9, T(digest), T(delta), T(answers))
     GIVES(0, kev_write(T(free_one), 8, TEXT("total"), TEXT("50"), KEV_SET, 0));
-    CHECK(EXCHANGE(free_one, meter, 1).nodes == 1 && answers.at[0] == KEV_APPLY);
+    CHECK(EXCHANGE(free_one, meter, 1).nodes == 1 && answers.at[0] == KEV_ANSWER_APPLY);
     GIVES(0, kev_write(T(free_one), 8, TEXT("total"), TEXT("4"), KEV_SET, 0));
     CHECK(EXCHANGE(free_one, meter, 1).nodes == 1 && kev_find(T(meter), 8, TEXT("total")).len == 1);
     GIVES(KEV_SMALLER_TOTAL, kev_write(T(meter), 8, TEXT("total"), TEXT("3"), KEV_SET, 0));
@@ -862,10 +860,155 @@ static void grids(void) {
     give_back(grid), give_back(shorter), give_back(longer), give_back(table), give_back(digest), give_back(plain);
 }
 
+/* A delta of one node with one record, Set: 25 bytes of its Node, then tag, version, status and two texts. */
+static size_t one_record(uint8_t *delta, uint64_t node, uint64_t gc, uint64_t from, uint64_t version, const char *key) {
+    const size_t key_len = strlen(key);
+    memset(delta, 0, 25 + 14 + key_len);
+    put64(delta + 1, node), put64(delta + 9, gc), put64(delta + 17, from);
+    delta[25] = 1;
+    delta[26] = (uint8_t)key_len;
+    memcpy(delta + 28, key, key_len);
+    put64(delta + 30 + key_len, version);
+    return 25 + 14 + key_len;
+}
+
+/* Applies a delta of one node with and without the check: the answer. */
+static unsigned answered(struct lent table, const uint8_t *delta, size_t len) {
+    struct lent answers = lend(1), copy = lend(table.len);
+    memcpy(copy.at, table.at, table.len);
+    struct kev_applied told = kev_apply(T(table), delta, len, 5, T(answers));
+    unsigned answer = answers.at[0];
+    CHECK(told.number == 0 && told.nodes == 1 && kev_check(T(table)) == 0);
+    answers.at[0] = 0xEE;
+    told = kev_good_apply(T(copy), delta, len, 5, T(answers));
+    CHECK(told.number == 0 && told.nodes == 1 && answers.at[0] == answer && memcmp(copy.at, table.at, table.len) == 0);
+    give_back(answers), give_back(copy);
+    return answer;
+}
+
+/* Every answer, in every mode. */
+static void answers_to_deltas(void) {
+    uint8_t delta[100];
+    for (unsigned mode = KEV_PLAIN; mode <= KEV_GUARDED; mode++) {
+        struct lent t = lend(KEV_TABLE);
+        GIVES(0, kev_new_table(T(t), mode, KEV_PROFILE_FREE));
+        GIVES(0, kev_add_node(T(t), 7));
+        mark(t);
+        CHECK(answered(t, delta, one_record(delta, 8, 0, 0, 1, "a")) == KEV_ANSWER_UNKNOWN);
+        CHECK(answered(t, delta, one_record(delta, 7, 0, 9, 10, "a")) == KEV_ANSWER_REJECT);
+        CHECK(same(t));
+        CHECK(answered(t, delta, one_record(delta, 7, 0, 0, 1, "a")) == KEV_ANSWER_APPLY);
+        CHECK(kev_find(T(t), 7, TEXT("a")).found == 1 && kev_node_header(T(t), 7).max == 1);
+        mark(t);
+        CHECK(answered(t, delta, one_record(delta, 7, 0, 0, 1, "a")) == KEV_ANSWER_REJECT);
+        CHECK(same(t));
+
+        /* its sender has removed up to 5: the node begins afresh, and a is gone */
+        CHECK(answered(t, delta, one_record(delta, 7, 5, 0, 3, "b")) == KEV_ANSWER_APPLY_AFTER_RESET);
+        struct kev_header header = kev_node_header(T(t), 7);
+        CHECK(header.last_gc == 5 && header.max == 3);
+        CHECK(kev_find(T(t), 7, TEXT("a")).found == 0 && kev_find(T(t), 7, TEXT("b")).found == 1);
+
+        /* older than that reset: taken by a plain node alone */
+        struct lent before = lend(KEV_TABLE);
+        memcpy(before.at, t.at, t.len);
+        mark(t);
+        CHECK(answered(t, delta, one_record(delta, 7, 0, 3, 4, "a")) == (mode == KEV_PLAIN ? KEV_ANSWER_APPLY : KEV_ANSWER_FENCED));
+        CHECK(mode == KEV_PLAIN ? kev_find(T(t), 7, TEXT("a")).found == 1 : same(t));
+        /* one that reaches it, of a sender that has removed less: Fenced by a fenced node alone */
+        memcpy(t.at, before.at, t.len);
+        CHECK(answered(t, delta, one_record(delta, 7, 0, 3, 6, "a")) == (mode == KEV_FENCED ? KEV_ANSWER_FENCED : KEV_ANSWER_APPLY));
+        CHECK(mode == KEV_FENCED ? same(t) : kev_node_header(T(t), 7).max == 6);
+
+        /* a 33rd key: the node stays as it is */
+        GIVES(0, kev_add_node(T(t), 9));
+        for (uint8_t key = 'A'; key < 'A' + KEV_RECORDS; key++) GIVES(0, kev_write(T(t), 9, &key, 1, NO_BYTES, KEV_SET, 0));
+        mark(t);
+        CHECK(answered(t, delta, one_record(delta, 9, 0, KEV_RECORDS, KEV_RECORDS + 1, "new")) == KEV_ANSWER_ROOM);
+        CHECK(same(t));
+        CHECK(answered(t, delta, one_record(delta, 9, 0, KEV_RECORDS, KEV_RECORDS + 1, "A")) == KEV_ANSWER_APPLY);
+        give_back(t), give_back(before);
+    }
+}
+
+/* A length of 0 with NULL for each lent part in its turn, where the call must not so much as look at it. */
+static void null_parts(void) {
+    struct lent t = lend(KEV_TABLE), over = lend(KEV_OVERRIDES), grid = lend(KEV_GRID), out = lend(1400), digest = lend(KEV_DIGEST), answers = lend(KEV_NODES);
+    static const uint64_t tie[1] = {0};
+    GIVES(0, kev_new_table(T(t), KEV_GUARDED, KEV_PROFILE_FREE));
+    GIVES(0, kev_add_node(T(t), 7));
+    GIVES(0, kev_new_overrides(T(over), 7));
+    GIVES(0, kev_new_grid(T(grid), T(t)));
+    /* the empty key and the empty value are a key and a value */
+    BOTH(t, kev_write(T(t), 7, NO_BYTES, NO_BYTES, KEV_SET, 0), kev_good_write(T(t), 7, NO_BYTES, NO_BYTES, KEV_SET, 0));
+    struct kev_found found = kev_find(T(t), 7, NO_BYTES);
+    CHECK(found.found == 1 && found.len == 0 && kev_good_find(T(t), 7, NO_BYTES).start == found.start);
+    CHECK(kev_record_by_key(T(t), 7, NO_BYTES).found == 1 && kev_good_record_by_key(T(t), 7, NO_BYTES).found == 1);
+    CHECK(kev_prefix_rows(T(t), 7, NO_BYTES).count == 1 && kev_good_prefix_rows(T(t), 7, NO_BYTES).count == 1);
+    CHECK(kev_list_prefix(T(t), 7, NO_BYTES, T(out)).count == 1 && kev_good_list_prefix(T(t), 7, NO_BYTES, T(out)).count == 1);
+    GIVES(KEV_NO_PLACE, kev_list_prefix(T(t), 7, NO_BYTES, NO_OUT).number);
+    GIVES(KEV_NO_PLACE, kev_good_list_prefix(T(t), 7, NO_BYTES, NO_OUT).number);
+    GIVES(0, kev_write_override(T(over), NO_BYTES, NO_BYTES, KEV_SET, 0));
+    CHECK(kev_find_over(T(over), T(t), 7, NO_BYTES).over == 1 && kev_good_find_over(T(over), T(t), 7, NO_BYTES).over == 1);
+    CHECK(kev_list_over(T(over), T(t), 7, NO_BYTES, T(out)).count == 1 && kev_good_list_over(T(over), T(t), 7, NO_BYTES, T(out)).count == 1);
+    GIVES(KEV_NO_PLACE, kev_list_over(T(over), T(t), 7, NO_BYTES, NO_OUT).number);
+    GIVES(0, kev_delete_override_after_ttl(T(over), NO_BYTES, 5));
+    GIVES(0, kev_delete_override(T(over), NO_BYTES, 5));
+    /* digests, deltas, plans and listings */
+    GIVES(KEV_NO_PLACE, kev_write_digest(T(t), KEV_V0, NO_NUMBERS, NO_OUT, 0).number);
+    CHECK(kev_write_digest(T(t), KEV_V1, NO_NUMBERS, T(digest), 0).count == 32);
+    GIVES(0, kev_read_digest(KEV_V1, NO_BYTES).number);
+    GIVES(KEV_CUT, kev_read_digest(KEV_V0, NO_BYTES).number);
+    GIVES(KEV_NO_PLACE, kev_digest_entry(KEV_V1, NO_BYTES, 0).number);
+    struct kev_computed sent = kev_compute(T(t), KEV_V1, NO_BYTES, 100, NO_NUMBERS, tie, 1, T(out), 0);
+    CHECK(sent.number == 0 && sent.ops == 2 && kev_good_compute(T(t), KEV_V1, NO_BYTES, 100, NO_NUMBERS, tie, 1, T(out), 0).bytes == sent.bytes);
+    GIVES(KEV_BAD_TIES, kev_compute(T(t), KEV_V1, NO_BYTES, 100, NO_NUMBERS, NO_NUMBERS, T(out), 0).number);
+    GIVES(KEV_NO_PLACE, kev_compute(T(t), KEV_V1, NO_BYTES, 100, NO_NUMBERS, tie, 1, NO_OUT, 0).number);
+    GIVES(0, kev_compute_plan(T(t), KEV_V1, NO_BYTES, 100, NO_NUMBERS, NO_NUMBERS, NO_NUMBERS, T(out), 0).number);
+    GIVES(KEV_BAD_PLAN, kev_compute_plan(T(t), KEV_V1, NO_BYTES, 100, NO_NUMBERS, tie, 1, NO_NUMBERS, T(out), 0).number);
+    GIVES(0, kev_plan_fault(T(t), KEV_V1, NO_BYTES, 100, NO_NUMBERS, NO_NUMBERS, NO_NUMBERS).number);
+    GIVES(0, kev_read_delta(NO_BYTES).number);
+    mark(t);
+    GIVES(0, kev_apply(T(t), NO_BYTES, 5, NO_OUT).number);
+    GIVES(0, kev_good_apply(T(t), NO_BYTES, 5, NO_OUT).number);
+    CHECK(same(t));
+    GIVES(KEV_NO_PLACE, kev_list_delta(NO_BYTES, NO_OUT).number);
+    GIVES(KEV_BAD_LINE, kev_make_delta(NO_BYTES, NO_OUT).number);
+    struct lent other = lend(KEV_TABLE);
+    GIVES(0, kev_new_table(T(other), KEV_GUARDED, KEV_PROFILE_FREE));
+    GIVES(KEV_NO_PLACE, kev_exchange(T(t), T(other), KEV_V0, 100, NO_NUMBERS, NO_NUMBERS, NO_NUMBERS, 5, NO_OUT, NO_OUT, NO_OUT).number);
+    give_back(other);
+    GIVES(0, kev_tell(T(grid), 0, KEV_V1, NO_BYTES).number);
+    GIVES(0, kev_delete_after_ttl(T(t), 7, NO_BYTES, 5));
+    GIVES(0, kev_delete(T(t), 7, NO_BYTES, 5));
+    /* what is no table, no overrides and no grid */
+    GIVES(KEV_BAD_TABLE, kev_check(NO_BYTES));
+    GIVES(KEV_BAD_TABLE, kev_new_table(NO_OUT, KEV_PLAIN, KEV_PROFILE_FREE));
+    GIVES(KEV_BAD_TABLE, kev_add_node(NO_OUT, 7));
+    GIVES(KEV_BAD_TABLE, kev_remove_node(NO_OUT, 7));
+    GIVES(KEV_BAD_TABLE, kev_last_heartbeat(NO_BYTES, 7).number);
+    GIVES(KEV_BAD_TABLE, kev_write(NO_OUT, 7, NO_BYTES, NO_BYTES, KEV_SET, 0));
+    GIVES(KEV_BAD_TABLE, kev_remove_scheduled(NO_OUT, 5, 5));
+    GIVES(KEV_BAD_TABLE, kev_offer_heartbeat(NO_OUT, 7, 5).number);
+    GIVES(KEV_BAD_TABLE, kev_local_beat(NO_OUT, 7));
+    GIVES(KEV_BAD_TABLE, kev_find(NO_BYTES, 7, NO_BYTES).number);
+    GIVES(KEV_BAD_TABLE, kev_node_count(NO_BYTES).number);
+    GIVES(KEV_BAD_TABLE, kev_node_rows(NO_BYTES, 7).number);
+    GIVES(KEV_BAD_TABLE, kev_apply(NO_OUT, NO_BYTES, 5, NO_OUT).number);
+    GIVES(KEV_BAD_TABLE, kev_check_overrides(NO_BYTES));
+    GIVES(KEV_BAD_TABLE, kev_new_overrides(NO_OUT, 7));
+    GIVES(KEV_BAD_TABLE, kev_find_over(NO_BYTES, NO_BYTES, 7, NO_BYTES).number);
+    GIVES(KEV_BAD_TABLE, kev_new_grid(NO_OUT, T(t)));
+    GIVES(KEV_BAD_TABLE, kev_remove_carefully(NO_BYTES, NO_OUT, 5, 5));
+    give_back(t), give_back(over), give_back(grid), give_back(out), give_back(digest), give_back(answers);
+}
+
 int main(void) {
     local_calls();
     peers();
     meters();
+    answers_to_deltas();
+    null_parts();
     grids();
     for (int number = 0; number < 19; number++) CHECK(seen[number]);
     for (int number = 20; number < 24; number++) CHECK(seen[number]);

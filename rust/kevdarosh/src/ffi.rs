@@ -6,7 +6,8 @@
 //!   language's abstract machine: it reads and writes inside what it is lent, and keeps no pointer. A `&mut [u8]` is borrowed alone, so lent parts
 //!   do not overlap.
 //! - The functions without `good` in their name take any bytes.
-//! - A `kev_good_..` function asks for a table that `kev_check` accepts. It is called for [`Kept`] alone, whose bytes are private to this module: they come
+//! - A `kev_good_..` function asks for a table that `kev_check` accepts. It is called for [`Kept`] alone, and for what [`Lent`] borrows of one. Its bytes are private to this module, and what lends them
+//!   out for writing asks for a value that only this module can make: they come
 //!   from `kev_new_table`, or `kev_check` accepted them, and after that only these functions write to them. Each leaves a table that the check
 //!   accepts again: that is proved of every call (docs/PROMISES.md, demand 1).
 //! - `kev_good_find_over` and `kev_good_list_over` ask for good overrides too. They are called for [`Labels`] alone, which are kept in the same way: they come from `kev_new_overrides`, or
@@ -18,6 +19,10 @@
 #![allow(unsafe_code)]
 // Every function of the header stands here; tables need not all of them.
 #![allow(dead_code)]
+// They have the arguments of the C functions.
+#![allow(clippy::too_many_arguments)]
+
+use core::marker::PhantomData;
 
 use crate::{OVERRIDES, TABLE};
 
@@ -231,29 +236,110 @@ pub struct Seen {
     pub max: u64,
 }
 
-/// Where a table's bytes are, and whether they are known to be a good table. Only this module can say so.
+/// Where a table's bytes are, and whether they are known to be a good table: those that an [`OwnedTable`](crate::OwnedTable) keeps, or lent ones. It is the bound of a function that takes any
+/// table or any node; no type outside this crate can have it.
+///
+/// ```
+/// use kevdarosh::{Bytes, Mode, NodeState, OwnedTable, TableView, Wanted};
+///
+/// /// Whether a node says of itself that it serves, in a table of any kind.
+/// fn serves<S: Bytes>(node: &NodeState<'_, S>) -> bool {
+///     node.get(b"state").is_ok_and(|state| state == Some(b"serving"))
+/// }
+///
+/// # fn main() -> Result<(), kevdarosh::Refusal> {
+/// let mut table = OwnedTable::new(Mode::Guarded);
+/// table.add_node(7)?;
+/// table.write(7, b"state", b"serving", Wanted::Set)?;
+/// assert!(serves(&table.node_state(7)?));
+/// assert!(serves(&TableView::over(table.as_bytes()).node_state(7)?));
+/// # Ok(())
+/// # }
+/// ```
 pub trait Bytes: sealed::Sealed {
+    /// Whether they are known to be a good table.
     const GOOD: bool;
+    /// The bytes.
     fn bytes(&self) -> &[u8];
 }
 
-/// Bytes that a call may change.
+/// Bytes of a table that a call may change: the bound of a function that changes a table of any kind.
+///
+/// ```
+/// use kevdarosh::{BytesMut, LentTable, Mode, OwnedTable, Refusal, TABLE, Table};
+///
+/// fn follow<S: BytesMut>(table: &mut Table<S>, nodes: &[u64]) -> Result<(), Refusal> {
+///     nodes.iter().try_for_each(|node| table.add_node(*node))
+/// }
+///
+/// # fn main() -> Result<(), Refusal> {
+/// follow(&mut OwnedTable::new(Mode::Guarded), &[7, 12])?;
+/// follow(&mut LentTable::new_in(&mut [0; TABLE], Mode::Guarded)?, &[7, 12])?;
+/// # Ok(())
+/// # }
+/// ```
 pub trait BytesMut: Bytes + sealed::Lend {}
 
 mod sealed {
+    /// Who can make one may have the bytes to write to: this module alone, in a call of the library.
+    pub struct Call(pub(super) ());
     pub trait Sealed {}
     pub trait Lend {
-        fn lend(&mut self) -> &mut [u8];
+        fn lend(&mut self, by: Call) -> &mut [u8];
+    }
+}
+use sealed::Call;
+
+/// The bytes of a table for as long as they are borrowed. They are known to be good where those of `S` are.
+pub struct Lent<'a, S> {
+    bytes: &'a [u8],
+    of: PhantomData<fn() -> S>,
+}
+
+impl<'a, S: Bytes> Lent<'a, S> {
+    /// What `S` has.
+    #[inline]
+    pub fn of(store: &'a S) -> Lent<'a, S> {
+        Lent { bytes: store.bytes(), of: PhantomData }
+    }
+
+    /// They live as long as they are borrowed.
+    #[inline]
+    pub fn all(self) -> &'a [u8] {
+        self.bytes
     }
 }
 
-/// The bytes of a table that every call kept. There is no way to them but by these calls.
+impl<'a> Lent<'a, &'a [u8]> {
+    /// Bytes of which nothing is known.
+    pub fn over(bytes: &'a [u8]) -> Lent<'a, &'a [u8]> {
+        Lent { bytes, of: PhantomData }
+    }
+}
+
+impl<S> Clone for Lent<'_, S> {
+    #[inline]
+    fn clone(&self) -> Self {
+        *self
+    }
+}
+impl<S> Copy for Lent<'_, S> {}
+impl<S> sealed::Sealed for Lent<'_, S> {}
+impl<S: Bytes> Bytes for Lent<'_, S> {
+    const GOOD: bool = S::GOOD;
+    #[inline]
+    fn bytes(&self) -> &[u8] {
+        self.bytes
+    }
+}
+
+/// The bytes of a table that every call kept, those of an [`OwnedTable`](crate::OwnedTable). There is no way to them but by its calls.
 #[derive(Clone)]
 pub struct Kept([u8; TABLE]);
 
 impl Kept {
     /// An empty table, or 14 where a number is that of no mode or no profile.
-    pub fn new(mode: usize, profile: usize) -> Result<Kept, u64> {
+    pub(crate) fn new(mode: usize, profile: usize) -> Result<Kept, u64> {
         let mut bytes = [0; TABLE];
         match new_table(&mut bytes, mode, profile) {
             0 => Ok(Kept(bytes)),
@@ -262,7 +348,7 @@ impl Kept {
     }
 
     /// These bytes, where the check accepts them.
-    pub fn checked(bytes: &[u8]) -> Result<Kept, u64> {
+    pub(crate) fn checked(bytes: &[u8]) -> Result<Kept, u64> {
         match (check(bytes), bytes.try_into()) {
             (0, Ok(bytes)) => Ok(Kept(bytes)),
             (number, _) => Err(number),
@@ -272,7 +358,7 @@ impl Kept {
 
 impl sealed::Sealed for Kept {}
 impl sealed::Lend for Kept {
-    fn lend(&mut self) -> &mut [u8] {
+    fn lend(&mut self, _: Call) -> &mut [u8] {
         &mut self.0
     }
 }
@@ -310,9 +396,22 @@ impl Labels {
         &self.0
     }
 
-    /// For the calls on overrides alone, each of which keeps them.
-    pub(crate) fn lend(&mut self) -> &mut [u8] {
-        &mut self.0
+    // The calls that write to them, each of which keeps them.
+
+    pub fn write(&mut self, key: &[u8], value: &[u8], wanted: u64, clock: u64) -> u64 {
+        write_override(&mut self.0, key, value, wanted, clock)
+    }
+
+    pub fn delete(&mut self, key: &[u8], clock: u64) -> u64 {
+        delete_override(&mut self.0, key, clock)
+    }
+
+    pub fn delete_after_ttl(&mut self, key: &[u8], clock: u64) -> u64 {
+        delete_override_after_ttl(&mut self.0, key, clock)
+    }
+
+    pub fn remove(&mut self, clock: u64, grace: u64) -> u64 {
+        remove_overrides(&mut self.0, clock, grace)
     }
 }
 
@@ -326,7 +425,7 @@ impl Bytes for &[u8] {
 
 impl sealed::Sealed for &mut [u8] {}
 impl sealed::Lend for &mut [u8] {
-    fn lend(&mut self) -> &mut [u8] {
+    fn lend(&mut self, _: Call) -> &mut [u8] {
         self
     }
 }
@@ -433,13 +532,13 @@ pub fn new_table(table: &mut [u8], mode: usize, profile: usize) -> u64 {
 
 pub fn add_node<S: BytesMut>(store: &mut S, node: u64) -> u64 {
     let call = if S::GOOD { kev_good_add_node } else { kev_add_node };
-    let table = store.lend();
+    let table = store.lend(Call(()));
     unsafe { call(table.as_mut_ptr(), len(table), node) }
 }
 
 pub fn remove_node<S: BytesMut>(store: &mut S, node: u64) -> u64 {
     let call = if S::GOOD { kev_good_remove_node } else { kev_remove_node };
-    let table = store.lend();
+    let table = store.lend(Call(()));
     unsafe { call(table.as_mut_ptr(), len(table), node) }
 }
 
@@ -451,37 +550,37 @@ pub fn last_heartbeat<S: Bytes>(store: &S, node: u64) -> Heartbeat {
 
 pub fn write<S: BytesMut>(store: &mut S, node: u64, key: &[u8], value: &[u8], wanted: u64, clock: u64) -> u64 {
     let call = if S::GOOD { kev_good_write } else { kev_write };
-    let table = store.lend();
+    let table = store.lend(Call(()));
     unsafe { call(table.as_mut_ptr(), len(table), node, key.as_ptr(), len(key), value.as_ptr(), len(value), wanted, clock) }
 }
 
 pub fn delete<S: BytesMut>(store: &mut S, node: u64, key: &[u8], clock: u64) -> u64 {
     let call = if S::GOOD { kev_good_delete } else { kev_delete };
-    let table = store.lend();
+    let table = store.lend(Call(()));
     unsafe { call(table.as_mut_ptr(), len(table), node, key.as_ptr(), len(key), clock) }
 }
 
 pub fn delete_after_ttl<S: BytesMut>(store: &mut S, node: u64, key: &[u8], clock: u64) -> u64 {
     let call = if S::GOOD { kev_good_delete_after_ttl } else { kev_delete_after_ttl };
-    let table = store.lend();
+    let table = store.lend(Call(()));
     unsafe { call(table.as_mut_ptr(), len(table), node, key.as_ptr(), len(key), clock) }
 }
 
 pub fn remove_scheduled<S: BytesMut>(store: &mut S, clock: u64, grace: u64) -> u64 {
     let call = if S::GOOD { kev_good_remove_scheduled } else { kev_remove_scheduled };
-    let table = store.lend();
+    let table = store.lend(Call(()));
     unsafe { call(table.as_mut_ptr(), len(table), clock, grace) }
 }
 
 pub fn offer_heartbeat<S: BytesMut>(store: &mut S, node: u64, heartbeat: u64) -> Count {
     let call = if S::GOOD { kev_good_offer_heartbeat } else { kev_offer_heartbeat };
-    let table = store.lend();
+    let table = store.lend(Call(()));
     unsafe { call(table.as_mut_ptr(), len(table), node, heartbeat) }
 }
 
 pub fn local_beat<S: BytesMut>(store: &mut S, node: u64) -> u64 {
     let call = if S::GOOD { kev_good_local_beat } else { kev_local_beat };
-    let table = store.lend();
+    let table = store.lend(Call(()));
     unsafe { call(table.as_mut_ptr(), len(table), node) }
 }
 
@@ -647,7 +746,7 @@ pub fn read_delta(delta: &[u8]) -> Delta {
 
 pub fn apply<S: BytesMut>(store: &mut S, delta: &[u8], clock: u64, answers: &mut [u8]) -> Applied {
     let call = if S::GOOD { kev_good_apply } else { kev_apply };
-    let table = store.lend();
+    let table = store.lend(Call(()));
     unsafe { call(table.as_mut_ptr(), len(table), delta.as_ptr(), len(delta), clock, answers.as_mut_ptr(), len(answers)) }
 }
 
@@ -671,12 +770,12 @@ pub fn new_grid<S: Bytes>(grid: &mut [u8], store: &S) -> u64 {
 }
 
 pub fn grid_add_node<S: BytesMut>(grid: &mut [u8], store: &mut S, node: u64) -> u64 {
-    let table = store.lend();
+    let table = store.lend(Call(()));
     unsafe { kev_grid_add_node(grid.as_mut_ptr(), len(grid), table.as_mut_ptr(), len(table), node) }
 }
 
 pub fn grid_remove_node<S: BytesMut>(grid: &mut [u8], store: &mut S, node: u64) -> u64 {
-    let table = store.lend();
+    let table = store.lend(Call(()));
     unsafe { kev_grid_remove_node(grid.as_mut_ptr(), len(grid), table.as_mut_ptr(), len(table), node) }
 }
 
@@ -697,6 +796,6 @@ pub fn seen_by(grid: &[u8], peer: u64, node: u64) -> Seen {
 }
 
 pub fn remove_carefully<S: BytesMut>(grid: &[u8], store: &mut S, clock: u64, grace: u64) -> u64 {
-    let table = store.lend();
+    let table = store.lend(Call(()));
     unsafe { kev_remove_carefully(grid.as_ptr(), len(grid), table.as_mut_ptr(), len(table), clock, grace) }
 }

@@ -126,6 +126,11 @@
 #[cfg(not(any(target_pointer_width = "32", target_pointer_width = "64")))]
 compile_error!("this crate is for processors whose usize has 32 or 64 bits");
 
+/// The code of docs/MOVING.md is compiled and run with the tests.
+#[cfg(doctest)]
+#[doc = include_str!("../../../docs/MOVING.md")]
+struct Moving;
+
 mod ffi;
 mod over;
 mod refusal;
@@ -134,10 +139,11 @@ mod table;
 mod watch;
 mod wire;
 
+pub use ffi::{Bytes, BytesMut, Kept};
 pub use over::{Merged, Overrides};
 pub use refusal::{ExchangeRefused, Fault, LineFault, ListingRefused, PlanFault, Refusal, Step};
 pub use row::Records;
-pub use table::{Answer, Answers, Computed, Header, LentTable, Mode, NodeState, OwnedTable, Profile, Record, Status, Table, TableView, Wanted};
+pub use table::{Answer, Answers, Computed, Header, LentTable, Mode, NodeState, OwnedNode, OwnedTable, Profile, Record, Status, Table, TableView, Wanted};
 pub use watch::{Pair, Watched};
 pub use wire::{Datagrams, DeltaRead, Digest, Edition, Exchanged, NodeDigest, exchange, list_delta, make_delta, read_delta};
 

@@ -1,10 +1,12 @@
 //! Site overrides: labels of a site, laid over those of a node when they are read, and never gossiped.
 
 use core::cmp::Ordering;
+use core::fmt;
+use core::hash::{Hash, Hasher};
 use core::iter::FusedIterator;
 
 use crate::OVERRIDES;
-use crate::ffi::{self, Bytes, Labels};
+use crate::ffi::{self, Bytes, Labels, Lent};
 use crate::refusal::{Refusal, accepted, refusal};
 use crate::row::Records;
 use crate::table::{NodeState, Record, Table, Wanted};
@@ -19,6 +21,11 @@ pub struct Overrides {
 
 impl Overrides {
     /// Overrides without a record. The number is kept in their bytes, and no call looks at it.
+    ///
+    /// ```
+    /// # use kevdarosh::Overrides;
+    /// assert_eq!(Overrides::new(7).key_values_including_deleted().count(), 0);
+    /// ```
     pub fn new(node: u64) -> Overrides {
         match Labels::new(node) {
             Ok(labels) => Overrides { labels },
@@ -26,67 +33,210 @@ impl Overrides {
         }
     }
 
-    /// The overrides of these bytes, as they were stored: [`Refusal::BadTable`] where they are none that obey the rules.
+    /// The overrides of these bytes, as they were stored.
+    ///
+    /// # Errors
+    ///
+    /// [`Refusal::BadTable`] where they are none that obey the rules.
+    ///
+    /// ```
+    /// # use kevdarosh::{Overrides, Refusal, Wanted};
+    /// let mut labels = Overrides::new(7);
+    /// labels.write(b"name", b"Bicycle cellar", Wanted::Set).unwrap();
+    /// assert_eq!(Overrides::from_bytes(labels.as_bytes()), Ok(labels));
+    /// assert_eq!(Overrides::from_bytes(&[0; 100]), Err(Refusal::BadTable));
+    /// ```
     pub fn from_bytes(bytes: &[u8]) -> Result<Overrides, Refusal> {
         Labels::checked(bytes).map(|labels| Overrides { labels }).map_err(refusal)
     }
 
     /// The bytes, to be stored beside the table's.
+    ///
+    /// ```
+    /// # use kevdarosh::{Overrides, Wanted};
+    /// let mut labels = Overrides::new(7);
+    /// labels.write(b"name", b"Bicycle cellar", Wanted::Set).unwrap();
+    /// assert_eq!(labels.as_bytes().len(), kevdarosh::OVERRIDES);
+    /// ```
     pub fn as_bytes(&self) -> &[u8] {
         self.labels.bytes()
     }
 
     /// The key's override takes this value under the wanted status. Where it has both already, nothing changes.
+    ///
+    /// # Errors
+    ///
+    /// [`Refusal::TooLong`], [`Refusal::NodeFull`], [`Refusal::Exhausted`].
+    ///
+    /// ```
+    /// # use kevdarosh::{Overrides, Refusal, Wanted};
+    /// let mut labels = Overrides::new(7);
+    /// labels.write(b"name", b"Bicycle cellar", Wanted::Set).unwrap();
+    /// assert_eq!(labels.write(&[b'k'; 33], b"", Wanted::Set), Err(Refusal::TooLong));
+    /// ```
     pub fn write(&mut self, key: &[u8], value: &[u8], wanted: Wanted) -> Result<(), Refusal> {
         let (status, clock) = wanted.numbers();
-        accepted(ffi::write_override(self.labels.lend(), key, value, status, clock))
+        accepted(self.labels.write(key, value, status, clock))
     }
 
-    /// The key's override is taken back: the node's record shows again. It is removed after the grace: [`Refusal::NoKey`].
+    /// The key's override is taken back: the node's record shows again. It is removed after the grace.
+    ///
+    /// # Errors
+    ///
+    /// [`Refusal::TooLong`], [`Refusal::NoKey`], [`Refusal::Exhausted`].
+    ///
+    /// ```
+    /// # use kevdarosh::{Overrides, Refusal, Wanted};
+    /// let mut labels = Overrides::new(7);
+    /// labels.write(b"name", b"Bicycle cellar", Wanted::Set).unwrap();
+    /// assert_eq!(labels.delete(b"name", 1_000), Ok(()));
+    /// assert_eq!(labels.delete(b"place", 1_000), Err(Refusal::NoKey));
+    /// ```
     pub fn delete(&mut self, key: &[u8], clock: u64) -> Result<(), Refusal> {
-        accepted(ffi::delete_override(self.labels.lend(), key, clock))
+        accepted(self.labels.delete(key, clock))
     }
 
-    /// The key's override keeps its value, shows, and is removed after the grace: [`Refusal::NoKey`].
+    /// The key's override keeps its value, shows, and is removed after the grace.
+    ///
+    /// # Errors
+    ///
+    /// [`Refusal::TooLong`], [`Refusal::NoKey`], [`Refusal::Exhausted`].
+    ///
+    /// ```
+    /// # use kevdarosh::{Overrides, Wanted};
+    /// let mut labels = Overrides::new(7);
+    /// labels.write(b"name", b"Bicycle cellar", Wanted::Set).unwrap();
+    /// assert_eq!(labels.delete_after_ttl(b"name", 1_000), Ok(()));
+    /// ```
     pub fn delete_after_ttl(&mut self, key: &[u8], clock: u64) -> Result<(), Refusal> {
-        accepted(ffi::delete_override_after_ttl(self.labels.lend(), key, clock))
+        accepted(self.labels.delete_after_ttl(key, clock))
     }
 
     /// Removes what was scheduled a grace ago, so that its place is free again.
+    ///
+    /// # Errors
+    ///
+    /// None: the overrides are good.
+    ///
+    /// ```
+    /// # use kevdarosh::{Overrides, Wanted};
+    /// let mut labels = Overrides::new(7);
+    /// labels.write(b"name", b"Bicycle cellar", Wanted::Set).unwrap();
+    /// labels.delete(b"name", 1_000).unwrap();
+    /// labels.gc_keys_marked_for_deletion(1_500, 500).unwrap();
+    /// assert_eq!(labels.key_values_including_deleted().count(), 0);
+    /// ```
     pub fn gc_keys_marked_for_deletion(&mut self, clock: u64, grace: u64) -> Result<(), Refusal> {
-        accepted(ffi::remove_overrides(self.labels.lend(), clock, grace))
+        accepted(self.labels.remove(clock, grace))
     }
 
     /// All records, deleted ones too, in key order.
+    ///
+    /// ```
+    /// # use kevdarosh::{Overrides, Wanted};
+    /// let mut labels = Overrides::new(7);
+    /// labels.write(b"name", b"Bicycle cellar", Wanted::Set).unwrap();
+    /// assert_eq!(labels.key_values_including_deleted().next().unwrap().value, b"Bicycle cellar");
+    /// ```
     pub fn key_values_including_deleted(&self) -> Records<'_> {
         Records::of_overrides(self.labels.bytes())
     }
 }
 
+impl PartialEq for Overrides {
+    fn eq(&self, other: &Overrides) -> bool {
+        self.as_bytes() == other.as_bytes()
+    }
+}
+
+impl Eq for Overrides {}
+
+impl Hash for Overrides {
+    fn hash<H: Hasher>(&self, state: &mut H) {
+        self.as_bytes().hash(state);
+    }
+}
+
+impl fmt::Debug for Overrides {
+    fn fmt(&self, f: &mut fmt::Formatter<'_>) -> fmt::Result {
+        f.write_str("Overrides ")?;
+        f.debug_list().entries(self.key_values_including_deleted()).finish()
+    }
+}
+
 impl<S: Bytes> Table<S> {
     /// The value of a key: the override's if its record is there and not deleted, else the node's; those very bytes of the one or of the other.
+    ///
+    /// # Errors
+    ///
+    /// [`Refusal::BadTable`], [`Refusal::NoNode`], [`Refusal::TooLong`].
+    ///
+    /// ```
+    /// # use kevdarosh::{Mode, Overrides, OwnedTable, Wanted};
+    /// let mut table = OwnedTable::new(Mode::Plain);
+    /// table.add_node(7).unwrap();
+    /// table.write(7, b"name", b"Stair B", Wanted::Set).unwrap();
+    /// let mut labels = Overrides::new(7);
+    /// labels.write(b"name", b"Bicycle cellar", Wanted::Set).unwrap();
+    /// assert_eq!(table.get_over(&labels, 7, b"name"), Ok(Some(&b"Bicycle cellar"[..])));
+    /// ```
     #[inline]
     pub fn get_over<'a>(&'a self, overrides: &'a Overrides, node: u64, key: &[u8]) -> Result<Option<&'a [u8]>, Refusal> {
-        let answer = ffi::find_over(&overrides.labels, self.store(), node, key);
-        accepted(answer.number)?;
-        let bytes = if answer.over.0 != 0 { overrides.labels.bytes() } else { self.as_bytes() };
-        Ok((answer.found.0 != 0).then(|| &bytes[answer.start.get()..answer.start.get() + answer.len.get()]))
+        found_over(Lent::of(self.store()), overrides, node, key)
     }
+}
+
+/// The value of a key in overrides and a table.
+#[inline]
+fn found_over<'a, S: Bytes>(table: Lent<'a, S>, overrides: &'a Overrides, node: u64, key: &[u8]) -> Result<Option<&'a [u8]>, Refusal> {
+    let answer = ffi::find_over(&overrides.labels, &table, node, key);
+    accepted(answer.number)?;
+    let bytes = if answer.over.0 != 0 { overrides.labels.bytes() } else { table.all() };
+    Ok((answer.found.0 != 0).then(|| &bytes[answer.start.get()..answer.start.get() + answer.len.get()]))
 }
 
 impl<'a, S: Bytes> NodeState<'a, S> {
     /// The value of a key, as [`Table::get_over`] has it.
+    ///
+    /// # Errors
+    ///
+    /// [`Refusal::TooLong`].
+    ///
+    /// ```
+    /// # use kevdarosh::{Mode, Overrides, OwnedTable, Wanted};
+    /// let mut table = OwnedTable::new(Mode::Plain);
+    /// table.add_node(7).unwrap();
+    /// table.write(7, b"name", b"Stair B", Wanted::Set).unwrap();
+    /// let mut labels = Overrides::new(7);
+    /// labels.write(b"name", b"Bicycle cellar", Wanted::Set).unwrap();
+    /// assert_eq!(table.node_state(7).unwrap().get_over(&labels, b"name"), Ok(Some(&b"Bicycle cellar"[..])));
+    /// ```
     pub fn get_over(&self, overrides: &'a Overrides, key: &[u8]) -> Result<Option<&'a [u8]>, Refusal> {
-        self.table().get_over(overrides, self.number(), key)
+        found_over(self.table(), overrides, self.number(), key)
     }
 
     /// The records of the overrides and of the node that are not deleted and whose keys begin with the prefix, each key once, in key order: the override's where both have
     /// one. It is what `kev_list_over` lists, record by record, and is held to it by the tests and the fuzz.
+    ///
+    /// # Errors
+    ///
+    /// [`Refusal::TooLong`].
+    ///
+    /// ```
+    /// # use kevdarosh::{Mode, Overrides, OwnedTable, Wanted};
+    /// let mut table = OwnedTable::new(Mode::Plain);
+    /// table.add_node(7).unwrap();
+    /// table.write(7, b"name", b"Stair B", Wanted::Set).unwrap();
+    /// let mut labels = Overrides::new(7);
+    /// labels.write(b"name", b"Bicycle cellar", Wanted::Set).unwrap();
+    /// let values = table.node_state(7).unwrap().iter_prefix_over(&labels, b"na").unwrap().map(|record| record.value).collect::<Vec<_>>();
+    /// assert_eq!(values, [b"Bicycle cellar"]);
+    /// ```
     pub fn iter_prefix_over(&self, overrides: &'a Overrides, prefix: &[u8]) -> Result<Merged<'a>, Refusal> {
-        let rows = ffi::prefix_rows(self.table().store(), self.number(), prefix);
+        let rows = ffi::prefix_rows(&self.table(), self.number(), prefix);
         accepted(rows.number)?;
         let over = overrides.key_values_including_deleted().beginning(prefix);
-        Ok(Merged { over, node: Records::of(self.table().as_bytes(), rows) })
+        Ok(Merged { over, node: Records::of(self.table().all(), rows) })
     }
 }
 

@@ -18,6 +18,10 @@ macro_rules! refusals {
             pub const ALL: &'static [Refusal] = &[$(Refusal::$name),*];
 
             /// Its number, as the C functions give it.
+            ///
+            /// ```
+            /// assert_eq!(kevdarosh::Refusal::BadTable.number(), 14);
+            /// ```
             pub const fn number(self) -> u64 {
                 match self {
                     $(Refusal::$name => $number,)*
@@ -25,6 +29,12 @@ macro_rules! refusals {
             }
 
             /// The refusal of a number.
+            ///
+            /// ```
+            /// # use kevdarosh::Refusal;
+            /// assert_eq!(Refusal::of_number(14), Some(Refusal::BadTable));
+            /// assert_eq!(Refusal::of_number(0), None);
+            /// ```
             pub const fn of_number(number: u64) -> Option<Refusal> {
                 match number {
                     $($number => Some(Refusal::$name),)*
@@ -69,36 +79,94 @@ refusals! {
 
 impl core::error::Error for Refusal {}
 
-/// Bytes of a peer that were refused: why, in a delta the place of the faulty operation's tag, and with [`Refusal::Cut`] how many bytes the field lacks in which
-/// the bytes end. What does not apply is 0.
-#[derive(Clone, Copy, Debug, PartialEq, Eq)]
+/// A call that was refused by the bytes of a peer, or before it looked at them: why, in a delta the place of the faulty operation's tag, and with [`Refusal::Cut`] how many bytes the field
+/// lacks in which the bytes end.
+///
+/// `?` takes it to a [`Refusal`], where the place is lost, and a [`Refusal`] to it:
+///
+/// ```
+/// use kevdarosh::{Fault, Mode, OwnedTable, Refusal, read_delta};
+///
+/// fn hear(table: &mut OwnedTable, delta: &[u8]) -> Result<bool, Refusal> {
+///     Ok(table.apply_delta(delta, 1_000)?.changed())
+/// }
+///
+/// let mut table = OwnedTable::new(Mode::Plain);
+/// assert_eq!(hear(&mut table, &[3]), Err(Refusal::BadTag));
+/// assert_eq!(Fault::from(Refusal::NoNode), Fault { refusal: Refusal::NoNode, at: None, need: 0 });
+/// assert_eq!(read_delta(&[0, 1]).unwrap_err().to_string(), "the bytes end inside a field, at byte 0, 7 bytes are lacking");
+/// ```
+#[derive(Clone, Copy, Debug, PartialEq, Eq, Hash)]
 pub struct Fault {
     /// Why.
     pub refusal: Refusal,
-    /// Where in the delta.
-    pub at: usize,
-    /// How many bytes are lacking.
+    /// Where in the delta; none where it is not a delta that was refused.
+    pub at: Option<usize>,
+    /// How many bytes are lacking, else 0.
     pub need: usize,
 }
 
 impl Fault {
-    /// A number that is not 0 is a refusal's.
+    /// A number that is not 0 is a refusal's; those of a delta have a place.
     pub(crate) fn unless(number: u64, at: Size, need: Size) -> core::result::Result<(), Fault> {
-        accepted(number).map_err(|refusal| Fault { refusal, at: at.get(), need: need.get() })
+        accepted(number).map_err(|refusal| Fault { refusal, at: refusal.is_of_a_delta().then(|| at.get()), need: need.get() })
+    }
+
+    /// The same where there is no delta.
+    pub(crate) fn nowhere(number: u64, need: Size) -> core::result::Result<(), Fault> {
+        accepted(number).map_err(|refusal| Fault { refusal, at: None, need: need.get() })
+    }
+}
+
+impl Refusal {
+    /// Whether a delta's bytes are refused with it.
+    const fn is_of_a_delta(self) -> bool {
+        matches!(self, Refusal::TooLong | Refusal::Cut | Refusal::BadTag | Refusal::OutOfOrder | Refusal::NodeTwice | Refusal::TooMany)
+    }
+}
+
+impl From<Refusal> for Fault {
+    fn from(refusal: Refusal) -> Fault {
+        Fault { refusal, at: None, need: 0 }
+    }
+}
+
+impl From<Fault> for Refusal {
+    fn from(fault: Fault) -> Refusal {
+        fault.refusal
+    }
+}
+
+impl From<Fault> for ListingRefused {
+    fn from(fault: Fault) -> ListingRefused {
+        ListingRefused::Delta(fault)
+    }
+}
+
+impl From<ExchangeRefused> for Refusal {
+    fn from(refused: ExchangeRefused) -> Refusal {
+        refused.refusal
     }
 }
 
 impl Display for Fault {
     fn fmt(&self, f: &mut Formatter<'_>) -> Result {
-        write!(f, "{}, at byte {}", self.refusal, self.at)?;
-        if self.need > 0 { write!(f, ", {} bytes are lacking", self.need) } else { Ok(()) }
+        self.refusal.fmt(f)?;
+        if let Some(at) = self.at {
+            write!(f, ", at byte {at}")?;
+        }
+        match self.need {
+            0 => Ok(()),
+            1 => f.write_str(", 1 byte is lacking"),
+            need => write!(f, ", {need} bytes are lacking"),
+        }
     }
 }
 
 impl core::error::Error for Fault {}
 
 /// A listing of which no delta was made.
-#[derive(Clone, Copy, Debug, PartialEq, Eq)]
+#[derive(Clone, Copy, Debug, PartialEq, Eq, Hash)]
 pub enum ListingRefused {
     /// The first line that is not exactly as it is listed, number 16. The first of a text is 1; a missing end line is the line after the last.
     Line(usize),
@@ -108,6 +176,11 @@ pub enum ListingRefused {
 
 impl ListingRefused {
     /// Its number, as the C functions give it.
+    ///
+    /// ```
+    /// # use kevdarosh::{ListingRefused, make_delta};
+    /// assert_eq!(make_delta(b"no such line", &mut []).unwrap_err().number(), 16);
+    /// ```
     pub const fn number(self) -> u64 {
         match self {
             ListingRefused::Line(_) => BAD_LINE,
@@ -131,7 +204,7 @@ impl Display for ListingRefused {
 impl core::error::Error for ListingRefused {}
 
 /// The first line of a plan that is at fault.
-#[derive(Clone, Copy, Debug, PartialEq, Eq)]
+#[derive(Clone, Copy, Debug, PartialEq, Eq, Hash)]
 pub struct PlanFault {
     /// Which line, counted from 0.
     pub line: usize,
@@ -200,8 +273,10 @@ impl Display for PlanFault {
 
 impl core::error::Error for PlanFault {}
 
+impl core::error::Error for LineFault {}
+
 /// An exchange that was refused: by which of its steps, and why.
-#[derive(Clone, Copy, Debug, PartialEq, Eq)]
+#[derive(Clone, Copy, Debug, PartialEq, Eq, Hash)]
 pub struct ExchangeRefused {
     /// Which step would have been refused.
     pub step: Step,
@@ -210,7 +285,7 @@ pub struct ExchangeRefused {
 }
 
 /// The steps of an exchange.
-#[derive(Clone, Copy, Debug, PartialEq, Eq)]
+#[derive(Clone, Copy, Debug, PartialEq, Eq, Hash)]
 pub enum Step {
     /// The follower's digest.
     Digest,

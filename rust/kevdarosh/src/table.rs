@@ -1,15 +1,17 @@
 //! Tables, their nodes and records.
 
 use core::cell::OnceCell;
+use core::fmt;
+use core::hash::{Hash, Hasher};
 
-use crate::ffi::{self, Bytes, BytesMut, Kept, Size};
+use crate::ffi::{self, Bytes, BytesMut, Kept, Lent, Size};
 use crate::refusal::{Fault, LineFault, PlanFault, Refusal, accepted, refusal};
 use crate::row::{self, Records};
 use crate::wire::Edition;
 use crate::{NODES, TABLE};
 
 /// How a table takes deltas that come late. It is chosen when the table is made, and stays in its bytes.
-#[derive(Clone, Copy, Debug, PartialEq, Eq)]
+#[derive(Clone, Copy, Debug, PartialEq, Eq, Hash)]
 #[non_exhaustive]
 pub enum Mode {
     /// As chitchat does: for deltas that arrive before the next digest is written.
@@ -53,7 +55,7 @@ impl Profile {
 }
 
 /// How a record stands to deletion.
-#[derive(Clone, Copy, Debug, PartialEq, Eq)]
+#[derive(Clone, Copy, Debug, PartialEq, Eq, Hash)]
 pub enum Status {
     /// It stays.
     Set,
@@ -75,7 +77,7 @@ impl Status {
 }
 
 /// The status that a write wants. There are two; a caller cannot ask for another, so that a write is never refused with [`Refusal::BadTag`].
-#[derive(Clone, Copy, Debug, PartialEq, Eq)]
+#[derive(Clone, Copy, Debug, PartialEq, Eq, Hash)]
 pub enum Wanted {
     /// The record stays.
     Set,
@@ -94,7 +96,7 @@ impl Wanted {
 }
 
 /// What a node has beside its records.
-#[derive(Clone, Copy, Debug, PartialEq, Eq)]
+#[derive(Clone, Copy, Debug, PartialEq, Eq, Hash)]
 pub struct Header {
     /// How often its owner has beaten.
     pub heartbeat: u64,
@@ -105,7 +107,7 @@ pub struct Header {
 }
 
 /// A record, its texts being those very bytes of the table.
-#[derive(Clone, Copy, Debug, PartialEq, Eq)]
+#[derive(Clone, Copy, PartialEq, Eq, Hash)]
 pub struct Record<'a> {
     /// Its key.
     pub key: &'a [u8],
@@ -119,15 +121,41 @@ pub struct Record<'a> {
     pub start: u64,
 }
 
+impl fmt::Debug for Record<'_> {
+    fn fmt(&self, f: &mut fmt::Formatter<'_>) -> fmt::Result {
+        let Record { key, value, version, status, start } = self;
+        let (key, value) = (Text(key), Text(value));
+        f.debug_struct("Record").field("key", &key).field("value", &value).field("version", version).field("status", status).field("start", start).finish()
+    }
+}
+
+/// Bytes as they are written in a program.
+struct Text<'a>(&'a [u8]);
+
+impl fmt::Debug for Text<'_> {
+    fn fmt(&self, f: &mut fmt::Formatter<'_>) -> fmt::Result {
+        write!(f, "b\"{}\"", self.0.escape_ascii())
+    }
+}
+
 impl Record<'_> {
-    /// Whether a lookup finds it.
+    /// Whether a lookup does not find it: chitchat's `is_deleted`.
+    ///
+    /// ```
+    /// # use kevdarosh::{Mode, OwnedTable, Wanted};
+    /// let mut table = OwnedTable::new(Mode::Plain);
+    /// table.add_node(7).unwrap();
+    /// table.write(7, b"lamp", b"on", Wanted::Set).unwrap();
+    /// table.delete(7, b"lamp", 1_000).unwrap();
+    /// assert!(table.node_state(7).unwrap().get_versioned(b"lamp").unwrap().unwrap().is_hidden());
+    /// ```
     pub fn is_hidden(&self) -> bool {
         self.status == Status::Deleted
     }
 }
 
 /// What was answered to a delta's part for one node.
-#[derive(Clone, Copy, Debug, PartialEq, Eq)]
+#[derive(Clone, Copy, Debug, PartialEq, Eq, Hash)]
 #[non_exhaustive]
 pub enum Answer {
     /// From the future, or nothing new.
@@ -145,7 +173,7 @@ pub enum Answer {
 }
 
 /// The answers to a delta, one for each node in it, in its order.
-#[derive(Clone, Copy, Debug, PartialEq, Eq)]
+#[derive(Clone, Copy, Debug, PartialEq, Eq, Hash)]
 pub struct Answers {
     codes: [u8; NODES],
     count: usize,
@@ -153,6 +181,15 @@ pub struct Answers {
 
 impl Answers {
     /// Each answer.
+    ///
+    /// ```
+    /// # use kevdarosh::{Answer, Mode, OwnedTable, make_delta};
+    /// let mut table = OwnedTable::new(Mode::Plain);
+    /// let mut delta = [0; 100];
+    /// let bytes = make_delta(b"op=node id=7 gc=0 from=0\nend=ok ops=1 bytes=25\n", &mut delta).unwrap();
+    /// let answers = table.apply_delta(&delta[..bytes], 1_000).unwrap();
+    /// assert!(answers.iter().eq([Answer::Unknown]));
+    /// ```
     pub fn iter(&self) -> impl Iterator<Item = Answer> + '_ {
         self.codes[..self.count].iter().map(|code| match code {
             0 => Answer::Reject,
@@ -165,13 +202,22 @@ impl Answers {
     }
 
     /// Whether anything was taken.
+    ///
+    /// ```
+    /// # use kevdarosh::{Mode, OwnedTable, make_delta};
+    /// let mut table = OwnedTable::new(Mode::Plain);
+    /// let mut delta = [0; 100];
+    /// let bytes = make_delta(b"op=node id=7 gc=0 from=0\nend=ok ops=1 bytes=25\n", &mut delta).unwrap();
+    /// let answers = table.apply_delta(&delta[..bytes], 1_000).unwrap();
+    /// assert!(!answers.changed());
+    /// ```
     pub fn changed(&self) -> bool {
         self.iter().any(|answer| matches!(answer, Answer::Apply | Answer::ApplyAfterReset))
     }
 }
 
 /// A delta that was computed: its operations, and its bytes at the front of the datagram.
-#[derive(Clone, Copy, Debug, PartialEq, Eq)]
+#[derive(Clone, Copy, Debug, PartialEq, Eq, Hash)]
 pub struct Computed {
     /// How many operations.
     pub ops: usize,
@@ -182,14 +228,41 @@ pub struct Computed {
 /// A table: eight nodes of 32 records.
 ///
 /// [`OwnedTable`] keeps its bytes private, so its calls go without the check of the whole table; [`LentTable`] and [`TableView`] are over bytes of yours, good
-/// or not, and check them in each call.
-#[derive(Clone)]
+/// or not, and check them in each call: each can be refused with [`Refusal::BadTable`] before all else, and an owned one never.
+///
+/// Tables are equal where their bytes are. [`fmt::Debug`] shows the mode and the nodes with their records.
+#[derive(Clone, Copy)]
 pub struct Table<S> {
     store: S,
 }
 
-/// A table that keeps its own bytes. It is 29,964 bytes large: put it where there is room, as in a `static` or a `Box`.
+/// A table that keeps its own bytes. It is 29,964 bytes large: put it where there is room, as in a `Box`.
+///
+/// All its methods stand at [`Table`]:
+///
+/// - to make one: [`new`](OwnedTable::new), [`from_bytes`](OwnedTable::from_bytes); to store it: [`as_bytes`](Table::as_bytes);
+/// - its nodes: [`add_node`](Table::add_node), [`remove_node`](Table::remove_node), [`nodes`](Table::nodes), [`node_state`](Table::node_state),
+///   [`last_heartbeat_if_deleted`](Table::last_heartbeat_if_deleted), and its [`mode`](Table::mode);
+/// - its readings: [`get`](Table::get), [`get_over`](Table::get_over), and of a node those of [`NodeState`];
+/// - its owner's calls: [`write`](Table::write), [`delete`](Table::delete), [`delete_after_ttl`](Table::delete_after_ttl), [`inc_heartbeat`](Table::inc_heartbeat);
+/// - the clock's: [`gc_keys_marked_for_deletion`](Table::gc_keys_marked_for_deletion);
+/// - gossip: [`compute_digest`](Table::compute_digest), [`compute_partial_delta_respecting_mtu`](Table::compute_partial_delta_respecting_mtu), [`compute_plan`](Table::compute_plan),
+///   [`plan_fault`](Table::plan_fault), [`apply_delta`](Table::apply_delta), [`try_set_heartbeat`](Table::try_set_heartbeat).
+///
+/// One for the whole program, with the standard library:
+///
+/// ```
+/// use std::sync::{LazyLock, Mutex};
+/// use kevdarosh::{Mode, OwnedTable};
+///
+/// static TABLE: LazyLock<Mutex<OwnedTable>> = LazyLock::new(|| Mutex::new(OwnedTable::new(Mode::Guarded)));
+///
+/// TABLE.lock().unwrap().add_node(7).unwrap();
+/// ```
 pub type OwnedTable = Table<Kept>;
+
+/// A node of an [`OwnedTable`].
+pub type OwnedNode<'a> = NodeState<'a, Kept>;
 
 /// A table over bytes that are lent to it. Each call checks them, and answers [`Refusal::BadTable`] where they are no table.
 pub type LentTable<'a> = Table<&'a mut [u8]>;
@@ -197,13 +270,61 @@ pub type LentTable<'a> = Table<&'a mut [u8]>;
 /// A table over bytes that are lent for reading.
 pub type TableView<'a> = Table<&'a [u8]>;
 
+impl<S: Bytes, T: Bytes> PartialEq<Table<T>> for Table<S> {
+    fn eq(&self, other: &Table<T>) -> bool {
+        self.as_bytes() == other.as_bytes()
+    }
+}
+
+impl<S: Bytes> Eq for Table<S> {}
+
+impl<S: Bytes> Hash for Table<S> {
+    fn hash<H: Hasher>(&self, state: &mut H) {
+        self.as_bytes().hash(state);
+    }
+}
+
+impl<S: Bytes> fmt::Debug for Table<S> {
+    fn fmt(&self, f: &mut fmt::Formatter<'_>) -> fmt::Result {
+        let mode = match self.mode() {
+            Ok(mode) => mode,
+            Err(refusal) => return f.debug_tuple("Table").field(&refusal).finish(),
+        };
+        let mut shown = f.debug_struct("Table");
+        shown.field("mode", &mode);
+        for number in self.nodes().into_iter().flatten() {
+            if let Ok(node) = self.node_state(number) {
+                shown.field("node", &node);
+            }
+        }
+        shown.finish()
+    }
+}
+
 impl OwnedTable {
     /// An empty table, free in its records.
+    ///
+    /// It is made by the library, so this is no `const fn`.
+    ///
+    /// ```
+    /// # use kevdarosh::{Mode, OwnedTable};
+    /// let table = OwnedTable::new(Mode::Guarded);
+    /// assert_eq!(table.nodes().unwrap().count(), 0);
+    /// ```
     pub fn new(mode: Mode) -> OwnedTable {
         OwnedTable::with_profile(mode, Profile::Free)
     }
 
     /// An empty table of this profile.
+    ///
+    /// ```
+    /// # use kevdarosh::{Mode, OwnedTable, Profile, Refusal, Wanted};
+    /// let mut table = OwnedTable::with_profile(Mode::Guarded, Profile::Meter);
+    /// table.add_node(7).unwrap();
+    /// table.write(7, b"total", b"0041823", Wanted::Set).unwrap();
+    /// assert_eq!(table.write(7, b"total", b"41283", Wanted::Set), Err(Refusal::SmallerTotal));
+    /// assert_eq!(table.write(7, b"Total", b"41823", Wanted::Set), Err(Refusal::BadForm));
+    /// ```
     pub fn with_profile(mode: Mode, profile: Profile) -> OwnedTable {
         match Kept::new(mode.number(), profile.number()) {
             Ok(store) => Table { store },
@@ -212,7 +333,20 @@ impl OwnedTable {
         }
     }
 
-    /// The table of these bytes, as they were stored: [`Refusal::BadTable`] where they are no table that obeys the rules.
+    /// The table of these bytes, as they were stored.
+    ///
+    /// # Errors
+    ///
+    /// [`Refusal::BadTable`] where they are no table that obeys the rules.
+    ///
+    /// ```
+    /// # use kevdarosh::{Mode, OwnedTable, Refusal};
+    /// let table = OwnedTable::new(Mode::Guarded);
+    /// let mut bytes = table.as_bytes().to_vec();
+    /// assert_eq!(OwnedTable::from_bytes(&bytes), Ok(table));
+    /// bytes[0] = 9; // a table of nine nodes
+    /// assert_eq!(OwnedTable::from_bytes(&bytes), Err(Refusal::BadTable));
+    /// ```
     pub fn from_bytes(bytes: &[u8]) -> Result<OwnedTable, Refusal> {
         Kept::checked(bytes).map(|store| Table { store }).map_err(refusal)
     }
@@ -220,16 +354,55 @@ impl OwnedTable {
 
 impl<'a> LentTable<'a> {
     /// A table over these bytes, as they are.
+    ///
+    /// ```
+    /// # use kevdarosh::{LentTable, Mode, OwnedTable};
+    /// let mut bytes = OwnedTable::new(Mode::Plain).as_bytes().to_vec();
+    /// LentTable::over(&mut bytes).add_node(7).unwrap();
+    /// ```
     pub fn over(bytes: &'a mut [u8]) -> LentTable<'a> {
         Table { store: bytes }
     }
 
+    /// The same bytes for reading, for as long as they are lent.
+    ///
+    /// ```
+    /// # use kevdarosh::{LentTable, Mode, TABLE};
+    /// let mut bytes = [0; TABLE];
+    /// let table = LentTable::new_in(&mut bytes, Mode::Fenced).unwrap().into_view();
+    /// assert_eq!(table.mode(), Ok(Mode::Fenced));
+    /// ```
+    pub fn into_view(self) -> TableView<'a> {
+        Table { store: self.store }
+    }
+
     /// Makes these [`TABLE`] bytes an empty table, free in its records.
+    ///
+    /// # Errors
+    ///
+    /// [`Refusal::BadTable`] where they are not as many.
+    ///
+    /// ```
+    /// # use kevdarosh::{LentTable, Mode, Refusal, TABLE};
+    /// assert!(LentTable::new_in(&mut [0; TABLE], Mode::Plain).is_ok());
+    /// assert_eq!(LentTable::new_in(&mut [0; 100], Mode::Plain), Err(Refusal::BadTable));
+    /// ```
     pub fn new_in(bytes: &'a mut [u8], mode: Mode) -> Result<LentTable<'a>, Refusal> {
         LentTable::with_profile_in(bytes, mode, Profile::Free)
     }
 
     /// Makes these [`TABLE`] bytes an empty table of this profile.
+    ///
+    /// # Errors
+    ///
+    /// [`Refusal::BadTable`] where they are not as many.
+    ///
+    /// ```
+    /// # use kevdarosh::{LentTable, Mode, Profile, TABLE};
+    /// let mut bytes = [0; TABLE];
+    /// let table = LentTable::with_profile_in(&mut bytes, Mode::Plain, Profile::Meter).unwrap();
+    /// assert_eq!(table.profile(), Ok(Profile::Meter));
+    /// ```
     pub fn with_profile_in(bytes: &'a mut [u8], mode: Mode, profile: Profile) -> Result<LentTable<'a>, Refusal> {
         accepted(ffi::new_table(bytes, mode.number(), profile.number()))?;
         Ok(Table { store: bytes })
@@ -238,19 +411,65 @@ impl<'a> LentTable<'a> {
 
 impl<'a> TableView<'a> {
     /// A view of these bytes, as they are.
+    ///
+    /// ```
+    /// # use kevdarosh::{Mode, OwnedTable, TableView};
+    /// let stored = OwnedTable::new(Mode::Fenced).as_bytes().to_vec();
+    /// assert_eq!(TableView::over(&stored).mode(), Ok(Mode::Fenced));
+    /// ```
     pub fn over(bytes: &'a [u8]) -> TableView<'a> {
         Table { store: bytes }
     }
+
+    /// A node, to read it; what it tells lives as long as the bytes, not only as long as the view.
+    ///
+    /// # Errors
+    ///
+    /// [`Refusal::BadTable`], [`Refusal::NoNode`].
+    ///
+    /// ```
+    /// use kevdarosh::{Mode, OwnedTable, Refusal, TableView, Wanted};
+    ///
+    /// fn total(bytes: &[u8]) -> Result<Option<&[u8]>, Refusal> {
+    ///     TableView::over(bytes).into_node_state(7)?.get(b"total")
+    /// }
+    ///
+    /// # fn main() -> Result<(), Refusal> {
+    /// let mut table = OwnedTable::new(Mode::Plain);
+    /// table.add_node(7)?;
+    /// table.write(7, b"total", b"41", Wanted::Set)?;
+    /// assert_eq!(total(table.as_bytes())?, Some(&b"41"[..]));
+    /// # Ok(())
+    /// # }
+    /// ```
+    #[inline]
+    pub fn into_node_state(self, node: u64) -> Result<NodeState<'a, &'a [u8]>, Refusal> {
+        NodeState::of(Lent::over(self.store), node)
+    }
 }
 
-/// Calls that read.
+/// Calls that read. A lent table is refused with [`Refusal::BadTable`] before all else.
 impl<S: Bytes> Table<S> {
     /// The bytes, to be stored or sent: a table on disk is its bytes.
+    ///
+    /// ```
+    /// # use kevdarosh::{Mode, OwnedTable, TABLE};
+    /// assert_eq!(OwnedTable::new(Mode::Plain).as_bytes().len(), TABLE);
+    /// ```
     pub fn as_bytes(&self) -> &[u8] {
         self.store.bytes()
     }
 
     /// How the table takes late deltas.
+    ///
+    /// # Errors
+    ///
+    /// [`Refusal::BadTable`].
+    ///
+    /// ```
+    /// # use kevdarosh::{Mode, OwnedTable};
+    /// assert_eq!(OwnedTable::new(Mode::Guarded).mode(), Ok(Mode::Guarded));
+    /// ```
     pub fn mode(&self) -> Result<Mode, Refusal> {
         accepted(if S::GOOD { 0 } else { ffi::check(self.store.bytes()) })?;
         Ok(match self.store.bytes()[crate::MODE_AT] {
@@ -261,6 +480,15 @@ impl<S: Bytes> Table<S> {
     }
 
     /// Which records the table may have.
+    ///
+    /// # Errors
+    ///
+    /// [`Refusal::BadTable`].
+    ///
+    /// ```
+    /// # use kevdarosh::{Mode, OwnedTable, Profile};
+    /// assert_eq!(OwnedTable::new(Mode::Guarded).profile(), Ok(Profile::Free));
+    /// ```
     pub fn profile(&self) -> Result<Profile, Refusal> {
         accepted(if S::GOOD { 0 } else { ffi::check(self.store.bytes()) })?;
         Ok(match self.store.bytes()[crate::PROFILE_AT] {
@@ -270,6 +498,18 @@ impl<S: Bytes> Table<S> {
     }
 
     /// The numbers of the nodes, ascending. A lent table is checked once for them.
+    ///
+    /// # Errors
+    ///
+    /// [`Refusal::BadTable`].
+    ///
+    /// ```
+    /// # use kevdarosh::{Mode, OwnedTable};
+    /// let mut table = OwnedTable::new(Mode::Plain);
+    /// table.add_node(12).unwrap();
+    /// table.add_node(7).unwrap();
+    /// assert_eq!(table.nodes().unwrap().collect::<Vec<_>>(), [7, 12]);
+    /// ```
     #[inline]
     pub fn nodes(&self) -> Result<impl ExactSizeIterator<Item = u64> + '_, Refusal> {
         let answer = ffi::node_count(&self.store);
@@ -277,25 +517,59 @@ impl<S: Bytes> Table<S> {
         Ok(row::numbers(self.store.bytes(), answer.count.get()))
     }
 
-    /// A node, to read it: [`Refusal::NoNode`].
+    /// A node, to read it.
+    ///
+    /// # Errors
+    ///
+    /// [`Refusal::BadTable`], [`Refusal::NoNode`].
+    ///
+    /// ```
+    /// # use kevdarosh::{Mode, OwnedTable, Refusal};
+    /// let mut table = OwnedTable::new(Mode::Plain);
+    /// table.add_node(7).unwrap();
+    /// assert_eq!(table.node_state(7).unwrap().max_version(), 0);
+    /// assert_eq!(table.node_state(8).unwrap_err(), Refusal::NoNode);
+    /// ```
     #[inline]
     pub fn node_state(&self, node: u64) -> Result<NodeState<'_, S>, Refusal> {
-        // An owned table's header is read when it is asked for, once. A lent one's is read here, since each reading of it checks the table.
-        let header = OnceCell::new();
-        let number = if S::GOOD { ffi::record_count(&self.store, node).number } else { header.get_or_init(|| ffi::node_header(&self.store, node)).number };
-        accepted(number)?;
-        Ok(NodeState { table: self, node, header })
+        NodeState::of(Lent::of(&self.store), node)
     }
 
     /// The value of a key, as those very bytes of the table; none where there is no such key, or its record is deleted.
+    ///
+    /// # Errors
+    ///
+    /// [`Refusal::BadTable`], [`Refusal::NoNode`], [`Refusal::TooLong`].
+    ///
+    /// ```
+    /// # use kevdarosh::{Mode, OwnedTable, Refusal, Wanted};
+    /// let mut table = OwnedTable::new(Mode::Plain);
+    /// table.add_node(7).unwrap();
+    /// table.write(7, b"total", b"41", Wanted::Set).unwrap();
+    /// assert_eq!(table.get(7, b"total"), Ok(Some(&b"41"[..])));
+    /// assert_eq!(table.get(7, b"flow"), Ok(None));
+    /// assert_eq!(table.get(8, b"total"), Err(Refusal::NoNode));
+    /// ```
     #[inline]
     pub fn get(&self, node: u64, key: &[u8]) -> Result<Option<&[u8]>, Refusal> {
-        let answer = ffi::find(&self.store, node, key);
-        accepted(answer.number)?;
-        Ok((answer.found.0 != 0).then(|| self.text(answer.start, answer.len)))
+        found(Lent::of(&self.store), node, key)
     }
 
     /// The last heartbeat of a node that was removed; none where the table does not remember it. It remembers the last sixteen.
+    ///
+    /// # Errors
+    ///
+    /// [`Refusal::BadTable`].
+    ///
+    /// ```
+    /// # use kevdarosh::{Mode, OwnedTable};
+    /// let mut table = OwnedTable::new(Mode::Plain);
+    /// table.add_node(7).unwrap();
+    /// table.inc_heartbeat(7).unwrap();
+    /// table.remove_node(7).unwrap();
+    /// assert_eq!(table.last_heartbeat_if_deleted(7), Ok(Some(1)));
+    /// assert_eq!(table.last_heartbeat_if_deleted(8), Ok(None));
+    /// ```
     pub fn last_heartbeat_if_deleted(&self, node: u64) -> Result<Option<u64>, Refusal> {
         let answer = ffi::last_heartbeat(&self.store, node);
         accepted(answer.number)?;
@@ -303,6 +577,20 @@ impl<S: Bytes> Table<S> {
     }
 
     /// The table's digest without the excluded nodes, in this edition, at the front of the datagram: how many bytes. [`crate::DIGEST`] bytes are always enough.
+    ///
+    /// # Errors
+    ///
+    /// [`Refusal::BadTable`], [`Refusal::NoPlace`].
+    ///
+    /// ```
+    /// # use kevdarosh::{DIGEST, Edition, Mode, OwnedTable, Refusal};
+    /// let mut table = OwnedTable::new(Mode::Plain);
+    /// table.add_node(7).unwrap();
+    /// let mut digest = [0; DIGEST];
+    /// assert_eq!(table.compute_digest(Edition::V0, &[], &mut digest), Ok(34));
+    /// assert_eq!(table.compute_digest(Edition::V0, &[7], &mut digest), Ok(2));
+    /// assert_eq!(table.compute_digest(Edition::V0, &[], &mut [0; 33]), Err(Refusal::NoPlace));
+    /// ```
     pub fn compute_digest(&self, edition: Edition, excluded: &[u64], datagram: &mut [u8]) -> Result<usize, Refusal> {
         let answer = ffi::write_digest(&self.store, edition.number(), excluded, datagram, 0);
         accepted(answer.number)?;
@@ -311,6 +599,23 @@ impl<S: Bytes> Table<S> {
 
     /// The delta for a peer's digest of this edition, of at most `mtu` bytes, without the excluded nodes, at the front of the datagram. Of two nodes with as much to tell the
     /// one with the smaller tie goes first: one number for each node of the table, random ones for a fair share.
+    ///
+    /// # Errors
+    ///
+    /// [`Refusal::BadTable`], [`Refusal::BadMtu`], [`Refusal::NoPlace`], [`Refusal::BadTies`], and of the digest [`Refusal::Cut`], [`Refusal::TooMany`].
+    ///
+    /// ```
+    /// # use kevdarosh::{Computed, Edition, Mode, OwnedTable, Refusal, Wanted};
+    /// let mut table = OwnedTable::new(Mode::Plain);
+    /// table.add_node(7).unwrap();
+    /// table.write(7, b"total", b"41", Wanted::Set).unwrap();
+    /// // A peer that knows of nothing: the count of its digest is 0.
+    /// let mut delta = [0; 100];
+    /// let sent = table.compute_partial_delta_respecting_mtu(Edition::V0, &[0, 0], 100, &[], &[0], &mut delta).unwrap();
+    /// assert_eq!(sent, Computed { ops: 2, bytes: 46 });
+    /// let cut = table.compute_partial_delta_respecting_mtu(Edition::V0, &[0], 100, &[], &[0], &mut delta).unwrap_err();
+    /// assert_eq!((cut.refusal, cut.need), (Refusal::Cut, 1));
+    /// ```
     pub fn compute_partial_delta_respecting_mtu(
         &self,
         edition: Edition,
@@ -321,14 +626,18 @@ impl<S: Bytes> Table<S> {
         datagram: &mut [u8],
     ) -> Result<Computed, Fault> {
         let answer = ffi::compute(&self.store, edition.number(), digest, mtu, excluded, ties, datagram, 0);
-        Fault::unless(answer.number, Size(0), answer.need)?;
+        Fault::nowhere(answer.number, answer.need)?;
         Ok(Computed { ops: answer.ops.get(), bytes: answer.bytes.get() })
     }
 
     /// The delta of a plan for a peer's digest of this edition, at the front of the datagram: these nodes in this order, and of each so many of its stale records,
     /// the lowest versions first; where a node has none, its max. The plan is accepted exactly if every node is held, not excluded, named once, and stale; each
-    /// count is at most the node's stale records, and not 0 unless there are none; and the bytes fit the MTU. Else it is [`Refusal::BadPlan`], and
+    /// count is at most the node's stale records, and not 0 unless there are none; and the bytes fit the MTU. Else
     /// [`Table::plan_fault`] tells which line is at fault. Nothing of an accepted plan is cut or dropped.
+    ///
+    /// # Errors
+    ///
+    /// [`Refusal::BadTable`], [`Refusal::BadMtu`], [`Refusal::NoPlace`], of the digest [`Refusal::Cut`], [`Refusal::TooMany`], then [`Refusal::BadPlan`].
     ///
     /// ```
     /// use kevdarosh::{DIGEST, Edition, LineFault, Mode, OwnedTable, PlanFault, Refusal, Wanted};
@@ -370,11 +679,22 @@ impl<S: Bytes> Table<S> {
         datagram: &mut [u8],
     ) -> Result<Computed, Fault> {
         let answer = ffi::compute_plan(&self.store, edition.number(), digest, mtu, excluded, nodes, counts, datagram, 0);
-        Fault::unless(answer.number, Size(0), answer.need)?;
+        Fault::nowhere(answer.number, answer.need)?;
         Ok(Computed { ops: answer.ops.get(), bytes: answer.bytes.get() })
     }
 
-    /// The first line of a plan that is at fault; none exactly where [`Table::compute_plan`] accepts it.
+    /// The first line of a plan that is at fault; none exactly where [`Table::compute_plan`] accepts it. [`Table::compute_plan`] has an example.
+    ///
+    /// # Errors
+    ///
+    /// [`Refusal::BadTable`], [`Refusal::BadMtu`], and of the digest [`Refusal::Cut`], [`Refusal::TooMany`].
+    ///
+    /// ```
+    /// # use kevdarosh::{Edition, LineFault, Mode, OwnedTable, PlanFault};
+    /// let table = OwnedTable::new(Mode::Plain);
+    /// let fault = table.plan_fault(Edition::V0, &[0, 0], 100, &[], &[7], &[1]).unwrap();
+    /// assert_eq!(fault, Some(PlanFault { line: 0, why: LineFault::NotHeld }));
+    /// ```
     pub fn plan_fault(
         &self,
         edition: Edition,
@@ -388,7 +708,7 @@ impl<S: Bytes> Table<S> {
         if answer.number == Refusal::BadPlan.number() {
             return Ok(Some(PlanFault { line: answer.line.get(), why: LineFault::of(answer.why) }));
         }
-        Fault::unless(answer.number, Size(0), answer.need)?;
+        Fault::nowhere(answer.number, answer.need)?;
         Ok(None)
     }
 
@@ -397,28 +717,9 @@ impl<S: Bytes> Table<S> {
     pub(crate) fn store(&self) -> &S {
         &self.store
     }
-
-    /// The bytes of the table that an answer names.
-    #[inline]
-    fn text(&self, start: Size, len: Size) -> &[u8] {
-        let (start, len) = (start.get(), len.get());
-        &self.store.bytes()[start..start + len]
-    }
-
-    /// The record that was found.
-    #[inline]
-    fn record(&self, found: ffi::Record) -> Record<'_> {
-        Record {
-            key: self.text(found.key_at, found.key_len),
-            value: self.text(found.value_at, found.value_len),
-            version: found.version,
-            status: Status::of(found.status.0),
-            start: found.start,
-        }
-    }
 }
 
-/// Calls that change the table. A refused one changes nothing.
+/// Calls that change the table. A refused one changes nothing. A lent table is refused with [`Refusal::BadTable`] before all else.
 impl<S: BytesMut> Table<S> {
     /// Its bytes, for a call that keeps them.
     #[inline]
@@ -426,51 +727,180 @@ impl<S: BytesMut> Table<S> {
         &mut self.store
     }
 
-    /// Adds a fresh node, and forgets that it was removed; one that is held already stays as it is: [`Refusal::NinthNode`].
+    /// Adds a fresh node, and forgets that it was removed; one that is held already stays as it is.
+    ///
+    /// # Errors
+    ///
+    /// [`Refusal::BadTable`], [`Refusal::NinthNode`].
+    ///
+    /// ```
+    /// # use kevdarosh::{Mode, OwnedTable, Refusal};
+    /// let mut table = OwnedTable::new(Mode::Plain);
+    /// (1..=8).for_each(|node| table.add_node(node).unwrap());
+    /// assert_eq!(table.add_node(9), Err(Refusal::NinthNode));
+    /// ```
     pub fn add_node(&mut self, node: u64) -> Result<(), Refusal> {
         accepted(ffi::add_node(&mut self.store, node))
     }
 
-    /// Removes a node and its records, and remembers it with its last heartbeat: [`Refusal::NoNode`].
+    /// Removes a node and its records, and remembers it with its last heartbeat.
+    ///
+    /// # Errors
+    ///
+    /// [`Refusal::BadTable`], [`Refusal::NoNode`].
+    ///
+    /// ```
+    /// # use kevdarosh::{Mode, OwnedTable, Refusal};
+    /// let mut table = OwnedTable::new(Mode::Plain);
+    /// table.add_node(7).unwrap();
+    /// assert_eq!(table.remove_node(7), Ok(()));
+    /// assert_eq!(table.remove_node(7), Err(Refusal::NoNode));
+    /// ```
     pub fn remove_node(&mut self, node: u64) -> Result<(), Refusal> {
         accepted(ffi::remove_node(&mut self.store, node))
     }
 
     /// The key's record takes this value under the wanted status. Where it has both already, nothing changes, and no version is given: a record under
     /// TTL keeps the time that it is scheduled from.
+    ///
+    /// # Errors
+    ///
+    /// [`Refusal::BadTable`], [`Refusal::NoNode`], [`Refusal::TooLong`], in a meter table [`Refusal::BadForm`] and [`Refusal::SmallerTotal`], then [`Refusal::NodeFull`],
+    /// [`Refusal::Exhausted`].
+    ///
+    /// ```
+    /// # use kevdarosh::{Mode, OwnedTable, Refusal, Wanted};
+    /// let mut table = OwnedTable::new(Mode::Plain);
+    /// table.add_node(7).unwrap();
+    /// table.write(7, b"total", b"41", Wanted::Set).unwrap();
+    /// table.write(7, b"total", b"41", Wanted::Set).unwrap();
+    /// assert_eq!(table.node_state(7).unwrap().max_version(), 1);
+    /// table.write(7, b"lease", b"hub 3", Wanted::Ttl(1_000)).unwrap();
+    /// assert_eq!(table.write(7, &[b'k'; 33], b"", Wanted::Set), Err(Refusal::TooLong));
+    /// ```
     pub fn write(&mut self, node: u64, key: &[u8], value: &[u8], wanted: Wanted) -> Result<(), Refusal> {
         let (status, clock) = wanted.numbers();
         accepted(ffi::write(&mut self.store, node, key, value, status, clock))
     }
 
-    /// The key's record becomes a tombstone, which is removed after the grace: [`Refusal::NoKey`].
+    /// The key's record becomes a tombstone, which is removed after the grace.
+    ///
+    /// # Errors
+    ///
+    /// [`Refusal::BadTable`], [`Refusal::NoNode`], [`Refusal::TooLong`], [`Refusal::NoKey`], [`Refusal::Exhausted`].
+    ///
+    /// ```
+    /// # use kevdarosh::{Mode, OwnedTable, Refusal, Wanted};
+    /// let mut table = OwnedTable::new(Mode::Plain);
+    /// table.add_node(7).unwrap();
+    /// table.write(7, b"lamp", b"on", Wanted::Set).unwrap();
+    /// table.delete(7, b"lamp", 1_000).unwrap();
+    /// assert_eq!(table.get(7, b"lamp"), Ok(None));
+    /// assert_eq!(table.delete(7, b"door", 1_000), Err(Refusal::NoKey));
+    /// ```
     pub fn delete(&mut self, node: u64, key: &[u8], clock: u64) -> Result<(), Refusal> {
         accepted(ffi::delete(&mut self.store, node, key, clock))
     }
 
-    /// The key's record keeps its value and is removed after the grace: [`Refusal::NoKey`].
+    /// The key's record keeps its value and is removed after the grace.
+    ///
+    /// # Errors
+    ///
+    /// [`Refusal::BadTable`], [`Refusal::NoNode`], [`Refusal::TooLong`], [`Refusal::NoKey`], [`Refusal::Exhausted`].
+    ///
+    /// ```
+    /// # use kevdarosh::{Mode, OwnedTable, Wanted};
+    /// let mut table = OwnedTable::new(Mode::Plain);
+    /// table.add_node(7).unwrap();
+    /// table.write(7, b"lamp", b"on", Wanted::Set).unwrap();
+    /// table.delete_after_ttl(7, b"lamp", 1_000).unwrap();
+    /// assert_eq!(table.get(7, b"lamp"), Ok(Some(&b"on"[..])));
+    /// table.gc_keys_marked_for_deletion(1_500, 500).unwrap();
+    /// assert_eq!(table.get(7, b"lamp"), Ok(None));
+    /// ```
     pub fn delete_after_ttl(&mut self, node: u64, key: &[u8], clock: u64) -> Result<(), Refusal> {
         accepted(ffi::delete_after_ttl(&mut self.store, node, key, clock))
     }
 
     /// Removes what was scheduled a grace ago, of all nodes.
+    ///
+    /// # Errors
+    ///
+    /// [`Refusal::BadTable`].
+    ///
+    /// ```
+    /// # use kevdarosh::{Mode, OwnedTable, Wanted};
+    /// let mut table = OwnedTable::new(Mode::Plain);
+    /// table.add_node(7).unwrap();
+    /// table.write(7, b"lamp", b"on", Wanted::Set).unwrap();
+    /// table.delete(7, b"lamp", 1_000).unwrap();
+    /// table.gc_keys_marked_for_deletion(1_499, 500).unwrap();
+    /// assert_eq!(table.node_state(7).unwrap().last_gc_version(), 0);
+    /// table.gc_keys_marked_for_deletion(1_500, 500).unwrap();
+    /// assert_eq!(table.node_state(7).unwrap().last_gc_version(), 2);
+    /// ```
     pub fn gc_keys_marked_for_deletion(&mut self, clock: u64, grace: u64) -> Result<(), Refusal> {
         accepted(ffi::remove_scheduled(&mut self.store, clock, grace))
     }
 
     /// The node's own heartbeat rises by one.
+    ///
+    /// # Errors
+    ///
+    /// [`Refusal::BadTable`], [`Refusal::NoNode`], [`Refusal::Exhausted`].
+    ///
+    /// ```
+    /// # use kevdarosh::{Mode, OwnedTable, Refusal};
+    /// let mut table = OwnedTable::new(Mode::Plain);
+    /// table.add_node(7).unwrap();
+    /// table.inc_heartbeat(7).unwrap();
+    /// assert_eq!(table.node_state(7).unwrap().heartbeat(), 1);
+    /// table.try_set_heartbeat(7, u64::MAX).unwrap();
+    /// assert_eq!(table.inc_heartbeat(7), Err(Refusal::Exhausted));
+    /// ```
     pub fn inc_heartbeat(&mut self, node: u64) -> Result<(), Refusal> {
         accepted(ffi::local_beat(&mut self.store, node))
     }
 
-    /// A heartbeat that was heard of: whether it was news. The first one of a node is not.
+    /// A heartbeat that was heard of: whether it was news. The first one of a node is not, though it is taken.
+    ///
+    /// # Errors
+    ///
+    /// [`Refusal::BadTable`], [`Refusal::NoNode`].
+    ///
+    /// ```
+    /// # use kevdarosh::{Mode, OwnedTable, Refusal};
+    /// let mut table = OwnedTable::new(Mode::Plain);
+    /// table.add_node(7).unwrap();
+    /// assert_eq!(table.try_set_heartbeat(7, 5), Ok(false));
+    /// assert_eq!(table.try_set_heartbeat(7, 6), Ok(true));
+    /// assert_eq!(table.try_set_heartbeat(7, 6), Ok(false));
+    /// assert_eq!(table.try_set_heartbeat(8, 6), Err(Refusal::NoNode));
+    /// ```
     pub fn try_set_heartbeat(&mut self, node: u64, heartbeat: u64) -> Result<bool, Refusal> {
         let answer = ffi::offer_heartbeat(&mut self.store, node, heartbeat);
         accepted(answer.number)?;
         Ok(answer.count.0 != 0)
     }
 
-    /// Takes a peer's delta, at the receiver's clock.
+    /// Takes a peer's delta, at the receiver's clock: an answer for each node in it. Nothing of a refused delta is taken.
+    ///
+    /// # Errors
+    ///
+    /// [`Refusal::BadTable`], [`Refusal::TooMany`], [`Refusal::Cut`], [`Refusal::TooLong`], [`Refusal::BadTag`], [`Refusal::OutOfOrder`], in a meter table [`Refusal::BadForm`], [`Refusal::NodeTwice`]: of the delta's the first that is
+    /// met in its order, with its place.
+    ///
+    /// ```
+    /// # use kevdarosh::{Answer, Fault, Mode, OwnedTable, Refusal, make_delta};
+    /// let mut table = OwnedTable::new(Mode::Plain);
+    /// table.add_node(7).unwrap();
+    /// let mut delta = [0; 100];
+    /// let text = b"op=node id=7 gc=0 from=0\nop=kv version=1 status=set key=total value=4\nend=ok ops=2 bytes=45\n";
+    /// let bytes = make_delta(text, &mut delta).unwrap();
+    /// assert!(table.apply_delta(&delta[..bytes], 1_000).unwrap().iter().eq([Answer::Apply]));
+    /// assert_eq!(table.get(7, b"total"), Ok(Some(&b"4"[..])));
+    /// assert_eq!(table.apply_delta(&delta[..bytes - 1], 1_000), Err(Fault { refusal: Refusal::Cut, at: Some(25), need: 1 }));
+    /// ```
     pub fn apply_delta(&mut self, delta: &[u8], clock: u64) -> Result<Answers, Fault> {
         let mut codes = [0; NODES];
         let answer = ffi::apply(&mut self.store, delta, clock, &mut codes);
@@ -479,90 +909,318 @@ impl<S: BytesMut> Table<S> {
     }
 }
 
-/// A node of a table, to read it.
+/// The value of a key, which lives as long as the bytes.
+#[inline]
+fn found<'a, S: Bytes>(table: Lent<'a, S>, node: u64, key: &[u8]) -> Result<Option<&'a [u8]>, Refusal> {
+    let answer = ffi::find(&table, node, key);
+    accepted(answer.number)?;
+    Ok((answer.found.0 != 0).then(|| text(table, answer.start, answer.len)))
+}
+
+/// The bytes of the table that an answer names.
+#[inline]
+fn text<S: Bytes>(table: Lent<'_, S>, start: Size, len: Size) -> &[u8] {
+    let (start, len) = (start.get(), len.get());
+    &table.all()[start..start + len]
+}
+
+/// A node of a table, to read it. What it tells lives as long as the table is borrowed, not only as long as this.
+///
+/// A function of your own takes it by [`OwnedNode`], or of a table of any kind by the bound [`Bytes`]:
+///
+/// ```
+/// use kevdarosh::{Mode, OwnedNode, OwnedTable, Wanted};
+///
+/// fn is_alive(node: &OwnedNode) -> bool {
+///     node.heartbeat() > 0 && node.get(b"state").is_ok_and(|state| state != Some(b"leaving"))
+/// }
+///
+/// # fn main() -> Result<(), kevdarosh::Refusal> {
+/// let mut table = OwnedTable::new(Mode::Guarded);
+/// table.add_node(7)?;
+/// assert!(!is_alive(&table.node_state(7)?));
+/// table.try_set_heartbeat(7, 12)?;
+/// assert!(is_alive(&table.node_state(7)?));
+/// # Ok(())
+/// # }
+/// ```
 pub struct NodeState<'a, S> {
-    table: &'a Table<S>,
+    table: Lent<'a, S>,
     node: u64,
     /// What was read of its header. The table is borrowed, so it cannot change meanwhile.
     header: OnceCell<ffi::Header>,
 }
 
+impl<S> Clone for NodeState<'_, S> {
+    fn clone(&self) -> Self {
+        NodeState { table: self.table, node: self.node, header: self.header.clone() }
+    }
+}
+
+impl<S: Bytes> fmt::Debug for NodeState<'_, S> {
+    fn fmt(&self, f: &mut fmt::Formatter<'_>) -> fmt::Result {
+        struct All<'a>(Records<'a>);
+        impl fmt::Debug for All<'_> {
+            fn fmt(&self, f: &mut fmt::Formatter<'_>) -> fmt::Result {
+                f.debug_list().entries(self.0.clone()).finish()
+            }
+        }
+        let Header { heartbeat, max_version, last_gc_version } = self.header();
+        let mut shown = f.debug_struct("NodeState");
+        shown.field("number", &self.node).field("heartbeat", &heartbeat).field("max_version", &max_version).field("last_gc_version", &last_gc_version);
+        shown.field("records", &All(self.key_values_including_deleted())).finish()
+    }
+}
+
 impl<'a, S: Bytes> NodeState<'a, S> {
+    #[inline]
+    fn of(table: Lent<'a, S>, node: u64) -> Result<NodeState<'a, S>, Refusal> {
+        // An owned table's header is read when it is asked for, once. A lent one's is read here, since each reading of it checks the table.
+        let header = OnceCell::new();
+        let number = if S::GOOD { ffi::record_count(&table, node).number } else { header.get_or_init(|| ffi::node_header(&table, node)).number };
+        accepted(number)?;
+        Ok(NodeState { table, node, header })
+    }
+
     /// Its number.
+    ///
+    /// ```
+    /// # use kevdarosh::{Mode, OwnedTable};
+    /// let mut table = OwnedTable::new(Mode::Plain);
+    /// table.add_node(7).unwrap();
+    /// assert_eq!(table.node_state(7).unwrap().number(), 7);
+    /// ```
     pub fn number(&self) -> u64 {
         self.node
     }
 
     /// The table that it is a node of.
     #[inline]
-    pub(crate) fn table(&self) -> &'a Table<S> {
+    pub(crate) fn table(&self) -> Lent<'a, S> {
         self.table
     }
 
     /// Heartbeat, max and last_gc.
+    ///
+    /// ```
+    /// # use kevdarosh::{Header, Mode, OwnedTable, Wanted};
+    /// let mut table = OwnedTable::new(Mode::Plain);
+    /// table.add_node(7).unwrap();
+    /// table.write(7, b"flow.day", b"11", Wanted::Set).unwrap();
+    /// table.write(7, b"flow.night", b"3", Wanted::Set).unwrap();
+    /// table.write(7, b"total", b"88", Wanted::Set).unwrap();
+    /// table.delete(7, b"flow.night", 500).unwrap();
+    /// let node = table.node_state(7).unwrap();
+    /// assert_eq!(node.header(), Header { heartbeat: 0, max_version: 4, last_gc_version: 0 });
+    /// ```
     #[inline]
     pub fn header(&self) -> Header {
-        let header = self.header.get_or_init(|| ffi::node_header(&self.table.store, self.node));
+        let header = self.header.get_or_init(|| ffi::node_header(&self.table, self.node));
         Header { heartbeat: header.heartbeat, max_version: header.max, last_gc_version: header.last_gc }
     }
 
     /// How often its owner has beaten.
+    ///
+    /// ```
+    /// # use kevdarosh::{Mode, OwnedTable, Wanted};
+    /// let mut table = OwnedTable::new(Mode::Plain);
+    /// table.add_node(7).unwrap();
+    /// table.write(7, b"flow.day", b"11", Wanted::Set).unwrap();
+    /// table.write(7, b"flow.night", b"3", Wanted::Set).unwrap();
+    /// table.write(7, b"total", b"88", Wanted::Set).unwrap();
+    /// table.delete(7, b"flow.night", 500).unwrap();
+    /// let node = table.node_state(7).unwrap();
+    /// assert_eq!(node.heartbeat(), 0);
+    /// ```
     #[inline]
     pub fn heartbeat(&self) -> u64 {
         self.header().heartbeat
     }
 
     /// The highest version that it has heard of.
+    ///
+    /// ```
+    /// # use kevdarosh::{Mode, OwnedTable, Wanted};
+    /// let mut table = OwnedTable::new(Mode::Plain);
+    /// table.add_node(7).unwrap();
+    /// table.write(7, b"flow.day", b"11", Wanted::Set).unwrap();
+    /// table.write(7, b"flow.night", b"3", Wanted::Set).unwrap();
+    /// table.write(7, b"total", b"88", Wanted::Set).unwrap();
+    /// table.delete(7, b"flow.night", 500).unwrap();
+    /// let node = table.node_state(7).unwrap();
+    /// assert_eq!(node.max_version(), 4);
+    /// ```
     #[inline]
     pub fn max_version(&self) -> u64 {
         self.header().max_version
     }
 
     /// The highest version that was removed.
+    ///
+    /// ```
+    /// # use kevdarosh::{Mode, OwnedTable, Wanted};
+    /// let mut table = OwnedTable::new(Mode::Plain);
+    /// table.add_node(7).unwrap();
+    /// table.write(7, b"flow.day", b"11", Wanted::Set).unwrap();
+    /// table.write(7, b"flow.night", b"3", Wanted::Set).unwrap();
+    /// table.write(7, b"total", b"88", Wanted::Set).unwrap();
+    /// table.delete(7, b"flow.night", 500).unwrap();
+    /// let node = table.node_state(7).unwrap();
+    /// assert_eq!(node.last_gc_version(), 0);
+    /// ```
     #[inline]
     pub fn last_gc_version(&self) -> u64 {
         self.header().last_gc_version
     }
 
-    /// The value of a key; none where there is no such key, or its record is deleted: [`Refusal::TooLong`].
+    /// The value of a key; none where there is no such key, or its record is deleted.
+    ///
+    /// # Errors
+    ///
+    /// [`Refusal::TooLong`].
+    ///
+    /// ```
+    /// # use kevdarosh::{Mode, OwnedTable, Refusal, Wanted};
+    /// let mut table = OwnedTable::new(Mode::Plain);
+    /// table.add_node(7).unwrap();
+    /// table.write(7, b"flow.day", b"11", Wanted::Set).unwrap();
+    /// table.write(7, b"flow.night", b"3", Wanted::Set).unwrap();
+    /// table.write(7, b"total", b"88", Wanted::Set).unwrap();
+    /// table.delete(7, b"flow.night", 500).unwrap();
+    /// let node = table.node_state(7).unwrap();
+    /// assert_eq!(node.get(b"total"), Ok(Some(&b"88"[..])));
+    /// assert_eq!(node.get(b"flow.night"), Ok(None));
+    /// assert_eq!(node.get(&[b'k'; 33]), Err(Refusal::TooLong));
+    /// ```
     pub fn get(&self, key: &[u8]) -> Result<Option<&'a [u8]>, Refusal> {
-        self.table.get(self.node, key)
+        found(self.table, self.node, key)
     }
 
     /// Whether [`NodeState::get`] finds the key.
+    ///
+    /// # Errors
+    ///
+    /// [`Refusal::TooLong`].
+    ///
+    /// ```
+    /// # use kevdarosh::{Mode, OwnedTable, Wanted};
+    /// let mut table = OwnedTable::new(Mode::Plain);
+    /// table.add_node(7).unwrap();
+    /// table.write(7, b"flow.day", b"11", Wanted::Set).unwrap();
+    /// table.write(7, b"flow.night", b"3", Wanted::Set).unwrap();
+    /// table.write(7, b"total", b"88", Wanted::Set).unwrap();
+    /// table.delete(7, b"flow.night", 500).unwrap();
+    /// let node = table.node_state(7).unwrap();
+    /// assert_eq!(node.contains_key(b"total"), Ok(true));
+    /// ```
     pub fn contains_key(&self, key: &[u8]) -> Result<bool, Refusal> {
         self.get(key).map(|value| value.is_some())
     }
 
     /// The record of a key, deleted or not.
+    ///
+    /// # Errors
+    ///
+    /// [`Refusal::TooLong`].
+    ///
+    /// ```
+    /// # use kevdarosh::{Mode, OwnedTable, Status, Wanted};
+    /// let mut table = OwnedTable::new(Mode::Plain);
+    /// table.add_node(7).unwrap();
+    /// table.write(7, b"flow.day", b"11", Wanted::Set).unwrap();
+    /// table.write(7, b"flow.night", b"3", Wanted::Set).unwrap();
+    /// table.write(7, b"total", b"88", Wanted::Set).unwrap();
+    /// table.delete(7, b"flow.night", 500).unwrap();
+    /// let node = table.node_state(7).unwrap();
+    /// let record = node.get_versioned(b"flow.night").unwrap().unwrap();
+    /// assert_eq!((record.version, record.status, record.start), (4, Status::Deleted, 500));
+    /// ```
     #[inline]
     pub fn get_versioned(&self, key: &[u8]) -> Result<Option<Record<'a>>, Refusal> {
-        let answer = ffi::record_by_key(&self.table.store, self.node, key);
-        accepted(answer.number)?;
-        Ok((answer.found.0 != 0).then(|| self.table.record(answer)))
+        let found = ffi::record_by_key(&self.table, self.node, key);
+        accepted(found.number)?;
+        Ok((found.found.0 != 0).then(|| Record {
+            key: text(self.table, found.key_at, found.key_len),
+            value: text(self.table, found.value_at, found.value_len),
+            version: found.version,
+            status: Status::of(found.status.0),
+            start: found.start,
+        }))
     }
 
     /// All records, deleted ones too, in key order.
+    ///
+    /// ```
+    /// # use kevdarosh::{Mode, OwnedTable, Wanted};
+    /// let mut table = OwnedTable::new(Mode::Plain);
+    /// table.add_node(7).unwrap();
+    /// table.write(7, b"flow.day", b"11", Wanted::Set).unwrap();
+    /// table.write(7, b"flow.night", b"3", Wanted::Set).unwrap();
+    /// table.write(7, b"total", b"88", Wanted::Set).unwrap();
+    /// table.delete(7, b"flow.night", 500).unwrap();
+    /// let node = table.node_state(7).unwrap();
+    /// assert_eq!(node.key_values_including_deleted().map(|record| record.version).collect::<Vec<_>>(), [1, 4, 3]);
+    /// ```
     #[inline]
     pub fn key_values_including_deleted(&self) -> Records<'a> {
-        Records::of(self.table.store.bytes(), ffi::node_rows(&self.table.store, self.node))
+        Records::of(self.table.all(), ffi::node_rows(&self.table, self.node))
     }
 
     /// The keys and values that are not deleted, in key order.
+    ///
+    /// ```
+    /// # use kevdarosh::{Mode, OwnedTable, Wanted};
+    /// let mut table = OwnedTable::new(Mode::Plain);
+    /// table.add_node(7).unwrap();
+    /// table.write(7, b"flow.day", b"11", Wanted::Set).unwrap();
+    /// table.write(7, b"flow.night", b"3", Wanted::Set).unwrap();
+    /// table.write(7, b"total", b"88", Wanted::Set).unwrap();
+    /// table.delete(7, b"flow.night", 500).unwrap();
+    /// let node = table.node_state(7).unwrap();
+    /// assert!(node.key_values().eq([(&b"flow.day"[..], &b"11"[..]), (b"total", b"88")]));
+    /// ```
     pub fn key_values(&self) -> impl DoubleEndedIterator<Item = (&'a [u8], &'a [u8])> + use<'a, S> {
         self.key_values_including_deleted().filter(|record| !record.is_hidden()).map(|record| (record.key, record.value))
     }
 
     /// How many keys are not deleted.
+    ///
+    /// ```
+    /// # use kevdarosh::{Mode, OwnedTable, Wanted};
+    /// let mut table = OwnedTable::new(Mode::Plain);
+    /// table.add_node(7).unwrap();
+    /// table.write(7, b"flow.day", b"11", Wanted::Set).unwrap();
+    /// table.write(7, b"flow.night", b"3", Wanted::Set).unwrap();
+    /// table.write(7, b"total", b"88", Wanted::Set).unwrap();
+    /// table.delete(7, b"flow.night", 500).unwrap();
+    /// let node = table.node_state(7).unwrap();
+    /// assert_eq!(node.num_key_values(), 2);
+    /// ```
     pub fn num_key_values(&self) -> usize {
         self.key_values().count()
     }
 
-    /// The records that are not deleted and whose keys begin with the prefix, in key order: [`Refusal::TooLong`].
+    /// The records that are not deleted and whose keys begin with the prefix, in key order.
+    ///
+    /// # Errors
+    ///
+    /// [`Refusal::TooLong`].
+    ///
+    /// ```
+    /// # use kevdarosh::{Mode, OwnedTable, Wanted};
+    /// let mut table = OwnedTable::new(Mode::Plain);
+    /// table.add_node(7).unwrap();
+    /// table.write(7, b"flow.day", b"11", Wanted::Set).unwrap();
+    /// table.write(7, b"flow.night", b"3", Wanted::Set).unwrap();
+    /// table.write(7, b"total", b"88", Wanted::Set).unwrap();
+    /// table.delete(7, b"flow.night", 500).unwrap();
+    /// let node = table.node_state(7).unwrap();
+    /// assert_eq!(node.iter_prefix(b"flow.").unwrap().map(|record| record.key).collect::<Vec<_>>(), [b"flow.day"]);
+    /// ```
     pub fn iter_prefix(&self, prefix: &[u8]) -> Result<impl DoubleEndedIterator<Item = Record<'a>> + use<'a, S>, Refusal> {
-        let rows = ffi::prefix_rows(&self.table.store, self.node, prefix);
+        let rows = ffi::prefix_rows(&self.table, self.node, prefix);
         accepted(rows.number)?;
-        Ok(Records::of(self.table.store.bytes(), rows).filter(|record| !record.is_hidden()))
+        Ok(Records::of(self.table.all(), rows).filter(|record| !record.is_hidden()))
     }
 }
 

@@ -68,20 +68,20 @@ macro_rules! story {
         assert_eq!((read.len(), read.is_empty(), read.rest().len()), (8, false, DIGEST - bytes));
         assert_eq!(read.nodes().map(|node| (node.node, node.max_version)).take(3).collect::<Vec<_>>(), [(3, 0), (7, 5), (20, 32)]);
         let fault = |refusal, at, need| Fault { refusal, at, need };
-        assert_eq!(Digest::read(Edition::V0, &[1]).err(), Some(fault(Refusal::Cut, 0, 1)));
-        assert_eq!(Digest::read(Edition::V0, &[9, 0]).err(), Some(fault(Refusal::TooMany, 0, 0)));
-        assert_eq!(Digest::read(Edition::V1, &[0; 33]).err(), Some(fault(Refusal::Cut, 0, 7)));
-        assert_eq!(Digest::read(Edition::V1, &[0; 9 * 32]).err(), Some(fault(Refusal::TooMany, 0, 0)));
+        assert_eq!(Digest::read(Edition::V0, &[1]).err(), Some(fault(Refusal::Cut, None, 1)));
+        assert_eq!(Digest::read(Edition::V0, &[9, 0]).err(), Some(fault(Refusal::TooMany, None, 0)));
+        assert_eq!(Digest::read(Edition::V1, &[0; 33]).err(), Some(fault(Refusal::Cut, None, 7)));
+        assert_eq!(Digest::read(Edition::V1, &[0; 9 * 32]).err(), Some(fault(Refusal::TooMany, None, 0)));
         assert_eq!(Digest::read(Edition::V1, &digest[2..bytes]).unwrap().nodes().collect::<Vec<_>>(), read.nodes().collect::<Vec<_>>());
         let mut second = [0; DIGEST];
         assert_eq!(table.compute_digest(Edition::V1, &[], &mut second), Ok(bytes - 2));
         assert_eq!(second[..bytes - 2], digest[2..bytes]);
         let ties = [0; 8];
         let mut compute = |digest: &[u8], mtu: usize, ties: &[u64]| table.compute_partial_delta_respecting_mtu(Edition::V0, digest, mtu, &[3], ties, &mut delta);
-        assert_eq!(compute(&[0, 0], 99, &ties), Err(fault(Refusal::BadMtu, 0, 0)));
-        assert_eq!(compute(&[0, 0], 1_401, &ties), Err(fault(Refusal::NoPlace, 0, 0)));
-        assert_eq!(compute(&[0, 0], 1_400, &ties[1..]), Err(fault(Refusal::BadTies, 0, 0)));
-        assert_eq!(compute(&[0], 1_400, &ties), Err(fault(Refusal::Cut, 0, 1)));
+        assert_eq!(compute(&[0, 0], 99, &ties), Err(fault(Refusal::BadMtu, None, 0)));
+        assert_eq!(compute(&[0, 0], 1_401, &ties), Err(fault(Refusal::NoPlace, None, 0)));
+        assert_eq!(compute(&[0, 0], 1_400, &ties[1..]), Err(fault(Refusal::BadTies, None, 0)));
+        assert_eq!(compute(&[0], 1_400, &ties), Err(fault(Refusal::Cut, None, 1)));
         let sent = compute(&[0, 0], 1_400, &ties).unwrap();
         assert_eq!(read_delta(&delta[..sent.bytes]).unwrap().ops, sent.ops);
         let mut text = vec![0; LISTING];
@@ -94,12 +94,12 @@ macro_rules! story {
         again.fill(238);
         assert_eq!(make_delta(&text[..listed - 1], &mut again), Err(ListingRefused::Line(sent.ops + 1)));
         let unplaced = make_delta(&text[..listed], &mut again[..sent.bytes - 1]).unwrap_err();
-        assert_eq!((unplaced, unplaced.number()), (ListingRefused::Delta(fault(Refusal::NoPlace, 0, 0)), 8));
+        assert_eq!((unplaced, unplaced.number()), (ListingRefused::Delta(fault(Refusal::NoPlace, None, 0)), 8));
         let unordered = make_delta(b"op=max version=5\nend=ok ops=1 bytes=9\n", &mut again).unwrap_err();
-        assert_eq!(unordered, ListingRefused::Delta(fault(Refusal::OutOfOrder, 0, 0)));
+        assert_eq!(unordered, ListingRefused::Delta(fault(Refusal::OutOfOrder, Some(0), 0)));
         assert!(again.iter().all(|&byte| byte == 238));
         for (bytes, refusal, at) in [(&[3][..], Refusal::BadTag, 0), (&[0; 50], Refusal::NodeTwice, 25), (&[2; 9], Refusal::OutOfOrder, 0), (&[0; 16_385], Refusal::TooMany, 0)] {
-            let fault = fault(refusal, at, 0);
+            let fault = fault(refusal, Some(at), 0);
             assert_eq!((read_delta(bytes).err(), table.apply_delta(bytes, 0).err()), (Some(fault), Some(fault)));
         }
         let answers = table.apply_delta(&delta[..sent.bytes], 0).unwrap();
@@ -207,8 +207,14 @@ fn numbers_and_words() {
         assert!(!refusal.to_string().is_empty());
     }
     assert_eq!(Refusal::of_number(0), None);
-    let error: &dyn std::error::Error = &Fault { refusal: Refusal::Cut, at: 3, need: 2 };
+    let error: &dyn std::error::Error = &Fault { refusal: Refusal::Cut, at: Some(3), need: 2 };
     assert_eq!(error.to_string(), "the bytes end inside a field, at byte 3, 2 bytes are lacking");
+    // Where there is no delta there is no place to speak of.
+    let table = OwnedTable::new(Mode::Plain);
+    let refused = table.compute_partial_delta_respecting_mtu(Edition::V0, &[0, 0], 99, &[], &[], &mut [0; 99]).unwrap_err();
+    assert_eq!(refused.to_string(), "an MTU below 100 or above 16,384");
+    assert_eq!(Digest::read(Edition::V0, &[1]).unwrap_err().to_string(), "the bytes end inside a field, 1 byte is lacking");
+    assert_eq!(LentTable::over(&mut [0; 9]).apply_delta(&[], 0).unwrap_err().at, None);
 }
 
 /// Going through records reads them in the table's bytes: each must be what the call for that record tells, in a full node with keys and values of every
