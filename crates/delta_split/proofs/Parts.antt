@@ -23,7 +23,7 @@ use Rattle.rules.specs.Apply.{ApplyOutcome, Lawful, Stream, Taking, Ways, apply
 use Rattle.rules.specs.Profile.{Kind}
 use Rattle.rules.specs.declared.NodeAnswer.{NodeAnswer}
 use Rattle.rules.specs.declared.Applied.the-variants as applied
-use Rattle.rules.proofs.Deltas.{read-delta, delta-is}
+use Rattle.rules.proofs.Deltas.{AllSmall, Chain, read-delta, delta-is}
 use Rattle.profiles.proofs.Reading.{delta-formed, delta-plain, form-first, form-second}
 use Rattle.delta_split.specs.Split.{nodeTags, cutPlaces, wanted, inOrder, reversed, given, AsUncut, FromNode, Cuttable}
 use Rattle.delta_split.proofs.Cutting.{parts-cut, bytes-cut, small-first, small-second, chain-first, chain-second, parts-apart}
@@ -31,12 +31,12 @@ use Rattle.delta_split.proofs.Each.{Apart, each-append, each-swapped}
 
 -- ---- the operations on both sides of a Node's tag
 
-record CutOps (a place : ℕ) (ops : List Op) : Type 0 where
-  first : List Op
-  second : List Op
-  ops-are : ops ≡ first ++ second
-  from-node : FromNode second
-  place-is : place ≡ a + length (deltaBytes first)
+pub record CutOps (a place : ℕ) (ops : List Op) : Type 0 where
+  pub first : List Op
+  pub second : List Op
+  pub ops-are : ops ≡ first ++ second
+  pub from-node : FromNode second
+  pub place-is : place ≡ a + length (deltaBytes first)
 
 -- one operation more before them
 with-first : (a place : ℕ) (o : Op) (ops : List Op) → CutOps (a + sizeOf o) place ops → CutOps a place (o ∷ ops)
@@ -50,7 +50,7 @@ with-first a place o ops c =
       place-is = c .place-is ∙ rw (length-append (opBytes o) (flat opBytes (c .first))) (omega arith);
     }
 
-tag-cuts : (a place : ℕ) (ops : List Op) → place ∈ nodeTags a ops → CutOps a place ops
+pub tag-cuts : (a place : ℕ) (ops : List Op) → place ∈ nodeTags a ops → CutOps a place ops
 unfolding nodeTags deltaBytes flat
 tag-cuts a place [] m = absurd (in-none m)
 tag-cuts a place (NodeOp n g f ∷ ops) (here e) = record { first = []; second = NodeOp n g f ∷ ops; ops-are = refl; from-node = tt; place-is = e ∙ sym (add-zero a) }
@@ -60,14 +60,17 @@ tag-cuts a place (SetMaxVersionOp x ∷ ops) m = with-first a place (SetMaxVersi
 
 -- ---- document 01's reading, of both parts
 
+pub read-both : (xs ys : List Op) → FromNode ys → Chain nothingRead (xs ++ ys) → AllSmall (xs ++ ys) → length (deltaBytes (xs ++ ys)) ≤ maxDelta
+    → (readDelta (deltaBytes xs) ≡ Good xs) × (readDelta (deltaBytes ys) ≡ Good ys)
+read-both xs ys k chain small short =
+    let long : length (deltaBytes xs) + length (deltaBytes ys) ≤ maxDelta = subst (λ (n : ℕ). n ≤ maxDelta) (ap length (bytes-cut xs ys) ∙ length-append (deltaBytes xs) (deltaBytes ys)) short in (
+      read-delta xs (chain-first nothingRead xs ys chain) (small-first xs ys small) (omega arith),
+      read-delta ys (chain-second nothingRead xs ys k chain) (small-second xs ys small) (omega arith),
+    )
+
 pub read-parts : (xs ys : List Op) → FromNode ys → AreBytes (deltaBytes (xs ++ ys)) → readDelta (deltaBytes (xs ++ ys)) ≡ Good (xs ++ ys)
     → (readDelta (deltaBytes xs) ≡ Good xs) × (readDelta (deltaBytes ys) ≡ Good ys)
-read-parts xs ys k are r =
-    let d = delta-is (deltaBytes (xs ++ ys)) (xs ++ ys) are r in
-    let long : length (deltaBytes xs) + length (deltaBytes ys) ≤ maxDelta = subst (λ (n : ℕ). n ≤ maxDelta) (ap length (bytes-cut xs ys) ∙ length-append (deltaBytes xs) (deltaBytes ys)) (d .1) in (
-      read-delta xs (chain-first nothingRead xs ys (d .0 .chain)) (small-first xs ys (d .0 .small)) (omega arith),
-      read-delta ys (chain-second nothingRead xs ys k (d .0 .chain)) (small-second xs ys (d .0 .small)) (omega arith),
-    )
+read-parts xs ys k are r = let d = delta-is (deltaBytes (xs ++ ys)) (xs ++ ys) are r in read-both xs ys k (d .0 .chain) (d .0 .small) (d .1)
 
 -- ---- a call that is accepted
 

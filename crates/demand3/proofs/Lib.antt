@@ -8,6 +8,7 @@ pub mod Computing
 pub mod Needed
 pub mod OneNode
 pub mod EachNode
+pub mod Parted
 pub mod OnTheWay
 pub mod Nearer
 pub mod Planned
