@@ -11,14 +11,17 @@ use lib.Dec.{eqb, leb}
 use lib.ListN.{drop, length, take}
 use lib.Seq.{drop-at, take-at}
 use borrow.Author.Tests.{eqb-false, leb-true, ne-eqb}
-use Rattle.fields.specs.Choice.{here, later, pick, _∈_}
+use Rattle.fields.specs.Choice.{all, here, later, pick, _∈_}
 use Rattle.rules.specs.Delta.{Faulty, Good, NodeDelta, Op, Ops, Part, deltaBytes, nothingRead, partsOf, readDelta, readOps}
+use Rattle.rules.specs.Profile.{opInForm, readDeltaAs}
 use Rattle.rules.specs.Sizes.{maxDelta}
 use Rattle.rules.specs.Table.{among}
+use Rattle.rules.specs.declared.Profile.{Profile}
 use Rattle.rules.specs.declared.Refusal.the-variants.{TooMany}
 use Rattle.rules.proofs.Deltas.{AllSmall, Chain}
 use Rattle.rules.proofs.Obeys.{among-in}
 use Rattle.rules.proofs.Tables.{part-in, partAt}
+use Rattle.profiles.proofs.Reading.{delta-formed, delta-plain, form-first, form-second}
 use Rattle.delta_split.specs.Split.{cutPlaces}
 use Rattle.delta_split.proofs.Cutting.{bytes-cut, chain-first, chain-second, parts-apart, parts-cut, small-first, small-second}
 use Rattle.delta_split.proofs.Each.{Apart}
@@ -30,10 +33,15 @@ use Rattle.demand3.specs.World.{Before, Cut, DeltaSent, Exchange, From, 
 abbrev pub ReadsWell : List ℕ → Type 0
 ReadsWell b = (ops : List Op) × (readDelta b ≡ Good ops) × Chain nothingRead ops × AllSmall ops × (deltaBytes ops ≡ b)
 
+-- these bytes are a delta to a table of the profile
+abbrev pub IsRead : Profile → List ℕ → Type 0
+IsRead p b = (ops : List Op) × (readDeltaAs p b ≡ Good ops)
+
 -- c is b, or what gateways leave of it
 pub record Parted (b c : List ℕ) : Type 0 where
   pub reads : ReadsWell c
   pub each : (i : ℕ) (d : NodeDelta) → partAt i (partsOf (reads .0)) ≡ some d → partAt i (partsIn (readDelta b)) ≡ some d
+  pub in-form : (p : Profile) → IsRead p b → IsRead p c
 
 -- ---- a node's part in one of two lists
 
@@ -64,6 +72,9 @@ short b ops e = go (leb (length b) maxDelta) refl e
     go : (t : Bool) → leb (length b) maxDelta ≡ t → pick t (readOps (length b) 0 nothingRead b) (Faulty TooMany 0) ≡ Good ops → length b ≤ maxDelta
     go true q e = leb-true _ _ q
     go false q e = let z : _≡_ {A = ℕ} 0 1 = cc in absurd (omega arith)
+
+good-is : (xs ys : List Op) → Good xs ≡ Good ys → xs ≡ ys
+good-is xs ys e = cc
 
 module _ (b : List ℕ) (r : ReadsWell b) (at : ℕ) (m : at ∈ cutPlaces (readDelta b)) where
   cut : CutOps 0 at (r .0)
@@ -103,11 +114,19 @@ module _ (b : List ℕ) (r : ReadsWell b) (at : ℕ) (m : at ∈ cutPlaces (read
   rest-is : drop at b ≡ deltaBytes ys
   rest-is = ap (drop at) two ∙ drop-at (deltaBytes xs) (deltaBytes ys) at long
 
+  -- and what is in form is so in both
+  both-formed : (p : Profile) → IsRead p b → all (opInForm p) (xs ++ ys) ≡ true
+  both-formed p q =
+      let z = delta-plain p b (q .0) (q .1) in
+      let same : q .0 ≡ r .0 = good-is (q .0) (r .0) (sym (z .0) ∙ r .1) in
+      subst (λ (l : List Op). all (opInForm p) l ≡ true) (same ∙ cut .ops-are) (z .1)
+
   front : Parted b (take at b)
   front =
       record {
         reads = (xs, ap readDelta front-is ∙ both .0, chain-first nothingRead xs ys chain, small-first xs ys small, sym front-is);
         each = λ i d q. all-parts i ∙ at-first i (partsOf xs) (partsOf ys) q;
+        in-form = λ p q. (xs, delta-formed p (take at b) xs (form-first p xs ys (both-formed p q)) (ap readDelta front-is ∙ both .0));
       }
 
   rest : Parted b (drop at b)
@@ -115,23 +134,28 @@ module _ (b : List ℕ) (r : ReadsWell b) (at : ℕ) (m : at ∈ cutPlaces (read
       record {
         reads = (ys, ap readDelta rest-is ∙ both .1, chain-second nothingRead xs ys (cut .from-node) chain, small-second xs ys small, sym rest-is);
         each = λ i d q. all-parts i ∙ at-second i (partsOf xs) (partsOf ys) (parts-apart nothingRead xs ys chain) q;
+        in-form = λ p q. (ys, delta-formed p (drop at b) ys (form-second p xs ys (both-formed p q)) (ap readDelta rest-is ∙ both .1));
       }
 
 -- ---- any number of them
 
 pub uncut : (b : List ℕ) → ReadsWell b → Parted b b
-uncut b r = record { reads = r; each = λ i d q. ap (λ (o : Ops). partAt i (partsIn o)) (r .1) ∙ q }
+uncut b r = record { reads = r; each = λ i d q. ap (λ (o : Ops). partAt i (partsIn o)) (r .1) ∙ q; in-form = λ p q. q }
 
 again : (b c e : List ℕ) → Parted b c → Parted c e → Parted b e
-again b c e p q = record { reads = q .reads; each = λ i d x. p .each i d (sym (ap (λ (o : Ops). partAt i (partsIn o)) (p .reads .1)) ∙ q .each i d x) }
+again b c e p q = record { reads = q .reads; each = λ i d x. p .each i d (sym (ap (λ (o : Ops). partAt i (partsIn o)) (p .reads .1)) ∙ q .each i d x); in-form = λ k x. q .in-form k (p .in-form k x) }
+
+-- a node's part in it is the whole's, as that was read
+pub at-whole : (b c : List ℕ) (r : ReadsWell b) (p : Parted b c) (i : ℕ) (d : NodeDelta) → partAt i (partsOf (p .reads .0)) ≡ some d → partAt i (partsOf (r .0)) ≡ some d
+at-whole b c r p i d q = sym (ap (λ (o : Ops). partAt i (partsIn o)) (r .1)) ∙ p .each i d q
 
 module _ (P : Exchange → Type 0) (nothing : P Idle) where
-  cut-nothing : (cs : List Cut) → P (cutBy cs Idle)
+  pub cut-nothing : (cs : List Cut) → P (cutBy cs Idle)
   unfolding cutBy
   cut-nothing [] = nothing
   cut-nothing (c ∷ cs) = cut-nothing cs
 
-  cut-delta : (cs : List Cut) (b c : List ℕ) → Parted b c → ((e : List ℕ) → Parted b e → P (DeltaSent e)) → P (cutBy cs (DeltaSent c))
+  pub cut-delta : (cs : List Cut) (b c : List ℕ) → Parted b c → ((e : List ℕ) → Parted b e → P (DeltaSent e)) → P (cutBy cs (DeltaSent c))
   unfolding cutBy
   cut-delta [] b c p f = f c p
   cut-delta (Before at ∷ cs) b c p f = go (among at (cutPlaces (readDelta c))) refl (λ y. cut-delta cs b (take at c) y f)
@@ -154,3 +178,11 @@ module _ (P : Exchange → Type 0) (nothing : P Idle) where
   -- one of all deltas that were ever computed, or a part of one, or nothing
   pub nth-sent : (k : Which) (ss : List (List ℕ)) → ((b : List ℕ) → b ∈ ss → ReadsWell b) → ((b c : List ℕ) → b ∈ ss → Parted b c → P (DeltaSent c)) → P (arrives k ss)
   nth-sent k ss r f = cut-nth (k .cuts) (k .delta) ss r f
+
+-- what holds of every part holds of whatever arrives
+pub arrived-so : (Q : List ℕ → Type 0) (k : Which) (ss : List (List ℕ)) → ((b : List ℕ) → b ∈ ss → ReadsWell b) → ((b c : List ℕ) → b ∈ ss → Parted b c → Q c) → (c : List ℕ) → arrives k ss ≡ DeltaSent c → Q c
+arrived-so Q k ss r f c e =
+    nth-sent (λ x. x ≡ DeltaSent c → Q c) (λ q. let z : _≡_ {A = ℕ} 0 1 = cc in absurd (omega arith)) k ss r (λ b a m p q. subst Q (same a q) (f b a m p)) e
+  where
+    same : (a : List ℕ) → DeltaSent a ≡ DeltaSent c → a ≡ c
+    same a q = cc

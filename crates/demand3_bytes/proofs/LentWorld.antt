@@ -35,10 +35,11 @@ use Rattle.profiles.proofs.Kept.{apply-formed, beat-formed, call-formed, offer-
 use Rattle.profiles.proofs.Lawful.{kind-lawful}
 use Rattle.demand3.specs.Demand3.{allQuiet, quiet}
 use Rattle.demand3.specs.Forms.{Order, Removal, computeBy, lentComputeBy, lentRemovedBy, removedBy}
-use Rattle.demand3.specs.World.{Applying, Arriving, Beating, Computing, DeltaSent, DigestSent, Digesting, Event, Exchange, Followers, Idle, Offering, Publishers, Removing, Sending, Side, World, Writing, after, afterDelta, afterDigest, calls, computedFor, appliedTo, freshTable, givenAs, givenIn, happen, nthSent, onExchange, onSent, onSide, possible, sentAfter, sentOn, start, unlessRefused}
-use Rattle.demand3.proofs.Formed.{IsRead, removal-formed, sent-read}
+use Rattle.demand3.specs.World.{Applying, Arriving, Beating, Computing, DeltaSent, DigestSent, Digesting, Event, Exchange, Followers, Idle, Offering, Publishers, Removing, Sending, Side, World, Writing, after, afterDelta, afterDigest, calls, computedFor, appliedTo, arrives, freshTable, givenAs, givenIn, happen, onExchange, onSent, onSide, possible, sentAfter, sentOn, start, unlessRefused}
+use Rattle.demand3.proofs.Formed.{removal-formed, sent-read}
 use Rattle.demand3.proofs.Forms.{comes, lent-computing, lent-removal}
 use Rattle.demand3.proofs.Moments.{InOrder, moment-start, next-event}
+use Rattle.demand3.proofs.Parted.{IsRead, ReadsWell}
 use Rattle.table.proofs.Encoded.{apply-whole, from-whole, on-whole, whole-whole}
 use Rattle.table.proofs.Wholes.{decode-encode-whole, without-memory}
 use Rattle.demand3_bytes.specs.LentWorld.{LentWorld, kindIn, lentAfter, lentApplied, lentCalls, lentComputed, lentHappen, lentSentOn, lentStart, ofKind, onLent, onWay}
@@ -209,7 +210,7 @@ module _ (pk fk : Kind) where
     calls-lent (Applying now answers) g = ap (λ (l : List ℕ). onLent Followers (λ m. l) (lent w)) (applied-lent now answers (w .exchange))
     calls-lent (Sending edition digest excluded order mtu place d) g =
         ap (λ (o : Given Computed (List ℕ)). onWay (w .exchange) (sentAfter place (o .lent) (o .answer) (w .sent)) (lent w)) (computed-lent edition digest excluded order mtu place d)
-    calls-lent (Arriving k now answers) g = ap (λ (l : List ℕ). onLent Followers (λ m. l) (lent w)) (applied-lent now answers (nthSent k (w .sent)))
+    calls-lent (Arriving k now answers) g = ap (λ (l : List ℕ). onLent Followers (λ m. l) (lent w)) (applied-lent now answers (arrives k (w .sent)))
 
     -- ---- and keeps in form
 
@@ -226,9 +227,9 @@ module _ (pk fk : Kind) where
           sent = λ b m. go b (sent-read (pk .profile) edition excluded order mtu place digest (w .publisher) d (w .sent) _ (form .publisher) (comes edition excluded order mtu place digest (w .publisher) d p) b m);
         }
       where
-        go : (b : List ℕ) → (b ∈ w .sent) ⊎ IsRead (pk .profile) b → IsRead (pk .profile) b
+        go : (b : List ℕ) → (b ∈ w .sent) ⊎ (IsRead (pk .profile) b × ReadsWell b) → IsRead (pk .profile) b
         go b (inl m) = form .sent b m
-        go b (inr r) = r
+        go b (inr r) = r .0
 
     applied-formed : (now : ℕ) (answers : List ℕ) (x : Exchange) → Formed (onSide Followers (appliedTo ways now answers x) w)
     applied-formed now answers Idle = form
@@ -249,7 +250,7 @@ module _ (pk fk : Kind) where
         go (DeltaSent b) = record { publisher = form .publisher; follower = form .follower; sent = form .sent }
     calls-formed (Applying now answers) g = applied-formed now answers (w .exchange)
     calls-formed (Sending edition digest excluded order mtu place d) g = more-sent (w .exchange) edition digest excluded order mtu place d
-    calls-formed (Arriving k now answers) g = applied-formed now answers (nthSent k (w .sent))
+    calls-formed (Arriving k now answers) g = applied-formed now answers (arrives k (w .sent))
 
     -- ---- an event
 

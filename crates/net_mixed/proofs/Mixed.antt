@@ -31,16 +31,16 @@ use Rattle.rules.specs.declared.Computed.the-variants as computed
 use Rattle.rules.specs.declared.Heartbeat.{Heartbeat}
 use Rattle.demand3.proofs.EachNode.{nodeAt, orFresh, partsIn}
 use Rattle.demand3.proofs.Honest.{gc-within}
-use Rattle.demand3.proofs.Moments.{nth-sent}
+use Rattle.demand3.proofs.Parted.{Parted, nth-sent}
 use Rattle.demand3.proofs.Forms.{Comes, comes, refuses, writes}
 use Rattle.demand3.proofs.OnTheWay.{PartFor, Sendable}
 use Rattle.demand3.proofs.OneNode.{bounded-apply, rises-apply, rises-remove}
 use Rattle.demand3.proofs.Publisher.{Publisher}
 use Rattle.demand3.specs.Demand3.{Rises}
 use Rattle.demand3.specs.Forms.{Order, computeBy, opsBy}
-use Rattle.demand3.specs.World.{DeltaSent, DigestSent, Exchange, Idle, afterDelta, appliedTo, sentAfter}
+use Rattle.demand3.specs.World.{DeltaSent, DigestSent, Exchange, Idle, Which, afterDelta, appliedTo, sentAfter}
 use Rattle.net.proofs.Each.{Each, each-add, each-beat, each-call, each-drop, each-hub, each-offer, each-remove, each-same, each-taken}
-use Rattle.net.proofs.Moments.{Carries, MayCome, Moment, arrived, moment-begin, moment-calls, placed-in, same-table}
+use Rattle.net.proofs.Moments.{Carries, MayCome, Moment, arrived, moment-begin, moment-calls, part-carried, placed-in, same-table}
 use Rattle.net.proofs.Safe.{sound}
 use Rattle.net.specs.Net.{Adding, Arriving, Beating, Computing, Dropping, Event, Net, NetSound, Offering, Removing, Restoring, Saving, Writing, calls, happen, placed, possible, restored, withTable}
 use Rattle.net_mixed.specs.Mixed.{Asking, Cast, Doing, Hearing, Mixed, Ordinary, Right, allowed, doing, flightsAfter, mayAsk, run, start}
@@ -198,15 +198,15 @@ module _ (c : Cast) where
     on-hub : (x : ℕ) (u : Table) → Each v Moved moved-same x u → Moment owner (withTable x u v) → Fine (record { net = withTable x u v; flights = w .flights })
     on-hub x u e moment = fine-moved (withTable x u v) moment (λ y. each-hub v Moved moved-same x u e y) (λ b m. m) (λ y t m. inl m)
 
-    fine-arriving : (x k now : ℕ) (l : List ℕ) → c .plan .ways x .late ≡ true → Moment owner (calls (c .plan) (Arriving x k now l) v) → Fine (record { net = calls (c .plan) (Arriving x k now l) v; flights = w .flights })
-    fine-arriving x k now l late moment = on-hub x _ (nth-sent (λ d. Each v Moved moved-same x (appliedTo ways now l d (v .hubs x))) (each-same v Moved moved-same x) k (v .sent) taken) moment
+    fine-arriving : (x : ℕ) (k : Which) (now : ℕ) (l : List ℕ) → c .plan .ways x .late ≡ true → Moment owner (calls (c .plan) (Arriving x k now l) v) → Fine (record { net = calls (c .plan) (Arriving x k now l) v; flights = w .flights })
+    fine-arriving x k now l late moment = on-hub x _ (nth-sent (λ d. Each v Moved moved-same x (appliedTo ways now l d (v .hubs x))) (each-same v Moved moved-same x) k (v .sent) (λ b m. ok .moment .sent b m .reads) taken) moment
       where
         ways : Ways
         ways = c .plan .ways x
 
-        taken : (b : List ℕ) → b ∈ v .sent → Each v Moved moved-same x (apply ways b now (v .hubs x) l .table)
-        taken b m =
-            each-taken v Moved moved-same ways (right .lawful x) x now l b (v .given) (ok .moment .sent b m)
+        taken : (b e : List ℕ) → b ∈ v .sent → Parted b e → Each v Moved moved-same x (apply ways e now (v .hubs x) l .table)
+        taken b e m y =
+            each-taken v Moved moved-same ways (right .lawful x) x now l e (v .given) (part-carried (v .given) b e (ok .moment .sent b m) y)
             (λ i d q.
             let n : Node = nodeAt i (v .hubs x) in
             (λ s. gc-up n (applyNode ways now d n .node) (rises-apply ways now d n), λ p. absurd (true≢false (sym late ∙ p))))

@@ -11,6 +11,7 @@ use Rattle.rules.specs.declared.Profile.the-variants.{Free}
 use Rattle.rules.specs.declared.Status.the-variants.{Set}
 use Rattle.demand3.proofs.EachNode.{nodeAt}
 use Rattle.demand3.specs.Forms.{ByClock, InLine}
+use Rattle.demand3.specs.World.{intact}
 use Rattle.net.specs.Net.{Adding, Arriving, Computing, Dropping, Event, Net, Plan, Removing, Restoring, Saving, Writing, after, begin, withTable}
 
 -- hub 0 owns every node, and all hubs apply in the same ways, in the free profile
@@ -42,7 +43,7 @@ abbrev pub told : ℕ → ℕ → List NodeDigest
 told g m = record { number = 7; heartbeat = beats 0; last-gc = g; max = m } ∷ []
 
 abbrev hearsWithin : ℕ → ℕ → ℕ → ℕ → ℕ → List Event
-hearsWithin mtu x y g m = Computing y 0 (digestBytes 0 (told g m)) [] (InLine (0 ∷ [])) mtu 0 (replicate 300 0) ∷ Arriving x 0 50 (0 ∷ []) ∷ []
+hearsWithin mtu x y g m = Computing y 0 (digestBytes 0 (told g m)) [] (InLine (0 ∷ [])) mtu 0 (replicate 300 0) ∷ Arriving x (intact 0) 50 (0 ∷ []) ∷ []
 
 abbrev pub hears : ℕ → ℕ → ℕ → ℕ → List Event
 hears x y g m = hearsWithin 300 x y g m
@@ -142,7 +143,7 @@ heardAgain = backForAWhile ++ hears 1 0 3 1
 
 -- Hub 1 hears hub 0 twice, before and after b is deleted; it removes the node and adds it, and the first delta comes again
 abbrev pub readded : List Event
-readded = began ++ (hears 1 0 0 0 ++ (Writing 0 7 b (Deleting 0) ∷ (hears 1 0 0 2 ++ (Dropping 1 7 ∷ Adding 1 7 ∷ Arriving 1 1 50 (0 ∷ []) ∷ []))))
+readded = began ++ (hears 1 0 0 0 ++ (Writing 0 7 b (Deleting 0) ∷ (hears 1 0 0 2 ++ (Dropping 1 7 ∷ Adding 1 7 ∷ Arriving 1 (intact 1) 50 (0 ∷ []) ∷ []))))
 
 -- ---- a plain leaf whose one neighbour is not steady
 
@@ -169,7 +170,7 @@ leafRestored = leafBegan (Saving 1 ∷ []) ++ (Restoring 1 0 ∷ leafEnds)
 
 -- or it removed the node and added it, and the first delta came again
 abbrev pub leafReadded : List Event
-leafReadded = leafBegan [] ++ (Dropping 1 7 ∷ Adding 1 7 ∷ Arriving 1 2 50 (0 ∷ []) ∷ leafEnds)
+leafReadded = leafBegan [] ++ (Dropping 1 7 ∷ Adding 1 7 ∷ Arriving 1 (intact 2) 50 (0 ∷ []) ∷ leafEnds)
 
 -- ---- four hubs that lock
 
@@ -179,7 +180,7 @@ toldBoth g m k n = record { number = 7; heartbeat = beats 0; last-gc = g; max = 
 
 -- the hub tells this of itself, and the other leaves out these nodes
 abbrev hearsBoth : List ℕ → ℕ → ℕ → ℕ → List NodeDigest → List Event
-hearsBoth out mtu x y ds = Computing y 0 (digestBytes 0 ds) out (InLine (0 ∷ 0 ∷ [])) mtu 0 (replicate 300 0) ∷ Arriving x 0 0 (0 ∷ 0 ∷ []) ∷ []
+hearsBoth out mtu x y ds = Computing y 0 (digestBytes 0 ds) out (InLine (0 ∷ 0 ∷ [])) mtu 0 (replicate 300 0) ∷ Arriving x (intact 0) 0 (0 ∷ 0 ∷ []) ∷ []
 
 -- values of 64 bytes: under an MTU of 135 one record goes over
 abbrev long : List ℕ
