@@ -14,7 +14,7 @@ use Rattle.fields.specs.Choice.{_∈_, all, pick}
 use Rattle.fields.specs.Parts.{part, put}
 use Rattle.rules.specs.Apply.{ApplyOutcome, applyEach, applyNode, applyOps, apply, codes, waysIn}
 use Rattle.rules.specs.Compute.{StaleNode, staleNodes, staleOf}
-use Rattle.rules.specs.Delta.{Good, Op, Ops, Part, deltaBytes, partsOf}
+use Rattle.rules.specs.Delta.{Op, Ops, Part, deltaBytes, partsOf}
 use Rattle.rules.specs.Digest.{NodeDigest}
 use Rattle.rules.specs.Given.{Given}
 use Rattle.rules.specs.Local.{call, callAs, unlessGuarded}

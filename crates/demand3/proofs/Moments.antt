@@ -9,10 +9,10 @@ use mathlib.Core.Path.{_∙_, _≡_, ap, refl, subst, sym}
 use lib.Dec.{eqb}
 use borrow.Author.Tests.{ltb-true}
 use Rattle.fields.proofs.Choice.{and-left, and-right, in-cons, in-none}
-use Rattle.fields.specs.Choice.{here, later, pick, _∈_}
+use Rattle.fields.specs.Choice.{here, pick, _∈_}
 use Rattle.rules.specs.Given.{Given}
 use Rattle.rules.proofs.Calls.{beat-keeps, call-keeps, numbers-beat, numbers-call, numbers-offer, offer-keeps, ok-each, ok-remove-all}
-use Rattle.rules.proofs.Deltas.{AllSmall, Chain, follow-node}
+use Rattle.rules.proofs.Deltas.{Chain, follow-node}
 use Rattle.rules.proofs.Keeps.{ClockFits}
 use Rattle.rules.proofs.Obeys.{OkTable, facts-table, in-among, table-facts}
 use Rattle.rules.proofs.Received.{OkDelta, parts-new, parts-ok}

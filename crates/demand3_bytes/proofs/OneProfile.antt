@@ -6,7 +6,7 @@ use mathlib.Core.Path.{_∙_, _≡_, ap, refl, subst, sym}
 use native.Mathlib.Omega.{arith}
 use lib.Dec.{leb}
 use lib.ListN.{length}
-use Rattle.fields.specs.Choice.{_∈_, pick}
+use Rattle.fields.specs.Choice.{pick}
 use Rattle.rules.specs.Apply.{Taking, Ways, apply, applyNode, applyOps, applyParts, waysIn, waysOf}
 use Rattle.rules.specs.Delta.{NodeDelta, Ops, Part, partsOf, readDelta}
 use Rattle.rules.specs.Digest.{digestBytes, digestOf, isEdition}

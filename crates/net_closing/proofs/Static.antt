@@ -18,7 +18,7 @@ use Rattle.rules.proofs.Sending.{nodeDelta}
 use Rattle.rules.proofs.Tables.{partAt}
 use Rattle.rules.proofs.Taking.{Came, came, left, reset, took}
 use Rattle.rules.specs.Apply.{applyNode, outcome}
-use Rattle.rules.specs.Delta.{NodeDelta, Ops, deltaBytes, partsOf, readDelta}
+use Rattle.rules.specs.Delta.{NodeDelta, Ops, deltaBytes, readDelta}
 use Rattle.rules.specs.Given.{Given}
 use Rattle.rules.specs.Node.{Decision, Give, Leave, Node, Rec, Refuse, act, due, lastGc, remove, withHeartbeat, write}
 use Rattle.rules.specs.Table.{Table, nodeOf}

@@ -11,7 +11,7 @@ use Rattle.rules.specs.declared.Profile.the-variants.{Free}
 use Rattle.rules.specs.declared.Status.the-variants.{Set}
 use Rattle.demand3.proofs.EachNode.{nodeAt}
 use Rattle.demand3.specs.Forms.{ByClock, InLine}
-use Rattle.demand3.specs.World.{intact}
+use Rattle.demand3.specs.World.{Before, From, intact}
 use Rattle.net.specs.Net.{Adding, Arriving, Computing, Dropping, Event, Net, Plan, Removing, Restoring, Saving, Writing, after, begin, withTable}
 
 -- hub 0 owns every node, and all hubs apply in the same ways, in the free profile
@@ -217,3 +217,24 @@ unlocking =
 -- the pair of node 8
 abbrev pub pairAtEight : ℕ → Net → List ℕ
 pairAtEight x w = nodeAt 8 (w .hubs x) .last-gc ∷ nodeAt 8 (w .hubs x) .max ∷ []
+
+-- ---- a gateway
+
+-- Hub 0 sets a and b in node 7, and those and c in node 8, and computes one delta of both for hubs that have nothing. The Node operation of node 8 starts at its byte 57; a gateway cuts it there.
+abbrev cutDelta : List Event
+cutDelta =
+    Adding 0 7 ∷ Adding 0 8 ∷ Adding 1 7 ∷ Adding 1 8 ∷ Adding 2 7 ∷ Adding 2 8 ∷ set a ∷ set b
+    ∷ Writing 0 8 a (Setting one) ∷ Writing 0 8 b (Setting one) ∷ Writing 0 8 c (Setting one)
+    ∷ Computing 0 0 (digestBytes 0 (toldBoth 0 0 0 0)) [] (InLine (0 ∷ 0 ∷ [])) 300 0 (replicate 300 0) ∷ []
+
+-- the part behind the cut comes first, to hubs 1 and 2
+abbrev pub secondFirst : List Event
+secondFirst = cutDelta ++ (Arriving 1 (record { delta = 0; cuts = From 57 ∷ [] }) 50 (0 ∷ []) ∷ Arriving 2 (record { delta = 0; cuts = From 57 ∷ [] }) 50 (0 ∷ []) ∷ [])
+
+-- The owner deletes b of node 7 and removes it; hub 1 hears that and is at (3,1). Then the first part of the first delta comes, late. At hub 2 it is lost.
+abbrev pub firstLate : List Event
+firstLate = secondFirst ++ (removes ++ (hearsBoth (8 ∷ []) 300 1 0 (toldBoth 0 0 0 3) ++ (Arriving 1 (record { delta = 1; cuts = Before 57 ∷ [] }) 50 (0 ∷ []) ∷ [])))
+
+-- the same with the cut at 58, where no Node operation starts: nothing comes
+abbrev pub cutElsewhere : List Event
+cutElsewhere = cutDelta ++ (Arriving 1 (record { delta = 0; cuts = From 58 ∷ [] }) 50 (0 ∷ []) ∷ [])
