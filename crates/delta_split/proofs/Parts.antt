@@ -178,7 +178,7 @@ by-three {A} P {w} {w′} {one} {one′} {two} {two′} e f g s =
     subst (λ (x : A). P x one two) (sym e) (subst (λ (x : A). P w′ x two) (sym f) (subst (λ (x : A). P w′ one′ x) (sym g) s))
 
 -- of three outcomes, the last of them being the later one's
-abbrev Says : (whole one two last : ApplyOutcome) → Type 0
+abbrev pub Says : (whole one two last : ApplyOutcome) → Type 0
 Says w one two last = AsUncut (w .answer) (one .answer) (two .answer) (w .list) (one .list) (two .list) (w .table) (last .table)
 
 module _ (ways : Ways) (lawful : Lawful ways) (cuttable : Cuttable ways) (b : List ℕ) (are : AreBytes b) (place : ℕ) (at : place ∈ cutPlaces (ways .reads b)) (now : ℕ) (t : Table)
