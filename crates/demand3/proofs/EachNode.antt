@@ -214,6 +214,16 @@ module _ (ways : Ways) (i : ℕ) (w : World) where
       flight-is : flightOf i (w .exchange) ≡ partAt i (partsOf ops)
       flight-is = ap (flightOf i) x ∙ ap (λ (o : Ops). partAt i (partsIn o)) e
 
+  -- those of a part of it: c brings of the node what b brings, or nothing
+  pub seen-receiving : Lawful ways → (now : ℕ) (l b c : List ℕ) (ops : List Op) → w .exchange ≡ DeltaSent b → readDelta c ≡ Good ops → repeated (partsOf ops) ≡ false
+      → ((d : NodeDelta) → partAt i (partsOf ops) ≡ some d → partAt i (partsIn (readDelta b)) ≡ some d)
+      → Seen ways (at i w) (at i (onSide Followers (λ t. apply ways c now t l .table) w))
+  seen-receiving law now l b c ops x e once its = seen-taken law now l c ops e once (go (partAt i (partsOf ops)) refl)
+    where
+      go : (o : Option NodeDelta) → partAt i (partsOf ops) ≡ o → Step ways (at i w) (theirs-are (taking (applyNode ways now) o (nodeAt i (w .follower))))
+      go none q = stays
+      go (some d) q = subst (λ (o : Option NodeDelta). Step ways (at i w) (theirs-are (taking (applyNode ways now) o (nodeAt i (w .follower))))) (ap (flightOf i) x ∙ its d q) (they-take now)
+
   -- those of one that was ever computed, or of a part of it, late or again: c brings of the node what b brings, or nothing
   pub seen-arriving : Lawful ways → ways .late ≡ true → (now : ℕ) (l b c : List ℕ) (ops : List Op) → b ∈ w .sent → readDelta c ≡ Good ops → repeated (partsOf ops) ≡ false
       → ((d : NodeDelta) → partAt i (partsOf ops) ≡ some d → partAt i (partsIn (readDelta b)) ≡ some d)

@@ -27,15 +27,15 @@ use Rattle.rules.specs.Table.{Table, among, nodeOf, numbersOf, obeys, removeAll
 use Rattle.rules.specs.declared.Computed.{Computed}
 use Rattle.rules.specs.declared.Written.{Written}
 use Rattle.rules.specs.declared.Written.the-variants as written
-use Rattle.demand3.proofs.EachNode.{Seen, at, nodeAt, orFresh, partsIn, seen-applying, seen-arriving, seen-beating, seen-computed, seen-digesting, seen-facts, seen-offering, seen-removing, seen-rises, seen-sent, seen-writing, sentOf}
+use Rattle.demand3.proofs.EachNode.{Seen, at, nodeAt, orFresh, partsIn, seen-applying, seen-arriving, seen-beating, seen-computed, seen-digesting, seen-facts, seen-offering, seen-receiving, seen-removing, seen-rises, seen-sent, seen-writing, sentOf}
 use Rattle.demand3.proofs.Forms.{Comes, comes, refuses, removal-is, writes}
 use Rattle.demand3.proofs.OnTheWay.{Sendable}
-use Rattle.demand3.proofs.Parted.{Parted, ReadsWell, nth-sent}
+use Rattle.demand3.proofs.Parted.{Parted, ReadsWell, cut-way, nth-sent}
 use Rattle.demand3.proofs.OneNode.{Facts, facts-fresh, rises-same, rises-trans, stays}
 use Rattle.demand3.proofs.Publisher.{claims-of}
 use Rattle.demand3.specs.Demand3.{Claims, Rises}
 use Rattle.demand3.specs.Forms.{Order, Removal, computeBy, removedBy}
-use Rattle.demand3.specs.World.{Applying, Arriving, Beating, Computing, DeltaSent, DigestSent, Digesting, Event, Exchange, Followers, Idle, Offering, Publishers, Removing, Sending, Side, World, Writing, after, afterDelta, afterDigest, appliedTo, calls, computedFor, freshTable, happen, onExchange, onSent, onSide, possible, sentAfter, sentOn, start, timeOf}
+use Rattle.demand3.specs.World.{Applying, Arriving, Beating, Computing, DeltaSent, DigestSent, Digesting, Event, Exchange, Followers, Idle, Offering, Publishers, Receiving, Removing, Sending, Side, World, Writing, after, afterDelta, afterDigest, appliedTo, calls, computedFor, freshTable, happen, onExchange, onSent, onSide, possible, sentAfter, sentOn, start, timeOf}
 
 -- a delta on its way
 abbrev pub Readable : Exchange → Type 0
@@ -195,6 +195,12 @@ module _ (ways : Ways) (law : Lawful ways) (is : List ℕ) (w : World) (ok : InO
   next-applying now l b clock x r =
       record { seen = λ i. seen-applying ways i w law now l b (r .0) x (r .1) (read-once (r .0) nothingRead (r .2)); order = taken-order now l b clock r }
 
+  -- those of a part of it
+  next-receiving : (now : ℕ) (l b c : List ℕ) → now < numbers → w .exchange ≡ DeltaSent b → Parted b c → Next ways is w (onSide Followers (λ t. apply ways c now t l .table) w)
+  next-receiving now l b c clock x p =
+      let r = p .reads in
+      record { seen = λ i. seen-receiving ways i w law now l b c (r .0) x (r .1) (read-once (r .0) nothingRead (r .2)) (p .each i); order = taken-order now l c clock r }
+
   -- those of any delta that was ever computed, and of any part of it, where it may come late
   next-arriving : ways .late ≡ true → (now : ℕ) (l b c : List ℕ) → now < numbers → b ∈ w .sent → Parted b c → Next ways is w (onSide Followers (λ t. apply ways c now t l .table) w)
   next-arriving late now l b c clock m p =
@@ -255,6 +261,9 @@ module _ (ways : Ways) (law : Lawful ways) (is : List ℕ) (w : World) (ok : InO
       go Idle q r = stays-so
       go (DigestSent d) q r = stays-so
       go (DeltaSent b) q r = next-applying now l b (ltb-true _ _ p) q r
+  next-calls (Receiving cuts now l) p =
+      cut-way (λ x. Next ways is w (onSide Followers (appliedTo ways now l x) w)) stays-so (λ d. stays-so) cuts (w .exchange) (λ b q. subst Readable q (ok .readable))
+      (λ b c q y. next-receiving now l b c (ltb-true _ _ p) q y)
   next-calls (Sending edition digest excluded order mtu place l) p = next-keeping edition excluded order mtu place l digest _ (come-to edition excluded order mtu place l digest)
   next-calls (Arriving k now l) p =
       nth-sent (λ x. Next ways is w (onSide Followers (appliedTo ways now l x) w)) stays-so k (w .sent) (ok .all-read)

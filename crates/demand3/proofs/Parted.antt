@@ -27,7 +27,7 @@ use Rattle.delta_split.proofs.Cutting.{bytes-cut, chain-first, chain-second, pa
 use Rattle.delta_split.proofs.Each.{Apart}
 use Rattle.delta_split.proofs.Parts.{CutOps, read-both, tag-cuts}
 use Rattle.demand3.proofs.EachNode.{partsIn}
-use Rattle.demand3.specs.World.{Before, Cut, DeltaSent, Exchange, From, Idle, Which, arrives, cutBy, nthSent}
+use Rattle.demand3.specs.World.{Before, Cut, DeltaSent, DigestSent, Exchange, From, Idle, Which, arrives, cutBy, nthSent}
 
 -- bytes that are read as operations that may follow each other and have their sizes, and are the bytes of these
 abbrev pub ReadsWell : List ℕ → Type 0
@@ -178,6 +178,18 @@ module _ (P : Exchange → Type 0) (nothing : P Idle) where
   -- one of all deltas that were ever computed, or a part of one, or nothing
   pub nth-sent : (k : Which) (ss : List (List ℕ)) → ((b : List ℕ) → b ∈ ss → ReadsWell b) → ((b c : List ℕ) → b ∈ ss → Parted b c → P (DeltaSent c)) → P (arrives k ss)
   nth-sent k ss r f = cut-nth (k .cuts) (k .delta) ss r f
+
+-- what is on its way, or a part of it
+pub cut-way : (P : Exchange → Type 0) → P Idle → ((d : List ℕ) → P (DigestSent d)) → (cs : List Cut) (x : Exchange) → ((b : List ℕ) → x ≡ DeltaSent b → ReadsWell b)
+    → ((b c : List ℕ) → x ≡ DeltaSent b → Parted b c → P (DeltaSent c)) → P (cutBy cs x)
+unfolding cutBy
+cut-way P nothing digest cs Idle r f = cut-nothing P nothing cs
+cut-way P nothing digest cs (DigestSent d) r f = go cs
+  where
+    go : (cs : List Cut) → P (cutBy cs (DigestSent d))
+    go [] = digest d
+    go (c ∷ cs) = go cs
+cut-way P nothing digest cs (DeltaSent b) r f = cut-delta P nothing cs b b (uncut b (r b refl)) (λ c p. f b c refl p)
 
 -- what holds of every part holds of whatever arrives
 pub arrived-so : (Q : List ℕ → Type 0) (k : Which) (ss : List (List ℕ)) → ((b : List ℕ) → b ∈ ss → ReadsWell b) → ((b c : List ℕ) → b ∈ ss → Parted b c → Q c) → (c : List ℕ) → arrives k ss ≡ DeltaSent c → Q c

@@ -91,6 +91,8 @@ pub data Event : Type 0 where
   Computing : ℕ → List ℕ → Order → ℕ → ℕ → List ℕ → Event
   -- the follower applies the delta on its way, and may apply it again: now, the lent list of answers
   Applying : ℕ → List ℕ → Event
+  -- a part of it arrives, in any order with the others, again or never, and is applied: the cuts, now, the lent list of answers
+  Receiving : List Cut → ℕ → List ℕ → Event
   -- the publisher computes a delta for any bytes as a digest, late or forged ones too, beside the exchange: the edition, those bytes, excluded nodes,
   -- the order, MTU, the place in the datagram, the datagram
   Sending : ℕ → List ℕ → List ℕ → Order → ℕ → ℕ → List ℕ → Event
@@ -113,6 +115,7 @@ possible ways (Removing s removal) = true
 possible ways (Digesting edition excluded place l) = true
 possible ways (Computing edition excluded order mtu place l) = true
 possible ways (Applying now l) = ltb now numbers
+possible ways (Receiving cuts now l) = ltb now numbers
 possible ways (Sending edition digest excluded order mtu place l) = true
 possible ways (Arriving k now l) = ways .late && ltb now numbers
 
@@ -232,6 +235,7 @@ calls ways (Digesting edition excluded place l) w = onExchange (digested edition
 calls ways (Computing edition excluded order mtu place l) w =
     onExchange (computedFor edition excluded order mtu place l (w .publisher) (w .exchange)) (onSent (sentOn edition excluded order mtu place l (w .publisher) (w .exchange) (w .sent)) w)
 calls ways (Applying now l) w = onSide Followers (appliedTo ways now l (w .exchange)) w
+calls ways (Receiving cuts now l) w = onSide Followers (appliedTo ways now l (cutBy cuts (w .exchange))) w
 calls ways (Sending edition digest excluded order mtu place l) w = onSent (sentFor edition digest excluded order mtu place l (w .publisher) (w .sent)) w
 calls ways (Arriving k now l) w = onSide Followers (appliedTo ways now l (arrives k (w .sent))) w
 

@@ -18,7 +18,7 @@ use Rattle.rules.specs.declared.Applied.the-variants as applied
 use Rattle.rules.specs.declared.Refusal.{Refusal}
 use Rattle.rules.specs.declared.Refusal.the-variants.{NoPlace}
 use Rattle.demand3.specs.Forms.{Order, lentComputeBy}
-use Rattle.demand3.specs.World.{Exchange, Idle, DigestSent, DeltaSent, Event, Writing, Beating, Offering, Removing, Digesting, Computing, Applying, Sending, Arriving, Which, arrives, possible}
+use Rattle.demand3.specs.World.{Exchange, Idle, DigestSent, DeltaSent, Event, Writing, Beating, Offering, Removing, Digesting, Computing, Applying, Receiving, Sending, Arriving, Which, arrives, possible}
 use Rattle.demand3.specs.Demand3.{Claims, AllRise, Stage, NotBegun, allQuiet, unlimited, onward, ending, wroteDigest, wroteDelta, noRoom, holdings, SameMax}
 use Rattle.exchange_ask.specs.declared.Step.the-variants as step
 use Rattle.exchange.specs.Exchanging.{Lending, lentExchange}
@@ -56,6 +56,7 @@ lentGranted (Removing s removal) w = true
 lentGranted (Digesting edition excluded place d) w = wroteDigest (lentDigest edition excluded place d (w .follower) .answer)
 lentGranted (Computing edition excluded order mtu place d) w = lentIsComputed edition excluded order mtu place d (w .publisher) (w .exchange)
 lentGranted (Applying now answers) w = possible (waysIn (kindIn (w .follower))) (Applying now answers) && lentIsApplied now answers (w .follower) (w .exchange)
+lentGranted (Receiving cuts now answers) w = true
 lentGranted (Sending edition digest excluded order mtu place d) w = true
 lentGranted (Arriving k now answers) w = true
 
