@@ -15,6 +15,7 @@ pub mod Planned
 pub mod Forms
 pub mod Formed
 pub mod Moments
+pub mod Gateway
 pub mod Quiet
 pub mod Whole
 pub mod Closing
