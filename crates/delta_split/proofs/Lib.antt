@@ -3,3 +3,4 @@ pub mod Each
 pub mod Parts
 pub mod LentParts
 pub mod Times
+pub mod OwnTimes

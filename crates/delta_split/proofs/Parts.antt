@@ -94,10 +94,10 @@ codes-append [] m = refl
 codes-append (a ∷ l) m = ap₂ (λ (c : ℕ) (r : List ℕ). c ∷ r) refl (codes-append l m)
 
 -- the node deltas are taken, and the answers told
-abbrev accepted : Stream → ℕ → List ℕ → ApplyOutcome
+abbrev pub accepted : Stream → ℕ → List ℕ → ApplyOutcome
 accepted s n l = record { answer = applied.Nodes n; table = s .table; list = put 0 (codes (s .answers)) l }
 
-call-accepted : (ways : Ways) (b : List ℕ) (ops : List Op) (now : ℕ) (t : Table) (l : List ℕ) → ways .reads b ≡ Good ops → length (partsOf ops) ≤ length l
+pub call-accepted : (ways : Ways) (b : List ℕ) (ops : List Op) (now : ℕ) (t : Table) (l : List ℕ) → ways .reads b ≡ Good ops → length (partsOf ops) ≤ length l
     → apply ways b now t l ≡ accepted (applyEach (applyNode ways now) (partsOf ops) t) (length (partsOf ops)) l
 unfolding apply
 call-accepted ways b ops now t l r h =
@@ -114,17 +114,17 @@ told take xs t l h =
 
 -- ---- the two parts of a delta that was read
 
-record Parts (ways : Ways) (b : List ℕ) (place : ℕ) : Type 0 where
-  first : List Op
-  second : List Op
-  from-node : FromNode second
-  whole-read : ways .reads b ≡ Good (first ++ second)
-  first-read : ways .reads (take place b) ≡ Good first
-  second-read : ways .reads (drop place b) ≡ Good second
-  apart : Apart (partsOf first) (partsOf second)
+pub record Parts (ways : Ways) (b : List ℕ) (place : ℕ) : Type 0 where
+  pub first : List Op
+  pub second : List Op
+  pub from-node : FromNode second
+  pub whole-read : ways .reads b ≡ Good (first ++ second)
+  pub first-read : ways .reads (take place b) ≡ Good first
+  pub second-read : ways .reads (drop place b) ≡ Good second
+  pub apart : Apart (partsOf first) (partsOf second)
 
 module _ (ways : Ways) (lawful : Lawful ways) (cuttable : Cuttable ways) (b : List ℕ) (are : AreBytes b) (place : ℕ) where
-  parts-of : (o : Ops) → ways .reads b ≡ o → place ∈ cutPlaces o → Parts ways b place
+  pub parts-of : (o : Ops) → ways .reads b ≡ o → place ∈ cutPlaces o → Parts ways b place
   parts-of (Faulty r at) e m = absurd (in-none m)
   parts-of (Good ops) e m =
       let c : CutOps 0 place ops = tag-cuts 0 place ops m in

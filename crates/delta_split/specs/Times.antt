@@ -1,5 +1,6 @@
 -- Two datagrams at two times. A taken scheduled record starts at the receiver's now (rules: Apply.stamp), so what a part brings is scheduled from the part's own time of receipt on. Nothing else
--- hangs on the times: but for the starts of records the two parts, at any two times and in either order, do what the uncut delta does at any time. The theorems are in proofs/Times.
+-- hangs on the times: but for the starts of records the two parts, at any two times and in either order, do what the uncut delta does at any time (proofs/Times); and each node stands as if
+-- the uncut delta had come when its part came (proofs/OwnTimes).
 use Prim.Native.Nat.{ℕ}
 use mathlib.Core.Path.{_≡_}
 use mathlib.Core.List.{List, [], _∷_}
@@ -7,6 +8,7 @@ use lib.ListN.{take, drop}
 use Rattle.fields.specs.Numbers.{Bytes}
 use Rattle.rules.specs.Node.{Rec, Node}
 use Rattle.rules.specs.Table.{Table}
+use Rattle.rules.specs.Delta.{Ops, Good, Faulty, Part, partsOf}
 use Rattle.rules.specs.Apply.{Ways, ApplyOutcome, apply}
 use Rattle.delta_split.specs.Split.{Both}
 
@@ -34,6 +36,15 @@ inOrderAt ways b place now₁ now₂ t l₁ l₂ =
 abbrev pub reversedAt : (ways : Ways) (bytes : Bytes) (place now₁ now₂ : ℕ) (table : Table) (list₁ list₂ : Bytes) → Both ApplyOutcome
 reversedAt ways b place now₁ now₂ t l₁ l₂ =
     record { first = apply ways (take place b) now₁ (apply ways (drop place b) now₂ t l₂ .table) l₁; second = apply ways (drop place b) now₂ t l₂ }
+
+-- the nodes that a delta names, once it was read
+unfoldable pub numbersIn : (parts : List Part) → List ℕ
+numbersIn [] = []
+numbersIn (x ∷ xs) = x .number ∷ numbersIn xs
+
+abbrev pub named : Ops → List ℕ
+named (Good ops) = numbersIn (partsOf ops)
+named (Faulty r at) = []
 
 -- whether records have room does not hang on their starts; so it is in every mode and profile (proofs/Times, `kind-timeless`)
 abbrev pub RoomTimeless : Ways → Type 0
