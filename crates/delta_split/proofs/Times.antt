@@ -15,7 +15,7 @@ use Rattle.rules.specs.Sizes.{maxRecords}
 use Rattle.rules.specs.Node.{KeyValue, Node, Rec, scheduled, store}
 use Rattle.rules.specs.Table.{Table, nodeOf, setNode}
 use Rattle.rules.specs.Delta.{Faulty, Good, NodeDelta, Ops, Part, partsOf}
-use Rattle.rules.specs.Apply.{ApplyOutcome, Lawful, Stream, Taken, Ways, answered, answering, apply, applyEach, applyNode, applyOps, codes, deltaStatus, onNode, outcome, stamp, startAt, statusOf, takeAll, takenAs, takes, waysIn, waysOf, withRoom}
+use Rattle.rules.specs.Apply.{ApplyOutcome, Lawful, Stream, Taken, Ways, answered, answering, apply, applyEach, applyNode, applyOps, codes, deltaStatus, onNode, outcome, stamp, startAt, takeAll, takenAs, takes, waysIn, waysOf, withRoom}
 use Rattle.rules.specs.Profile.{Kind}
 use Rattle.rules.specs.declared.DeltaStatus.{DeltaStatus}
 use Rattle.rules.specs.declared.DeltaStatus.the-variants.{Apply, ApplyAfterReset, Fenced, Reject}
@@ -25,27 +25,24 @@ use Rattle.rules.specs.declared.NodeAnswer.{NodeAnswer}
 use Rattle.rules.specs.declared.NodeAnswer.the-variants as node
 use Rattle.rules.specs.declared.Applied.the-variants as applied
 use Rattle.rules.specs.declared.Refusal.the-variants.{NoPlace}
-use Rattle.delta_split.specs.Split.{AsUncut, Both, Cuttable, Roomy, cutPlaces, wanted}
-use Rattle.delta_split.specs.Times.{RoomTimeless, inOrderAt, reversedAt, timeless, timelessNode, unstarted}
+use Rattle.delta_split.specs.Split.{AsUncut, Cuttable, Roomy, cutPlaces}
+use Rattle.delta_split.specs.Times.{RoomTimeless, inOrderAt, reversedAt, startless, timeless, timelessNode, unstarted}
 use Rattle.delta_split.proofs.Parts.{Says, by-three, cut-in-order, cut-reversed}
 
 -- ---- records
 
-abbrev bare : Rec → Rec
-bare r = record { kv = r .kv; start = 0 }
-
-store-bare : (r : Rec) (l : List Rec) → unstarted (store r l) ≡ store (bare r) (unstarted l)
+store-bare : (r : Rec) (l : List Rec) → unstarted (store r l) ≡ store (startless r) (unstarted l)
 unfolding store unstarted
 store-bare r [] = refl
 store-bare r (a ∷ l) = go (sameBytes (r .kv .key) (a .kv .key)) (lessBytes (r .kv .key) (a .kv .key)) (store-bare r l)
   where
-    go : (s t : Bool) → unstarted (store r l) ≡ store (bare r) (unstarted l)
-        → unstarted (pick s (r ∷ l) (pick t (r ∷ a ∷ l) (a ∷ store r l))) ≡ pick s (bare r ∷ unstarted l) (pick t (bare r ∷ bare a ∷ unstarted l) (bare a ∷ store (bare r) (unstarted l)))
+    go : (s t : Bool) → unstarted (store r l) ≡ store (startless r) (unstarted l)
+        → unstarted (pick s (r ∷ l) (pick t (r ∷ a ∷ l) (a ∷ store r l))) ≡ pick s (startless r ∷ unstarted l) (pick t (startless r ∷ startless a ∷ unstarted l) (startless a ∷ store (startless r) (unstarted l)))
     go true t ih = refl
     go false true ih = refl
-    go false false ih = ap (λ (x : List Rec). bare a ∷ x) ih
+    go false false ih = ap (λ (x : List Rec). startless a ∷ x) ih
 
-stamp-bare : (now : ℕ) (r : KeyValue) → bare (stamp now r) ≡ stamp 0 r
+stamp-bare : (now : ℕ) (r : KeyValue) → startless (stamp now r) ≡ stamp 0 r
 stamp-bare now r = λ z. record { kv = r; start = go (scheduled (r .status)) z }
   where
     go : (b : Bool) → 0 ≡ startAt b 0

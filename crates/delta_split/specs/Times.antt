@@ -14,9 +14,12 @@ use Rattle.delta_split.specs.Split.{Both}
 
 -- ---- a table without the times from which its records are scheduled
 
+abbrev pub startless : (rec : Rec) → Rec
+startless r = record { kv = r .kv; start = 0 }
+
 unfoldable pub unstarted : (recs : List Rec) → List Rec
 unstarted [] = []
-unstarted (r ∷ l) = record { kv = r .kv; start = 0 } ∷ unstarted l
+unstarted (r ∷ l) = startless r ∷ unstarted l
 
 abbrev pub timelessNode : (node : Node) → Node
 timelessNode n = record { heartbeat = n .heartbeat; max = n .max; last-gc = n .last-gc; recs = unstarted (n .recs) }

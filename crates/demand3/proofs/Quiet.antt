@@ -7,7 +7,7 @@ use mathlib.Core.Logic.{_⊎_, inl, inr}
 use mathlib.Core.Option.{Option, none, some}
 use mathlib.Core.Path.{_∙_, _≡_, ap, refl, subst, sym}
 use native.Mathlib.Omega.{arith}
-use Rattle.fields.specs.Choice.{_∈_, pick}
+use Rattle.fields.specs.Choice.{pick}
 use Rattle.rules.proofs.Tables.{applied-table, partAt, taking}
 use Rattle.rules.specs.Apply.{Lawful, Ways, applyEach, applyNode}
 use Rattle.rules.specs.Delta.{Good, NodeDelta, Ops, nothingRead, partsOf}
