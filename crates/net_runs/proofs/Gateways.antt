@@ -1,4 +1,4 @@
--- A delta that a gateway cut: its parts come in the other order, one late, one lost; computed as the runs of Runs. Assumes nothing.
+-- Deltas that a gateway cut: parts in the other order, one late, one lost; cut twice; computed as the runs of Runs. Assumes nothing.
 use mathlib.Core.List.{[], _∷_}
 use mathlib.Core.Path.{_≡_, refl}
 use Rattle.fields.specs.Blocks.{flat, unblock}
@@ -14,9 +14,10 @@ use Rattle.rules.specs.Local.{add, call, callAs, gc}
 use Rattle.rules.specs.Node.{act, decide, find, lastGc, remove, store, wish, write}
 use Rattle.rules.specs.Table.{addNode, among, nodeOf, numbersOf, removeAll, setNode, versions}
 use Rattle.delta_split.specs.Split.{nodeTags}
+use Rattle.demand3.proofs.EachNode.{nodeAt}
 use Rattle.demand3.specs.World.{cutBy, nthSent}
 use Rattle.net.specs.Net.{after, begin, happen}
-use Rattle.net_runs.proofs.Stories.{alike, cutElsewhere, firstLate, pairAt, pairAtEight, secondFirst, versionsAt}
+use Rattle.net_runs.proofs.Stories.{alike, cutElsewhere, firstLate, middleAlone, pairAt, pairAtEight, secondFirst, versionsAt}
 
 -- node 8 is there, and of node 7 nothing yet; cut where no Node operation starts, nothing comes
 pub second-first : (pairAtEight 1 (after (alike guardedWays) secondFirst begin) ≡ 0 ∷ 3 ∷ [])
@@ -35,3 +36,10 @@ pub first-late : (pairAt 1 (after (alike guardedWays) firstLate begin) ≡ 3 ∷
     × (pairAtEight 2 (after (alike guardedWays) firstLate begin) ≡ 0 ∷ 3 ∷ [])
 unfolding after happen nthSent cutBy add addNode numbersOf callAs call gc nodeOf setNode removeAll decide wish find act write store remove lastGc keep all sameBytes lessBytes among digestBytes headWidth entryBytes entryOf readEntries readDigest tell tellAll compute deltaFor cut allOps ordered queue sooner staleNodes toldOf fromOf stale byVersion keyValueOps sizeOf deltaBytes opBytes textBytes bytesOf natOf part put flat unblock apply applyEach applyNode deltaStatus statusOf newerOf outcome takeAll takes codes readDelta readOps readOp readNode readKeyValue readSetMaxVersion follow partsOf recsOf maxOf versions nodeTags
 first-late = (refl, refl, refl, refl, refl, refl, refl)
+
+-- cut twice: the middle node of three is there, and nothing of the others
+pub middle-alone : (nodeAt 7 (after (alike guardedWays) middleAlone begin .hubs 1) .max ≡ 0)
+    × (nodeAt 8 (after (alike guardedWays) middleAlone begin .hubs 1) .max ≡ 1)
+    × (nodeAt 9 (after (alike guardedWays) middleAlone begin .hubs 1) .max ≡ 0)
+unfolding after happen nthSent cutBy add addNode numbersOf callAs call gc nodeOf setNode removeAll decide wish find act write store remove lastGc keep all sameBytes lessBytes among digestBytes headWidth entryBytes entryOf readEntries readDigest tell tellAll compute deltaFor cut allOps ordered queue sooner staleNodes toldOf fromOf stale byVersion keyValueOps sizeOf deltaBytes opBytes textBytes bytesOf natOf part put flat unblock apply applyEach applyNode deltaStatus statusOf newerOf outcome takeAll takes codes readDelta readOps readOp readNode readKeyValue readSetMaxVersion follow partsOf recsOf maxOf versions nodeTags
+middle-alone = (refl, refl, refl)

@@ -238,3 +238,9 @@ firstLate = secondFirst ++ (removes ++ (hearsBoth (8 ∷ []) 300 1 0 (toldBoth 0
 -- the same with the cut at 58, where no Node operation starts: nothing comes
 abbrev pub cutElsewhere : List Event
 cutElsewhere = cutDelta ++ (Arriving 1 (record { delta = 0; cuts = From 58 ∷ [] }) 50 (0 ∷ []) ∷ [])
+
+-- Three nodes with a key each: their Node operations start at 0, 41 and 82. The delta is cut at 41, and its second part once more: of the three the middle one alone comes.
+abbrev pub middleAlone : List Event
+middleAlone =
+    Adding 0 7 ∷ Adding 0 8 ∷ Adding 0 9 ∷ Adding 1 7 ∷ Adding 1 8 ∷ Adding 1 9 ∷ set a ∷ Writing 0 8 a (Setting one) ∷ Writing 0 9 a (Setting one)
+    ∷ Computing 0 0 (digestBytes 0 []) [] (InLine (0 ∷ 0 ∷ 0 ∷ [])) 300 0 (replicate 300 0) ∷ Arriving 1 (record { delta = 0; cuts = From 41 ∷ Before 41 ∷ [] }) 50 (0 ∷ []) ∷ []
