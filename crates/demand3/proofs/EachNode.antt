@@ -20,6 +20,7 @@ use Rattle.rules.specs.Sizes.{top}
 use Rattle.rules.specs.Table.{Table, nodeOf, removeAll, setNode}
 use Rattle.rules.specs.declared.Answer.the-variants.{Done, Refused}
 use Rattle.rules.specs.declared.Heartbeat.{Heartbeat}
+use Rattle.rules.specs.declared.Party.{Party}
 use Rattle.rules.specs.declared.Refusal.the-variants.{Exhausted}
 use Rattle.rules.specs.declared.Written.{Written}
 use Rattle.rules.specs.declared.Written.the-variants as written
