@@ -22,6 +22,7 @@ use Rattle.rules.specs.Node.{Call, Decision, Give, KeyValue, Leave, Node, Refus
 use Rattle.rules.specs.Table.{Table, nodeOf}
 use Rattle.rules.specs.Whole.{decodeWhole}
 use Rattle.rules.specs.declared.Computed.{Computed}
+use Rattle.rules.specs.declared.Party.{Party}
 use Rattle.rules.specs.Profile.{Kind}
 use Rattle.demand3.proofs.EachNode.{nodeAt, orFresh}
 use Rattle.demand3.proofs.Formed.{by-guard}
@@ -74,7 +75,7 @@ module _ (plan : Plan) (ready : Ready plan) (w : Net) (ok : Moment (plan .owner)
 
   -- ---- a write
 
-  module _ (x i : ℕ) (k : List ℕ) (c : Call) where
+  module _ (x i : ℕ) (k : List ℕ) (who : Party) (c : Call) where
     abbrev given : ℕ → List KeyValue
     given j = pick (eqb j i) (givenAs (plan .profiles x) who k c (nodeOf i (w .hubs x)) (w .given j)) (w .given j)
 
@@ -180,7 +181,7 @@ module _ (plan : Plan) (ready : Ready plan) (w : Net) (ok : Moment (plan .owner)
   -- ---- every event
 
   exacts-calls : (e : Event) → UncutAt e w → possible own e w ≡ true → Moment own (calls plan e w) → Exacts (calls plan e w)
-  exacts-calls (Writing x i k who c) u p m = exacts-writing x i k c (eqb-true _ _ (and-left _ _ p)) m
+  exacts-calls (Writing x i k who c) u p m = exacts-writing x i k who c (eqb-true _ _ (and-left _ _ p)) m
   exacts-calls (Beating x j) u p m = on-hub x _ (each-beat w R same x j (λ i n b z. exact-beat (w .given i) n z b))
   exacts-calls (Offering x j b) u p m = on-hub x _ (each-offer w R same x j b (λ i n b z. exact-beat (w .given i) n z b))
   exacts-calls (Removing x removal) u p m = on-hub x _ (each-remove w R same x removal (λ i due z. exact-remove (w .given i) (nodeAt i (w .hubs x)) z due))
@@ -253,7 +254,7 @@ module _ (plan : Plan) (ready : Ready plan) (w : Net) (ok : Moment (plan .owner)
 
     -- it was given, and stays so
     told-calls : (e : Event) → possible own e w ≡ true → s ∈ calls plan e w .given i
-    told-calls (Writing x j k who c) p = at (adds x j k c (eqb-true _ _ (and-left _ _ p)) i)
+    told-calls (Writing x j k who c) p = at (adds x j k who c (eqb-true _ _ (and-left _ _ p)) i)
       where
         at : {h : List KeyValue} → Longer (w .given i) h → s ∈ h
         at as-long = told
