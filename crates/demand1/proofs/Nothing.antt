@@ -363,19 +363,19 @@ nothing (calls.remove-node t i) h =
 nothing (calls.last-heartbeat t i) h = refl
 nothing (calls.write t k v i wanted now who) h =
     let p = decodeWhole t .kind .profile in
-    let rule = writeAs p (wanted .value) v (now .value) (i .value) k in
+    let rule = writeAs p who (wanted .value) v (now .value) (i .value) k in
     ap (λ (u : Bytes). u ∷ k ∷ v ∷ [])
-    (on-table answerTold (plain.Refused BadTable) rule (λ t g. let x = by-answer _ g in write-as-refused p (wanted .value) v (now .value) (i .value) k t (x .0) (x .1)) t h)
+    (on-table answerTold (plain.Refused BadTable) rule (λ t g. let x = by-answer _ g in write-as-refused p who (wanted .value) v (now .value) (i .value) k t (x .0) (x .1)) t h)
 nothing (calls.delete t k i now who) h =
     let p = decodeWhole t .kind .profile in
     let c = Deleting (now .value) in
     ap (λ (u : Bytes). u ∷ k ∷ [])
-    (on-table answerTold (plain.Refused BadTable) (callAs p c (i .value) k) (λ t g. let x = by-answer _ g in call-as-refused p c (i .value) k t (x .0) (x .1)) t h)
+    (on-table answerTold (plain.Refused BadTable) (callAs p who c (i .value) k) (λ t g. let x = by-answer _ g in call-as-refused p who c (i .value) k t (x .0) (x .1)) t h)
 nothing (calls.delete-after-ttl t k i now who) h =
     let p = decodeWhole t .kind .profile in
     let c = DeletingAfterTtl (now .value) in
     ap (λ (u : Bytes). u ∷ k ∷ [])
-    (on-table answerTold (plain.Refused BadTable) (callAs p c (i .value) k) (λ t g. let x = by-answer _ g in call-as-refused p c (i .value) k t (x .0) (x .1)) t h)
+    (on-table answerTold (plain.Refused BadTable) (callAs p who c (i .value) k) (λ t g. let x = by-answer _ g in call-as-refused p who c (i .value) k t (x .0) (x .1)) t h)
 nothing (calls.remove-scheduled t now grace) h =
     ap (λ (u : Bytes). u ∷ []) (on-table answerTold (plain.Refused BadTable) (gc (now .value) (grace .value)) (scheduled (now .value) (grace .value)) t h)
 nothing (calls.offer-heartbeat t i b) h =
@@ -417,6 +417,7 @@ nothing (calls.record-at t i j who) h = refl
 nothing (calls.record-of t i j who) h = refl
 nothing (calls.record-by-key t k i who) h = refl
 nothing (calls.node-rows t i who) h = refl
+nothing (calls.front t i who) h = refl
 nothing (calls.prefix-rows t k i who) h = refl
 nothing (calls.find-text t i j x who) h = refl
 nothing (calls.write-digest t edition excluded datagram place) h =
