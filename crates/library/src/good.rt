@@ -88,12 +88,26 @@ pub extern "C" fn kev_good_write(
     ensures { λ r. ⌜ Gives (shownAs answerTold numberShown (lentWrite (partyOf party) wanted (now (value .entry)) clock number (now (key .entry)) (now (table .entry))))
         r (now (table .exit)) ⌝ }
 {
-    answers::number(local::write_known(table, Party::of_number(party), number, key, value, local::wanted(wanted), clock))
+    answers::number(local::write_known(
+        table,
+        Party::of_number(party),
+        number,
+        key,
+        value,
+        local::wanted(wanted),
+        clock,
+    ))
 }
 
 // The key's record is emptied, hidden and scheduled: 2, 1, 19, 3, 6.
 #[no_mangle]
-pub extern "C" fn kev_good_delete(table: &mut [u8], party: u64, number: u64, key: &[u8], clock: u64) -> u64
+pub extern "C" fn kev_good_delete(
+    table: &mut [u8],
+    party: u64,
+    number: u64,
+    key: &[u8],
+    clock: u64,
+) -> u64
     requires { ⌜ validWhole (now table) ≡ true ⌝ }
     ensures { λ r. ⌜ Gives (shownAs answerTold numberShown (lentCall (partyOf party) (Deleting clock) number (now (key .entry)) (now (table .entry))))
         r (now (table .exit)) ⌝ }
@@ -114,7 +128,13 @@ pub extern "C" fn kev_good_delete_after_ttl(
     ensures { λ r. ⌜ Gives (shownAs answerTold numberShown (lentCall (partyOf party) (DeletingAfterTtl clock) number (now (key .entry)) (now (table .entry))))
         r (now (table .exit)) ⌝ }
 {
-    answers::number(local::delete_after_ttl_known(table, Party::of_number(party), number, key, clock))
+    answers::number(local::delete_after_ttl_known(
+        table,
+        Party::of_number(party),
+        number,
+        key,
+        clock,
+    ))
 }
 
 // The scheduled records whose grace is over go, of all nodes.
@@ -188,7 +208,13 @@ pub extern "C" fn kev_good_find_over(
     requires { ⌜ (validNode (now overrides) ≡ true) × (validWhole (now table) ≡ true) ⌝ }
     ensures { λ r. ⌜ r ≡ foundOverShown (foundOverTold (lentFindOver (partyOf party) number (now (key .entry)) (now (overrides .entry)) (now (table .entry)))) ⌝ }
 {
-    answers::found_over(over_find::find_over_known(overrides, table, Party::of_number(party), number, key))
+    answers::found_over(over_find::find_over_known(
+        overrides,
+        table,
+        Party::of_number(party),
+        number,
+        key,
+    ))
 }
 
 // The merged listing of such overrides and the node, a byte for each hit; the count is how many: 2, 1, 8.
@@ -273,7 +299,12 @@ pub extern "C" fn kev_good_record_of(table: &[u8], party: u64, i: usize, j: usiz
 
 // The record of a key, hidden or not: 2, 1, 19.
 #[no_mangle]
-pub extern "C" fn kev_good_record_by_key(table: &[u8], party: u64, number: u64, key: &[u8]) -> KevRecord
+pub extern "C" fn kev_good_record_by_key(
+    table: &[u8],
+    party: u64,
+    number: u64,
+    key: &[u8],
+) -> KevRecord
     requires { ⌜ validWhole (now table) ≡ true ⌝ }
     ensures { λ r. ⌜ r ≡ recordShown (recordReadTold (lentRecordByKey (partyOf party) number (now (key .entry)) (now (table .entry)))) ⌝ }
 {
@@ -300,7 +331,12 @@ pub extern "C" fn kev_good_front(table: &[u8], party: u64, number: u64) -> KevCo
 
 // The rows of those whose keys begin with the prefix: 2, 1.
 #[no_mangle]
-pub extern "C" fn kev_good_prefix_rows(table: &[u8], party: u64, number: u64, prefix: &[u8]) -> KevRows
+pub extern "C" fn kev_good_prefix_rows(
+    table: &[u8],
+    party: u64,
+    number: u64,
+    prefix: &[u8],
+) -> KevRows
     requires { ⌜ validWhole (now table) ≡ true ⌝ }
     ensures { λ r. ⌜ r ≡ rowsShown (rowsTold (lentPrefixRows (partyOf party) number (now (prefix .entry)) (now (table .entry)))) ⌝ }
 {
@@ -313,7 +349,13 @@ pub extern "C" fn kev_good_key_at(table: &[u8], party: u64, number: u64, j: usiz
     requires { ⌜ validWhole (now table) ≡ true ⌝ }
     ensures { λ r. ⌜ r ≡ foundShown (foundTold (lentTextFound (partyOf party) Key number j (now (table .entry)))) ⌝ }
 {
-    answers::found(inspect_text::find_text_known(table, Party::of_number(party), number, j, Text::Key))
+    answers::found(inspect_text::find_text_known(
+        table,
+        Party::of_number(party),
+        number,
+        j,
+        Text::Key,
+    ))
 }
 
 // The same of its value, hidden or not: 2, 8.
@@ -322,7 +364,13 @@ pub extern "C" fn kev_good_value_at(table: &[u8], party: u64, number: u64, j: us
     requires { ⌜ validWhole (now table) ≡ true ⌝ }
     ensures { λ r. ⌜ r ≡ foundShown (foundTold (lentTextFound (partyOf party) Value number j (now (table .entry)))) ⌝ }
 {
-    answers::found(inspect_text::find_text_known(table, Party::of_number(party), number, j, Text::Value))
+    answers::found(inspect_text::find_text_known(
+        table,
+        Party::of_number(party),
+        number,
+        j,
+        Text::Value,
+    ))
 }
 
 // ---- digests and deltas

@@ -131,12 +131,26 @@ pub extern "C" fn kev_write(
     ensures { λ r. ⌜ Gives (shownAs answerTold numberShown (lentWrite (partyOf party) wanted (now (value .entry)) clock number (now (key .entry)) (now (table .entry))))
         r (now (table .exit)) ⌝ }
 {
-    answers::number(local::write(table, Party::of_number(party), number, key, value, local::wanted(wanted), clock))
+    answers::number(local::write(
+        table,
+        Party::of_number(party),
+        number,
+        key,
+        value,
+        local::wanted(wanted),
+        clock,
+    ))
 }
 
 // The key's record is emptied, hidden and scheduled: 14, 2, 1, 19, 3, 6.
 #[no_mangle]
-pub extern "C" fn kev_delete(table: &mut [u8], party: u64, number: u64, key: &[u8], clock: u64) -> u64
+pub extern "C" fn kev_delete(
+    table: &mut [u8],
+    party: u64,
+    number: u64,
+    key: &[u8],
+    clock: u64,
+) -> u64
     ensures { λ r. ⌜ Gives (shownAs answerTold numberShown (lentCall (partyOf party) (Deleting clock) number (now (key .entry)) (now (table .entry))))
         r (now (table .exit)) ⌝ }
 {
@@ -145,7 +159,13 @@ pub extern "C" fn kev_delete(table: &mut [u8], party: u64, number: u64, key: &[u
 
 // The key's record keeps its value and is scheduled: 14, 2, 1, 19, 3, 6.
 #[no_mangle]
-pub extern "C" fn kev_delete_after_ttl(table: &mut [u8], party: u64, number: u64, key: &[u8], clock: u64) -> u64
+pub extern "C" fn kev_delete_after_ttl(
+    table: &mut [u8],
+    party: u64,
+    number: u64,
+    key: &[u8],
+    clock: u64,
+) -> u64
     ensures { λ r. ⌜ Gives (shownAs answerTold numberShown (lentCall (partyOf party) (DeletingAfterTtl clock) number (now (key .entry)) (now (table .entry))))
         r (now (table .exit)) ⌝ }
 {
@@ -274,7 +294,13 @@ pub extern "C" fn kev_find_over(
 ) -> KevFoundOver
     ensures { λ r. ⌜ r ≡ foundOverShown (foundOverTold (lentFindOver (partyOf party) number (now (key .entry)) (now (overrides .entry)) (now (table .entry)))) ⌝ }
 {
-    answers::found_over(over_find::find_over(overrides, table, Party::of_number(party), number, key))
+    answers::found_over(over_find::find_over(
+        overrides,
+        table,
+        Party::of_number(party),
+        number,
+        key,
+    ))
 }
 
 // The merged listing of the overrides and the node, a byte for each hit; the count is how many: 14 of the overrides, 14 of the table, 2, 1, 8.
@@ -292,7 +318,14 @@ pub extern "C" fn kev_list_over(
         (lentListOver (partyOf party) number (now (prefix .entry)) (now (out .entry)) (now (overrides .entry)) (now (table .entry))))
         r (now (out .exit)) ⌝ }
 {
-    answers::hits_over(over_list::list_over(overrides, table, Party::of_number(party), number, prefix, out))
+    answers::hits_over(over_list::list_over(
+        overrides,
+        table,
+        Party::of_number(party),
+        number,
+        prefix,
+        out,
+    ))
 }
 
 // ---- readings of nodes and records
