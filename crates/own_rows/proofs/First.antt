@@ -1,31 +1,35 @@
 -- The first byte of a key tells whose it is in a shared table, and so on which side of it the records of the two part. Assumes nothing.
 use Prim.Native.Nat.{ℕ, zero, suc, _+_, _-_, _≤_, _<_}
-use mathlib.Core.Path.{_≡_, refl, ap, ap₂, sym, _∙_, subst}
-use mathlib.Core.Bool.{Bool, true, false}
-use mathlib.Core.List.{List, [], _∷_, _++_}
+use mathlib.Core.Path.{_≡_, ap, ap₂, sym, _∙_, subst}
+use mathlib.Core.Bool.{true}
+use mathlib.Core.List.{List, [], _∷_}
 use native.Mathlib.Omega.{arith}
 use native.Mathlib.Decide.{decLe}
 use lib.ListN.{length, getD, take, drop, length-append, List·getD-append}
 use lib.Seq.{getD-append-add}
-use Rattle.fields.specs.Choice.{pick, _∈_}
 use Rattle.fields.specs.Numbers.{natOf}
 use Rattle.fields.specs.Order.{startsWith}
 use Rattle.fields.specs.Parts.{part}
 use Rattle.fields.specs.Widths.{offset}
-use Rattle.fields.proofs.Choice.{in-at, keep-from, all-from}
+use Rattle.fields.proofs.Choice.{in-at, keep-from}
 use Rattle.rules.specs.Node.{Rec}
 use Rattle.rules.specs.Table.{keysRise}
-use Rattle.rules.specs.Party.{own, someones, ofKeys}
-use Rattle.rules.specs.Profile.{inForm, recsFormed}
+use Rattle.rules.specs.Party.{own, ofKeys}
+use Rattle.rules.specs.Profile.{recsFormed}
 use Rattle.rules.specs.Layout.{recWidths, recPlace, decodeRec}
 use Rattle.rules.specs.declared.Profile.the-variants.{Shared}
 use Rattle.rules.specs.declared.Party.the-variants.{Metering, Building}
 use Rattle.table.specs.Fits.{LaidNode}
 use Rattle.table.specs.Tests.{keyLength, countOf, recsIn}
 use Rattle.table.proofs.Places.{recBytes, recAt, recs-at, in-rec, length-recs}
-use Rattle.own_rows.proofs.Parted.{false-true, begins, parted, metering-not-building}
+use Rattle.own_rows.proofs.Parted.{begins, parted}
 
 -- ---- by the place
+
+-- there are no others
+pub both-counted : (l : List Rec) → keysRise l ≡ true → recsFormed Shared l ≡ true
+    → length l ≡ length (ofKeys (own Building) l) + length (ofKeys (own Metering) l)
+both-counted l s f = ap length (parted l s f) ∙ length-append (ofKeys (own Building) l) (ofKeys (own Metering) l)
 
 module _ (l : List Rec) (s : keysRise l ≡ true) (f : recsFormed Shared l ≡ true) (j : ℕ) (d : Rec) (h : j < length l) where
   abbrev first : List Rec
@@ -33,9 +37,6 @@ module _ (l : List Rec) (s : keysRise l ≡ true) (f : recsFormed Shared l ≡ t
 
   abbrev second : List Rec
   second = ofKeys (own Metering) l
-
-  long : length l ≡ length first + length second
-  long = ap length (parted l s f) ∙ length-append first second
 
   -- before where they part stands the one's
   before : j < length first → own Building (getD l j d .kv .key) ≡ true
@@ -50,7 +51,7 @@ module _ (l : List Rec) (s : keysRise l ≡ true) (f : recsFormed Shared l ≡ t
       let e : j ≡ length first + m = omega arith in
       ap (λ (r : Rec). own Metering (r .kv .key))
       (ap₂ (λ (x : List Rec) (n : ℕ). getD x n d) (parted l s f) e ∙ getD-append-add first second m d)
-      ∙ keep-from (λ (r : Rec). own Metering (r .kv .key)) l (in-at second m d (omega (arith, long))) .1
+      ∙ keep-from (λ (r : Rec). own Metering (r .kv .key)) l (in-at second m d (omega (arith, both-counted l s f))) .1
 
 -- ---- by the byte
 

@@ -1,7 +1,7 @@
 -- In a node of a shared table the records of the building manager stand before those of the metering firm: the keys rise, every key is of one of the two,
 -- and `b/` comes before `m/`. So the records are those of the one and then those of the other (`parted`). Assumes nothing.
 use Prim.Native.Nat.{ℕ}
-use mathlib.Core.Path.{_≡_, refl, ap, ap₂, sym, _∙_, subst}
+use mathlib.Core.Path.{_≡_, refl, ap, ap₂, sym, _∙_}
 use mathlib.Core.Bool.{Bool, true, false}
 use mathlib.Core.List.{List, [], _∷_, _++_}
 use native.Mathlib.Omega.{arith}
