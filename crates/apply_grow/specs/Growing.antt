@@ -1,7 +1,7 @@
 -- What the code leaves of a node's bytes: before the first record is taken, and after an outcome that has room or not.
-use Prim.Native.Nat.{ℕ, _-_}
+use Prim.Native.Nat.{ℕ, _+_}
 use mathlib.Core.Path.{_≡_}
-use mathlib.Core.Bool.{Bool, true, false}
+use mathlib.Core.Bool.{Bool, true, false, _&&_}
 use mathlib.Core.List.{List}
 use lib.Dec.{leb}
 use lib.ListN.{length}
@@ -22,14 +22,17 @@ use Rattle.table.specs.Fits.{LaidNode}
 use Rattle.table.specs.Changes.{withMax, withGc, withRecs, freshEntry}
 use Rattle.delta_op.specs.Plain.{recsFrom}
 
-abbrev pub lesser : (a b : ℕ) → ℕ
-lesser a b = pick (leb a b) a b
+-- whether so many records more have room, whosever they are
+abbrev pub roomyEachFor : (count : ℕ) (recs : List Rec) → Bool
+roomyEachFor n l = leb (n + length (ofKeys (own Metering) l)) maxEach && leb (n + length (ofKeys (own Building) l)) maxEach
 
--- how many records may come, whosever they are
-abbrev pub freeIn : (profile : Profile) (recs : List Rec) → ℕ
-freeIn Free l = maxRecords - length l
-freeIn Meter l = maxRecords - length l
-freeIn Shared l = lesser (maxRecords - length l) (lesser (maxEach - length (ofKeys (own Metering) l)) (maxEach - length (ofKeys (own Building) l)))
+abbrev pub fitFor : (profile : Profile) (count : ℕ) (recs : List Rec) → Bool
+fitFor Free n l = true
+fitFor Meter n l = true
+fitFor Shared n l = roomyEachFor n l
+
+abbrev pub roomyFor : (profile : Profile) (count : ℕ) (recs : List Rec) → Bool
+roomyFor p n l = leb (n + length l) maxRecords && fitFor p n l
 
 -- a reset: a fresh node under the same number with the delta's last_gc
 abbrev pub emptied : (gc : ℕ) (held : Entry) → Entry

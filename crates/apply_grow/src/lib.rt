@@ -6,7 +6,8 @@ use rules::Party;
 use rules::Profile;
 use table::layout;
 ghost use mathlib.Core.Path.{_≡_};
-ghost use Prim.Native.Nat.{_-_, _≤_};
+ghost use Prim.Native.Nat.{_+_, _≤_};
+ghost use lib.Dec.{leb};
 ghost use lib.ListN.{length};
 ghost use Rattle.rules.specs.Sizes.{maxEach};
 ghost use Rattle.rules.specs.Party.{own, ofKeys, roomyEach};
@@ -18,48 +19,47 @@ ghost use Rattle.table.specs.Fits.{LaidNode};
 ghost use Rattle.table.specs.Tests.{recsIn};
 ghost use Rattle.delta_op.specs.Plain.{recsFrom};
 ghost use Rattle.apply_node.specs.Taking.{Rising};
-ghost use Rattle.apply_grow.specs.Growing.{lesser, freeIn, emptied, begun, grown, Grown, Stored, grownOrKept};
+ghost use Rattle.apply_grow.specs.Growing.{roomyEachFor, roomyFor, emptied, begun, grown, Grown, Stored, grownOrKept};
 
 // ---- room by profile
 
-// How many records more a party may have.
-fn free_of(node: &[u8], party: Party) -> usize
+// Whether a party may have so many records more.
+fn has_room_for(node: &[u8], party: Party, count: usize) -> bool
     requires { ⌜ LaidNode (now node) ⌝ }
-    ensures { λ r. ⌜ r ≡ maxEach - length (ofKeys (own party) (recsIn (now (node .entry)))) ⌝ }
+    ensures { λ r. ⌜ r ≡ leb (count + length (ofKeys (own party) (recsIn (now (node .entry))))) maxEach ⌝ }
 {
     let n = party_count::count_own(node, party);
-    if n < Party::RECORDS {
-        return Party::RECORDS - n;
+    if n <= Party::RECORDS {
+        return count <= Party::RECORDS - n;
     }
-    0
+    false
 }
 
-fn smaller(a: usize, b: usize) -> usize
-    ensures { λ r. ⌜ r ≡ lesser a b ⌝ }
-{
-    if a <= b {
-        return a;
-    }
-    b
-}
-
-// How many records may come, whosever they are.
-fn free_in(node: &[u8], profile: Profile) -> usize
+// Whether each party may.
+fn each_has_room_for(node: &[u8], count: usize) -> bool
     requires { ⌜ LaidNode (now node) ⌝ }
-    ensures { λ r. ⌜ r ≡ freeIn profile (recsIn (now (node .entry))) ⌝ }
+    ensures { λ r. ⌜ r ≡ roomyEachFor count (recsIn (now (node .entry))) ⌝ }
+{
+    if has_room_for(node, Party::Metering, count) {
+        return has_room_for(node, Party::Building, count);
+    }
+    false
+}
+
+// Whether so many records may come, whosever they are.
+fn is_sure(node: &[u8], profile: Profile, count: usize) -> bool
+    requires { ⌜ LaidNode (now node) ⌝ }
+    ensures { λ r. ⌜ r ≡ roomyFor profile count (recsIn (now (node .entry))) ⌝ }
 {
     let free = Header::RECORDS - fields::byte_at(node, layout::RECORD_COUNT);
-    match profile {
-        Profile::Free => free,
-        Profile::Meter => free,
-        Profile::Shared => smaller(
-            free,
-            smaller(
-                free_of(node, Party::Metering),
-                free_of(node, Party::Building),
-            ),
-        ),
+    if count <= free {
+        return match profile {
+            Profile::Free => true,
+            Profile::Meter => true,
+            Profile::Shared => each_has_room_for(node, count),
+        };
     }
+    false
 }
 
 // Whether neither party has over 16.
@@ -194,8 +194,7 @@ pub fn grow_in_place(
         (grownOrKept profile (grown clock (now (delta .entry)) at max (begun afresh «last_gc» (decodeNode (now (node .entry))))) (now (node .entry)))
         r (now (node .exit)) ⌝ }
 {
-    let free = free_in(node, profile);
-    if count <= free {
+    if is_sure(node, profile, count) {
         return grow(node, delta, at, afresh, last_gc, max, clock);
     }
     grow_or_keep(node, profile, delta, at, afresh, last_gc, max, clock)
