@@ -113,9 +113,6 @@ module _ (clock : ℕ) (s : List ℕ) (at max : ℕ) (max-fits : max < numbers) 
 
 -- the profile's room beside document 01's
 module _ (p : Profile) (e : Entry) (r : Bool) (b : List ℕ) (g : Grown Free e r b) where
-  pub laid-grown : r ≡ true → LaidNode b
-  laid-grown q = g .laid q
-
   pub not-roomy : r ≡ false → (b′ : List ℕ) → Grown p e false b′
   not-roomy q b′ =
       record {

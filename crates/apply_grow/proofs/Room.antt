@@ -1,5 +1,5 @@
 -- Taking records raises a party's count by no more than they are, as it does the node's. So what has room for them has room afterwards. Assumes nothing.
-use Prim.Native.Nat.{ℕ, suc, _+_, _≤_, _<_}
+use Prim.Native.Nat.{ℕ, suc, _+_, _-_, _≤_, _<_}
 use mathlib.Core.Path.{_≡_, refl, sym, _∙_}
 use mathlib.Core.Bool.{Bool, true, false, _&&_}
 use mathlib.Core.List.{List, [], _∷_}
@@ -9,7 +9,7 @@ use lib.Dec.{leb}
 use borrow.Author.Tests.{le-leb, lt-leb, leb-true}
 use Rattle.fields.specs.Choice.{pick, keep}
 use Rattle.fields.specs.Order.{sameBytes, lessBytes}
-use Rattle.fields.proofs.Choice.{and-intro, and-left, and-no, and-right, and-yes}
+use Rattle.fields.proofs.Choice.{and-intro, and-left, and-no, and-right, and-yes, same-test}
 use Rattle.rules.specs.Sizes.{maxRecords, maxEach}
 use Rattle.rules.specs.Node.{KeyValue, Rec, store}
 use Rattle.rules.specs.Apply.{takes, stamp, takeAll}
@@ -18,6 +18,9 @@ use Rattle.rules.specs.Profile.{recsFit, roomyIn}
 use Rattle.rules.specs.declared.Party.the-variants.{Metering, Building}
 use Rattle.rules.specs.declared.Profile.{Profile}
 use Rattle.rules.specs.declared.Profile.the-variants.{Free, Meter, Shared}
+use Rattle.table.specs.Fits.{LaidNode}
+use Rattle.table.specs.Tests.{countOf, recsIn}
+use Rattle.table.proofs.Places.{length-recs}
 use Rattle.apply_node.proofs.Taken.{takes-few}
 use Rattle.apply_grow.specs.Growing.{fitFor, roomyEachFor, roomyFor}
 
@@ -120,22 +123,48 @@ takes-roomy p held gc clock rs l n h e =
 
 -- an empty node has room for as many
 pub none-roomy : (p : Profile) (n : ℕ) (l : List Rec) → roomyFor p n l ≡ true → roomyFor p n [] ≡ true
+unfolding keep
 none-roomy p n l e =
-    and-intro (leb (n + 0) maxRecords) (fitFor p n []) (within _ _ n maxRecords (omega arith) (and-left (leb (n + length l) maxRecords) (fitFor p n l) e))
+    and-intro (leb (n + 0) maxRecords) (fitFor p n []) (within (n + 0) (length l) n maxRecords (omega arith) (and-left (leb (n + length l) maxRecords) (fitFor p n l) e))
     (go p (and-right (leb (n + length l) maxRecords) (fitFor p n l) e))
   where
     go : (p : Profile) → fitFor p n l ≡ true → fitFor p n [] ≡ true
-    unfolding keep
     go Free e = refl
     go Meter e = refl
     go Shared e =
         and-intro (leb (n + 0) maxEach) (leb (n + 0) maxEach)
-        (within _ _ n maxEach (omega arith) (and-left (leb (n + length (ofKeys (own Metering) l)) maxEach) (leb (n + length (ofKeys (own Building) l)) maxEach) e))
-        (within _ _ n maxEach (omega arith) (and-right (leb (n + length (ofKeys (own Metering) l)) maxEach) (leb (n + length (ofKeys (own Building) l)) maxEach) e))
+        (within (n + 0) (length (ofKeys (own Metering) l)) n maxEach (omega arith) (and-left (leb (n + length (ofKeys (own Metering) l)) maxEach) (leb (n + length (ofKeys (own Building) l)) maxEach) e))
+        (within (n + 0) (length (ofKeys (own Building) l)) n maxEach (omega arith) (and-right (leb (n + length (ofKeys (own Metering) l)) maxEach) (leb (n + length (ofKeys (own Building) l)) maxEach) e))
 
 -- ---- what the code asks
 
--- the room that is left
-pub left-over : (count n m k : ℕ) → k ≡ n → n ≤ m → (r : Bool) → (r ≡ true → count + k ≤ m) → (r ≡ false → m < count + k) → r ≡ leb (count + n) m
-left-over count n m k e h true a b = sym (le-leb (count + n) m (let q = a refl in omega (arith, q)))
-left-over count n m k e h false a b = sym (lt-leb (count + n) m (let q = b refl in omega (arith, q)))
+-- one test, then another
+pub both-hold : (a b r s : Bool) → r ≡ a → r ≡ true → s ≡ b → s ≡ (a && b)
+both-hold a b r s e q f = f ∙ sym (and-yes a b (sym e ∙ q))
+
+pub first-fails : (a b r : Bool) → r ≡ a → r ≡ false → false ≡ (a && b)
+first-fails a b r e q = sym (and-no a b (sym e ∙ q))
+
+module _ (k n m : ℕ) (e : k ≡ n) where
+  pub left-over : (count : ℕ) → k ≤ m → leb count (m - k) ≡ leb (count + n) m
+  left-over count h =
+      same-test (leb count (m - k)) (leb (count + n) m) (λ q. le-leb (count + n) m (let g = leb-true count (m - k) q in omega (arith, g)))
+      (λ q. le-leb count (m - k) (let g = leb-true (count + n) m q in omega (arith, g)))
+
+  pub none-left : (count : ℕ) → m < k → false ≡ leb (count + n) m
+  none-left count h = sym (lt-leb (count + n) m (omega arith))
+
+  pub few-so : (b : Bool) → k ≤ m → b ≡ (leb n m && b)
+  few-so b h = sym (and-yes (leb n m) b (le-leb n m (omega arith)))
+
+  pub many-so : (b : Bool) → m < k → false ≡ (leb n m && b)
+  many-so b h = sym (and-no (leb n m) b (lt-leb n m (omega arith)))
+
+module _ (b : List ℕ) (o : LaidNode b) (k : ℕ) (e : k ≡ countOf b) (p : Profile) (count : ℕ) where
+  pub sure : count ≤ maxRecords - k → (r : Bool) → r ≡ fitFor p count (recsIn b) → r ≡ roomyFor p count (recsIn b)
+  sure h r q =
+      q ∙ sym (and-yes (leb (count + length (recsIn b)) maxRecords) (fitFor p count (recsIn b)) (le-leb (count + length (recsIn b)) maxRecords (omega (arith, length-recs b, o .few))))
+
+  pub not-sure : maxRecords - k < count → false ≡ roomyFor p count (recsIn b)
+  not-sure h =
+      sym (and-no (leb (count + length (recsIn b)) maxRecords) (fitFor p count (recsIn b)) (lt-leb (count + length (recsIn b)) maxRecords (omega (arith, length-recs b))))
