@@ -154,12 +154,6 @@ module _ (k n m : ℕ) (e : k ≡ n) where
   pub none-left : (count : ℕ) → m < k → false ≡ leb (count + n) m
   none-left count h = sym (lt-leb (count + n) m (omega arith))
 
-  pub few-so : (b : Bool) → k ≤ m → b ≡ (leb n m && b)
-  few-so b h = sym (and-yes (leb n m) b (le-leb n m (omega arith)))
-
-  pub many-so : (b : Bool) → m < k → false ≡ (leb n m && b)
-  many-so b h = sym (and-no (leb n m) b (lt-leb n m (omega arith)))
-
 module _ (b : List ℕ) (o : LaidNode b) (k : ℕ) (e : k ≡ countOf b) (p : Profile) (count : ℕ) where
   pub sure : count ≤ maxRecords - k → (r : Bool) → r ≡ fitFor p count (recsIn b) → r ≡ roomyFor p count (recsIn b)
   sure h r q =

@@ -10,8 +10,7 @@ ghost use Prim.Native.Nat.{_+_, _≤_};
 ghost use lib.Dec.{leb};
 ghost use lib.ListN.{length};
 ghost use Rattle.rules.specs.Sizes.{maxEach};
-ghost use Rattle.rules.specs.Party.{own, ofKeys, roomyEach};
-ghost use Rattle.rules.specs.Profile.{recsFit};
+ghost use Rattle.rules.specs.Party.{own, ofKeys};
 ghost use Rattle.rules.specs.Given.{Gives};
 ghost use Rattle.rules.specs.Layout.{encodeNode, decodeNode};
 ghost use Rattle.rules.specs.declared.Profile.the-variants.{Free};
@@ -60,29 +59,6 @@ fn is_sure(node: &[u8], profile: Profile, count: usize) -> bool
         };
     }
     false
-}
-
-// Whether neither party has over 16.
-fn is_roomy_each(node: &[u8]) -> bool
-    requires { ⌜ LaidNode (now node) ⌝ }
-    ensures { λ r. ⌜ r ≡ roomyEach (recsIn (now (node .entry))) ⌝ }
-{
-    if party_count::count_own(node, Party::Metering) <= Party::RECORDS {
-        return party_count::count_own(node, Party::Building) <= Party::RECORDS;
-    }
-    false
-}
-
-// Whether the profile takes so many records, beside document 01's 32.
-fn is_fit(node: &[u8], profile: Profile) -> bool
-    requires { ⌜ LaidNode (now node) ⌝ }
-    ensures { λ r. ⌜ r ≡ recsFit profile (recsIn (now (node .entry))) ⌝ }
-{
-    match profile {
-        Profile::Free => true,
-        Profile::Meter => true,
-        Profile::Shared => is_roomy_each(node),
-    }
 }
 
 // ---- growing
@@ -147,7 +123,7 @@ fn grow_as(
         (grown clock (now (delta .entry)) at max (begun afresh «last_gc» (decodeNode (now (node .entry))))) r (now (node .exit)) ⌝ }
 {
     if grow(node, delta, at, afresh, last_gc, max, clock) {
-        return is_fit(node, profile);
+        return profile_check::node_fits(profile, node);
     }
     false
 }

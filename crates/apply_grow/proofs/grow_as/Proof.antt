@@ -7,8 +7,8 @@ use Rattle.apply_grow.proofs.grow_as.Tie as tie
 grow-requires : tie.Need-grow-requires
 grow-requires c κs = search needs
 
-is-fit-requires : tie.Need-is-fit-requires
-is-fit-requires c κs = let t = c .before in t .before .before .before .grow .ensures .laid (t .if1 .taken)
+node-fits-requires : tie.Need-node-fits-requires
+node-fits-requires c κs = let t = c .before in t .before .before .before .grow .ensures .laid (t .if1 .taken)
 
 same-length : tie.Need-same-length
 same-length c = search needs
@@ -16,7 +16,7 @@ same-length c = search needs
 returns : tie.Need-returns
 returns c =
     let t = c .before .before in
-    by-fit _ _ _ _ (t .before .before .before .grow .ensures) (t .if1 .taken) _ (c .is-fit .ensures)
+    by-fit _ _ _ _ (t .before .before .before .grow .ensures) (t .if1 .taken) _ (c .node-fits .ensures)
 
 same-length-2 : tie.Need-same-length-2
 same-length-2 c = search needs
@@ -26,4 +26,4 @@ returns-2 c = not-roomy _ _ _ _ (c .before .before .before .grow .ensures) (c .i
 
 pub grow-as-spec : {M : Type 1} → statement M
 grow-as-spec =
-    tie.close (tie.spec grow-requires is-fit-requires same-length returns same-length-2 returns-2)
+    tie.close (tie.spec grow-requires node-fits-requires same-length returns same-length-2 returns-2)
