@@ -149,14 +149,15 @@ fn is_sized(kind: Kind, key: &[u8], value: &[u8]) -> bool
 
 // A write at an own key: 5 where the key is not there and the party has 16.
 fn guard_own(node: &[u8], party: Party, key: &[u8]) -> Guarded
-    requires { ⌜ LaidNode (now node) × (keysRise (recsIn (now node)) ≡ true) ⌝ }
+    requires { ⌜ LaidNode (now node) × (keysRise (recsIn (now node)) ≡ true) × (recsFormed Shared (recsIn (now node)) ≡ true) ⌝ }
     ensures { λ r. ⌜ r ≡ guardedBy (fullGuard (own party) (some (bringing (now (key .entry)) [] Set))
         (find (now (key .entry)) (recsIn (now (node .entry)))) (recsIn (now (node .entry)))) ⌝ }
 {
     match table_read::search_key(node, key) {
         Place::At(_) => Guarded::Passed,
         Place::Free(_) => {
-            if Party::RECORDS <= party_count::count_own(node, party) {
+            let seen = own_rows::sight_of(node, Profile::Shared, party);
+            if Party::RECORDS <= seen.count {
                 return Guarded::Refused(Refusal::NodeFull);
             }
             Guarded::Passed
@@ -166,7 +167,7 @@ fn guard_own(node: &[u8], party: Party, key: &[u8]) -> Guarded
 
 // One of the four calls at an own key: the deletes pass.
 fn guard_kind(node: &[u8], party: Party, kind: Kind, key: &[u8], value: &[u8]) -> Guarded
-    requires { ⌜ LaidNode (now node) × (keysRise (recsIn (now node)) ≡ true) ⌝ }
+    requires { ⌜ LaidNode (now node) × (keysRise (recsIn (now node)) ≡ true) × (recsFormed Shared (recsIn (now node)) ≡ true) ⌝ }
     ensures { λ r. ⌜ r ≡ guardedBy (fullGuard (own party) (brings (callOf kind (now (value .entry)) 0) (now (key .entry)))
         (find (now (key .entry)) (recsIn (now (node .entry)))) (recsIn (now (node .entry)))) ⌝ }
 {
@@ -180,7 +181,7 @@ fn guard_kind(node: &[u8], party: Party, kind: Kind, key: &[u8], value: &[u8]) -
 
 // One of the four calls at a key of a node: 1 comes before, then 19, though the key be not there, then 5.
 fn guard_party(node: &[u8], party: Party, kind: Kind, key: &[u8], value: &[u8]) -> Guarded
-    requires { ⌜ LaidNode (now node) × (keysRise (recsIn (now node)) ≡ true) ⌝ }
+    requires { ⌜ LaidNode (now node) × (keysRise (recsIn (now node)) ≡ true) × (recsFormed Shared (recsIn (now node)) ≡ true) ⌝ }
     ensures { λ r. ⌜ r ≡ guardedBy (guardAt Shared party (callOf kind (now (value .entry)) 0) (now (key .entry)) (recsIn (now (node .entry)))) ⌝ }
 {
     if is_sized(kind, key, value) {
@@ -201,7 +202,7 @@ fn guard_shared(
     key: &[u8],
     value: &[u8],
 ) -> Guarded
-    requires { ⌜ valid (now table) ≡ true ⌝ }
+    requires { ⌜ (valid (now table) ≡ true) × (profileObeys Shared (decode (now table)) ≡ true) ⌝ }
     ensures { λ r. ⌜ r ≡ guardedBy (guardIn Shared party (callOf kind (now (value .entry)) 0) (now (key .entry)) (nodeOf number (decode (now (table .entry))))) ⌝ }
 {
     match table_read::node_span(table, number) {
