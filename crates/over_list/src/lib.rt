@@ -4,7 +4,7 @@
 // a call without room for them writes nothing. `list_over` takes any bytes, and `list_over_known` overrides and a table known to be good.
 use fields::Order;
 use overrides::Which;
-use prefix::Run;
+use prefix::Stretch;
 use rules::Header;
 use rules::Party;
 use rules::Profile;
@@ -20,13 +20,13 @@ ghost use lib.ListN.{length, take};
 ghost use Rattle.rules.specs.Given.{Gives, Tells};
 ghost use Rattle.rules.specs.Table.{keysRise};
 ghost use Rattle.rules.specs.Party.{own, sees};
-ghost use Rattle.rules.specs.Profile.{recsFormed, tableFormed};
+ghost use Rattle.rules.specs.Profile.{recsFormed, profileObeys};
 ghost use Rattle.rules.specs.Layout.{decodeNode, decode, valid};
 ghost use Rattle.rules.specs.Whole.{validWhole};
 ghost use Rattle.table.specs.Tests.{countOf, recsIn};
 ghost use Rattle.table.specs.Fits.{LaidNode};
 ghost use Rattle.table.specs.Places.{recAt};
-ghost use Rattle.own_rows.specs.Seen.{seenNode};
+ghost use Rattle.own_rows.specs.Sight.{seenNode};
 ghost use Rattle.overrides.specs.Overrides.{validNode};
 ghost use Rattle.prefix.specs.Run.{RunOf};
 ghost use Rattle.over_list.specs.Merged.{placesAs, listOn, listOver, lentListOver};
@@ -131,10 +131,10 @@ fn next_turn(
 // are. A byte that is not listed is written over by the next.
 fn merge(
     overrides: &[u8],
-    own: Run,
+    own: Stretch,
     node: &[u8],
     base: usize,
-    shared: Run,
+    shared: Stretch,
     out: &mut [u8],
 ) -> usize
     requires { ⌜ LaidNode (now overrides) × (keysRise (recsIn (now overrides)) ≡ true) × LaidNode (now node) × (keysRise (recsIn (now node)) ≡ true)
@@ -159,38 +159,38 @@ fn merge(
 }
 
 // The overrides' records whose keys begin with these bytes.
-fn run_of(overrides: &[u8], keys: &[u8]) -> Run
+fn run_of(overrides: &[u8], keys: &[u8]) -> Stretch
     requires { ⌜ LaidNode (now overrides) × (keysRise (recsIn (now overrides)) ≡ true) ⌝ }
     ensures { λ r. ⌜ RunOf (now (keys .entry)) (now (overrides .entry)) (r .start) (r .end) ⌝ }
 {
     let start = prefix::run_start(overrides, keys);
-    Run {
+    Stretch {
         start,
         end: prefix::run_end(overrides, keys, start),
     }
 }
 
 // Those whose keys are a party's own.
-fn own_run(overrides: &[u8], party: Party) -> Run
+fn own_run(overrides: &[u8], party: Party) -> Stretch
     requires { ⌜ LaidNode (now overrides) × (keysRise (recsIn (now overrides)) ≡ true) ⌝ }
     ensures { λ r. ⌜ PassIn (own party) (now (overrides .entry)) (r .start) (r .end) ⌝ }
 {
     match party {
         Party::Metering => run_of(overrides, b"m/"),
         Party::Building => run_of(overrides, b"b/"),
-        Party::Nobody => Run { start: 0, end: 0 },
+        Party::Nobody => Stretch { start: 0, end: 0 },
     }
 }
 
 // Those whose keys a party may name, over a table of a profile.
-fn seen_run(overrides: &[u8], profile: Profile, party: Party) -> Run
+fn seen_run(overrides: &[u8], profile: Profile, party: Party) -> Stretch
     requires { ⌜ LaidNode (now overrides) × (keysRise (recsIn (now overrides)) ≡ true) ⌝ }
     ensures { λ r. ⌜ PassIn (sees profile party) (now (overrides .entry)) (r .start) (r .end) ⌝ }
 {
     let n = fields::byte_at(overrides, layout::RECORD_COUNT);
     match profile {
-        Profile::Free => Run { start: 0, end: n },
-        Profile::Meter => Run { start: 0, end: n },
+        Profile::Free => Stretch { start: 0, end: n },
+        Profile::Meter => Stretch { start: 0, end: n },
         Profile::Shared => own_run(overrides, party),
     }
 }
@@ -260,7 +260,7 @@ fn list_over_seen(
     prefix: &[u8],
     out: &mut [u8],
 ) -> ListedOver
-    requires { ⌜ (validNode (now overrides) ≡ true) × (valid (now area) ≡ true) × (tableFormed profile (decode (now area)) ≡ true) ⌝ }
+    requires { ⌜ (validNode (now overrides) ≡ true) × (valid (now area) ≡ true) × (profileObeys profile (decode (now area)) ≡ true) ⌝ }
     ensures { λ r. ⌜ Gives
         (listOver profile party number (now (prefix .entry)) (now (out .entry)) (decodeNode (now (overrides .entry)) .node) (decode (now (area .entry))))
         r (now (out .exit)) ⌝ }

@@ -209,14 +209,14 @@ order-kept x y low top u v h s t = go (ltb v u) refl
         absurd (omega (arith, h, s .less v (t .from) l, t .more v (omega arith) (omega (arith, s .to))))
     go false q = ltb-false v u q
 
-pub run-in : (k b : List ℕ) (first end low top : ℕ) → low ≤ top → top ≤ countOf b → FirstOf k b first → RunOf k b first end
-    → RunIn k b low top (broughtIn first low top) (broughtIn end low top)
-run-in k b first end low top o h f r =
-    let s = brought first low top o in
-    let e = brought end low top o in
+pub run-in : (k b : List ℕ) (first end low top : ℕ) → low ≤ top → top ≤ countOf b → FirstOf k b first → RunOf k b first end → (u v : ℕ) → u ≡ broughtIn first low top
+    → v ≡ broughtIn end low top → RunIn k b low top u v
+run-in k b first end low top o h f r u v p q =
+    let s = subst (Brought first low top) (sym p) (brought first low top o) in
+    let e = subst (Brought end low top) (sym q) (brought end low top o) in
     record {
       from = s .from;
-      order = order-kept first end low top _ _ (r .order) s e;
+      order = order-kept first end low top u v (r .order) s e;
       inside = e .to;
       early = λ j a c. f .early j (s .less j a c);
       late = λ j a c. f .late j (s .more j a c) (omega arith);

@@ -26,7 +26,7 @@ ghost use Rattle.rules.specs.Node.{hidden};
 ghost use Rattle.rules.specs.Table.{keysRise};
 ghost use Rattle.rules.specs.Local.{prefixOn, prefixedAs};
 ghost use Rattle.rules.specs.Layout.{recPlace, recWidth, tableWidth, decodeRec, decode, valid};
-ghost use Rattle.rules.specs.Profile.{tableFormed};
+ghost use Rattle.rules.specs.Profile.{profileObeys};
 ghost use Rattle.rules.specs.Whole.{validWhole};
 ghost use Rattle.rules.specs.Lent.{lentPrefixed};
 ghost use Rattle.table.specs.Tests.{countOf, recsIn};
@@ -36,7 +36,7 @@ ghost use Rattle.prefix.specs.Run.{keyAt, FirstOf, RunOf, broughtIn, Run
 ghost use Rattle.prefix.specs.Rows.{prefixRowsOn, prefixRowsAs, lentPrefixRows};
 
 // The records of a piece of a node's rows whose keys begin with a prefix: those from `start` up to `end`.
-pub struct Run {
+pub struct Stretch {
     pub start: usize,
     pub end: usize,
 }
@@ -107,14 +107,14 @@ fn brought_in(j: usize, low: usize, top: usize) -> usize
 }
 
 // The run of the prefix in a piece of a node's rows: `count` of them behind `low`.
-pub fn run_in(node: &[u8], low: usize, count: usize, prefix: &[u8]) -> Run
+pub fn run_in(node: &[u8], low: usize, count: usize, prefix: &[u8]) -> Stretch
     requires { ⌜ LaidNode (now node) × (keysRise (recsIn (now node)) ≡ true) × (low + count ≤ countOf (now node)) ⌝ }
     ensures { λ r. ⌜ RunIn (now (prefix .entry)) (now (node .entry)) low (low + count) (r .start) (r .end) ⌝ }
 {
     let first = run_start(node, prefix);
     let end = run_end(node, prefix, first);
     let top = low + count;
-    Run {
+    Stretch {
         start: brought_in(first, low, top),
         end: brought_in(end, low, top),
     }
@@ -180,7 +180,7 @@ fn list_seen(
     prefix: &[u8],
     out: &mut [u8],
 ) -> Listed
-    requires { ⌜ (valid (now area) ≡ true) × (tableFormed profile (decode (now area)) ≡ true) ⌝ }
+    requires { ⌜ (valid (now area) ≡ true) × (profileObeys profile (decode (now area)) ≡ true) ⌝ }
     ensures { λ r. ⌜ Gives (prefixedAs profile party number (now (prefix .entry)) (decode (now (area .entry))) (now (out .entry))) r (now (out .exit)) ⌝ }
 {
     match table_read::node_span(area, number) {
@@ -242,7 +242,7 @@ fn rows_in(node: &[u8], low: usize, count: usize, start: usize, prefix: &[u8]) -
 
 // The records of a node that a party sees and whose keys begin with the prefix, tombstones too, in the area of a good table of a profile: 2, 1.
 fn rows_seen(area: &[u8], profile: Profile, party: Party, number: u64, prefix: &[u8]) -> Rows
-    requires { ⌜ (valid (now area) ≡ true) × (tableFormed profile (decode (now area)) ≡ true) ⌝ }
+    requires { ⌜ (valid (now area) ≡ true) × (profileObeys profile (decode (now area)) ≡ true) ⌝ }
     ensures { λ r. ⌜ r ≡ prefixRowsAs profile party number (now (prefix .entry)) (decode (now (area .entry))) ⌝ }
 {
     match table_read::node_span(area, number) {

@@ -48,7 +48,7 @@ is-shown-requires : tie.Need-is-shown-requires Inv-loop μ-loop
 is-shown-requires c κs = (c .before .before .before .before .pre .0, within c)
 
 sub-out : tie.Need-sub-out Inv-loop μ-loop
-sub-out c = c .before .before .before .before .loop .inv .5
+sub-out c = c .before .before .before .loop .inv .5
 
 cast-out : tie.Need-cast-out Inv-loop μ-loop
 cast-out c =

@@ -1,0 +1,4 @@
+pub mod Parted
+pub mod First
+pub mod Laws
+pub mod Tables
