@@ -49,7 +49,7 @@ lentIsApplied now answers l (DeltaSent b) = noRoom (lentApply b now answers l .a
 
 -- whether a call of an exchange is made and not refused
 abbrev pub lentGranted : (event : Event) (world : LentWorld) → Bool
-lentGranted (Writing i k c) w = true
+lentGranted (Writing i k who c) w = true
 lentGranted (Beating s i) w = true
 lentGranted (Offering s i h) w = true
 lentGranted (Removing s removal) w = true
