@@ -1,6 +1,6 @@
 -- The rules that a shared table adds to 14 are kept by a party's call, and hold of what a party has. Assumes nothing.
 use Prim.Native.Nat.{ℕ, suc, _+_, _≤_}
-use mathlib.Core.Bool.{Bool, true, false, _&&_, true≢false, false≢true}
+use mathlib.Core.Bool.{Bool, true, false, _&&_, false≢true}
 use mathlib.Core.List.{List, [], _∷_}
 use mathlib.Core.Option.{Option, none, some}
 use mathlib.Core.Path.{_≡_, refl, ap, sym, _∙_, subst}
@@ -12,7 +12,7 @@ use Rattle.fields.specs.Choice.{pick, keep, all}
 use Rattle.fields.proofs.Choice.{and-intro, and-left, and-right}
 use Rattle.rules.specs.Sizes.{maxEach, maxKey, maxValue, top}
 use Rattle.rules.specs.Node.{Rec, Node, Call, brought, Decision, Refuse, Leave, Give, act, write, find, store, wish}
-use Rattle.rules.specs.Table.{Entry, Table, nodeOf, setNode}
+use Rattle.rules.specs.Table.{Entry, Table, nodeOf}
 use Rattle.rules.specs.Party.{own, ofKeys, roomyEach}
 use Rattle.rules.specs.Profile.{inForm, recsFormed, recsObey, profileObeys}
 use Rattle.rules.specs.declared.Party.{Party}

@@ -8,3 +8,4 @@ pub mod Calls
 pub mod Readings
 pub mod Common
 pub mod Runs
+pub mod LentRuns

@@ -6,14 +6,14 @@ use mathlib.Core.Option.{Option, none, some}
 use mathlib.Core.Path.{_≡_, refl, ap, sym, _∙_}
 use lib.Dec.{eqb, leb}
 use lib.ListN.{length}
-use Rattle.fields.specs.Choice.{pick, keep}
+use Rattle.fields.specs.Choice.{pick}
 use Rattle.fields.specs.Order.{sameBytes}
 use Rattle.rules.specs.Sizes.{maxKey}
 use Rattle.rules.specs.Answers.{accepted, refused, listedTold}
 use Rattle.rules.specs.Given.{Given, given}
 use Rattle.rules.specs.Node.{Rec, Node, find, shown, hitsFrom, hits}
 use Rattle.rules.specs.Table.{Table, nodeOf}
-use Rattle.rules.specs.Party.{own, alone, ofKeys}
+use Rattle.rules.specs.Party.{own, alone}
 use Rattle.rules.specs.Local.{Found, NotFound, foundOf, listInto, lookup, lookupAs, lookupOn, prefixed, prefixedAs, prefixOn, unlessOther}
 use Rattle.rules.specs.declared.Party.{Party}
 use Rattle.rules.specs.declared.Profile.the-variants.{Shared}
@@ -21,7 +21,7 @@ use Rattle.rules.specs.declared.Refusal.the-variants.{TooLong, OtherParty}
 use Rattle.rules.specs.declared.Listed.{Listed}
 use Rattle.rules.specs.declared.Listed.the-variants as listed
 use Rattle.parties.specs.TwoRuns.{Reading, Lookup, Listing, Counting, RecordAt, RecordOf, Said, says, foundSaid, countSaid, elementAt, placeSaid, atSaid, keySaid, ofSaid, readingSaid, unversioned, unversionedEach, versionlessNode, versionless}
-use Rattle.parties.proofs.Views.{viewRecs, view-own, bare}
+use Rattle.parties.proofs.Views.{view-own, bare}
 use Rattle.parties.proofs.Tables.{viewNode, viewTable, table-is}
 
 -- ---- readings that look at no version, max or last_gc

@@ -16,7 +16,7 @@ use Rattle.rules.proofs.Obeys.{table-facts}
 use Rattle.rules.proofs.Records.{Sorted, sorted-keep}
 use Rattle.rules.specs.Party.{alone}
 use Rattle.parties.specs.TwoRuns.{versionless}
-use Rattle.parties.proofs.Views.{viewRecs, view-own, view-is, view-twice, keep-view}
+use Rattle.parties.proofs.Views.{viewRecs, view-is, view-twice, keep-view}
 
 abbrev pub viewNode : (mine : List ℕ → Bool) (node : Node) → Node
 viewNode mine n = record { heartbeat = n .heartbeat; max = 0; last-gc = 0; recs = viewRecs mine (n .recs) }

@@ -1,8 +1,7 @@
 -- A party's local call in the order that ticket 9 names: 1, 19, 3, nothing to change, 5 counted by party, 6. The rules have a guard in front of document 01's call
 -- (Profile, Local); that it is the same where the table obeys the rules is proved (proofs/Order).
 use Prim.Native.Nat.{ℕ}
-use mathlib.Core.Bool.{Bool, true, false, _&&_}
-use mathlib.Core.List.{List}
+use mathlib.Core.Bool.{Bool, false, _&&_}
 use mathlib.Core.Option.{Option, none, some}
 use lib.ListN.{length}
 use lib.Dec.{leb, ltb}
