@@ -9,3 +9,4 @@ pub mod Readings
 pub mod Common
 pub mod Runs
 pub mod LentRuns
+pub mod Unpromised
