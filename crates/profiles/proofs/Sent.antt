@@ -12,9 +12,10 @@ use Rattle.rules.specs.Table.{Entry, Table, obeys}
 use Rattle.rules.specs.Delta.{Good, KeyValueOp, NodeOp, Op, SetMaxVersionOp, deltaBytes, sizeOf}
 use Rattle.rules.specs.Digest.{NodeDigest}
 use Rattle.rules.specs.Compute.{StaleNode, allOps, bodyOps, cut, deltaFor, fromFor, keyValueOps, ordered, staleNodes, staleOf, unlessMax}
-use Rattle.rules.specs.Profile.{inForm, opInForm, profileObeys, readDeltaAs, recsFormed}
+use Rattle.rules.specs.Profile.{inForm, opInForm, profileObeys, readDeltaAs, recsFormed, recsObey}
 use Rattle.rules.specs.declared.Profile.{Profile}
 use Rattle.rules.proofs.Accepted.{read-computed}
+use Rattle.rules.proofs.Formed.{obey-formed}
 use Rattle.rules.proofs.Stale.{stale-from}
 use Rattle.rules.proofs.Tables.{behind-from, ordered-from}
 use Rattle.profiles.proofs.Reading.{delta-formed}
@@ -72,7 +73,7 @@ module _ (p : Profile) where
         each : (s : StaleNode) → s ∈ ordered (staleNodes excluded ds ties t) → recsFormed p (s .node .recs) ≡ true
         each s m =
             let x = behind-from excluded ds ties t (ordered-from (staleNodes excluded ds ties t) m) in
-            subst (λ (n : Node). recsFormed p (n .recs) ≡ true) (sym (x .node-is)) (all-from (λ (e : Entry). recsFormed p (e .node .recs)) t h (x .entry) (x .held))
+            subst (λ (n : Node). recsFormed p (n .recs) ≡ true) (sym (x .node-is)) (obey-formed p (x .entry .node .recs) (all-from (λ (e : Entry). recsObey p (e .node .recs)) t h (x .entry) (x .held)))
 
     -- so a table of the profile reads it
     pub computed-as : obeys t ≡ true → (mtu : ℕ) → mtu ≤ maxDelta → readDeltaAs p (deltaBytes (deltaFor excluded ties mtu ds t)) ≡ Good (deltaFor excluded ties mtu ds t)
