@@ -2,20 +2,18 @@
 use Prim.Native.Nat.{ℕ, suc, _+_}
 use mathlib.Core.Bool.{Bool, true, false, true≢false, false≢true}
 use mathlib.Core.List.{List, [], _∷_}
-use mathlib.Core.Path.{_≡_, refl, ap, sym, _∙_}
+use mathlib.Core.Path.{_≡_, refl, sym, _∙_}
 use native.Mathlib.Omega.{arith}
-use lib.Dec.{eqb}
 use lib.ListN.{length}
-use borrow.Author.Tests.{eqb-true}
 use Rattle.fields.specs.Choice.{pick, keep, all}
-use Rattle.fields.specs.Order.{startsWith}
 use Rattle.fields.proofs.Choice.{and-left, and-right}
 use Rattle.rules.specs.Node.{Rec}
-use Rattle.rules.specs.Party.{own, someones, ofKeys}
+use Rattle.rules.specs.Party.{own, ofKeys}
 use Rattle.rules.specs.Profile.{inForm, recsFormed}
 use Rattle.rules.specs.declared.Party.{Party}
 use Rattle.rules.specs.declared.Party.the-variants.{Metering, Building, Nobody}
 use Rattle.rules.specs.declared.Profile.the-variants.{Shared}
+use Rattle.profiles.proofs.Shared.{not-both}
 use Rattle.parties.specs.TwoRuns.{sameParty}
 
 pub same-is : (p q : Party) → sameParty p q ≡ true → q ≡ p
@@ -29,37 +27,24 @@ same-is Nobody Metering e = absurd (false≢true e)
 same-is Nobody Building e = absurd (false≢true e)
 same-is Nobody Nobody e = refl
 
--- a key that begins with one byte does not begin with another
-other-byte : (a b : ℕ) (j l : List ℕ) → eqb b a ≡ false → (k : List ℕ) → startsWith (a ∷ j) k ≡ true → startsWith (b ∷ l) k ≡ false
-unfolding startsWith
-other-byte a b j l d [] e = absurd (false≢true e)
-other-byte a b j l d (x ∷ k) e = go (eqb a x) refl e
+not-metering : (k : List ℕ) → own Building k ≡ true → own Metering k ≡ false
+not-metering k e = go (own Metering k) refl
   where
-    go : (t : Bool) → eqb a x ≡ t → pick t (startsWith j k) false ≡ true → pick (eqb b x) (startsWith l k) false ≡ false
-    go true q e = rw (sym (ap (eqb b) (eqb-true a x q)) ∙ d)
-    go false q e = absurd (false≢true e)
+    go : (b : Bool) → own Metering k ≡ b → b ≡ false
+    go true q = absurd (false≢true (sym (not-both k q) ∙ e))
+    go false q = refl
 
 -- no key is of two parties
 pub apart : (p q : Party) → sameParty p q ≡ false → (k : List ℕ) → own q k ≡ true → own p k ≡ false
 apart Metering Metering e k h = absurd (true≢false e)
-apart Metering Building e k h = other-byte 98 109 (47 ∷ []) (47 ∷ []) refl k h
+apart Metering Building e k h = not-metering k h
 apart Metering Nobody e k h = absurd (false≢true h)
-apart Building Metering e k h = other-byte 109 98 (47 ∷ []) (47 ∷ []) refl k h
+apart Building Metering e k h = not-both k h
 apart Building Building e k h = absurd (true≢false e)
 apart Building Nobody e k h = absurd (false≢true h)
 apart Nobody Metering e k h = refl
 apart Nobody Building e k h = refl
 apart Nobody Nobody e k h = refl
-
--- an own key is someone's
-pub own-someones : (q : Party) (k : List ℕ) → own q k ≡ true → someones k ≡ true
-own-someones Metering k m = rw m
-own-someones Building k m = go (own Metering k) m
-  where
-    go : (b : Bool) → own Building k ≡ true → pick b true (own Building k) ≡ true
-    go true e = refl
-    go false e = e
-own-someones Nobody k m = absurd (false≢true m)
 
 -- every record is of one of the two
 pub count-both : (l : List Rec) → recsFormed Shared l ≡ true → length l ≡ length (ofKeys (own Metering) l) + length (ofKeys (own Building) l)
@@ -70,7 +55,7 @@ count-both (a ∷ l) e = go (own Metering (a .kv .key)) refl (own Building (a .k
     go : (x : Bool) → own Metering (a .kv .key) ≡ x → (y : Bool) → own Building (a .kv .key) ≡ y → pick x true y ≡ true
         → length l ≡ length (ofKeys (own Metering) l) + length (ofKeys (own Building) l)
         → suc (length l) ≡ length (pick x (a ∷ ofKeys (own Metering) l) (ofKeys (own Metering) l)) + length (pick y (a ∷ ofKeys (own Building) l) (ofKeys (own Building) l))
-    go true p true q e ih = absurd (true≢false (sym q ∙ apart Building Metering refl (a .kv .key) p))
+    go true p true q e ih = absurd (true≢false (sym q ∙ not-both (a .kv .key) p))
     go true p false q e ih = omega arith
     go false p true q e ih = omega arith
     go false p false q e ih = absurd (false≢true e)

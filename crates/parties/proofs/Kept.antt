@@ -1,13 +1,13 @@
 -- The rules that a shared table adds to 14 are kept by a party's call, and hold of what a party has. Assumes nothing.
 use Prim.Native.Nat.{ℕ, suc, _+_, _≤_}
-use mathlib.Core.Bool.{Bool, true, false, _&&_, false≢true}
+use mathlib.Core.Bool.{Bool, true, false, _&&_}
 use mathlib.Core.List.{List, [], _∷_}
 use mathlib.Core.Option.{Option, none, some}
 use mathlib.Core.Path.{_≡_, refl, ap, sym, _∙_, subst}
 use native.Mathlib.Omega.{arith}
 use lib.ListN.{length}
 use lib.Dec.{leb, ltb}
-use borrow.Author.Tests.{leb-true, leb-false, le-leb}
+use borrow.Author.Tests.{leb-true, le-leb}
 use Rattle.fields.specs.Choice.{pick, keep, all}
 use Rattle.fields.proofs.Choice.{and-intro, and-left, and-right}
 use Rattle.rules.specs.Sizes.{maxEach, maxKey, maxValue, top}
@@ -16,16 +16,15 @@ use Rattle.rules.specs.Table.{Entry, Table, nodeOf}
 use Rattle.rules.specs.Party.{own, ofKeys, roomyEach}
 use Rattle.rules.specs.Profile.{inForm, recsFormed, recsObey, profileObeys}
 use Rattle.rules.specs.declared.Party.{Party}
-use Rattle.rules.specs.declared.Party.the-variants.{Metering, Building, Nobody}
+use Rattle.rules.specs.declared.Party.the-variants.{Metering, Building}
 use Rattle.rules.specs.declared.Profile.the-variants.{Shared}
 use Rattle.rules.specs.declared.Refusal.the-variants.{TooLong, NodeFull, Exhausted, OtherParty}
 use Rattle.rules.proofs.Records.{keyOf, Sorted}
-use Rattle.rules.proofs.Keeps.{store-longer, store-held}
 use Rattle.rules.proofs.Formed.{formed-fit, node-obeys, obey-fit, obey-formed, set-formed, store-formed}
+use Rattle.profiles.proofs.Shared.{own-formed, stored-few}
 use Rattle.parties.specs.Order.{fullFor, allowedFor, decideFor, callFor, callBy}
 use Rattle.parties.specs.TwoRuns.{unversioned}
-use Rattle.parties.proofs.Apart.{apart, own-someones}
-use Rattle.parties.proofs.Views.{viewRecs, bare, find-view, view-length, view-sorted, store-own, store-other}
+use Rattle.parties.proofs.Views.{viewRecs}
 use Rattle.parties.proofs.Tables.{viewTable, InOrder, node-ordered}
 
 -- ---- what a party has
@@ -71,52 +70,12 @@ module _ (mine : List ℕ → Bool) where
       let each : Entry → Bool = λ e. recsObey Shared (e .node .recs) in
       and-intro (recsObey Shared (viewRecs mine (a .node .recs))) (all each (viewTable mine t)) (view-obey (a .node .recs) (and-left (each a) (all each t) h)) (view-obeys t (and-right (each a) (all each t) h))
 
--- ---- a record that is stored
-
-module _ (r : Rec) (l : List Rec) (sorted : Sorted l) where
-  -- the party's own
-  count-own : (q : Party) → own q (keyOf r) ≡ true → length (ofKeys (own q) (store r l)) ≡ length (store (unversioned r) (viewRecs (own q) l))
-  count-own q m = sym (view-length (own q) (store r l)) ∙ ap length (store-own (own q) r l sorted m)
-
-  own-room : (q : Party) → own q (keyOf r) ≡ true → leb (length (ofKeys (own q) l)) maxEach ≡ true
-      → (find (keyOf r) l ≡ none → leb maxEach (length (ofKeys (own q) l)) ≡ false) → leb (length (ofKeys (own q) (store r l))) maxEach ≡ true
-  own-room q m h g = go (find (keyOf r) l) refl
-    where
-      go : (o : Option Rec) → find (keyOf r) l ≡ o → leb (length (ofKeys (own q) (store r l))) maxEach ≡ true
-      go none e =
-          let a = leb-false maxEach (length (ofKeys (own q) l)) (g e) in
-          let b = store-longer (unversioned r) (viewRecs (own q) l) in
-          let c = count-own q m in
-          let d = view-length (own q) l in
-          le-leb (length (ofKeys (own q) (store r l))) maxEach (omega arith)
-      go (some x) e =
-          let a = leb-true (length (ofKeys (own q) l)) maxEach h in
-          let f : find (keyOf r) (viewRecs (own q) l) ≡ some (unversioned x) = find-view (own q) (keyOf r) l m ∙ ap bare e in
-          let b : length (store (unversioned r) (viewRecs (own q) l)) ≡ length (viewRecs (own q) l) = store-held (unversioned r) (viewRecs (own q) l) {x = unversioned x} (view-sorted (own q) l sorted) f in
-          let c = count-own q m in
-          let d = view-length (own q) l in
-          le-leb (length (ofKeys (own q) (store r l))) maxEach (omega arith)
-
-  -- the other's
-  other-room : (q : Party) → own q (keyOf r) ≡ false → leb (length (ofKeys (own q) l)) maxEach ≡ true → leb (length (ofKeys (own q) (store r l))) maxEach ≡ true
-  other-room q m h = ap (λ (x : ℕ). leb x maxEach) (sym (view-length (own q) (store r l)) ∙ ap length (store-other (own q) r l m) ∙ view-length (own q) l) ∙ h
-
-  both : (q : Party) → own q (keyOf r) ≡ true → roomyEach l ≡ true → (find (keyOf r) l ≡ none → leb maxEach (length (ofKeys (own q) l)) ≡ false) → roomyEach (store r l) ≡ true
-  both Metering m h g =
-      and-intro (leb (length (ofKeys (own Metering) (store r l))) maxEach) (leb (length (ofKeys (own Building) (store r l))) maxEach)
-      (own-room Metering m (and-left (leb (length (ofKeys (own Metering) l)) maxEach) (leb (length (ofKeys (own Building) l)) maxEach) h) g)
-      (other-room Building (apart Building Metering refl (keyOf r) m) (and-right (leb (length (ofKeys (own Metering) l)) maxEach) (leb (length (ofKeys (own Building) l)) maxEach) h))
-  both Building m h g =
-      and-intro (leb (length (ofKeys (own Metering) (store r l))) maxEach) (leb (length (ofKeys (own Building) (store r l))) maxEach)
-      (other-room Metering (apart Metering Building refl (keyOf r) m) (and-left (leb (length (ofKeys (own Metering) l)) maxEach) (leb (length (ofKeys (own Building) l)) maxEach) h))
-      (own-room Building m (and-right (leb (length (ofKeys (own Metering) l)) maxEach) (leb (length (ofKeys (own Building) l)) maxEach) h) g)
-  both Nobody m h g = absurd (false≢true m)
-
-  store-obey : (q : Party) → own q (keyOf r) ≡ true → recsObey Shared l ≡ true → (find (keyOf r) l ≡ none → leb maxEach (length (ofKeys (own q) l)) ≡ false) → recsObey Shared (store r l) ≡ true
-  store-obey q m h g =
-      formed-fit Shared (store r l) (store-formed Shared r l (own-someones q (keyOf r) m) (obey-formed Shared l h)) (both q m (obey-fit Shared l h) g)
-
 -- ---- a call
+
+store-obey : (q : Party) (r : Rec) (l : List Rec) → Sorted l → own q (keyOf r) ≡ true → recsObey Shared l ≡ true → (find (keyOf r) l ≡ none → leb maxEach (length (ofKeys (own q) l)) ≡ false)
+    → recsObey Shared (store r l) ≡ true
+store-obey q r l s m h g =
+    formed-fit Shared (store r l) (store-formed Shared r l (own-formed q (r .kv) m) (obey-formed Shared l h)) (stored-few r l s q m (obey-fit Shared l h) g)
 
 acted : (q : Party) (c : Call) (k : List ℕ) (n : Node) → Sorted (n .recs) → recsObey Shared (n .recs) ≡ true → recsObey Shared (act k (decideFor (own q) c k n) n .recs) ≡ true
 unfolding decideFor act write
@@ -130,7 +89,7 @@ acted q c k n s h = go (leb (length k) maxKey && leb (length (brought c)) maxVal
         at : (a : Bool) → fullFor (own q) (find k (n .recs)) n ≡ a → (b : Bool) → recsObey Shared (act k (pick a (Refuse NodeFull) (pick b (Give ch) (Refuse Exhausted))) n .recs) ≡ true
         at true e b = h
         at false e true =
-            store-obey (record { kv = record { key = k; value = ch .value; version = n .max + 1; status = ch .status }; start = ch .start }) (n .recs) s q m h
+            store-obey q (record { kv = record { key = k; value = ch .value; version = n .max + 1; status = ch .status }; start = ch .start }) (n .recs) s m h
             (λ f. sym (ap (λ (o : Option Rec). fullFor (own q) o n) f) ∙ e)
         at false e false = h
 
