@@ -9,4 +9,5 @@ pub mod Readings
 pub mod Common
 pub mod Runs
 pub mod LentRuns
+pub mod Ticket9
 pub mod Unpromised

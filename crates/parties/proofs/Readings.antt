@@ -13,16 +13,14 @@ use Rattle.rules.specs.Answers.{accepted, refused, listedTold}
 use Rattle.rules.specs.Given.{Given, given}
 use Rattle.rules.specs.Node.{Rec, Node, find, shown, hitsFrom, hits}
 use Rattle.rules.specs.Table.{Table, nodeOf}
-use Rattle.rules.specs.Party.{own, alone}
+use Rattle.rules.specs.Party.{own, alone, ofKeys}
 use Rattle.rules.specs.Local.{Found, NotFound, foundOf, listInto, lookup, lookupAs, lookupOn, prefixed, prefixedAs, prefixOn, unlessOther}
-use Rattle.rules.specs.declared.Party.{Party}
-use Rattle.rules.specs.declared.Profile.the-variants.{Shared}
 use Rattle.rules.specs.declared.Refusal.the-variants.{TooLong, OtherParty}
 use Rattle.rules.specs.declared.Listed.{Listed}
 use Rattle.rules.specs.declared.Listed.the-variants as listed
-use Rattle.parties.specs.TwoRuns.{Reading, Lookup, Listing, Counting, RecordAt, RecordOf, Said, says, foundSaid, countSaid, elementAt, placeSaid, atSaid, keySaid, ofSaid, readingSaid, unversioned, unversionedEach, versionlessNode, versionless}
-use Rattle.parties.proofs.Views.{view-own, bare}
-use Rattle.parties.proofs.Tables.{viewNode, viewTable, table-is}
+use Rattle.parties.specs.Readings.{Lookup, Listing, Counting, RecordAt, RecordOf, foundSaid, countSaid, elementAt, placeSaid, atSaid, keySaid, ofSaid, readingSaid}
+use Rattle.parties.specs.TwoRuns.{Said, says, Blind, unversioned, unversionedEach, versionlessNode, versionless}
+use Rattle.parties.proofs.Views.{view-own, view-is, bare}
 
 -- ---- readings that look at no version, max or last_gc
 
@@ -100,27 +98,30 @@ key-blind b k (some n) =
 
 -- ---- what is seen of what a party has is all of it
 
-seen-all : (mine : List ℕ → Bool) (t : Table) → alone mine (viewTable mine t) ≡ viewTable mine t
-unfolding alone viewTable
+own-all : (mine : List ℕ → Bool) (l : List Rec) → ofKeys mine (unversionedEach (ofKeys mine l)) ≡ unversionedEach (ofKeys mine l)
+own-all mine l = ap (ofKeys mine) (view-is mine l) ∙ view-own mine l ∙ sym (view-is mine l)
+
+seen-all : (mine : List ℕ → Bool) (t : Table) → alone mine (versionless (alone mine t)) ≡ versionless (alone mine t)
+unfolding alone versionless
 seen-all mine [] = refl
 seen-all mine (a ∷ t) =
-    ap (λ (l : List Rec). record { number = a .number; node = record { heartbeat = a .node .heartbeat; max = 0; last-gc = 0; recs = l } } ∷ alone mine (viewTable mine t)) (view-own mine (a .node .recs))
-    ∙ ap (λ (x : Table). record { number = a .number; node = viewNode mine (a .node) } ∷ x) (seen-all mine t)
+    ap (λ (l : List Rec). record { number = a .number; node = record { heartbeat = a .node .heartbeat; max = 0; last-gc = 0; recs = l } } ∷ alone mine (versionless (alone mine t))) (own-all mine (a .node .recs))
+    ∙ ap (λ (x : Table). record { number = a .number; node = record { heartbeat = a .node .heartbeat; max = 0; last-gc = 0; recs = unversionedEach (ofKeys mine (a .node .recs)) } } ∷ x) (seen-all mine t)
 
 -- so any reading of what is seen that looks at no version says the same
-pub blind-view : {A : Type 0} (read : Table → A) → ((t : Table) → read (versionless t) ≡ read t) → (mine : List ℕ → Bool) (t : Table) → read (alone mine (viewTable mine t)) ≡ read (alone mine t)
-blind-view {A} read f mine t = ap read (seen-all mine t ∙ sym (table-is mine t)) ∙ f (alone mine t)
+pub blind-view : {A : Type 0} (read : Table → A) → ((t : Table) → read (versionless t) ≡ read t) → (mine : List ℕ → Bool) (t : Table) → read (alone mine (versionless (alone mine t))) ≡ read (alone mine t)
+blind-view {A} read f mine t = ap read (seen-all mine t) ∙ f (alone mine t)
 
 -- of a node
 pub blind-node : {A : Type 0} (read : Option Node → A) → ((o : Option Node) → read (bareHeld o) ≡ read o) → (i : ℕ) (mine : List ℕ → Bool) (t : Table)
-    → read (nodeOf i (alone mine (viewTable mine t))) ≡ read (nodeOf i (alone mine t))
+    → read (nodeOf i (alone mine (versionless (alone mine t)))) ≡ read (nodeOf i (alone mine t))
 blind-node {A} read f i mine t = blind-view (λ u. read (nodeOf i u)) (λ u. ap read (node-blind i u) ∙ f (nodeOf i u)) mine t
 
-pub reading-view : (p : Party) (q : Reading) (t : Table) → readingSaid Shared p q (viewTable (own p) t) ≡ readingSaid Shared p q t
+pub reading-blind : Blind readingSaid
 unfolding lookupAs lookup prefixedAs prefixed
-reading-view p (Lookup i k) t = ap (λ (x : Found). foundSaid (unlessOther (own p k) x)) (blind-node (lookupOn k) (lookup-blind k) i (own p) t)
-reading-view p (Listing i k l) t =
+reading-blind p (Lookup i k) t = ap (λ (x : Found). foundSaid (unlessOther (own p k) x)) (blind-node (lookupOn k) (lookup-blind k) i (own p) t)
+reading-blind p (Listing i k l) t =
     ap (λ (g : Given Listed (List ℕ)). says (listedTold (g .answer)) (g .lent ∷ [])) (blind-node (λ o. prefixOn k o l) (λ o. prefix-blind k o l) i (own p) t)
-reading-view p (Counting i) t = blind-node countSaid count-blind i (own p) t
-reading-view p (RecordAt i j) t = blind-node (atSaid j) (place-blind j) i (own p) t
-reading-view p (RecordOf i k) t = blind-node (ofSaid (own p k) k) (key-blind (own p k) k) i (own p) t
+reading-blind p (Counting i) t = blind-node countSaid count-blind i (own p) t
+reading-blind p (RecordAt i j) t = blind-node (atSaid j) (place-blind j) i (own p) t
+reading-blind p (RecordOf i k) t = blind-node (ofSaid (own p k) k) (key-blind (own p k) k) i (own p) t

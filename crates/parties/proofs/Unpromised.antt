@@ -29,6 +29,7 @@ use Rattle.rules.specs.declared.Profile.the-variants.{Shared}
 use Rattle.rules.specs.declared.Status.the-variants as status
 use Rattle.grid.specs.Grid.{Grid, noRows, obeysGrid, ofPresent, placeOf, rowsObey}
 use Rattle.grid.specs.LentGrid.{carefullyRemoved}
+use Rattle.parties.specs.Readings.{Reading, readingSaid}
 use Rattle.parties.specs.TwoRuns.{Event, Calling, Removing, Said, after, heard, stripped}
 
 -- ---- runs
@@ -47,20 +48,20 @@ mine = 109 ∷ 47 ∷ 97 ∷ []
 abbrev theirs : Bytes
 theirs = 98 ∷ 47 ∷ 120 ∷ []
 
-abbrev sets : Event
+abbrev sets : Event Reading
 sets = Calling Metering 7 mine (Setting (49 ∷ []))
 
-abbrev setsTtl : Event
+abbrev setsTtl : Event Reading
 setsTtl = Calling Metering 7 mine (SettingTtl (49 ∷ []) 0)
 
-abbrev other : Event
+abbrev other : Event Reading
 other = Calling Building 7 theirs (Setting [])
 
-abbrev otherTtl : Event
+abbrev otherTtl : Event Reading
 otherTtl = Calling Building 7 theirs (SettingTtl [] 0)
 
 -- the runs agree on what concerns the metering firm, and what is shown of the one and of the other differs
-abbrev Differ : (from : Whole) (es fs : List Event) (shown : Whole → List ℕ) (one another : List ℕ) → Type 0
+abbrev Differ : (from : Whole) (es fs : List (Event Reading)) (shown : Whole → List ℕ) (one another : List ℕ) → Type 0
 Differ w es fs f a b = (stripped Metering es ≡ stripped Metering fs) × (f (after es w) ≡ a) × (f (after fs w) ≡ b)
 
 -- ---- what may be shown
@@ -125,7 +126,7 @@ numbersOfAll (s ∷ l) = s .told .number ∷ numbersOfAll l
 abbrev nearTop : Whole
 nearTop = holding (record { heartbeat = beats 0; max = top - 1; last-gc = 0; recs = [] })
 
-pub own-six : (stripped Metering (sets ∷ []) ≡ stripped Metering (other ∷ sets ∷ [])) × (numbersOfAll (heard Metering (sets ∷ []) nearTop) ≡ 0 ∷ []) × (numbersOfAll (heard Metering (other ∷ sets ∷ []) nearTop) ≡ 6 ∷ [])
+pub own-six : (stripped Metering (sets ∷ []) ≡ stripped Metering (other ∷ sets ∷ [])) × (numbersOfAll (heard readingSaid Metering (sets ∷ []) nearTop) ≡ 0 ∷ []) × (numbersOfAll (heard readingSaid Metering (other ∷ sets ∷ []) nearTop) ≡ 6 ∷ [])
 unfolding heard keep callAs call decide wish find act store one.write nodeOf setNode sameBytes lessBytes startsWith answerTold
 own-six = (refl, refl, refl)
 
@@ -145,6 +146,9 @@ careful = (refl, refl, refl)
 abbrev begun : (at : ℕ) → Whole
 begun n = holding (record { heartbeat = beats 0; max = 1; last-gc = 0; recs = record { kv = record { key = mine; value = []; version = 1; status = status.Ttl }; start = n } ∷ [] })
 
-pub starts : (nodeIn (λ n. length (n .recs) ∷ []) (after (Removing 5 3 ∷ []) (begun 0)) ≡ 0 ∷ []) × (nodeIn (λ n. length (n .recs) ∷ []) (after (Removing 5 3 ∷ []) (begun 5)) ≡ 1 ∷ [])
+abbrev removes : Event Reading
+removes = Removing 5 3
+
+pub starts : (nodeIn (λ n. length (n .recs) ∷ []) (after (removes ∷ []) (begun 0)) ≡ 0 ∷ []) × (nodeIn (λ n. length (n .recs) ∷ []) (after (removes ∷ []) (begun 5)) ≡ 1 ∷ [])
 unfolding after keep nodeOf gc removeAll remove lastGc
 starts = (refl, refl)
