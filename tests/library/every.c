@@ -629,9 +629,142 @@ static void meters(void) {
     meter.at[KEV_PROFILE_AT] = KEV_PROFILE_METER;
     GIVES(KEV_BAD_TABLE, kev_check(T(meter)));
     GIVES(KEV_BAD_TABLE, kev_add_node(T(meter), 8));
-    meter.at[KEV_PROFILE_AT] = 2;
+    meter.at[KEV_PROFILE_AT] = 3;
     GIVES(KEV_BAD_TABLE, kev_check(T(meter)));
     give_back(meter), give_back(free_one), give_back(digest), give_back(delta), give_back(answers);
+}
+
+/* A text that this party was told of, by its front. */
+static bool text_is(struct lent table, uint64_t party, uint64_t node, struct kev_found text, const char *expected) {
+    const uint8_t *front = kev_party_front(T(table), party, node);
+    return text.number == 0 && text.found == 1 && text.len == strlen(expected) && memcmp(kev_text(front, text), expected, text.len) == 0;
+}
+
+/* What a party is told of node 7, but for versions: the same in two tables that differ in the other's records alone. */
+static void told_alike(struct lent a, struct lent b, uint64_t party, const char *key) {
+    const uint8_t *name = (const uint8_t *)key;
+    struct kev_found f = kev_find(T(a), party, 7, name, strlen(key)), g = kev_find(T(b), party, 7, name, strlen(key));
+    CHECK(memcmp(&f, &g, sizeof f) == 0);
+    struct kev_rows rows = kev_node_rows(T(a), party, 7), others = kev_node_rows(T(b), party, 7);
+    CHECK(memcmp(&rows, &others, sizeof rows) == 0);
+    CHECK(rows.count == kev_record_count(T(a), party, 7).count && kev_record_count(T(b), party, 7).count == rows.count);
+    for (kev_size j = 0; j <= rows.count; j++) {
+        struct kev_record r = kev_record_at(T(a), party, 7, j), q = kev_record_at(T(b), party, 7, j);
+        struct kev_record place = kev_record_of(T(a), party, 0, j);
+        CHECK(j < rows.count ? memcmp(&r, &place, sizeof r) == 0 : given(place.number) == KEV_NO_PLACE);
+        r.version = q.version;
+        CHECK(memcmp(&r, &q, sizeof r) == 0);
+        f = kev_key_at(T(a), party, 7, j), g = kev_value_at(T(a), party, 7, j);
+        if (j < rows.count) {
+            struct kev_record row = kev_row(kev_party_front(T(a), party, 7), rows, j), real = kev_record_at(T(a), party, 7, j);
+            CHECK(memcmp(&row, &real, sizeof row) == 0 && f.start == r.key_at && g.start == r.value_at);
+        } else {
+            GIVES(KEV_NO_PLACE, f.number);
+        }
+    }
+    uint8_t places[KEV_RECORDS] = {0}, same_places[KEV_RECORDS] = {0};
+    struct kev_count hits = kev_list_prefix(T(a), party, 7, NO_BYTES, places, sizeof places);
+    CHECK(hits.count == kev_good_list_prefix(T(b), party, 7, NO_BYTES, same_places, sizeof same_places).count && memcmp(places, same_places, sizeof places) == 0);
+}
+
+/* Two firms on one table. */
+static void firms(void) {
+    struct lent shared = lend(KEV_TABLE), alone = lend(KEV_TABLE), free_one = lend(KEV_TABLE), over = lend(KEV_OVERRIDES);
+    struct lent digest = lend(KEV_DIGEST), delta = lend(8000), answers = lend(KEV_NODES), places = lend(KEV_PLACES);
+    static const uint64_t ties[1] = {0};
+    GIVES(0, kev_new_table(T(shared), KEV_GUARDED, KEV_PROFILE_SHARED));
+    CHECK(shared.at[KEV_PROFILE_AT] == KEV_PROFILE_SHARED);
+    GIVES(KEV_NO_NODE, kev_write(T(shared), KEV_METERING, 7, TEXT("b/x"), TEXT("1"), KEV_SET, 0));
+    GIVES(0, kev_add_node(T(shared), 7));
+
+    /* 19 behind 1 and before 3, by every call that names a key; never for a prefix */
+    mark(shared);
+    GIVES(KEV_BAD_TAG, kev_write(T(shared), KEV_METERING, 7, TEXT("b/x"), TEXT("1"), KEV_DELETE, 0));
+    GIVES(KEV_TOO_LONG, kev_write(T(shared), KEV_METERING, 7, TEXT("b/x"), TEXT(long_value), KEV_SET, 0));
+    GIVES(KEV_OTHER_PARTY, kev_write(T(shared), KEV_METERING, 7, TEXT("b/x"), TEXT("1"), KEV_SET, 0));
+    GIVES(KEV_OTHER_PARTY, kev_good_write(T(shared), KEV_BUILDING, 7, TEXT("m/x"), TEXT("1"), KEV_TTL, 0));
+    GIVES(KEV_OTHER_PARTY, kev_write(T(shared), KEV_METERING, 7, TEXT("m"), TEXT("1"), KEV_SET, 0));
+    GIVES(KEV_OTHER_PARTY, kev_write(T(shared), KEV_METERING, 7, NO_BYTES, NO_BYTES, KEV_SET, 0));
+    GIVES(KEV_OTHER_PARTY, kev_write(T(shared), 3, 7, TEXT("m/x"), TEXT("1"), KEV_SET, 0));
+    GIVES(KEV_OTHER_PARTY, kev_delete(T(shared), KEV_METERING, 7, TEXT("b/x"), 5));
+    GIVES(KEV_NO_KEY, kev_delete(T(shared), KEV_METERING, 7, TEXT("m/x"), 5));
+    GIVES(KEV_OTHER_PARTY, kev_delete_after_ttl(T(shared), KEV_NOBODY, 7, TEXT("m/x"), 5));
+    GIVES(KEV_OTHER_PARTY, kev_find(T(shared), KEV_BUILDING, 7, TEXT("m/x")).number);
+    GIVES(KEV_OTHER_PARTY, kev_good_record_by_key(T(shared), KEV_BUILDING, 7, TEXT("m/x")).number);
+    CHECK(kev_list_prefix(T(shared), KEV_BUILDING, 7, TEXT("m/"), T(places)).number == 0 && kev_prefix_rows(T(shared), KEV_BUILDING, 7, TEXT("z")).number == 0);
+    CHECK(same(shared));
+
+    /* each has sixteen to itself */
+    BOTH(shared, kev_write(T(t), KEV_METERING, 7, TEXT("m/total"), TEXT("41"), KEV_SET, 0), kev_good_write(T(t), KEV_METERING, 7, TEXT("m/total"), TEXT("41"), KEV_SET, 0));
+    memcpy(alone.at, shared.at, shared.len);
+    for (uint8_t i = 0; i < KEV_EACH; i++) {
+        const uint8_t key[3] = {'b', '/', (uint8_t)('a' + i)};
+        GIVES(0, kev_write(T(shared), KEV_BUILDING, 7, key, 3, TEXT("label"), KEV_TTL, 1));
+    }
+    mark(shared);
+    GIVES(KEV_NODE_FULL, kev_write(T(shared), KEV_BUILDING, 7, TEXT("b/z"), TEXT("label"), KEV_SET, 0));
+    GIVES(KEV_NODE_FULL, kev_good_write(T(shared), KEV_BUILDING, 7, TEXT("b/z"), TEXT("label"), KEV_SET, 0));
+    CHECK(same(shared));
+    GIVES(0, kev_write(T(shared), KEV_METERING, 7, TEXT("m/flow"), TEXT("3"), KEV_SET, 0));
+    GIVES(0, kev_write(T(alone), KEV_METERING, 7, TEXT("m/flow"), TEXT("3"), KEV_SET, 0));
+    GIVES(0, kev_delete(T(shared), KEV_METERING, 7, TEXT("m/flow"), 9));
+    GIVES(0, kev_delete(T(alone), KEV_METERING, 7, TEXT("m/flow"), 9));
+    CHECK(kev_record_count(T(shared), KEV_BUILDING, 7).count == KEV_EACH && kev_record_count(T(shared), KEV_NOBODY, 7).count == 0);
+
+    /* what the metering firm is told does not depend on the sixteen before its records; where its bytes stand does */
+    told_alike(shared, alone, KEV_METERING, "m/total");
+    told_alike(shared, alone, KEV_NOBODY, "m/total");
+    CHECK(text_is(shared, KEV_METERING, 7, kev_find(T(shared), KEV_METERING, 7, TEXT("m/total")), "41"));
+    CHECK(text_is(alone, KEV_METERING, 7, kev_good_find(T(alone), KEV_METERING, 7, TEXT("m/total")), "41"));
+    CHECK(text_is(shared, KEV_BUILDING, 7, kev_find(T(shared), KEV_BUILDING, 7, TEXT("b/c")), "label"));
+    CHECK(text_is(shared, KEV_METERING, 7, kev_good_key_at(T(shared), KEV_METERING, 7, 1), "m/total"));
+    CHECK(kev_front(T(shared), KEV_METERING, 7).count == KEV_EACH * KEV_ROW && kev_good_front(T(alone), KEV_METERING, 7).count == 0);
+    CHECK(kev_front(T(shared), KEV_BUILDING, 7).count == 0 && kev_front(T(shared), KEV_NOBODY, 7).count == 0);
+    GIVES(KEV_NO_NODE, kev_front(T(shared), KEV_METERING, 8).number);
+    GIVES(KEV_BAD_TABLE, kev_front(NO_BYTES, KEV_METERING, 7).number);
+
+    /* over labels of the site: its own keys alone */
+    GIVES(0, kev_new_overrides(T(over), 7));
+    GIVES(0, kev_write_override(T(over), TEXT("b/a"), TEXT("cellar"), KEV_SET, 0));
+    GIVES(0, kev_write_override(T(over), TEXT("m/new"), TEXT("8"), KEV_SET, 0));
+    GIVES(0, kev_write_override(T(over), TEXT("note"), TEXT("x"), KEV_SET, 0));
+    struct kev_found_over f = kev_find_over(T(over), T(shared), KEV_METERING, 7, TEXT("m/total"));
+    CHECK(f.found == 1 && f.over == 0 && memcmp(kev_text_over(over.at, kev_party_front(T(shared), KEV_METERING, 7), f), "41", 2) == 0);
+    GIVES(KEV_OTHER_PARTY, kev_find_over(T(over), T(shared), KEV_METERING, 7, TEXT("b/a")).number);
+    GIVES(KEV_OTHER_PARTY, kev_good_find_over(T(over), T(shared), KEV_METERING, 7, TEXT("note")).number);
+    struct kev_listed_over l = kev_list_over(T(over), T(shared), KEV_METERING, 7, NO_BYTES, T(places));
+    CHECK(l.number == 0 && l.count == 2 && places.at[0] == KEV_OVER + 1 && places.at[1] == 1);
+    CHECK(kev_good_list_over(T(over), T(shared), KEV_BUILDING, 7, TEXT("b"), T(places)).count == KEV_EACH && places.at[0] == KEV_OVER && places.at[1] == 1);
+    CHECK(kev_list_over(T(over), T(shared), KEV_NOBODY, 7, NO_BYTES, T(places)).count == 0);
+
+    /* a stream: both firms' keys, Room by party, 19 for a key of neither */
+    GIVES(0, kev_new_table(T(free_one), KEV_GUARDED, KEV_PROFILE_FREE));
+    GIVES(0, kev_add_node(T(free_one), 7));
+    for (uint8_t i = 0; i <= KEV_EACH; i++) {
+        const uint8_t key[3] = {'m', '/', (uint8_t)('a' + i)};
+        GIVES(0, kev_write(T(free_one), KEV_METERING, 7, key, 3, TEXT("1"), KEV_SET, 0));
+    }
+    GIVES(0, kev_new_table(T(alone), KEV_GUARDED, KEV_PROFILE_SHARED));
+    GIVES(0, kev_add_node(T(alone), 7));
+    struct kev_count d = kev_write_digest(T(alone), KEV_V0, NO_NUMBERS, T(digest), 0);
+    struct kev_computed c = kev_compute(T(free_one), KEV_V0, digest.at, d.count, 8000, NO_NUMBERS, ties, 1, T(delta), 0);
+    mark(alone);
+    CHECK(kev_apply(T(alone), delta.at, c.bytes, 9, T(answers)).nodes == 1 && answers.at[0] == KEV_ANSWER_ROOM && same(alone));
+    CHECK(kev_good_apply(T(alone), delta.at, c.bytes, 9, T(answers)).nodes == 1 && answers.at[0] == KEV_ANSWER_ROOM && same(alone));
+    GIVES(0, kev_write(T(free_one), KEV_NOBODY, 7, TEXT("neither"), TEXT("1"), KEV_SET, 0));
+    c = kev_compute(T(free_one), KEV_V0, digest.at, d.count, 8000, NO_NUMBERS, ties, 1, T(delta), 0);
+    GIVES(KEV_OTHER_PARTY, kev_apply(T(alone), delta.at, c.bytes, 9, T(answers)).number);
+    struct kev_exchanged x = kev_exchange(T(free_one), T(alone), KEV_V0, 8000, NO_NUMBERS, NO_NUMBERS, ties, 1, 9, T(digest), T(delta), T(answers));
+    CHECK(given(x.number) == KEV_OTHER_PARTY && x.step == 3 && same(alone));
+    x = kev_exchange(T(shared), T(alone), KEV_V0, 8000, NO_NUMBERS, NO_NUMBERS, ties, 1, 9, T(digest), T(delta), T(answers));
+    CHECK(x.number == 0 && x.nodes == 1 && answers.at[0] == KEV_ANSWER_APPLY);
+
+    /* the rules of 14 */
+    shared.at[KEV_PROFILE_AT] = KEV_PROFILE_METER;
+    GIVES(KEV_BAD_TABLE, kev_check(T(shared)));
+    free_one.at[KEV_PROFILE_AT] = KEV_PROFILE_SHARED;
+    GIVES(KEV_BAD_TABLE, kev_check(T(free_one)));
+    give_back(shared), give_back(alone), give_back(free_one), give_back(over), give_back(digest), give_back(delta), give_back(answers), give_back(places);
 }
 
 /* A grid as docs/FORMAT.md has its bytes: count of columns, numbers, who is present, the rows of last_gc, the rows of max. */
@@ -1007,6 +1140,7 @@ int main(void) {
     local_calls();
     peers();
     meters();
+    firms();
     answers_to_deltas();
     null_parts();
     grids();
