@@ -1,27 +1,29 @@
 -- The parts of a delta at two times of receipt: but for the starts of records all is as with the uncut delta, at whatever time. Applying on a table without its starts, at time 0, gives the same
 -- answers, and the table that applying gives at any time, without its starts. Assumes nothing.
 use Prim.Native.Nat.{ℕ, suc}
-use mathlib.Core.Path.{_≡_, refl, ap, sym, _∙_, subst}
-use mathlib.Core.Bool.{Bool, true, false}
+use mathlib.Core.Path.{_≡_, refl, ap, ap₂, sym, _∙_, subst}
+use mathlib.Core.Bool.{Bool, true, false, _&&_}
 use mathlib.Core.List.{List, [], _∷_}
 use mathlib.Core.Option.{Option, none, some}
 use lib.Dec.{eqb, leb}
 use lib.ListN.{length, take, drop}
-use Rattle.fields.specs.Choice.{_∈_, pick}
+use Rattle.fields.specs.Choice.{_∈_, keep, pick}
 use Rattle.fields.specs.Numbers.{AreBytes}
 use Rattle.fields.specs.Order.{lessBytes, sameBytes}
 use Rattle.fields.specs.Parts.{put}
-use Rattle.rules.specs.Sizes.{maxRecords}
+use Rattle.rules.specs.Sizes.{maxEach, maxRecords}
 use Rattle.rules.specs.Node.{KeyValue, Node, Rec, scheduled, store}
 use Rattle.rules.specs.Table.{Table, nodeOf, setNode}
 use Rattle.rules.specs.Delta.{Faulty, Good, NodeDelta, Ops, Part, partsOf}
-use Rattle.rules.specs.Apply.{ApplyOutcome, Lawful, Stream, Taken, Ways, answered, answering, apply, applyEach, applyNode, applyOps, codes, deltaStatus, onNode, outcome, stamp, startAt, takeAll, takenAs, takes, waysIn, waysOf, withRoom}
-use Rattle.rules.specs.Profile.{Kind}
+use Rattle.rules.specs.Apply.{ApplyOutcome, Lawful, Stream, Taken, Ways, answered, answering, apply, applyEach, applyNode, applyOps, codes, deltaStatus, onNode, outcome, stamp, startAt, takeAll, takenAs, takes, waysIn, withRoom}
+use Rattle.rules.specs.Party.{ofKeys, own}
+use Rattle.rules.specs.Profile.{Kind, recsFit}
 use Rattle.rules.specs.declared.DeltaStatus.{DeltaStatus}
 use Rattle.rules.specs.declared.DeltaStatus.the-variants.{Apply, ApplyAfterReset, Fenced, Reject}
-use Rattle.rules.specs.declared.Mode.{Mode}
-use Rattle.rules.specs.declared.Mode.the-variants as mode
 use Rattle.rules.specs.declared.NodeAnswer.{NodeAnswer}
+use Rattle.rules.specs.declared.Party.the-variants.{Building, Metering}
+use Rattle.rules.specs.declared.Profile.{Profile}
+use Rattle.rules.specs.declared.Profile.the-variants.{Free, Meter, Shared}
 use Rattle.rules.specs.declared.NodeAnswer.the-variants as node
 use Rattle.rules.specs.declared.Applied.the-variants as applied
 use Rattle.rules.specs.declared.Refusal.the-variants.{NoPlace}
@@ -198,13 +200,20 @@ unfolding unstarted
 length-bare [] = refl
 length-bare (r ∷ l) = ap suc (length-bare l)
 
-pub kind-timeless : (k : Kind) → RoomTimeless (waysIn k)
-kind-timeless k l = go (k .mode)
+-- the records of some keys
+keys-bare : (of : List ℕ → Bool) (l : List Rec) → length (ofKeys of (unstarted l)) ≡ length (ofKeys of l)
+unfolding keep unstarted
+keys-bare of [] = refl
+keys-bare of (r ∷ l) = go (of (r .kv .key)) (keys-bare of l)
   where
-    few : leb (length (unstarted l)) maxRecords ≡ leb (length l) maxRecords
-    few = ap (λ (n : ℕ). leb n maxRecords) (length-bare l)
+    go : (b : Bool) → length (ofKeys of (unstarted l)) ≡ length (ofKeys of l) → length (pick b (startless r ∷ ofKeys of (unstarted l)) (ofKeys of (unstarted l))) ≡ length (pick b (r ∷ ofKeys of l) (ofKeys of l))
+    go true ih = ap suc ih
+    go false ih = ih
 
-    go : (m : Mode) → waysOf m .roomy (unstarted l) ≡ waysOf m .roomy l
-    go mode.Plain = few
-    go mode.Fenced = few
-    go mode.Guarded = few
+fit-bare : (p : Profile) (l : List Rec) → recsFit p (unstarted l) ≡ recsFit p l
+fit-bare Free l = refl
+fit-bare Meter l = refl
+fit-bare Shared l = ap₂ (λ (m b : ℕ). leb m maxEach && leb b maxEach) (keys-bare (own Metering) l) (keys-bare (own Building) l)
+
+pub kind-timeless : (k : Kind) → RoomTimeless (waysIn k)
+kind-timeless k l = ap₂ (λ (f : Bool) (n : ℕ). f && leb n maxRecords) (fit-bare (k .profile) l) (length-bare l)

@@ -361,21 +361,21 @@ nothing (calls.remove-node t i) h =
     ap (λ (u : Bytes). u ∷ [])
     (whole-refused (plain.Refused BadTable) (removeWhole (i .value)) (λ a. Refuses (answerTold a)) (λ w g. let x = by-answer _ g in remove-whole-refused (i .value) w (x .0) (x .1)) t h)
 nothing (calls.last-heartbeat t i) h = refl
-nothing (calls.write t k v i wanted now) h =
+nothing (calls.write t k v i wanted now who) h =
     let p = decodeWhole t .kind .profile in
-    let rule = writeAs p (wanted .value) v (now .value) (i .value) k in
+    let rule = writeAs p who (wanted .value) v (now .value) (i .value) k in
     ap (λ (u : Bytes). u ∷ k ∷ v ∷ [])
-    (on-table answerTold (plain.Refused BadTable) rule (λ t g. let x = by-answer _ g in write-as-refused p (wanted .value) v (now .value) (i .value) k t (x .0) (x .1)) t h)
-nothing (calls.delete t k i now) h =
+    (on-table answerTold (plain.Refused BadTable) rule (λ t g. let x = by-answer _ g in write-as-refused p who (wanted .value) v (now .value) (i .value) k t (x .0) (x .1)) t h)
+nothing (calls.delete t k i now who) h =
     let p = decodeWhole t .kind .profile in
     let c = Deleting (now .value) in
     ap (λ (u : Bytes). u ∷ k ∷ [])
-    (on-table answerTold (plain.Refused BadTable) (callAs p c (i .value) k) (λ t g. let x = by-answer _ g in call-as-refused p c (i .value) k t (x .0) (x .1)) t h)
-nothing (calls.delete-after-ttl t k i now) h =
+    (on-table answerTold (plain.Refused BadTable) (callAs p who c (i .value) k) (λ t g. let x = by-answer _ g in call-as-refused p who c (i .value) k t (x .0) (x .1)) t h)
+nothing (calls.delete-after-ttl t k i now who) h =
     let p = decodeWhole t .kind .profile in
     let c = DeletingAfterTtl (now .value) in
     ap (λ (u : Bytes). u ∷ k ∷ [])
-    (on-table answerTold (plain.Refused BadTable) (callAs p c (i .value) k) (λ t g. let x = by-answer _ g in call-as-refused p c (i .value) k t (x .0) (x .1)) t h)
+    (on-table answerTold (plain.Refused BadTable) (callAs p who c (i .value) k) (λ t g. let x = by-answer _ g in call-as-refused p who c (i .value) k t (x .0) (x .1)) t h)
 nothing (calls.remove-scheduled t now grace) h =
     ap (λ (u : Bytes). u ∷ []) (on-table answerTold (plain.Refused BadTable) (gc (now .value) (grace .value)) (scheduled (now .value) (grace .value)) t h)
 nothing (calls.offer-heartbeat t i b) h =
@@ -385,8 +385,8 @@ nothing (calls.offer-heartbeat t i b) h =
 nothing (calls.local-beat t i) h =
     ap (λ (u : Bytes). u ∷ [])
     (on-table answerTold (plain.Refused BadTable) (localBeat (i .value)) (λ t g. let x = by-answer _ g in beat-refused (i .value) t (x .0) (x .1)) t h)
-nothing (calls.find t k i) h = refl
-nothing (calls.list-prefix t k out i) h =
+nothing (calls.find t k i who) h = refl
+nothing (calls.list-prefix t k out i who) h =
     ap (λ (u : Bytes). t ∷ k ∷ u ∷ [])
     (into-list listedTold (listed.Refused BadTable) (λ t. prefixed (i .value) k t out) out
     (λ t g. let x = by-listed _ g in prefixed-refused (i .value) k t out (x .0) (x .1)) t h)
@@ -399,8 +399,8 @@ nothing (calls.delete-override-after-ttl o k now) h =
     ap (λ (u : Bytes). u ∷ k ∷ []) (on-over (called (DeletingAfterTtl (now .value)) k) (over-called (DeletingAfterTtl (now .value)) k) o h)
 nothing (calls.remove-overrides o now grace) h =
     ap (λ (u : Bytes). u ∷ []) (on-over (cleaned (now .value) (grace .value)) (over-cleaned (now .value) (grace .value)) o h)
-nothing (calls.find-over t o k i) h = refl
-nothing (calls.list-over t o k out i) h = ap (λ (u : Bytes). t ∷ o ∷ k ∷ u ∷ []) (over-listed (i .value) k out o t h)
+nothing (calls.find-over t o k i who) h = refl
+nothing (calls.list-over t o k out i who) h = ap (λ (u : Bytes). t ∷ o ∷ k ∷ u ∷ []) (over-listed (i .value) k out o t h)
 nothing (calls.new-grid t g) h = ap (λ (u : Bytes). t ∷ u ∷ []) (grid-made t g h)
 nothing (calls.grid-add-node t g i) h = ap (λ (u : GridAndTable). u .table ∷ u .grid ∷ []) (came (i .value) g t h)
 nothing (calls.grid-remove-node t g i) h = ap (λ (u : GridAndTable). u .table ∷ u .grid ∷ []) (went (i .value) g t h)
@@ -412,13 +412,14 @@ nothing (calls.remove-carefully t g now grace) h = ap (λ (u : Bytes). u ∷ g �
 nothing (calls.node-count t) h = refl
 nothing (calls.node-number t i) h = refl
 nothing (calls.node-header t i) h = refl
-nothing (calls.record-count t i) h = refl
-nothing (calls.record-at t i j) h = refl
-nothing (calls.record-of t i j) h = refl
-nothing (calls.record-by-key t k i) h = refl
-nothing (calls.node-rows t i) h = refl
-nothing (calls.prefix-rows t k i) h = refl
-nothing (calls.find-text t i j x) h = refl
+nothing (calls.record-count t i who) h = refl
+nothing (calls.record-at t i j who) h = refl
+nothing (calls.record-of t i j who) h = refl
+nothing (calls.record-by-key t k i who) h = refl
+nothing (calls.node-rows t i who) h = refl
+nothing (calls.front t i who) h = refl
+nothing (calls.prefix-rows t k i who) h = refl
+nothing (calls.find-text t i j x who) h = refl
 nothing (calls.write-digest t edition excluded datagram place) h =
     ap (λ (u : Bytes). t ∷ excluded ∷ u ∷ [])
     (into-list writtenTold (written.Refused BadTable) (λ t. writeDigest edition excluded place t datagram) datagram

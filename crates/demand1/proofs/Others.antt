@@ -230,29 +230,34 @@ called-on kind c missing long f i k t = go (nodeOf i t)
     go none = missing
     go (some n) = limits n (leb (length k) maxKey && leb (length (brought c)) maxValue)
 
--- no profile refuses a call that brings no record
-unguarded : (p : Profile) (c : Call) (k : Bytes) → brings c k ≡ none → (o : Option Node) → guardIn p c k o ≡ none
-unguarded Free c k e o = refl
-unguarded Meter c k e none = refl
-unguarded Meter c k e (some n) = ap (λ (g : Option KeyValue). pick (sizesFit c k) (meterGuard g (find k (n .recs))) none) e ∙ go (sizesFit c k)
+-- of a call that brings no record a profile refuses another's key alone
+unguarded : (p : Profile) (q : Party) (c : Call) (k : Bytes) → brings c k ≡ none → (o : Option Node) (P : Option Refusal → Type 0) → P none → P (some OtherParty) → P (guardIn p q c k o)
+unguarded Free q c k e o P a b = a
+unguarded Meter q c k e none P a b = a
+unguarded Meter q c k e (some n) P a b = subst (λ (g : Option KeyValue). P (pick (sizesFit c k) (meterGuard g (find k (n .recs))) none)) (sym e) (go (sizesFit c k))
   where
-    go : (b : Bool) → pick {X = Option Refusal} b none none ≡ none
-    go true = refl
-    go false = refl
-
-plainly : (p : Profile) (c : Call) (i : ℕ) (k : Bytes) (t : Table) → brings c k ≡ none → callAs p c i k t ≡ call c i k t
-unfolding callAs
-plainly p c i k t e = ap (λ (g : Option Refusal). unlessGuarded g (call c i k t) t) (unguarded p c k e (nodeOf i t))
+    go : (x : Bool) → P (pick x none none)
+    go true = a
+    go false = a
+unguarded Shared q c k e none P a b = a
+unguarded Shared q c k e (some n) P a b = subst (λ (g : Option KeyValue). P (pick (sizesFit c k) (partyGuard (own q) k g (find k (n .recs)) (n .recs)) none)) (sym e) (go (sizesFit c k) (own q k))
+  where
+    go : (x y : Bool) → P (pick x (pick y none (some OtherParty)) none)
+    go true true = a
+    go true false = b
+    go false y = a
 
 -- 14 first
-called : (kind : calls.Kind) (p : Profile) (c : Call) → ((k : Bytes) → brings c k ≡ none) → Of kind (answerTold (plain.Refused BadTable)) → Of kind (answerTold (plain.Refused NoNode))
+called : (kind : calls.Kind) (p : Profile) (q : Party) (c : Call) → ((k : Bytes) → brings c k ≡ none) → Of kind (answerTold (plain.Refused BadTable)) → Of kind (answerTold (plain.Refused OtherParty))
+    → Of kind (answerTold (plain.Refused NoNode))
     → Of kind (answerTold (plain.Refused TooLong))
     → ((k : Bytes) (n : Node) (o : Option Rec) → find k (n .recs) ≡ o → Of kind (answerTold (answerOf (allowed k n (wish c o)))))
     → (i : ℕ) (k l : Bytes)
-    → Of kind (answerTold (onTable (plain.Refused BadTable) (callAs p c i k) l .answer))
-called kind p c none-brought bad missing long f i k =
-    on-table (λ a. Of kind (answerTold a)) (plain.Refused BadTable) (callAs p c i k) bad
-    (λ t. subst (λ (o : Outcome Answer). Of kind (answerTold (o .answer))) (sym (plainly p c i k t (none-brought k))) (called-on kind c missing long f i k t))
+    → Of kind (answerTold (onTable (plain.Refused BadTable) (callAs p q c i k) l .answer))
+unfolding callAs
+called kind p q c none-brought bad other missing long f i k =
+    on-table (λ a. Of kind (answerTold a)) (plain.Refused BadTable) (callAs p q c i k) bad
+    (λ t. unguarded p q c k (none-brought k) (nodeOf i t) (λ g. Of kind (answerTold (unlessGuarded g (call c i k t) t .answer))) (called-on kind c missing long f i k t) other)
 
 -- a set: nothing to change, 5, 6
 sets : (kind : calls.Kind) → Of kind (answerTold plain.Done) → Of kind (answerTold (plain.Refused NodeFull)) → Of kind (answerTold (plain.Refused Exhausted)) → (c : Change) (k : Bytes) (n : Node) (o : Option Rec) → Of kind (answerTold (answerOf (allowed k n (unlessSame o c))))
@@ -281,28 +286,34 @@ drops kind done over c k n r e =
     rise true = done
     rise false = over
 
--- 17 and 18 of the profile
-wrote : (p : Profile) (wanted : ℕ) (v : Bytes) (now i : ℕ) (k l : Bytes) → Of calls.Write (answerTold (onTable (plain.Refused BadTable) (writeAs p wanted v now i k) l .answer))
+-- 17, 18 and 19 of the profile
+wrote : (p : Profile) (q : Party) (wanted : ℕ) (v : Bytes) (now i : ℕ) (k l : Bytes) → Of calls.Write (answerTold (onTable (plain.Refused BadTable) (writeAs p q wanted v now i k) l .answer))
 unfolding wish answerTold among calls.refusals
-wrote p wanted v now i k =
-    on-table (λ a. Of calls.Write (answerTold a)) (plain.Refused BadTable) (writeAs p wanted v now i k) refl
-    (λ t. write-as p wanted v now i k t (λ o. Of calls.Write (answerTold (o .answer))) (in-profile t (Setting v) (called-on calls.Write (Setting v) refl refl (λ k n o e. sets calls.Write refl refl refl _ k n o) i k t))
+wrote p q wanted v now i k =
+    on-table (λ a. Of calls.Write (answerTold a)) (plain.Refused BadTable) (writeAs p q wanted v now i k) refl
+    (λ t. write-as p q wanted v now i k t (λ o. Of calls.Write (answerTold (o .answer))) (in-profile t (Setting v) (called-on calls.Write (Setting v) refl refl (λ k n o e. sets calls.Write refl refl refl _ k n o) i k t))
     (in-profile t (SettingTtl v now) (called-on calls.Write (SettingTtl v now) refl refl (λ k n o e. sets calls.Write refl refl refl _ k n o) i k t)) refl)
   where
-    in-profile : (t : Table) (c : Call) → Of calls.Write (answerTold (call c i k t .answer)) → Of calls.Write (answerTold (callAs p c i k t .answer))
-    in-profile t c h = call-as p c i k t (λ o. Of calls.Write (answerTold (o .answer))) h refl refl
+    in-profile : (t : Table) (c : Call) → Of calls.Write (answerTold (call c i k t .answer)) → Of calls.Write (answerTold (callAs p q c i k t .answer))
+    in-profile t c h = call-as p q c i k t (λ o. Of calls.Write (answerTold (o .answer))) h by
+      where
+        by : (r : Refusal) → ByProfile r → Of calls.Write (answerTold (plain.Refused r))
+        by r form = refl
+        by r total = refl
+        by r party = refl
+        by r full = refl
 
-deleted : (p : Profile) (now i : ℕ) (k l : Bytes) → Of calls.Delete (answerTold (onTable (plain.Refused BadTable) (callAs p (Deleting now) i k) l .answer))
+deleted : (p : Profile) (q : Party) (now i : ℕ) (k l : Bytes) → Of calls.Delete (answerTold (onTable (plain.Refused BadTable) (callAs p q (Deleting now) i k) l .answer))
 unfolding wish answerTold among calls.refusals
-deleted p now = called calls.Delete p (Deleting now) (λ k. refl) refl refl refl go
+deleted p q now = called calls.Delete p q (Deleting now) (λ k. refl) refl refl refl refl go
   where
     go : (k : Bytes) (n : Node) (o : Option Rec) → find k (n .recs) ≡ o → Of calls.Delete (answerTold (answerOf (allowed k n (wish (Deleting now) o))))
     go k n none e = refl
     go k n (some r) e = drops calls.Delete refl refl _ k n r e
 
-deleted-ttl : (p : Profile) (now i : ℕ) (k l : Bytes) → Of calls.DeleteAfterTtl (answerTold (onTable (plain.Refused BadTable) (callAs p (DeletingAfterTtl now) i k) l .answer))
+deleted-ttl : (p : Profile) (q : Party) (now i : ℕ) (k l : Bytes) → Of calls.DeleteAfterTtl (answerTold (onTable (plain.Refused BadTable) (callAs p q (DeletingAfterTtl now) i k) l .answer))
 unfolding wish answerTold among calls.refusals
-deleted-ttl p now = called calls.DeleteAfterTtl p (DeletingAfterTtl now) (λ k. refl) refl refl refl go
+deleted-ttl p q now = called calls.DeleteAfterTtl p q (DeletingAfterTtl now) (λ k. refl) refl refl refl refl go
   where
     go : (k : Bytes) (n : Node) (o : Option Rec) → find k (n .recs) ≡ o
         → Of calls.DeleteAfterTtl (answerTold (answerOf (allowed k n (wish (DeletingAfterTtl now) o))))
@@ -814,7 +825,7 @@ applies delta now answers l = start (validWhole l)
     go (Faulty r at) h = h
 
     start : (v : Bool) → Of calls.Apply (appliedTold (pick v (storedApply (decodeWhole l) (applyOps (applyNode (waysIn (decodeWhole l .kind)) now) (waysIn (decodeWhole l .kind) .reads delta) (decodeWhole l .table) answers)) (given (applied.Refused BadTable 0) (both l answers)) .answer))
-    start true = go (waysIn (decodeWhole l .kind) .reads delta) (delta-as F refl (λ n. refl) refl refl refl refl (decodeWhole l .kind .profile) refl delta)
+    start true = go (waysIn (decodeWhole l .kind) .reads delta) (delta-as F refl (λ n. refl) refl refl refl refl (decodeWhole l .kind .profile) refl refl delta)
     start false = refl
 
 shows : (delta out : Bytes) → Of calls.ListDelta (writtenTold (digest.writeBytes (listing delta) 0 out .answer))
@@ -887,21 +898,21 @@ no-other (calls.new-table t m p) = made (kind m p) t
 no-other (calls.add-node t i) = added (i .value) t
 no-other (calls.remove-node t i) = removed (i .value) t
 no-other (calls.last-heartbeat t i) = asked-for (i .value) t
-no-other (calls.write t k v i wanted now) = wrote (decodeWhole t .kind .profile) (wanted .value) v (now .value) (i .value) k t
-no-other (calls.delete t k i now) = deleted (decodeWhole t .kind .profile) (now .value) (i .value) k t
-no-other (calls.delete-after-ttl t k i now) = deleted-ttl (decodeWhole t .kind .profile) (now .value) (i .value) k t
+no-other (calls.write t k v i wanted now who) = wrote (decodeWhole t .kind .profile) who (wanted .value) v (now .value) (i .value) k t
+no-other (calls.delete t k i now who) = deleted (decodeWhole t .kind .profile) who (now .value) (i .value) k t
+no-other (calls.delete-after-ttl t k i now who) = deleted-ttl (decodeWhole t .kind .profile) who (now .value) (i .value) k t
 no-other (calls.remove-scheduled t now grace) = collected (now .value) (grace .value) t
 no-other (calls.offer-heartbeat t i h) = offers (i .value) (h .value) t
 no-other (calls.local-beat t i) = beaten (i .value) t
-no-other (calls.find t k i) = finds (i .value) k t
-no-other (calls.list-prefix t k out i) = lists (i .value) k out t
+no-other (calls.find t k i who) = finds (i .value) k t
+no-other (calls.list-prefix t k out i who) = lists (i .value) k out t
 no-other (calls.new-overrides o i) = over-made (i .value) o
 no-other (calls.write-override o k v wanted now) = over-wrote (wanted .value) v (now .value) k o
 no-other (calls.delete-override o k now) = over-deleted (now .value) k o
 no-other (calls.delete-override-after-ttl o k now) = over-deleted-ttl (now .value) k o
 no-other (calls.remove-overrides o now grace) = over-cleaned (now .value) (grace .value) o
-no-other (calls.find-over t o k i) = found-over (i .value) k o t
-no-other (calls.list-over t o k out i) = listed-over (i .value) k out o t
+no-other (calls.find-over t o k i who) = found-over (i .value) k o t
+no-other (calls.list-over t o k out i who) = listed-over (i .value) k out o t
 no-other (calls.new-grid t g) = grid-made t g
 no-other (calls.grid-add-node t g i) = came (i .value) g t
 no-other (calls.grid-remove-node t g i) = went (i .value) g t
@@ -913,13 +924,14 @@ no-other (calls.remove-carefully t g now grace) = carefully (now .value) (grace 
 no-other (calls.node-count t) = counts t
 no-other (calls.node-number t i) = numbered i t
 no-other (calls.node-header t i) = headed (i .value) t
-no-other (calls.record-count t i) = record-counts (i .value) t
-no-other (calls.record-at t i j) = records (i .value) j t
-no-other (calls.record-of t i j) = record-places i j t
-no-other (calls.record-by-key t k i) = keyed (i .value) k t
-no-other (calls.node-rows t i) = all-rows (i .value) t
-no-other (calls.prefix-rows t k i) = some-rows (i .value) k t
-no-other (calls.find-text t i j x) = texts x (i .value) j t
+no-other (calls.record-count t i who) = record-counts (i .value) t
+no-other (calls.record-at t i j who) = records (i .value) j t
+no-other (calls.record-of t i j who) = record-places i j t
+no-other (calls.record-by-key t k i who) = keyed (i .value) k t
+no-other (calls.node-rows t i who) = all-rows (i .value) t
+no-other (calls.front t i who) = fronts (decodeWhole t .kind .profile) who (i .value) t
+no-other (calls.prefix-rows t k i who) = some-rows (i .value) k t
+no-other (calls.find-text t i j x who) = texts x (i .value) j t
 no-other (calls.write-digest t edition excluded datagram place) = digests edition excluded place datagram t
 no-other (calls.read-digest edition digest) = digest-reads edition digest
 no-other (calls.digest-entry digest edition i) = entries edition digest i

@@ -100,7 +100,7 @@ module _ (ways : Ways) (law : Lawful ways) (is : List ℕ) (w : World) (m : Mome
       go (some d) q = subst (Flies (w .given i) (p i)) (y .each i d q) (f i)
 
   calm-calls : (e : Event) → quiet e ≡ true → Calm w (calls ways e w)
-  calm-calls (Writing j k c) q = absurd (false≢true q)
+  calm-calls (Writing j k who c) q = absurd (false≢true q)
   calm-calls (Removing s removal) q = absurd (false≢true q)
   calm-calls (Beating s j) q = calm-beats w s (λ t. localBeat j t .table) (λ t i. beaten-local i t j)
   calm-calls (Offering s j h) q = calm-beats w s (λ t. offer j h t .table) (λ t i. beaten-offer i t j h)

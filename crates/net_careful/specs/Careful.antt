@@ -14,6 +14,7 @@ use Rattle.rules.specs.Delta.{Op, Good, Part, partsOf, readDelta}
 use Rattle.rules.specs.Apply.{applyNode}
 use Rattle.rules.specs.Whole.{decodeWhole}
 use Rattle.rules.specs.Profile.{Kind}
+use Rattle.rules.specs.declared.Party.the-variants.{Nobody}
 use Rattle.rules.specs.declared.NodeAnswer.the-variants as node
 use Rattle.grid.specs.Grid.{Grid, columns, placeOf}
 use Rattle.grid.specs.GridLayout.{decodeGrid}
@@ -49,7 +50,7 @@ CarefulOver ms x (ByClock now grace) w = ⊥
 CarefulOver ms x (Carefully grid now grace) w = (y : ℕ) → y ∈ ms → (y ≡ x → ⊥) → ToldBy (w .hubs y) (decodeGrid grid)
 
 abbrev pub CarefulEvent : (members : List ℕ) (event : Event) (net : Net) → Type 0
-CarefulEvent ms (Writing x i k c) w = x ∈ ms
+CarefulEvent ms (Writing x i k who c) w = x ∈ ms
 CarefulEvent ms (Beating x i) w = x ∈ ms
 CarefulEvent ms (Offering x i h) w = x ∈ ms
 CarefulEvent ms (Removing x removal) w = (x ∈ ms) × CarefulOver ms x removal w

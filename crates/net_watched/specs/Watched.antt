@@ -19,6 +19,7 @@ use Rattle.rules.specs.Table.{among, nodeOf}
 use Rattle.rules.specs.Delta.{Op, Good, Part, partsOf, readDelta}
 use Rattle.rules.specs.Apply.{applyNode, waysIn}
 use Rattle.rules.specs.Lent.{lentDigest}
+use Rattle.rules.specs.declared.Party.the-variants.{Nobody}
 use Rattle.rules.specs.declared.NodeAnswer.the-variants as node
 use Rattle.rules.specs.declared.Written.{Written}
 use Rattle.rules.specs.declared.Written.the-variants as written
@@ -66,7 +67,7 @@ pub data Act : Type 0 where
 
 -- a hub of the net does it, and it is none of those that an act of its own stands for
 abbrev pub mild : (members : List ℕ) (event : Event) → Bool
-mild ms (Writing x i k c) = among x ms
+mild ms (Writing x i k who c) = among x ms
 mild ms (Beating x i) = among x ms
 mild ms (Offering x i h) = among x ms
 mild ms (Removing x removal) = false

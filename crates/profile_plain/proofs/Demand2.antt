@@ -126,25 +126,25 @@ plainly (calls.new-table t m p) n v f s = absurd (n refl)
 plainly (calls.add-node t i) n v f s = added t v (i .value)
 plainly (calls.remove-node t i) n v f s = removed t v (i .value)
 plainly (calls.last-heartbeat t i) n v f s = ap (λ (a : Remembered). given (rememberedTold a) (freed t ∷ [])) (asked-for t v (i .value))
-plainly (calls.write t k x i wanted now) n v f s =
+plainly (calls.write t k x i wanted now who) n v f s =
     ap (λ (o : Given Answer Bytes). asTold answerTold (λ u. u ∷ k ∷ x ∷ []) o) (write-freed t (first t [] v) (wanted .value) x (now .value) (i .value) k (f, s))
-plainly (calls.delete t k i now) n v f s =
+plainly (calls.delete t k i now who) n v f s =
     ap (λ (o : Given Answer Bytes). asTold answerTold (λ u. u ∷ k ∷ []) o) (call-freed t (first t [] v) (Deleting (now .value)) (i .value) k (f, s))
-plainly (calls.delete-after-ttl t k i now) n v f s =
+plainly (calls.delete-after-ttl t k i now who) n v f s =
     ap (λ (o : Given Answer Bytes). asTold answerTold (λ u. u ∷ k ∷ []) o) (call-freed t (first t [] v) (DeletingAfterTtl (now .value)) (i .value) k (f, s))
 plainly (calls.remove-scheduled t now grace) n v f s = changing t v answerTold (plain.Refused BadTable) (gc (now .value) (grace .value)) []
 plainly (calls.offer-heartbeat t i h) n v f s = changing t v offeredTold (offered.Refused BadTable) (offer (i .value) (beats (h .value))) []
 plainly (calls.local-beat t i) n v f s = changing t v answerTold (plain.Refused BadTable) (localBeat (i .value)) []
-plainly (calls.find t k i) n v f s = reading t v foundTold (found.Refused BadTable) (foundIn (i .value) k) (k ∷ [])
-plainly (calls.list-prefix t k out i) n v f s = filling t v listedTold (given (listed.Refused BadTable) out) (λ t. prefixed (i .value) k t out) (λ u. k ∷ u ∷ [])
+plainly (calls.find t k i who) n v f s = reading t v foundTold (found.Refused BadTable) (foundIn (i .value) k) (k ∷ [])
+plainly (calls.list-prefix t k out i who) n v f s = filling t v listedTold (given (listed.Refused BadTable) out) (λ t. prefixed (i .value) k t out) (λ u. k ∷ u ∷ [])
 plainly (calls.new-overrides o i) n v f s = refl
 plainly (calls.write-override o k x wanted now) n v f s = refl
 plainly (calls.delete-override o k now) n v f s = refl
 plainly (calls.delete-override-after-ttl o k now) n v f s = refl
 plainly (calls.remove-overrides o now grace) n v f s = refl
-plainly (calls.find-over t o k i) n v f s =
+plainly (calls.find-over t o k i who) n v f s =
     ap (λ (a : FoundOver). given (foundOverTold a) (freed t ∷ o ∷ k ∷ [])) (laid t v (λ w. over.Refused w BadTable) (foundOver (i .value) k) o)
-plainly (calls.list-over t o k out i) n v f s =
+plainly (calls.list-over t o k out i who) n v f s =
     ap (λ (a : Given ListedOver Bytes). asTold listedOverTold (λ u. freed t ∷ o ∷ k ∷ u ∷ []) a) (laid t v (λ w. given (merged.Refused w BadTable) out) (listOver (i .value) k out) o)
 plainly (calls.new-grid t g) n v f s = ap (λ (o : Given Answer Bytes). asTold answerTold (λ u. freed t ∷ u ∷ []) o) (made-freed t (first t [] v) g)
 plainly (calls.grid-add-node t g i) n v f s =
@@ -160,13 +160,13 @@ plainly (calls.remove-carefully t g now grace) n v f s =
 plainly (calls.node-count t) n v f s = reading t v countTold (count.Refused BadTable) nodeCount []
 plainly (calls.node-number t i) n v f s = reading t v nodeNumberTold (number.Refused BadTable) (nodeNumber i) []
 plainly (calls.node-header t i) n v f s = reading t v nodeHeaderTold (header.Refused BadTable) (nodeHeader (i .value)) []
-plainly (calls.record-count t i) n v f s = reading t v countTold (count.Refused BadTable) (recordCount (i .value)) []
-plainly (calls.record-at t i j) n v f s = reading t v recordReadTold (rec.Refused BadTable) (readRecord (i .value) j) []
-plainly (calls.record-of t i j) n v f s = reading t v recordReadTold (rec.Refused BadTable) (recordOfPlaces i j) []
-plainly (calls.record-by-key t k i) n v f s = reading t v recordReadTold (rec.Refused BadTable) (recordByKey (i .value) k) (k ∷ [])
-plainly (calls.node-rows t i) n v f s = reading t v rowsTold (rows.Refused BadTable) (nodeRows (i .value)) []
-plainly (calls.prefix-rows t k i) n v f s = reading t v rowsTold (rows.Refused BadTable) (prefixRows (i .value) k) (k ∷ [])
-plainly (calls.find-text t i j x) n v f s = reading t v foundTold (found.Refused BadTable) (textFound x (i .value) j) []
+plainly (calls.record-count t i who) n v f s = reading t v countTold (count.Refused BadTable) (recordCount (i .value)) []
+plainly (calls.record-at t i j who) n v f s = reading t v recordReadTold (rec.Refused BadTable) (readRecord (i .value) j) []
+plainly (calls.record-of t i j who) n v f s = reading t v recordReadTold (rec.Refused BadTable) (recordOfPlaces i j) []
+plainly (calls.record-by-key t k i who) n v f s = reading t v recordReadTold (rec.Refused BadTable) (recordByKey (i .value) k) (k ∷ [])
+plainly (calls.node-rows t i who) n v f s = reading t v rowsTold (rows.Refused BadTable) (nodeRows (i .value)) []
+plainly (calls.prefix-rows t k i who) n v f s = reading t v rowsTold (rows.Refused BadTable) (prefixRows (i .value) k) (k ∷ [])
+plainly (calls.find-text t i j x who) n v f s = reading t v foundTold (found.Refused BadTable) (textFound x (i .value) j) []
 plainly (calls.write-digest t edition excluded datagram place) n v f s =
     filling t v writtenTold (given (written.Refused BadTable) datagram) (λ t. writeDigest edition excluded place t datagram) (λ u. excluded ∷ u ∷ [])
 plainly (calls.read-digest edition digest) n v f s = refl
