@@ -33,12 +33,12 @@ find-blind k (a ∷ l) = go (sameBytes k (a .kv .key)) (find-blind k l)
     go true ih = refl
     go false ih = ih
 
-hits-blind : (k : List ℕ) (i : ℕ) (l : List Rec) → hitsFrom k i (unversionedEach l) ≡ hitsFrom k i l
+pub hits-blind : (k : List ℕ) (i : ℕ) (l : List Rec) → hitsFrom k i (unversionedEach l) ≡ hitsFrom k i l
 unfolding hitsFrom unversionedEach
 hits-blind k i [] = refl
 hits-blind k i (a ∷ l) = ap (λ (x : List ℕ). pick (hits k a) (i ∷ x) x) (hits-blind k (suc i) l)
 
-length-blind : (l : List Rec) → length (unversionedEach l) ≡ length l
+pub length-blind : (l : List Rec) → length (unversionedEach l) ≡ length l
 unfolding unversionedEach
 length-blind [] = refl
 length-blind (a ∷ l) = ap suc (length-blind l)
@@ -76,11 +76,11 @@ key-bare : (o : Option Rec) → keySaid (bare o) ≡ keySaid o
 key-bare none = refl
 key-bare (some r) = refl
 
-lookup-blind : (k : List ℕ) (o : Option Node) → lookupOn k (bareHeld o) ≡ lookupOn k o
+pub lookup-blind : (k : List ℕ) (o : Option Node) → lookupOn k (bareHeld o) ≡ lookupOn k o
 lookup-blind k none = refl
 lookup-blind k (some n) = ap (λ (x : Option (List ℕ)). pick (leb (length k) maxKey) (foundOf x) (NotFound TooLong)) (ap shown (find-blind k (n .recs)) ∙ shown-bare (find k (n .recs)))
 
-prefix-blind : (k : List ℕ) (o : Option Node) (l : List ℕ) → prefixOn k (bareHeld o) l ≡ prefixOn k o l
+pub prefix-blind : (k : List ℕ) (o : Option Node) (l : List ℕ) → prefixOn k (bareHeld o) l ≡ prefixOn k o l
 prefix-blind k none l = refl
 prefix-blind k (some n) l = ap (λ (x : List ℕ). pick (leb (length k) maxKey) (listInto x l) (given (listed.Refused TooLong) l)) (hits-blind k 0 (n .recs))
 
