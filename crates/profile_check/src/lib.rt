@@ -65,7 +65,7 @@ fn each_fits(node: &[u8]) -> bool
 }
 
 // Whether they are as many as a profile allows, beside document 01's 32.
-fn node_fits(profile: Profile, node: &[u8]) -> bool
+pub fn node_fits(profile: Profile, node: &[u8]) -> bool
     requires { ⌜ LaidNode (now node) ⌝ }
     ensures { λ r. ⌜ r ≡ recsFit profile (recsIn (now (node .entry))) ⌝ }
 {

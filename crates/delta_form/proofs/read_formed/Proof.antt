@@ -12,6 +12,7 @@ use Rattle.rules.specs.Profile.{oddNumber}
 use Rattle.rules.specs.declared.DeltaRead.{DeltaRead}
 use Rattle.rules.specs.declared.DeltaRead.the-variants as read
 use Rattle.rules.specs.declared.Profile.{Profile}
+use Rattle.rules.specs.declared.Refusal.{Refusal}
 use Rattle.delta_form.specs.Forming.{deltaReadAs, endOf, oddPlace, unlessOdd}
 use Rattle.delta_form.proofs.Formed.{end-within, formed-read}
 use borrow.Author.Needs.{needs}
@@ -26,8 +27,8 @@ module _ (p : Profile) (l : List ℕ) (r : DeltaRead) (is : r ≡ deltaRead l) (
       ∙ ap (λ (k : ℕ). unlessOdd p (oddPlace p l k) k r) (sym e)
       ∙ ap (λ (k : ℕ). unlessOdd p k end r) (sym o)
 
-  is-odd : odd < end → read.Refused (oddNumber p) odd ≡ deltaReadAs p l
-  is-odd h = sym (whole ∙ pick-true (ltb odd end) (read.Refused (oddNumber p) odd) r (lt-ltb odd end h))
+  is-odd : odd < end → (why : Refusal) → why ≡ oddNumber p → read.Refused why odd ≡ deltaReadAs p l
+  is-odd h why n = ap (λ (x : Refusal). read.Refused x odd) n ∙ sym (whole ∙ pick-true (ltb odd end) (read.Refused (oddNumber p) odd) r (lt-ltb odd end h))
 
   is-formed : end ≤ odd → r ≡ deltaReadAs p l
   is-formed h = sym (whole ∙ pick-false (ltb odd end) (read.Refused (oddNumber p) odd) r (le-ltb odd end h))
@@ -43,12 +44,16 @@ first-odd-requires c κs =
     let st = c .before .before in
     within (st .args .profile) (st .args .delta .now) (st .args .read) (st .pre) _ _ (c .end-of .ensures) refl
 
+odd-number-requires : tie.Need-odd-number-requires
+odd-number-requires c κs = search needs
+
 returns : tie.Need-returns
 returns c =
-    let o = c .before in
+    let i = c .before in
+    let o = i .before in
     let e = o .before in
     let st = e .before .before in
-    is-odd (st .args .profile) (st .args .delta .now) (st .args .read) (st .pre) _ _ (e .end-of .ensures) (o .first-odd .ensures) (c .if1 .taken)
+    is-odd (st .args .profile) (st .args .delta .now) (st .args .read) (st .pre) _ _ (e .end-of .ensures) (o .first-odd .ensures) (i .if1 .taken) _ (c .odd-number .ensures)
 
 returns-2 : tie.Need-returns-2
 returns-2 c =
@@ -58,4 +63,4 @@ returns-2 c =
     is-formed (st .args .profile) (st .args .delta .now) (st .args .read) (st .pre) _ _ (e .end-of .ensures) (o .first-odd .ensures) (c .if1 .left)
 
 pub read-formed-spec : {M : Type 1} → statement M
-read-formed-spec = tie.close (tie.spec end-of-requires first-odd-requires returns returns-2)
+read-formed-spec = tie.close (tie.spec end-of-requires first-odd-requires odd-number-requires returns returns-2)

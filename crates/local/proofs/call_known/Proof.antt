@@ -17,12 +17,7 @@ enum-told : tie.Need-enum-told
 enum-told c = search needs
 
 call-let-requires : tie.Need-call-let-requires
-call-let-requires c κs =
-    let t = c .before in
-    let g = t .before .before in
-    let st = g .before .before .before .before .before in
-    let a = st .args in
-    (st .pre, free-lets (decodeWhole (a .table .now) .kind .profile) (callOf (a .kind) (a .value .now) (a .clock)) (a .key .now) (nodeOf (a .number) (decode (areaOf (a .table .now)))) (sym (t .enum-told .given .1) ∙ g .profile-of .ensures))
+call-let-requires c κs = search needs
 
 enum-told-2 : tie.Need-enum-told-2
 enum-told-2 c = search needs
