@@ -160,8 +160,11 @@ pub fn lookup_over<'a>(
 {
     if overrides::check_overrides(overrides) {
         if table_check::check_table(table) {
-            return lookup_over_known(overrides, table, party, number, key);
+            lookup_over_known(overrides, table, party, number, key)
+        } else {
+            &table[..0]
         }
+    } else {
+        &table[..0]
     }
-    &table[..0]
 }
