@@ -894,29 +894,29 @@ asking edition mtu ties digest delta = lending edition [] [] ties mtu 7 digest d
 
 -- the publisher's table and the follower's
 asked-as : (g : Lending) (p f : Whole) → obeysWhole p ≡ true → obeysWhole f ≡ true
-    → readyFor (g .edition) (g .unasked) (roomsOf g) (encodeWhole p) (encodeWhole f) ≡ readyOn (g .edition) (g .unasked) (roomsOf g) (profileObeys (f .kind .profile) (p .table)) (p .table) (f .table)
+    → readyFor (g .edition) (g .unasked) (roomsOf g) (encodeWhole p) (encodeWhole f) ≡ readyOn (g .edition) (g .unasked) (roomsOf g) (f .kind .profile) (tableFormed (f .kind .profile) (p .table)) (p .table) (f .table)
 unfolding readyFor
 asked-as g p f op of =
     ap₂ (λ (b c : Bool). pick b (pick c (on (decodeWhole (encodeWhole p)) (decodeWhole (encodeWhole f))) (ready.No Delta BadTable)) (ready.No Digest BadTable)) (valid-encode-whole f of) (valid-encode-whole p op)
     ∙ ap₂ on (decode-encode-whole p op) (decode-encode-whole f of)
   where
     on : Whole → Whole → Ready
-    on u v = readyOn (g .edition) (g .unasked) (roomsOf g) (profileObeys (v .kind .profile) (u .table)) (u .table) (v .table)
+    on u v = readyOn (g .edition) (g .unasked) (roomsOf g) (v .kind .profile) (tableFormed (v .kind .profile) (u .table)) (u .table) (v .table)
 
 refused-by : (g : Lending) (p f : Whole) → obeysWhole p ≡ true → obeysWhole f ≡ true → (n : ℕ)
-    → exchangedTold (afterAsking g (encodeWhole p) (encodeWhole f) (readyOn (g .edition) (g .unasked) (roomsOf g) (profileObeys (f .kind .profile) (p .table)) (p .table) (f .table)) .answer) .number ≡ n
+    → exchangedTold (afterAsking g (encodeWhole p) (encodeWhole f) (readyOn (g .edition) (g .unasked) (roomsOf g) (f .kind .profile) (tableFormed (f .kind .profile) (p .table)) (p .table) (f .table)) .answer) .number ≡ n
     → exchangedTold (lentExchange g (encodeWhole p) (encodeWhole f) .answer) .number ≡ n
 unfolding lentExchange
 refused-by g p f op of n e = ap (λ (x : Ready). exchangedTold (afterAsking g (encodeWhole p) (encodeWhole f) x .answer) .number) (asked-as g p f op of) ∙ e
 
 abbrev formed : Bool
-formed = profileObeys Free []
+formed = tableFormed Free []
 
-refused-as : (g : Lending) (n : ℕ) → exchangedTold (afterAsking g (lent []) (lent []) (readyOn (g .edition) (g .unasked) (roomsOf g) formed [] []) .answer) .number ≡ n
+refused-as : (g : Lending) (n : ℕ) → exchangedTold (afterAsking g (lent []) (lent []) (readyOn (g .edition) (g .unasked) (roomsOf g) Free formed [] []) .answer) .number ≡ n
     → exchangedTold (lentExchange g (lent []) (lent []) .answer) .number ≡ n
 refused-as g = refused-by g (whole []) (whole []) (whole-obeys [] none-obeys) (whole-obeys [] none-obeys)
 
-done-as : (g : Lending) → readyOn (g .edition) (g .unasked) (roomsOf g) formed [] [] ≡ ready.Yes → exchangedTold (lentExchange g (lent []) (lent []) .answer) .number ≡ 0
+done-as : (g : Lending) → readyOn (g .edition) (g .unasked) (roomsOf g) Free formed [] [] ≡ ready.Yes → exchangedTold (lentExchange g (lent []) (lent []) .answer) .number ≡ 0
 unfolding lentExchange exchangedTold
 done-as g e =
     let yes = asked-as g (whole []) (whole []) (whole-obeys [] none-obeys) (whole-obeys [] none-obeys) ∙ e in
@@ -926,7 +926,7 @@ done-as g e =
 not-asked : (g : Lending) → exchangedTold (lentExchange g [] [] .answer) .number ≡ 14
 unfolding lentExchange readyFor exchangedTold
 not-asked g =
-    ap (λ (b : Bool). exchangedTold (afterAsking g [] [] (pick b (pick (validWhole []) (readyOn (g .edition) (g .unasked) (roomsOf g) (formsFit [] []) (decodeWhole [] .table) (decodeWhole [] .table)) (ready.No Delta BadTable)) (ready.No Digest BadTable)) .answer) .number) none-valid
+    ap (λ (b : Bool). exchangedTold (afterAsking g [] [] (pick b (pick (validWhole []) (readyOn (g .edition) (g .unasked) (roomsOf g) (decodeWhole [] .kind .profile) (formsFit [] []) (decodeWhole [] .table) (decodeWhole [] .table)) (ready.No Delta BadTable)) (ready.No Digest BadTable)) .answer) .number) none-valid
 
 -- a follower that takes readings alone
 abbrev empty-metered : Whole
@@ -935,8 +935,15 @@ empty-metered = record { kind = kind mode.Plain Meter; memory = []; table = [] }
 empty-metered-obeys : obeysWhole empty-metered ≡ true
 empty-metered-obeys = without-memory (kind mode.Plain Meter) [] none-obeys (empty-formed Meter)
 
-exchanges : AllShown calls.Exchange (0 ∷ 14 ∷ 20 ∷ 8 ∷ 7 ∷ 15 ∷ 17 ∷ [])
-unfolding calls.leaves exchangedTold readyOn roomsFor takingFor askedOf digestOf digestBytes headWidth bytesOf flat zeros profileObeys all meterKey meterValue numbersOf differ among
+-- and one of two firms
+abbrev empty-shared : Whole
+empty-shared = record { kind = kind mode.Plain Shared; memory = []; table = [] }
+
+empty-shared-obeys : obeysWhole empty-shared ≡ true
+empty-shared-obeys = without-memory (kind mode.Plain Shared) [] none-obeys (empty-formed Shared)
+
+exchanges : AllShown calls.Exchange (0 ∷ 14 ∷ 20 ∷ 8 ∷ 7 ∷ 15 ∷ 17 ∷ 19 ∷ [])
+unfolding calls.leaves exchangedTold readyOn roomsFor takingFor askedOf digestOf digestBytes headWidth bytesOf flat zeros profileObeys tableFormed all meterKey meterValue startsWith numbersOf differ among
 exchanges =
     (calls.exchange (lent []) (lent []) 0 [] [] [] (zeros 2) (zeros 100) [] 100 seven, done-as (asking 0 100 [] (zeros 2) (zeros 100)) refl)
     and (calls.exchange [] [] 0 [] [] [] [] [] [] 100 seven, not-asked (asking 0 100 [] [] []))
@@ -945,6 +952,7 @@ exchanges =
     and (calls.exchange (lent []) (lent []) 0 [] [] [] (zeros 2) [] [] 99 seven, refused-as (asking 0 99 [] (zeros 2) []) 7 refl)
     and (calls.exchange (lent []) (lent []) 0 [] [] (0 ∷ []) (zeros 2) (zeros 100) [] 100 seven, refused-as (asking 0 100 (0 ∷ []) (zeros 2) (zeros 100)) 15 refl)
     and (calls.exchange (lent usual) (encodeWhole empty-metered) 0 [] [] (0 ∷ []) (zeros 2) (zeros 100) [] 100 seven, refused-by (asking 0 100 (0 ∷ []) (zeros 2) (zeros 100)) (whole usual) empty-metered (whole-obeys usual usual-obeys) empty-metered-obeys 17 refl)
+    and (calls.exchange (lent usual) (encodeWhole empty-shared) 0 [] [] (0 ∷ []) (zeros 2) (zeros 100) [] 100 seven, refused-by (asking 0 100 (0 ∷ []) (zeros 2) (zeros 100)) (whole usual) empty-shared (whole-obeys usual usual-obeys) empty-shared-obeys 19 refl)
     and no-more
 
 -- ---- all kinds
