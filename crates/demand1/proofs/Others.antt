@@ -825,7 +825,7 @@ applies delta now answers l = start (validWhole l)
     go (Faulty r at) h = h
 
     start : (v : Bool) → Of calls.Apply (appliedTold (pick v (storedApply (decodeWhole l) (applyOps (applyNode (waysIn (decodeWhole l .kind)) now) (waysIn (decodeWhole l .kind) .reads delta) (decodeWhole l .table) answers)) (given (applied.Refused BadTable 0) (both l answers)) .answer))
-    start true = go (waysIn (decodeWhole l .kind) .reads delta) (delta-as F refl (λ n. refl) refl refl refl refl (decodeWhole l .kind .profile) refl delta)
+    start true = go (waysIn (decodeWhole l .kind) .reads delta) (delta-as F refl (λ n. refl) refl refl refl refl (decodeWhole l .kind .profile) refl refl delta)
     start false = refl
 
 shows : (delta out : Bytes) → Of calls.ListDelta (writtenTold (digest.writeBytes (listing delta) 0 out .answer))

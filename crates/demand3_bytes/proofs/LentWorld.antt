@@ -28,6 +28,7 @@ use Rattle.rules.specs.declared.Computed.{Computed}
 use Rattle.rules.specs.declared.Computed.the-variants as computed
 use Rattle.rules.specs.declared.Applied.{Applied}
 use Rattle.rules.specs.declared.Profile.{Profile}
+use Rattle.rules.specs.declared.Party.{Party}
 use Rattle.rules.specs.declared.Refusal.{Refusal}
 use Rattle.rules.specs.declared.Refusal.the-variants.{BadTable}
 use Rattle.rules.proofs.Obeys.{facts-table}
@@ -144,7 +145,7 @@ module _ (pk fk : Kind) where
 
     -- ---- a write
 
-    module _ (i : ℕ) (k : List ℕ) (c : Call) where
+    module _ (i : ℕ) (k : List ℕ) (who : Party) (c : Call) where
       abbrev guarded : Option Refusal → World
       guarded g =
           record {
@@ -186,12 +187,12 @@ module _ (pk fk : Kind) where
       unfolding callAs
       written-formed e =
           subst (λ (g : Option Refusal). profileObeys (pk .profile) (unlessGuarded g (call c i k (w .publisher)) (w .publisher) .table) ≡ true) e
-          (call-formed (pk .profile) c i k (w .publisher) (form .publisher))
+          (call-formed (pk .profile) who c i k (w .publisher) p (form .publisher))
 
     -- ---- what the profile lets through
 
     calls-lent : (e : Event) → guardOn e w ≡ none → lentCalls e (lent w) ≡ lent (calls ways e w)
-    calls-lent (Writing i k who c) g = writing-lent i k c ∙ ap (λ (r : Option Refusal). lent (guarded i k c r)) g
+    calls-lent (Writing i k who c) g = writing-lent i k who c ∙ ap (λ (r : Option Refusal). lent (guarded i k who c r)) g
     calls-lent (Beating s i) g = on-side s (plain.Refused BadTable) (localBeat i)
     calls-lent (Offering s i h) g = on-side s (offered.Refused BadTable) (offer i h)
     calls-lent (Removing s removal) g = removed-lent s removal
@@ -236,7 +237,7 @@ module _ (pk fk : Kind) where
     applied-formed now answers (DeltaSent b) = record { publisher = form .publisher; follower = apply-formed fk b now (w .follower) answers (form .follower); sent = form .sent }
 
     calls-formed : (e : Event) → guardOn e w ≡ none → Formed (calls ways e w)
-    calls-formed (Writing i k who c) g = record { publisher = written-formed i k c g; follower = form .follower; sent = form .sent }
+    calls-formed (Writing i k who c) g = record { publisher = written-formed i k who c g; follower = form .follower; sent = form .sent }
     calls-formed (Beating s i) g = side-formed s (λ t. localBeat i t .table) (λ q. beat-formed q i)
     calls-formed (Offering s i h) g = side-formed s (λ t. offer i h t .table) (λ q. offer-formed q i h)
     calls-formed (Removing s removal) g = side-formed s (removedBy removal) (λ q. removal-formed q removal)
@@ -267,7 +268,7 @@ module _ (pk fk : Kind) where
 
     -- a write that the profile refuses changes nothing
     refused-calls : (e : Event) (r : Refusal) → guardOn e w ≡ some r → lentCalls e (lent w) ≡ lent w
-    refused-calls (Writing i k who c) r g = writing-lent i k c ∙ ap (λ (o : Option Refusal). lent (guarded i k c o)) g ∙ ap lent (refused-writing i k c r)
+    refused-calls (Writing i k who c) r g = writing-lent i k who c ∙ ap (λ (o : Option Refusal). lent (guarded i k who c o)) g ∙ ap lent (refused-writing i k who c r)
     refused-calls (Beating s i) r g = none-some r g
     refused-calls (Offering s i h) r g = none-some r g
     refused-calls (Removing s removal) r g = none-some r g

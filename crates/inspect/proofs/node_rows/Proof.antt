@@ -1,8 +1,3 @@
--- `inspect::node_rows` meets its contract: 14, or the reading on a good table. Assumes nothing.
-use mathlib.Core.Path.{ap}
-use Rattle.inspect.specs.Told.{rowsTold}
-use Rattle.table_read.proofs.Entry.{read-good, read-bad}
-use Rattle.table_check.proofs.Entry.{area-good, area-long}
 use borrow.Author.Needs.{needs}
 use Rattle.inspect.proofs.node_rows.Statement.{statement}
 use Rattle.inspect.proofs.node_rows.Tie as tie
@@ -10,17 +5,15 @@ use Rattle.inspect.proofs.node_rows.Tie as tie
 check-table-requires : tie.Need-check-table-requires
 check-table-requires c κs = search needs
 
-slice-aggregate-node-rows-good : tie.Need-slice-aggregate-node-rows-good
-slice-aggregate-node-rows-good c = area-long _ (c .before .before .check-table .ensures) (c .before .if1 .taken)
-
-node-rows-good-requires : tie.Need-node-rows-good-requires
-node-rows-good-requires c κs = area-good _ (c .before .before .check-table .ensures) (c .before .if1 .taken)
+node-rows-known-requires : tie.Need-node-rows-known-requires
+node-rows-known-requires c κs = ?
 
 returns : tie.Need-returns
-returns c = ap rowsTold (search read-good)
+returns c = ?
 
 returns-2 : tie.Need-returns-2
-returns-2 c = ap rowsTold (search read-bad)
+returns-2 c = ?
 
 pub node-rows-spec : {M : Type 1} → statement M
-node-rows-spec = tie.close (tie.spec check-table-requires slice-aggregate-node-rows-good node-rows-good-requires returns returns-2)
+node-rows-spec =
+    tie.close (tie.spec check-table-requires node-rows-known-requires returns returns-2)

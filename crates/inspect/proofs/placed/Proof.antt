@@ -14,7 +14,10 @@ record-of-requires : tie.Need-record-of-requires
 record-of-requires c κs = search lent-rec-needs
 
 read-record-requires : tie.Need-read-record-requires
-read-record-requires c κs = let s = c .before .before in rec-fits _ (s .pre .0) _ (s .pre .2) _ (c .record-of .ensures)
+read-record-requires c κs = let s = c .before .before in rec-fits _ (s .pre .0) _ (s .pre .3) _ (c .record-of .ensures)
+
+sub-record-place : tie.Need-sub-record-place
+sub-record-place c = search needs
 
 record-place-requires : tie.Need-record-place-requires
 record-place-requires c κs = search needs
@@ -41,6 +44,7 @@ placed-spec =
     (tie.spec
     record-of-requires
     read-record-requires
+    sub-record-place
     record-place-requires
     add-at
     add-t7

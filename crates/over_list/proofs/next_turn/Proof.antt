@@ -1,5 +1,5 @@
 -- `over_list::next_turn` meets its contract: by which of the two keys comes next. Assumes nothing.
-use Prim.Native.Nat.{ℕ, _+_, _≤_, _<_}
+use Prim.Native.Nat.{ℕ, _+_, _-_, _≤_, _<_}
 use mathlib.Core.Path.{_≡_, refl, ap, sym, _∙_}
 use mathlib.Core.Bool.{Bool, true, false, not, true≢false, false≢true}
 use native.Mathlib.Omega.{arith}
@@ -105,8 +105,8 @@ returns : tie.Need-returns
 returns c =
     let k = c .before .before .before .before in
     let t = k .before .before .before .args in
-    as-turn _ Same (t .a) (t .b) (recAt (t .a) (t .overrides .now)) (recAt (t .b) (t .node .now)) (answered k Same (c .before .before .enum-told2 .given .1)) _
-    (sym (ap (λ (h : Bool). bothTurn h (t .a) (t .b) (recAt (t .b) (t .node .now))) (not-hidden (hidden (recAt (t .a) (t .overrides .now) .kv .status)) (sym (c .before .is-shown .ensures) ∙ c .if1 .taken))))
+    as-turn _ Same (t .a) (t .b - t .base) (recAt (t .a) (t .overrides .now)) (recAt (t .b) (t .node .now)) (answered k Same (c .before .before .enum-told2 .given .1)) _
+    (sym (ap (λ (h : Bool). bothTurn h (t .a) (t .b - t .base) (recAt (t .b) (t .node .now))) (not-hidden (hidden (recAt (t .a) (t .overrides .now) .kv .status)) (sym (c .before .is-shown .ensures) ∙ c .if1 .taken))))
 
 shown-once-requires-2 : tie.Need-shown-once-requires-2
 shown-once-requires-2 c κs =
@@ -127,23 +127,23 @@ returns-2 : tie.Need-returns-2
 returns-2 c =
     let k = c .before .before .before in
     let t = k .before .before .before .args in
-    as-turn _ Less (t .a) (t .b) (recAt (t .a) (t .overrides .now)) (recAt (t .b) (t .node .now)) (answered k Less (c .before .enum-told .given .1)) _
+    as-turn _ Less (t .a) (t .b - t .base) (recAt (t .a) (t .overrides .now)) (recAt (t .b) (t .node .now)) (answered k Less (c .before .enum-told .given .1)) _
     (ap (λ (m : ℕ). turnAs (overPlace + t .a) m 1 0) (c .shown-once .ensures))
 
 returns-3 : tie.Need-returns-3
 returns-3 c =
     let k = c .before .before .before .before .before in
     let t = k .before .before .before .args in
-    as-turn _ Same (t .a) (t .b) (recAt (t .a) (t .overrides .now)) (recAt (t .b) (t .node .now)) (answered k Same (c .before .before .before .enum-told2 .given .1)) _
-    (ap (λ (m : ℕ). turnAs (t .b) m 1 1) (c .shown-once2 .ensures)
-    ∙ sym (ap (λ (h : Bool). bothTurn h (t .a) (t .b) (recAt (t .b) (t .node .now))) (is-hidden (hidden (recAt (t .a) (t .overrides .now) .kv .status)) (sym (c .before .before .is-shown .ensures) ∙ c .before .if1 .left))))
+    as-turn _ Same (t .a) (t .b - t .base) (recAt (t .a) (t .overrides .now)) (recAt (t .b) (t .node .now)) (answered k Same (c .before .before .before .enum-told2 .given .1)) _
+    (ap (λ (m : ℕ). turnAs (t .b - t .base) m 1 1) (c .shown-once2 .ensures)
+    ∙ sym (ap (λ (h : Bool). bothTurn h (t .a) (t .b - t .base) (recAt (t .b) (t .node .now))) (is-hidden (hidden (recAt (t .a) (t .overrides .now) .kv .status)) (sym (c .before .before .is-shown .ensures) ∙ c .before .if1 .left))))
 
 returns-4 : tie.Need-returns-4
 returns-4 c =
     let k = c .before .before .before in
     let t = k .before .before .before .args in
-    as-turn _ More (t .a) (t .b) (recAt (t .a) (t .overrides .now)) (recAt (t .b) (t .node .now)) (answered k More (c .before .enum-told3 .given .1)) _
-    (ap (λ (m : ℕ). turnAs (t .b) m 0 1) (c .shown-once3 .ensures))
+    as-turn _ More (t .a) (t .b - t .base) (recAt (t .a) (t .overrides .now)) (recAt (t .b) (t .node .now)) (answered k More (c .before .enum-told3 .given .1)) _
+    (ap (λ (m : ℕ). turnAs (t .b - t .base) m 0 1) (c .shown-once3 .ensures))
 
 pub next-turn-spec : {M : Type 1} → statement M
 next-turn-spec =
