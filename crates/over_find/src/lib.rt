@@ -83,13 +83,7 @@ pub fn find_over_known(
 }
 
 // Which of the two has the value of the key, and where, by a party, in lent bytes: 14 of the overrides, 14 of the table, 2, 1, 19.
-pub fn find_over(
-    overrides: &[u8],
-    table: &[u8],
-    party: Party,
-    number: u64,
-    key: &[u8],
-) -> FoundOver
+pub fn find_over(overrides: &[u8], table: &[u8], party: Party, number: u64, key: &[u8]) -> FoundOver
     ensures { λ r. ⌜ Says foundOverTold (lentFindOver party number (now (key .entry)) (now (overrides .entry)) (now (table .entry))) r ⌝ }
 {
     if overrides::check_overrides(overrides) {

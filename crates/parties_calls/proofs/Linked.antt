@@ -3,13 +3,18 @@ use Prim.Native.Nat.{ℕ}
 use mathlib.Core.Bool.{true}
 use mathlib.Core.List.{List, [], _∷_}
 use mathlib.Core.Path.{_≡_, ap, ap₂}
+use Rattle.fields.specs.Choice.{pick}
 use Rattle.rules.specs.Answers.{listedTold}
 use Rattle.rules.specs.Given.{Given, given}
+use Rattle.rules.specs.Layout.{decodeNode}
 use Rattle.rules.specs.Local.{prefixedAs}
-use Rattle.rules.specs.Whole.{decodeWhole}
+use Rattle.rules.specs.Node.{Node}
+use Rattle.rules.specs.Table.{Table}
+use Rattle.rules.specs.Whole.{Whole, decodeWhole, encodeWhole, obeysWhole}
 use Rattle.rules.specs.declared.Listed.{Listed}
 use Rattle.rules.specs.declared.Listed.the-variants as listed
 use Rattle.rules.specs.declared.Party.{Party}
+use Rattle.rules.specs.declared.Profile.{Profile}
 use Rattle.rules.specs.declared.Profile.the-variants.{Shared}
 use Rattle.rules.specs.declared.Refusal.the-variants.{BadTable}
 use Rattle.table.proofs.Encoded.{from-whole}
@@ -29,13 +34,31 @@ use Rattle.inspect.specs.declared.RecordRead.{RecordRead}
 use Rattle.inspect.specs.declared.RecordRead.the-variants as rec
 use Rattle.inspect.specs.declared.Rows.{Rows}
 use Rattle.inspect.specs.declared.Rows.the-variants as rows
+use Rattle.inspect_text.specs.Texts.{textFoundAs, textPart}
+use Rattle.overrides.specs.Both.{fromBoth}
+use Rattle.overrides.specs.Overrides.{validNode}
+use Rattle.overrides.specs.declared.Which.{Which}
+use Rattle.overrides.specs.declared.Which.the-variants as which
+use Rattle.over_find.specs.Over.{HandedOver, foundOver as foundOverAs, nothingHeld as noneHeld, valueOver}
+use Rattle.over_find.specs.Told.{foundOverTold}
+use Rattle.over_find.specs.declared.FoundOver.{FoundOver}
+use Rattle.over_find.specs.declared.FoundOver.the-variants as foundOver
+use Rattle.over_list.specs.Merged.{listOver}
+use Rattle.over_list.specs.declared.ListedOver.the-variants as listedOver
 use Rattle.prefix.specs.Rows.{prefixRowsAs}
 use Rattle.parties.specs.LentRuns.{Lends, LentUnspent, allFit}
 use Rattle.parties.specs.TwoRuns.{Event, says, stripped}
 use Rattle.parties.proofs.LentRuns.{Alike, from-profile, lent-two-runs}
 use Rattle.parties_calls.specs.Linked as ask
-use Rattle.parties_calls.specs.Linked.{Asked, asked, beatTold, lentAsked, recordTold}
+use Rattle.parties_calls.specs.Linked.{Asked, asked, beatTold, lentAsked, listSaid, recordTold, withOver}
 use Rattle.parties_calls.proofs.Blind.{asked-blind}
+
+-- with overrides
+both-lent : {A : Type 0} (w : Whole) → obeysWhole w ≡ true → (bad : Which → A) (rule : Profile → Node → Table → A) (overrides : List ℕ)
+    → fromBoth bad (rule (decodeWhole (encodeWhole w) .kind .profile)) overrides (encodeWhole w) ≡ withOver (bad which.Overrides) (λ n. rule (w .kind .profile) n (w .table)) overrides
+unfolding fromBoth
+both-lent {A} w o bad rule overrides =
+    ap (λ (x : A). pick (validNode overrides) x (bad which.Overrides)) (from-profile w o (bad which.Table) (λ f. rule f (decodeNode overrides .node)))
 
 asked-lent : Lends lentAsked asked
 asked-lent p (ask.Find i k) w o =
@@ -48,6 +71,12 @@ asked-lent p (ask.RecordOf i j) w o = ap (λ (x : RecordRead). says (recordTold 
 asked-lent p (ask.RecordByKey i k) w o = ap (λ (x : RecordRead). says (recordTold x) []) (from-profile w o (rec.Refused BadTable) (λ f. recordByKeyAs f p i k))
 asked-lent p (ask.NodeRows i) w o = ap (λ (x : Rows). says (rowsTold x) []) (from-profile w o (rows.Refused BadTable) (λ f. nodeRowsAs f p i))
 asked-lent p (ask.PrefixRows i k) w o = ap (λ (x : Rows). says (rowsTold x) []) (from-profile w o (rows.Refused BadTable) (λ f. prefixRowsAs f p i k))
+asked-lent p (ask.FindText i j x) w o =
+    ap₂ (λ (a : Found) (b : HandedOut). says (foundTold a) (b .bytes ∷ [])) (from-profile w o (found.Refused BadTable) (λ f. textFoundAs f p x i j)) (from-profile w o nothingHeld (λ f. textPart f p x i j))
+asked-lent p (ask.FindOver i k over) w o =
+    ap₂ (λ (a : FoundOver) (b : HandedOver). says (foundOverTold a) (b .bytes ∷ []))
+    (both-lent w o (λ a. foundOver.Refused a BadTable) (λ f n. foundOverAs f p i k n) over) (both-lent w o (λ a. noneHeld) (λ f n. valueOver f p i k n) over)
+asked-lent p (ask.ListOver i k list over) w o = ap listSaid (both-lent w o (λ a. given (listedOver.Refused a BadTable) list) (λ f n. listOver f p i k list n) over)
 asked-lent p ask.NodeCount w o = ap (λ (x : Count). says (countTold x) []) (from-whole w o (count.Refused BadTable) nodeCount)
 asked-lent p (ask.NodeNumber i) w o = ap (λ (x : NodeNumber). says (nodeNumberTold x) []) (from-whole w o (number.Refused BadTable) (nodeNumber i))
 asked-lent p (ask.Heartbeat i) w o = ap (λ (x : NodeHeader). says (beatTold x) []) (from-whole w o (header.Refused BadTable) (nodeHeader i))

@@ -2,14 +2,20 @@
 -- Two things are left out, since the other's writes change them: a record's version, and max and last_gc of a node's header. The theorem is in proofs/Linked.
 use Prim.Native.Nat.{ℕ}
 use mathlib.Core.List.{List, [], _∷_}
+use Rattle.fields.specs.Choice.{pick}
 use Rattle.fields.specs.Numbers.{Bytes}
 use Rattle.rules.specs.Answers.{Told, accepted, refused, listedTold}
+use Rattle.rules.specs.Given.{Given, given}
+use Rattle.rules.specs.Layout.{decodeNode}
+use Rattle.rules.specs.Node.{Node}
+use Rattle.rules.specs.Party.{seen}
 use Rattle.rules.specs.Table.{Table}
 use Rattle.rules.specs.Local.{prefixedAs}
 use Rattle.rules.specs.Lent.{lentPrefixed}
 use Rattle.rules.specs.declared.Party.{Party}
 use Rattle.rules.specs.declared.Profile.{Profile}
 use Rattle.rules.specs.declared.Record.{Record}
+use Rattle.rules.specs.declared.Refusal.the-variants.{BadTable}
 use Rattle.lookup.specs.Lookup.{findAs, lentFind, lentValuePart, valuePart}
 use Rattle.lookup.specs.Told.{foundTold}
 use Rattle.inspect.specs.Look.{lentNodeCount, lentNodeHeader, lentNodeNumber, lentNodeRows, lentReadRecord, lentRecordByKey, lentRecordCount, lentRecordOf, nodeCount, nodeHeader, nodeNumber, nodeRowsAs, readRecordAs, recordByKeyAs, recordCountAs, recordOfAs}
@@ -18,6 +24,17 @@ use Rattle.inspect.specs.declared.NodeHeader.{NodeHeader}
 use Rattle.inspect.specs.declared.NodeHeader.the-variants as header
 use Rattle.inspect.specs.declared.RecordRead.{RecordRead}
 use Rattle.inspect.specs.declared.RecordRead.the-variants as rec
+use Rattle.inspect_text.specs.Texts.{bytesIn, lentTextFound, lentTextPart, textFound}
+use Rattle.inspect_text.specs.declared.Text.{Text}
+use Rattle.overrides.specs.Overrides.{validNode}
+use Rattle.overrides.specs.declared.Which.the-variants as which
+use Rattle.over_find.specs.Over.{foundOver, lentFindOver, lentValueOver, nothingHeld, valueOver}
+use Rattle.over_find.specs.Told.{foundOverTold}
+use Rattle.over_find.specs.declared.FoundOver.the-variants as over
+use Rattle.over_list.specs.Merged.{lentListOver, listOver}
+use Rattle.over_list.specs.Told.{listedOverTold}
+use Rattle.over_list.specs.declared.ListedOver.{ListedOver}
+use Rattle.over_list.specs.declared.ListedOver.the-variants as listed
 use Rattle.prefix.specs.Rows.{lentPrefixRows, prefixRowsAs}
 use Rattle.parties.specs.TwoRuns.{Said, says}
 
@@ -34,6 +51,11 @@ pub data Asked : Type 0 where
   -- rows in one piece, all of them or those of a prefix
   NodeRows : ℕ → Asked
   PrefixRows : ℕ → List ℕ → Asked
+  -- a record's key or value, by its place
+  FindText : ℕ → ℕ → Text → Asked
+  -- over the site's own overrides, which are the same in both runs: key; prefix and the lent list
+  FindOver : ℕ → List ℕ → List ℕ → Asked
+  ListOver : ℕ → List ℕ → List ℕ → List ℕ → Asked
   -- those that name no party
   NodeCount : Asked
   NodeNumber : ℕ → Asked
@@ -56,6 +78,13 @@ abbrev pub beatTold : (answer : NodeHeader) → Told
 beatTold (header.Is h) = accepted (h .heartbeat .0 ∷ [])
 beatTold (header.Refused r) = refused r []
 
+abbrev pub listSaid : (of : Given ListedOver Bytes) → Said
+listSaid g = says (listedOverTold (g .answer)) (g .lent ∷ [])
+
+-- 14 of the overrides, or what is asked of them
+abbrev pub withOver : {A : Type 0} (bad : A) (rule : Node → A) (overrides : Bytes) → A
+withOver bad rule o = pick (validNode o) (rule (decodeNode o .node)) bad
+
 -- of a table
 abbrev pub asked : (profile : Profile) (party : Party) (ask : Asked) (table : Table) → Said
 asked f p (Find i k) t = says (foundTold (findAs f p i k t)) (valuePart f p i k t .bytes ∷ [])
@@ -66,6 +95,10 @@ asked f p (RecordOf i j) t = says (recordTold (recordOfAs f p i j t)) []
 asked f p (RecordByKey i k) t = says (recordTold (recordByKeyAs f p i k t)) []
 asked f p (NodeRows i) t = says (rowsTold (nodeRowsAs f p i t)) []
 asked f p (PrefixRows i k) t = says (rowsTold (prefixRowsAs f p i k t)) []
+asked f p (FindText i j x) t = says (foundTold (textFound x i j (seen f p t))) (bytesIn x i j (seen f p t) ∷ [])
+asked f p (FindOver i k o) t =
+    says (foundOverTold (withOver (over.Refused which.Overrides BadTable) (λ n. foundOver f p i k n t) o)) (withOver nothingHeld (λ n. valueOver f p i k n t) o .bytes ∷ [])
+asked f p (ListOver i k l o) t = listSaid (withOver (given (listed.Refused which.Overrides BadTable) l) (λ n. listOver f p i k l n t) o)
 asked f p NodeCount t = says (countTold (nodeCount t)) []
 asked f p (NodeNumber i) t = says (nodeNumberTold (nodeNumber i t)) []
 asked f p (Heartbeat i) t = says (beatTold (nodeHeader i t)) []
@@ -80,6 +113,9 @@ lentAsked p (RecordOf i j) l = says (recordTold (lentRecordOf p i j l)) []
 lentAsked p (RecordByKey i k) l = says (recordTold (lentRecordByKey p i k l)) []
 lentAsked p (NodeRows i) l = says (rowsTold (lentNodeRows p i l)) []
 lentAsked p (PrefixRows i k) l = says (rowsTold (lentPrefixRows p i k l)) []
+lentAsked p (FindText i j x) l = says (foundTold (lentTextFound p x i j l)) (lentTextPart p x i j l .bytes ∷ [])
+lentAsked p (FindOver i k o) l = says (foundOverTold (lentFindOver p i k o l)) (lentValueOver p i k o l .bytes ∷ [])
+lentAsked p (ListOver i k list o) l = listSaid (lentListOver p i k list o l)
 lentAsked p NodeCount l = says (countTold (lentNodeCount l)) []
 lentAsked p (NodeNumber i) l = says (nodeNumberTold (lentNodeNumber i l)) []
 lentAsked p (Heartbeat i) l = says (beatTold (lentNodeHeader i l)) []
