@@ -4,15 +4,14 @@ use mathlib.Core.Bool.{Bool, true, false}
 use mathlib.Core.List.{List, [], _∷_}
 use mathlib.Core.Option.{Option, none, some}
 use mathlib.Core.Path.{_≡_, refl, ap, ap₂, sym, _∙_, subst}
-use native.Mathlib.Omega.{arith}
 use lib.Dec.{ltb}
 use borrow.Author.Tests.{lt-ltb}
-use Rattle.fields.specs.Choice.{all, keep, pick}
+use Rattle.fields.specs.Choice.{all, pick}
 use Rattle.fields.specs.Numbers.{Bytes}
 use Rattle.fields.proofs.Choice.{and-intro}
 use Rattle.rules.specs.Answers.{Told}
 use Rattle.rules.specs.Sizes.{numbers}
-use Rattle.rules.specs.Whole.{decodeWhole, validWhole}
+use Rattle.rules.specs.Whole.{decodeWhole}
 use Rattle.rules.specs.declared.Party.{Party}
 use Rattle.rules.specs.declared.Profile.the-variants.{Shared}
 use Rattle.inspect.specs.Look.{lentNodeHeader}
@@ -23,11 +22,10 @@ use Rattle.inspect.specs.declared.RecordRead.{RecordRead}
 use Rattle.inspect.specs.declared.RecordRead.the-variants as rec
 use Rattle.demand1.specs.Calls as calls
 use Rattle.demand1.specs.Calls.{Call, Kind, leaves}
-use Rattle.parties.specs.LentRuns.{LentUnspent, allFit, eventFits, lentAfter, lentHappen, lentHeard, lentSaid, lentView}
-use Rattle.parties.specs.TwoRuns.{Event, Said, concerns, changes, stripped}
-use Rattle.parties.proofs.LentRuns.{Alike}
+use Rattle.parties.specs.LentRuns.{LentUnspent, allFit, eventFits, lentHappen, lentHeard, lentSaid}
+use Rattle.parties.specs.TwoRuns.{Said, concerns, stripped}
 use Rattle.parties_calls.specs.Calls.{IsCall, OwnUnspent, Run, Step, beatOf, butVersion, eventsOf, stepOf, toldTo}
-use Rattle.parties_calls.specs.Linked.{Asked, beatTold, lentAsked, recordTold}
+use Rattle.parties_calls.specs.Linked.{beatTold, lentAsked, recordTold}
 use Rattle.parties_calls.proofs.Linked.{linked-two-runs}
 
 -- ---- one call
