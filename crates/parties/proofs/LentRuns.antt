@@ -167,10 +167,6 @@ module _ (l : List ℕ) (bad : validWhole l ≡ false) where
   unfolding onWhole
   no-whole b rule = ap (λ (x : Bool). pick x (given (rule (decodeWhole l) .answer) (encodeWhole (rule (decodeWhole l) .lent))) (given b l)) bad
 
-  no-reading : {A : Type 0} (b : A) (rule : Table → A) → fromTable b rule l ≡ b
-  unfolding fromTable
-  no-reading b rule = ap (λ (x : Bool). pick x (rule (decodeWhole l .table)) b) bad
-
   bad-leaves : {Ask : Type 0} (e : Event Ask) → lentHappen e l ≡ l
   bad-leaves (Writing q wanted v now i k) = ap (λ (g : Given Answer (List ℕ)). g .lent) (no-table (plain.Refused BadTable) (writeAs (decodeWhole l .kind .profile) q wanted v now i k))
   bad-leaves (Calling q i k c) = ap (λ (g : Given Answer (List ℕ)). g .lent) (no-table (plain.Refused BadTable) (callAs (decodeWhole l .kind .profile) q c i k))

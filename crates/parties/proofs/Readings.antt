@@ -33,7 +33,7 @@ find-blind k (a ∷ l) = go (sameBytes k (a .kv .key)) (find-blind k l)
     go true ih = refl
     go false ih = ih
 
-pub hits-blind : (k : List ℕ) (i : ℕ) (l : List Rec) → hitsFrom k i (unversionedEach l) ≡ hitsFrom k i l
+hits-blind : (k : List ℕ) (i : ℕ) (l : List Rec) → hitsFrom k i (unversionedEach l) ≡ hitsFrom k i l
 unfolding hitsFrom unversionedEach
 hits-blind k i [] = refl
 hits-blind k i (a ∷ l) = ap (λ (x : List ℕ). pick (hits k a) (i ∷ x) x) (hits-blind k (suc i) l)

@@ -21,11 +21,11 @@ use Rattle.rules.specs.declared.Party.{Party}
 use Rattle.rules.specs.declared.Profile.the-variants.{Shared}
 use Rattle.rules.specs.declared.Refusal.the-variants.{BadTable, TooLong}
 use Rattle.table_read.specs.Find.{nodeStart, startFrom}
-use Rattle.lookup.specs.Lookup.{findAs, findOn, findRec, foundIn, foundRec, handed, unlessOther}
+use Rattle.lookup.specs.Lookup.{findAs, findOn, findRec, foundRec, handed, unlessOther}
 use Rattle.lookup.specs.Told.{foundTold}
 use Rattle.lookup.specs.declared.Found.{Found}
 use Rattle.lookup.specs.declared.Found.the-variants as found
-use Rattle.inspect.specs.Look.{elementAt, headerOn, nodeHeader, nodeNumber, numberOn, readAt, readKey, readRec, readRecord, recordByKey, recordByKeyOn, recordCount, recordIn, recordOfPlaces, recordOn, recordsOn, rowsOn, nodeRows}
+use Rattle.inspect.specs.Look.{elementAt, headerOn, numberOn, readAt, readKey, readRec, recordByKeyOn, recordIn, recordOfPlaces, recordOn, recordsOn, rowsOn}
 use Rattle.inspect.specs.Look as look
 use Rattle.inspect.specs.Told.{countTold, nodeNumberTold, recordReadTold, rowsTold}
 use Rattle.inspect.specs.declared.Count.{Count}
@@ -44,10 +44,10 @@ use Rattle.over_find.specs.Told.{foundOverTold}
 use Rattle.over_find.specs.declared.FoundOver.the-variants as over
 use Rattle.over_list.specs.Merged.{Hit, hit, hitsBy, hitsIn, keyOfHit, layOver, listInto, listOn, listing, overPlace, overlaid, ownHits, placesOf}
 use Rattle.over_list.specs.declared.ListedOver.the-variants as listedOver
-use Rattle.prefix.specs.Rows.{begun, earlier, prefixRows, prefixRowsOn, runRows}
-use Rattle.parties.specs.TwoRuns.{Blind, Said, says, unversioned, unversionedEach, versionless, versionlessNode}
-use Rattle.parties.proofs.Readings.{bareHeld, blind-node, blind-view, hits-blind, length-blind, lookup-blind, node-blind, prefix-blind}
-use Rattle.parties_calls.specs.Linked.{Asked, Find, ListPrefix, RecordCount, RecordAt, RecordOf, RecordByKey, NodeRows, PrefixRows, FindText, FindOver, ListOver, NodeCount, NodeNumber, Heartbeat, asked, beatTold, listSaid, readLeft, withOver}
+use Rattle.prefix.specs.Rows.{begun, earlier, prefixRowsOn}
+use Rattle.parties.specs.TwoRuns.{Blind, says, unversioned, unversionedEach, versionless, versionlessNode}
+use Rattle.parties.proofs.Readings.{bareHeld, blind-node, blind-view, length-blind, lookup-blind, node-blind, prefix-blind}
+use Rattle.parties_calls.specs.Linked.{Find, ListPrefix, RecordCount, RecordAt, RecordOf, RecordByKey, NodeRows, PrefixRows, FindText, FindOver, ListOver, NodeCount, NodeNumber, Heartbeat, asked, beatTold, listSaid, readLeft, withOver}
 
 -- ---- records
 
@@ -121,10 +121,6 @@ prefix-rows-on : (k : List ℕ) (s : ℕ) (o : Option Node) → prefixRowsOn k s
 prefix-rows-on k s none = refl
 prefix-rows-on k s (some n) =
     ap₂ (λ (a b : ℕ). pick (leb (length k) maxKey) (rows.Are (s + recPlace a) b) (rows.Refused TooLong)) (keep-rec (earlier k) (λ r. refl) (n .recs)) (keep-rec (begun k) (λ r. refl) (n .recs))
-
-beat-on : (o : Option Node) → beatTold (headerOn (bareHeld o)) ≡ beatTold (headerOn o)
-beat-on none = refl
-beat-on (some n) = refl
 
 -- ---- of a table
 
