@@ -173,10 +173,7 @@ fn front_in(node: &[u8], profile: Profile, party: Party) -> Count
     requires { ⌜ LaidNode (now node) × (keysRise (recsIn (now node)) ≡ true) × (recsFormed profile (recsIn (now node)) ≡ true) ⌝ }
     ensures { λ r. ⌜ r ≡ frontTold profile party (some (decodeNode (now (node .entry)) .node)) ⌝ }
 {
-    Count::Are(fields::times(
-        own_rows::sight_of(node, profile, party).low,
-        layout::RECORD,
-    ))
+    Count::Are(fields::times(own_rows::sight_of(node, profile, party).low, layout::RECORD))
 }
 
 // How many bytes further back than is told stand the records that a party sees of a node, in the area of a good table of this profile: 2.
@@ -366,7 +363,13 @@ fn record_keyed(node: &[u8], start: usize, profile: Profile, party: Party, key: 
 }
 
 // The record of a key in what a party sees of a node, hidden or not, in the area of a good table of this profile: 2, 1, 19.
-fn record_by_key_as(area: &[u8], profile: Profile, party: Party, number: u64, key: &[u8]) -> RecordRead
+fn record_by_key_as(
+    area: &[u8],
+    profile: Profile,
+    party: Party,
+    number: u64,
+    key: &[u8],
+) -> RecordRead
     requires { ⌜ (valid (now area) ≡ true) × (profileObeys profile (decode (now area)) ≡ true) ⌝ }
     ensures { λ r. ⌜ r ≡ recordByKeyAs profile party number (now (key .entry)) (decode (now (area .entry))) ⌝ }
 {
