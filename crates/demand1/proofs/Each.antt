@@ -9,7 +9,7 @@ use lib.Dec.{eqb, ltb}
 use lib.ListN.{length}
 use borrow.Author.Tests.{eq-eqb, eqb-true, ltb-true}
 use Rattle.fields.specs.Blocks.{fit, flat, unblock, zeros}
-use Rattle.fields.specs.Choice.{all, pick}
+use Rattle.fields.specs.Choice.{all, keep, pick}
 use Rattle.fields.specs.Numbers.{Bytes, bytesOf, natOf}
 use Rattle.fields.specs.Order.{lessBytes, sameBytes, startsWith}
 use Rattle.fields.specs.Parts.{part}
@@ -29,9 +29,9 @@ use Rattle.rules.specs.Whole.{Whole, decodeMemory, decodeWhole, encodeWhole, ob
 use Rattle.rules.specs.declared.Mode.the-variants as mode
 use Rattle.rules.specs.Lent.{TableAndList, addWhole, both, fromTable, lentApply, lentApplyAs, lentNew, lentRemoved, onTable, onWhole, rememberedAs, removeWhole, storedIn, storedApply}
 use Rattle.rules.specs.Listing.{decimal, digits, listing, listingOf, opLine}
-use Rattle.rules.specs.Local.{Outcome, add, call, callAs, gc, localBeat, offer, prefixed, removeNode, writeAs}
+use Rattle.rules.specs.Local.{Outcome, add, call, callAs, gc, localBeat, offer, prefixed, prefixedAs, removeNode, writeAs}
 use Rattle.rules.specs.Node.{Deleting, DeletingAfterTtl, Node, Rec, act, beats, decide, find, fresh, hitsFrom, offerOf, wish}
-use Rattle.rules.specs.Profile.{kind, meterKey, meterValue, numeral, profileObeys, readDeltaAs, readOpsAs, smaller, totalKey}
+use Rattle.rules.specs.Profile.{kind, meterKey, meterValue, numeral, profileObeys, readDeltaAs, readOpsAs, smaller, tableFormed, totalKey}
 use Rattle.rules.specs.Table.{Entry, Table, among, differ, entryObeys, keysRise, nodeObeys, nodeOf, numbersOf, obeys, recObeys, rising, setNode, versions}
 use Rattle.rules.specs.declared.Answer.{Answer}
 use Rattle.rules.specs.declared.Answer.the-variants as plain
@@ -44,7 +44,8 @@ use Rattle.rules.specs.declared.Listed.{Listed}
 use Rattle.rules.specs.declared.Listed.the-variants as listed
 use Rattle.rules.specs.declared.Offered.the-variants as offered
 use Rattle.rules.specs.declared.Profile.{Profile}
-use Rattle.rules.specs.declared.Profile.the-variants.{Free, Meter}
+use Rattle.rules.specs.declared.Party.the-variants.{Nobody}
+use Rattle.rules.specs.declared.Profile.the-variants.{Free, Meter, Shared}
 use Rattle.rules.specs.declared.Refusal.the-variants.{BadPeer, BadTable, NobodyPresent}
 use Rattle.rules.specs.declared.Status.the-variants as status
 use Rattle.rules.specs.declared.Written.{Written}
@@ -81,18 +82,18 @@ use Rattle.grid_kept.proofs.Keeps.{tell-sound}
 use Rattle.grid_kept.proofs.LentKept.{table-columns, table-sound, together}
 use Rattle.grid_kept.proofs.Sound.{Sound, sound-valid}
 use Rattle.nodes.specs.New.{lentMade}
-use Rattle.lookup.specs.Lookup.{findRec, foundIn}
+use Rattle.lookup.specs.Lookup.{findAs, findRec}
 use Rattle.lookup.specs.Told.{foundTold}
 use Rattle.lookup.specs.declared.Found.the-variants as found
-use Rattle.inspect.specs.Look.{elementAt, nodeCount, nodeHeader, nodeNumber, readKey, readRecord, recordByKey, recordCount, recordOfPlaces, nodeRows}
+use Rattle.inspect.specs.Look.{elementAt, frontAs, nodeCount, nodeHeader, nodeNumber, nodeRowsAs, readKey, readRecordAs, recordByKeyAs, recordCountAs, recordOfAs}
 use Rattle.inspect.specs.Told.{countTold, nodeHeaderTold, nodeNumberTold, recordReadTold, rowsTold}
 use Rattle.inspect.specs.declared.Count.the-variants as count
 use Rattle.inspect.specs.declared.NodeHeader.the-variants as header
 use Rattle.inspect.specs.declared.NodeNumber.the-variants as number
 use Rattle.inspect.specs.declared.RecordRead.the-variants as rec
 use Rattle.inspect.specs.declared.Rows.the-variants as rows
-use Rattle.prefix.specs.Rows.{prefixRows}
-use Rattle.inspect_text.specs.Texts.{textFound}
+use Rattle.prefix.specs.Rows.{prefixRowsAs}
+use Rattle.inspect_text.specs.Texts.{textFoundAs}
 use Rattle.inspect_text.specs.declared.Text.the-variants as text
 use Rattle.digest_read.specs.Held.{digestIn}
 use Rattle.digest_read.specs.Told.{digestTold}
@@ -234,24 +235,13 @@ metered-obeys : obeysWhole metered ≡ true
 unfolding obeys rising numbersOf all entryObeys nodeObeys recObeys differ keysRise versions among profileObeys meterKey meterValue
 metered-obeys = without-memory (kind mode.Plain Meter) counting refl refl
 
--- a shared one with a node that has no records, and one in which the metering firm has 16
+-- a shared one
 abbrev shared : Table → Whole
 shared t = record { kind = kind mode.Plain Shared; memory = []; table = t }
-
-unfoldable firms : (n : ℕ) → List Rec
-firms zero = []
-firms (suc n) = record { kv = record { key = 109 ∷ 47 ∷ (100 - n) ∷ []; value = []; version = suc n; status = status.Set }; start = 0 } ∷ firms n
-
-abbrev sixteen : Table
-sixteen = holding (node 0 16 (firms 16))
 
 shared-newly-obeys : obeysWhole (shared newly) ≡ true
 unfolding profileObeys all keep
 shared-newly-obeys = without-memory (kind mode.Plain Shared) newly newly-obeys refl
-
-sixteen-obeys : obeysWhole (shared sixteen) ≡ true
-unfolding obeys rising numbersOf all entryObeys nodeObeys recObeys differ keysRise versions among firms lessBytes profileObeys keep startsWith
-sixteen-obeys = without-memory (kind mode.Plain Shared) sixteen refl refl
 
 -- no bytes are no table
 none-valid : validWhole [] ≡ false
@@ -423,7 +413,7 @@ finds =
     and no-more
 
 lists : AllShown calls.ListPrefix (0 ∷ 14 ∷ 2 ∷ 1 ∷ 8 ∷ [])
-unfolding calls.leaves listedTold prefixed nodeOf hitsFrom startsWith zeros
+unfolding calls.leaves listedTold prefixed prefixedAs nodeOf hitsFrom startsWith zeros
 lists =
     (calls.list-prefix (lent newly) [] [] seven Nobody, seen-good (λ (a : Given Listed Bytes). listedTold (a .answer) .number) (given (listed.Refused BadTable) []) (λ p t. prefixedAs p Nobody 7 [] t []) (whole newly) (whole-obeys newly newly-obeys) 0 refl)
     and (calls.list-prefix [] [] [] seven Nobody, from-bad (λ (a : Given Listed Bytes). listedTold (a .answer) .number) (given (listed.Refused BadTable) []) (λ t. prefixedAs (decodeWhole [] .kind .profile) Nobody 7 [] t []) 14 refl)
@@ -745,7 +735,7 @@ records-of =
     and (calls.record-of (lent newly) 0 0 Nobody, seen-good (λ a. recordReadTold a .number) (rec.Refused BadTable) (λ p. recordOfAs p Nobody 0 0) (whole newly) (whole-obeys newly newly-obeys) 8 refl)
     and no-more
 
-keyed : AllShown calls.RecordByKey (0 ∷ 14 ∷ 2 ∷ 1 ∷ [])
+keyed : AllShown calls.RecordByKey (0 ∷ 14 ∷ 2 ∷ 1 ∷ 19 ∷ [])
 unfolding calls.leaves recordReadTold nodeOf readKey zeros
 keyed =
     (calls.record-by-key (lent newly) [] seven Nobody, seen-good (λ a. recordReadTold a .number) (rec.Refused BadTable) (λ p. recordByKeyAs p Nobody 7 []) (whole newly) (whole-obeys newly newly-obeys) 0 refl)
@@ -761,6 +751,14 @@ all-rows =
     (calls.node-rows (lent newly) seven Nobody, seen-good (λ a. rowsTold a .number) (rows.Refused BadTable) (λ p. nodeRowsAs p Nobody 7) (whole newly) (whole-obeys newly newly-obeys) 0 refl)
     and (calls.node-rows [] seven Nobody, from-bad (λ a. rowsTold a .number) (rows.Refused BadTable) (nodeRowsAs (decodeWhole [] .kind .profile) Nobody 7) 14 refl)
     and (calls.node-rows (lent []) seven Nobody, seen-good (λ a. rowsTold a .number) (rows.Refused BadTable) (λ p. nodeRowsAs p Nobody 7) (whole []) (whole-obeys [] none-obeys) 2 refl)
+    and no-more
+
+fronts : AllShown calls.Front (0 ∷ 14 ∷ 2 ∷ [])
+unfolding calls.leaves countTold nodeOf
+fronts =
+    (calls.front (lent newly) seven Nobody, seen-good (λ a. countTold a .number) (count.Refused BadTable) (λ p. frontAs p Nobody 7) (whole newly) (whole-obeys newly newly-obeys) 0 refl)
+    and (calls.front [] seven Nobody, from-bad (λ a. countTold a .number) (count.Refused BadTable) (frontAs (decodeWhole [] .kind .profile) Nobody 7) 14 refl)
+    and (calls.front (lent []) seven Nobody, seen-good (λ a. countTold a .number) (count.Refused BadTable) (λ p. frontAs p Nobody 7) (whole []) (whole-obeys [] none-obeys) 2 refl)
     and no-more
 
 some-rows : AllShown calls.PrefixRows (0 ∷ 14 ∷ 2 ∷ 1 ∷ [])
@@ -884,7 +882,7 @@ not-applied : appliedTold (lentApply [] 7 [] [] .answer) .number ≡ 14
 unfolding lentApplyAs appliedTold
 not-applied = ap (λ (b : Bool). appliedTold (pick b (storedApply (decodeWhole []) (apply (waysIn (decodeWhole [] .kind)) [] 7 (decodeWhole [] .table) [])) (given (applied.Refused BadTable 0) (both [] [])) .answer) .number) none-valid
 
-applies : AllShown calls.Apply (0 ∷ 14 ∷ 13 ∷ 9 ∷ 1 ∷ 10 ∷ 11 ∷ 17 ∷ 12 ∷ 8 ∷ [])
+applies : AllShown calls.Apply (0 ∷ 14 ∷ 13 ∷ 9 ∷ 1 ∷ 10 ∷ 11 ∷ 17 ∷ 19 ∷ 12 ∷ 8 ∷ [])
 unfolding calls.leaves received appliedTold apply all readDeltaAs readOpsAs meterKey readOp readNode readKeyValue readSetMaxVersion follow natOf among zeros deltaBytes opBytes textBytes flat bytesOf ninth partsOf
 applies =
     (calls.apply (lent []) (received [] refl) [] seven, applying (received [] refl) [] 0 refl)
@@ -895,6 +893,7 @@ applies =
     and (calls.apply (lent []) (received (3 ∷ []) refl) [] seven, applying (received (3 ∷ []) refl) [] 10 refl)
     and (calls.apply (lent []) (received (2 ∷ zeros 8) refl) [] seven, applying (received (2 ∷ zeros 8) refl) [] 11 refl)
     and (calls.apply (encodeWhole metered) (received (deltaBytes odd) refl) [] seven, applying-as metered metered-obeys (received (deltaBytes odd) refl) [] 17 refl)
+    and (calls.apply (encodeWhole (shared newly)) (received (deltaBytes odd) refl) [] seven, applying-as (shared newly) shared-newly-obeys (received (deltaBytes odd) refl) [] 19 refl)
     and (calls.apply (lent []) (received (deltaBytes (NodeOp 7 0 0 ∷ NodeOp 7 0 0 ∷ [])) refl) [] seven, applying (received (deltaBytes (NodeOp 7 0 0 ∷ NodeOp 7 0 0 ∷ [])) refl) [] 12 refl)
     and (calls.apply (lent []) (received (deltaBytes (NodeOp 7 0 0 ∷ [])) refl) [] seven, applying (received (deltaBytes (NodeOp 7 0 0 ∷ [])) refl) [] 8 refl)
     and no-more
@@ -1029,6 +1028,7 @@ all-shown calls.RecordAt = (_, records-at, refl)
 all-shown calls.RecordOf = (_, records-of, refl)
 all-shown calls.RecordByKey = (_, keyed, refl)
 all-shown calls.NodeRows = (_, all-rows, refl)
+all-shown calls.Front = (_, fronts, refl)
 all-shown calls.PrefixRows = (_, some-rows, refl)
 all-shown calls.FindText = (_, texts, refl)
 all-shown calls.WriteDigest = (_, digests, refl)

@@ -21,7 +21,8 @@ ghost use Rattle.rules.specs.Sizes.{maxKey, maxValue};
 ghost use Rattle.rules.specs.Node.{hidden, find};
 ghost use Rattle.rules.specs.Table.{keysRise, nodeOf};
 ghost use Rattle.rules.specs.Party.{own};
-ghost use Rattle.rules.specs.Profile.{brings, fullGuard, guardAt, guardIn, inForm, meterGuard, meterValue, numeral, profileObeys, recsFormed, sizesFit, smaller};
+ghost use Rattle.rules.specs.Profile.{brings, fullGuard, guardAt, guardIn, meterGuard, sizesFit, smaller};
+ghost use Rattle.rules.specs.Profile.{inForm, meterValue, numeral, profileObeys, recsFormed};
 ghost use Rattle.rules.specs.Layout.{decode, decodeRec, recWidth, valid};
 ghost use Rattle.rules.specs.declared.Party.the-variants.{Nobody};
 ghost use Rattle.rules.specs.declared.Profile.the-variants.{Meter, Shared};
@@ -122,7 +123,8 @@ fn guard_node(node: &[u8], kind: Kind, key: &[u8], value: &[u8]) -> Guarded
 // On a good meter table: a node that is not held passes, as 2 comes first.
 fn guard_meter(table: &[u8], number: u64, kind: Kind, key: &[u8], value: &[u8]) -> Guarded
     requires { ⌜ (valid (now table) ≡ true) × (profileObeys Meter (decode (now table)) ≡ true) ⌝ }
-    ensures { λ r. ⌜ r ≡ guardedBy (guardIn Meter Nobody (callOf kind (now (value .entry)) 0) (now (key .entry)) (nodeOf number (decode (now (table .entry))))) ⌝ }
+    ensures { λ r. ⌜ r ≡ guardedBy
+        (guardIn Meter Nobody (callOf kind (now (value .entry)) 0) (now (key .entry)) (nodeOf number (decode (now (table .entry))))) ⌝ }
 {
     match table_read::node_span(table, number) {
         Span::Held { start, end } => guard_node(&table[start..end], kind, key, value),
@@ -203,7 +205,8 @@ fn guard_shared(
     value: &[u8],
 ) -> Guarded
     requires { ⌜ (valid (now table) ≡ true) × (profileObeys Shared (decode (now table)) ≡ true) ⌝ }
-    ensures { λ r. ⌜ r ≡ guardedBy (guardIn Shared party (callOf kind (now (value .entry)) 0) (now (key .entry)) (nodeOf number (decode (now (table .entry))))) ⌝ }
+    ensures { λ r. ⌜ r ≡ guardedBy
+        (guardIn Shared party (callOf kind (now (value .entry)) 0) (now (key .entry)) (nodeOf number (decode (now (table .entry))))) ⌝ }
 {
     match table_read::node_span(table, number) {
         Span::Held { start, end } => guard_party(&table[start..end], party, kind, key, value),
@@ -224,7 +227,8 @@ pub fn guard(
     value: &[u8],
 ) -> Guarded
     requires { ⌜ (valid (now table) ≡ true) × (profileObeys profile (decode (now table)) ≡ true) ⌝ }
-    ensures { λ r. ⌜ r ≡ guardedBy (guardIn profile party (callOf kind (now (value .entry)) 0) (now (key .entry)) (nodeOf number (decode (now (table .entry))))) ⌝ }
+    ensures { λ r. ⌜ r ≡ guardedBy
+        (guardIn profile party (callOf kind (now (value .entry)) 0) (now (key .entry)) (nodeOf number (decode (now (table .entry))))) ⌝ }
 {
     match profile {
         Profile::Free => Guarded::Passed,

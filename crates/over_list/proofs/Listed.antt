@@ -18,7 +18,7 @@ use Rattle.fields.proofs.Ordered.{same-true, less-other, same-false}
 use Rattle.rules.specs.Given.{Gives}
 use Rattle.rules.specs.Sizes.{maxKey}
 use Rattle.rules.specs.Node.{Rec, Node, hidden, hits}
-use Rattle.rules.specs.Table.{keysRise, nodeOf}
+use Rattle.rules.specs.Table.{Table, keysRise, nodeOf}
 use Rattle.rules.specs.Party.{own, sees, seenRecs, seen}
 use Rattle.rules.specs.Layout.{decodeNode, decode, valid}
 use Rattle.rules.specs.declared.Profile.{Profile}
@@ -46,7 +46,8 @@ use Rattle.over_find.specs.Over.{overOf, firstOf, foundOver}
 use Rattle.over_find.specs.declared.FoundOver.{FoundOver}
 use Rattle.over_find.specs.declared.FoundOver.the-variants.{InOverrides, InTable, Nothing, Refused}
 use Rattle.over_list.specs.Stated.{placeOf, listedAt}
-use Rattle.over_list.specs.Merged.{Hit, hit, keyOfHit, overPlace, hitsBy, hitsIn, ownHits, layOver, overlaid, placesOf, recsOf, listing, listingAs, listInto}
+use Rattle.over_list.specs.Merged.{Hit, hit, keyOfHit, overPlace, hitsBy, hitsIn, ownHits, layOver, overlaid, placesOf, recsOf, listing, listingAs, listInto, listOn, listOver}
+use Rattle.over_list.specs.declared.ListedOver.{ListedOver}
 use Rattle.over_list.specs.declared.ListedOver.the-variants as listed
 use Rattle.over_list.proofs.Laying.{hits-few, overlaid-few, hits-rise, overlaid-rise, recs-sorted}
 
@@ -55,7 +56,7 @@ abbrev ownTest : (mine : List ℕ → Bool) (prefix : List ℕ) → Rec → Bool
 ownTest mine p r = mine (keyOf r) && hits p r
 
 -- a party sees no more records than there are
-seen-short : (pr : Profile) (q : Party) (l : List Rec) → length (seenRecs pr q l) ≤ length l
+pub seen-short : (pr : Profile) (q : Party) (l : List Rec) → length (seenRecs pr q l) ≤ length l
 seen-short Free q l = omega arith
 seen-short Meter q l = omega arith
 seen-short Shared q l = length-keep (λ (x : Rec). own q (keyOf x)) l
@@ -322,3 +323,15 @@ where-found pr q i k p b l m o v h short starts named =
         ∙ ap₂ (λ (x : ℕ) (y : Option Node). findOn k x y) (start-seen pr q i (decode l)) (node-seen pr q i (decode l) ∙ ap (seenHeld pr q) h)
         ∙ short-is (findRec k start 0 (seenNode pr q m .recs))
         ∙ ap (findRec k start 0) (seen-recs pr q m)
+
+-- ---- the call
+
+-- what is given of the node that a party sees is given of the table that it sees
+pub seen-fills : (pr : Profile) (q : Party) (i : ℕ) (p l : List ℕ) (o : Node) (t : Table) (a : ListedOver) (m : List ℕ)
+    → Gives (listOn (sees pr q) p o (seenHeld pr q (nodeOf i t)) l) a m → Gives (listOver pr q i p l o t) a m
+seen-fills pr q i p l o t a m h = subst (λ (x : Option Node). Gives (listOn (sees pr q) p o x l) a m) (sym (node-seen pr q i t)) h
+
+-- in the profile of the table
+pub profile-fills : {pr x : Profile} → pr ≡ x → (q : Party) (i : ℕ) (p l : List ℕ) (o : Node) (t : Table) (a : ListedOver) (m : List ℕ)
+    → Gives (listOver pr q i p l o t) a m → Gives (listOver x q i p l o t) a m
+profile-fills e q i p l o t a m h = subst (λ (y : Profile). Gives (listOver y q i p l o t) a m) e h

@@ -26,7 +26,7 @@ use Rattle.table.specs.Tests.{countOf, recsIn}
 use Rattle.table.specs.Fits.{LaidNode}
 use Rattle.table.proofs.Places.{recAt, recs-drop, length-recs}
 use Rattle.prefix.specs.Run.{RunIn}
-use Rattle.over_list.specs.Merged.{Hit, hit, overPlace, hitsBy, hitsIn, ownHits, overlaid, placesOf}
+use Rattle.over_list.specs.Merged.{Hit, hit, overPlace, hitsBy, hitsIn, ownHits, overlaid, placesOf, listing}
 use Rattle.over_list.specs.Turns.{nextKey, shownOnce, bothTurn, turnOf, unhidden, shownHits, leftIn, PassIn}
 use Rattle.over_list.specs.declared.Turn.{Turn}
 use Rattle.over_list.proofs.Laying.{AllAbove, none-above, hits-above, over-first, node-first, both-first}
@@ -47,20 +47,20 @@ sorted-drop zero l s = s
 sorted-drop (suc n) [] s = s
 sorted-drop (suc n) (r ∷ l) s = sorted-drop n l (s .1)
 
+take-from : (n : ℕ) (l : List Rec) {x : Rec} → x ∈ take n l → x ∈ l
+take-from zero l m = absurd (in-none m)
+take-from (suc n) [] m = m
+take-from (suc n) (y ∷ l) {x} m = go (in-cons m) (take-from n l)
+  where
+    go : (x ≡ y) ⊎ (x ∈ take n l) → (x ∈ take n l → x ∈ l) → x ∈ y ∷ l
+    go (inl e) ih = here e
+    go (inr u) ih = later (ih u)
+
 sorted-take : (n : ℕ) (l : List Rec) → Sorted l → Sorted (take n l)
 unfolding Sorted Above
 sorted-take zero l s = tt
 sorted-take (suc n) [] s = tt
 sorted-take (suc n) (r ∷ l) s = (λ x m. s .0 x (take-from n l m), sorted-take n l (s .1))
-  where
-    take-from : (n : ℕ) (l : List Rec) {x : Rec} → x ∈ take n l → x ∈ l
-    take-from zero l m = absurd (in-none m)
-    take-from (suc n) [] m = m
-    take-from (suc n) (y ∷ l) {x} m = go (in-cons m)
-      where
-        go : (x ≡ y) ⊎ (x ∈ take n l) → x ∈ y ∷ l
-        go (inl e) = here e
-        go (inr u) = later (take-from n l u)
 
 -- what two lists of hits leave to be listed
 abbrev left : List Hit → List Hit → List ℕ
@@ -121,7 +121,7 @@ module _ (i j : ℕ) (r s : Rec) (l m : List Rec) (same : keyOf r ≡ keyOf s) (
 -- ---- a piece of a node's rows
 
 -- the records from j up to `end` of a node's bytes
-abbrev piece : (j end : ℕ) (node : List ℕ) → List Rec
+abbrev pub piece : (j end : ℕ) (node : List ℕ) → List Rec
 piece j end b = take (end - j) (drop j (recsIn b))
 
 piece-drop : (b : List ℕ) (j end : ℕ) → j < end → end ≤ countOf b → piece j end b ≡ recAt j b ∷ piece (suc j) end b
@@ -194,7 +194,7 @@ module _ (mine : List ℕ → Bool) (k b : List ℕ) (low top start end : ℕ) (
   not-mine : (j : ℕ) → mine (keyOf (recAt j b)) ≡ false → test (recAt j b) ≡ false
   not-mine j e = ap (λ (t : Bool). t && hits k (recAt j b)) e
 
-  pub own-hits : (i : ℕ) → ownHits mine k i (recsIn b) ≡ shownHits (i + start) start end b
+  own-hits : (i : ℕ) → ownHits mine k i (recsIn b) ≡ shownHits (i + start) start end b
   own-hits i =
       ap (hitsBy test i) (sym (take-all (countOf b - 0) (recsIn b) (rw length-recs (omega arith))))
       ∙ cut-hits test b 0 (countOf b) start end (omega arith) (omega arith) (run .order) (omega (arith, run .inside, pass .inside))
@@ -214,7 +214,7 @@ module _ (mine : List ℕ → Bool) (k b : List ℕ) (low top start end : ℕ) (
       late j false q h g = not-mine j (pass .behind j (ltb-false j top q) g)
 
 -- of the node
-pub node-hits : (k b : List ℕ) (low top start end : ℕ) → top ≤ countOf b → RunIn k b low top start end → hitsIn k 0 (piece low top b) ≡ shownHits (start - low) start end b
+node-hits : (k b : List ℕ) (low top start end : ℕ) → top ≤ countOf b → RunIn k b low top start end → hitsIn k 0 (piece low top b) ≡ shownHits (start - low) start end b
 node-hits k b low top start end fits run =
     cut-hits (hits k) b low top start end fits (run .from) (run .order) (run .inside)
     (λ j h g. ap (λ (t : Bool). t && unhidden (recAt j b)) (run .before j h g))
@@ -222,6 +222,13 @@ node-hits k b low top start end fits run =
     (λ j h g. ap (λ (t : Bool). t && unhidden (recAt j b)) (run .behind j h g))
     0
     ∙ ap (λ (n : ℕ). shownHits n start end b) (zero-add (start - low))
+
+-- of both: all is left where the merging begins
+pub all-left : (mine : List ℕ → Bool) (k o n : List ℕ) (lowO topO a aEnd low top b bEnd : ℕ) → PassIn mine o lowO topO → RunIn k o lowO topO a aEnd → top ≤ countOf n
+    → RunIn k n low top b bEnd → placesOf (listing mine k (recsIn o) (piece low top n)) ≡ leftIn o a aEnd n low b bEnd
+unfolding listing
+all-left mine k o n lowO topO a aEnd low top b bEnd pass ro fits rn =
+    ap₂ left (own-hits mine k o lowO topO a aEnd pass ro overPlace) (node-hits k n low top b bEnd fits rn)
 
 -- ---- a turn
 

@@ -25,11 +25,11 @@ record-place-requires c κs = search needs
 add-at : tie.Need-add-at
 add-at c = search needs
 
-add-t7 : tie.Need-add-t7
-add-t7 c = search needs
-
 add-t8 : tie.Need-add-t8
 add-t8 c = search needs
+
+add-t9 : tie.Need-add-t9
+add-t9 c = search needs
 
 returns : tie.Need-returns
 returns c =
@@ -47,6 +47,6 @@ placed-spec =
     sub-record-place
     record-place-requires
     add-at
-    add-t7
     add-t8
+    add-t9
     returns)
