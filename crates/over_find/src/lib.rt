@@ -58,7 +58,8 @@ fn over(own: Found, shared: Found) -> FoundOver
 // Which of the two has the value of the key, and where, in good overrides and the area of a good table: 2, 1.
 fn find_over_good(overrides: &[u8], area: &[u8], number: u64, key: &[u8]) -> FoundOver
     requires { ⌜ (validNode (now overrides) ≡ true) × (valid (now area) ≡ true) ⌝ }
-    ensures { λ r. ⌜ r ≡ overOf (ownFound (now (key .entry)) (decodeNode (now (overrides .entry)) .node)) (foundIn number (now (key .entry)) (decode (now (area .entry)))) ⌝ }
+    ensures { λ r. ⌜ r ≡ overOf (ownFound (now (key .entry)) (decodeNode (now (overrides .entry)) .node))
+        (foundIn number (now (key .entry)) (decode (now (area .entry)))) ⌝ }
 {
     let shared = lookup::find_good(area, number, key);
     let own = lookup::in_node(overrides, 0, key);

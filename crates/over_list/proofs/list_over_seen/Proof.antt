@@ -1,13 +1,11 @@
 -- `over_list::list_over_seen` meets its contract: the listing of the overrides' bytes and the node's, or 2. Assumes nothing.
-use mathlib.Core.Path.{sym, subst}
 use mathlib.Core.Option.{Option}
-use Rattle.rules.specs.Given.{Gives}
 use Rattle.rules.specs.Node.{Node}
 use Rattle.rules.specs.Party.{sees}
 use Rattle.rules.specs.Layout.{decodeNode, decode}
 use Rattle.table_read.proofs.Reading.{lent-node-needs, lent-laid, lent-rises, node-fills, no-node-fills}
 use Rattle.own_rows.specs.Sight.{seenHeld}
-use Rattle.own_rows.proofs.Tables.{node-seen, lent-formed}
+use Rattle.own_rows.proofs.Tables.{lent-formed}
 use Rattle.overrides.proofs.Valid.{over-laid, over-rises}
 use Rattle.over_list.specs.Merged.{listOn}
 use Rattle.over_list.proofs.Listed.{seen-fills}

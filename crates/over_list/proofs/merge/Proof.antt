@@ -9,7 +9,6 @@ use lib.ListN.{length, take, set, length-set}
 use lib.Seq.{length-take-le, take-set-le, take-suc-set}
 use Rattle.over_list.specs.Turns.{leftIn}
 use Rattle.over_list.proofs.Turning.{TurnIs, none-left, turn-is}
-use borrow.Author.Needs.{needs}
 use Rattle.over_list.proofs.merge.Statement.{statement}
 use Rattle.over_list.proofs.merge.Tie as tie
 
