@@ -149,21 +149,19 @@ fn is_sized(kind: Kind, key: &[u8], value: &[u8]) -> bool
     }
 }
 
-// A write at an own key: 5 where the key is not there and the party has 16.
+// A write at an own key: 5 where the party has 16 and the key is not there. The count is quicker found than the key.
 fn guard_own(node: &[u8], party: Party, key: &[u8]) -> Guarded
     requires { ⌜ LaidNode (now node) × (keysRise (recsIn (now node)) ≡ true) × (recsFormed Shared (recsIn (now node)) ≡ true) ⌝ }
     ensures { λ r. ⌜ r ≡ guardedBy (fullGuard (own party) (some (bringing (now (key .entry)) [] Set))
         (find (now (key .entry)) (recsIn (now (node .entry)))) (recsIn (now (node .entry)))) ⌝ }
 {
+    let seen = own_rows::sight_of(node, Profile::Shared, party);
+    if seen.count < Party::RECORDS {
+        return Guarded::Passed;
+    }
     match table_read::search_key(node, key) {
         Place::At(_) => Guarded::Passed,
-        Place::Free(_) => {
-            let seen = own_rows::sight_of(node, Profile::Shared, party);
-            if Party::RECORDS <= seen.count {
-                return Guarded::Refused(Refusal::NodeFull);
-            }
-            Guarded::Passed
-        }
+        Place::Free(_) => Guarded::Refused(Refusal::NodeFull),
     }
 }
 
