@@ -2,7 +2,7 @@
 //!
 //!     fuzz N SEED     at least N calls of the library; tools/fuzz builds it and runs it
 //!
-//! The scripts are those of `compare beyond` and `compare peers`: random and damaged tables, digests, deltas and lists. Of each call it is asked that
+//! The scripts are those of `compare beyond` and `compare peers`: random and damaged tables, digests, deltas and lists; and those of two firms on one table (`firms.rs`). Of each call it is asked that
 //! - its answer and the table afterwards equal those of `plain`,
 //! - where it is refused, no lent byte has changed,
 //! - where it is accepted, the check accepts the table that it leaves, and what was not to be written is as it was,
@@ -22,6 +22,7 @@ mod exchange;
 #[allow(dead_code)]
 #[path = "../../../rust/kevdarosh/src/ffi.rs"]
 mod ffi;
+mod firms;
 mod grid;
 #[path = "../../compare/src/grids.rs"]
 mod grids;
@@ -219,8 +220,9 @@ fn main() -> ExitCode {
                 }
             }
         }
-        // Grids among all others would be few.
+        // Grids and two firms among all others would be few.
         let script = match index % 16 {
+            1 | 9 => firms::turns(Random::new(seed, index)),
             3 => grids::watched(Random::new(seed, index)),
             11 => grids::given(Random::new(seed, index)),
             15 => scripts::peers(seed, index / 16),

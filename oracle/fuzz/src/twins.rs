@@ -69,7 +69,9 @@ impl Twins {
                 if other != *told {
                     return Err(format!("{call:?} by {party}: {}, and {} without the other firm's calls", told.answer, other.answer));
                 }
-                self.same(&second, after, firm, call)?;
+                if before != after {
+                    self.same(&second, after, firm, call)?;
+                }
             }
             self.second[i] = Some(second);
         }
