@@ -566,7 +566,7 @@ impl<S: Bytes> Table<S> {
     ///
     /// # Errors
     ///
-    /// [`Refusal::BadTable`], [`Refusal::NoNode`], [`Refusal::TooLong`].
+    /// [`Refusal::BadTable`], [`Refusal::NoNode`], [`Refusal::TooLong`], in a shared table [`Refusal::OtherParty`].
     ///
     /// ```
     /// # use kevdarosh::{Mode, OwnedTable, Refusal, Wanted};
@@ -947,8 +947,8 @@ impl<S: BytesMut> Table<S> {
     ///
     /// # Errors
     ///
-    /// [`Refusal::BadTable`], [`Refusal::TooMany`], [`Refusal::Cut`], [`Refusal::TooLong`], [`Refusal::BadTag`], [`Refusal::OutOfOrder`], in a meter table [`Refusal::BadForm`], in a shared one [`Refusal::OtherParty`], [`Refusal::NodeTwice`]: of the delta's the first that is
-    /// met in its order, with its place.
+    /// [`Refusal::BadTable`], [`Refusal::TooMany`], [`Refusal::Cut`], [`Refusal::TooLong`], [`Refusal::BadTag`], [`Refusal::OutOfOrder`], in a meter table [`Refusal::BadForm`], in a shared one
+    /// [`Refusal::OtherParty`], [`Refusal::NodeTwice`]: of the delta's the first that is met in its order, with its place.
     ///
     /// ```
     /// # use kevdarosh::{Answer, Fault, Mode, OwnedTable, Refusal, make_delta};
