@@ -12,7 +12,7 @@ use Rattle.fields.specs.Choice.{_∈_}
 use Rattle.fields.proofs.Choice.{in-at, all-from}
 use Rattle.rules.specs.Node.{Rec, Node}
 use Rattle.rules.specs.Table.{Entry, Table, keysRise}
-use Rattle.rules.specs.Party.{own, ofKeys, withRecords, alone, seenRecs, seen}
+use Rattle.rules.specs.Party.{own, alone, seenRecs, seen}
 use Rattle.rules.specs.Profile.{recsFormed, recsObey, profileObeys}
 use Rattle.rules.specs.declared.Profile.{Profile}
 use Rattle.rules.specs.declared.Profile.the-variants.{Free, Meter, Shared}

@@ -382,7 +382,8 @@ fn record_by_key_as(
 // The record of a key in what a party sees of a node, hidden or not, in a good table: 2, 1, 19.
 pub fn record_by_key_known(table: &[u8], party: Party, number: u64, key: &[u8]) -> RecordRead
     requires { ⌜ validWhole (now table) ≡ true ⌝ }
-    ensures { λ r. ⌜ r ≡ recordByKeyAs (decodeWhole (now (table .entry)) .kind .profile) party number (now (key .entry)) (decode (areaOf (now (table .entry)))) ⌝ }
+    ensures { λ r. ⌜ r ≡ recordByKeyAs (decodeWhole (now (table .entry)) .kind .profile) party number (now (key .entry))
+        (decode (areaOf (now (table .entry)))) ⌝ }
 {
     let profile = profile_check::profile_of(table);
     record_by_key_as(&table[..layout::AREA], profile, party, number, key)

@@ -1,5 +1,5 @@
--- Ticket 9's two runs of lent bytes. On the bytes of a table that obeys the rules a run says and leaves what it says and leaves of the table; on other bytes every call is
--- refused with 14 and leaves them. Assumes nothing.
+-- Ticket 9's two runs of lent bytes. On the bytes of a table that obeys the rules a run says and leaves what it says and leaves of the table; on other bytes
+-- every call is refused with 14 and leaves them. Assumes nothing.
 use Prim.Native.Nat.{ℕ}
 use mathlib.Core.Bool.{Bool, true, false}
 use mathlib.Core.List.{List, [], _∷_}

@@ -1,5 +1,5 @@
--- TICKET 9's theorem, with the readings in the rules' own terms (specs/Readings): of a table, in the ticket's own words ("no number 6 is given") and with less asked; and of
--- lent bytes. Assumes nothing.
+-- TICKET 9's theorem, with the readings in the rules' own terms (specs/Readings): of a table, in the ticket's own words ("no number 6 is given") and with less
+-- asked; and of lent bytes. Assumes nothing.
 use Prim.Native.Nat.{ℕ}
 use mathlib.Core.Bool.{true}
 use mathlib.Core.List.{List}

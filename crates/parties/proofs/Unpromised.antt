@@ -1,5 +1,5 @@
--- What the two runs do not promise (ticket 9's theorem, Runs): each claim with two runs that agree on what concerns the metering firm, and what then differs. All of it is
--- computed. Assumes nothing.
+-- What the two runs do not promise (ticket 9's theorem, Runs): each claim with two runs that agree on what concerns the metering firm, and what then differs.
+-- All of it is computed. Assumes nothing.
 use Prim.Native.Nat.{ℕ, _-_}
 use mathlib.Core.Bool.{true}
 use mathlib.Core.List.{List, [], _∷_}

@@ -1,5 +1,5 @@
--- The two runs of lent bytes: the calls are what the entry points promise (Lent of `rules`), one after the other on the bytes of a table, any bytes to begin with. The events
--- are those of tables (TwoRuns). The theorem is in proofs/LentRuns.
+-- The two runs of lent bytes: the calls are what the entry points promise (Lent of `rules`), one after the other on the bytes of a table, any bytes to begin
+-- with. The events are those of tables (TwoRuns). The theorem is in proofs/LentRuns.
 use mathlib.Core.Path.{_≡_}
 use mathlib.Core.Bool.{Bool, true}
 use mathlib.Core.List.{List, [], _∷_}

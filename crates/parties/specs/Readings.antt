@@ -1,6 +1,6 @@
--- A party's readings, in the rules' own terms: the value of a key, the hits of a prefix, how many records a node has, a record by its place and by its key. What is said of
--- a record is its key, its value, its status and its start. They are readings of what the party sees, so places are counted among its own records. The readings as
--- they are linked, with their places in bytes, stand above (`parties_calls`).
+-- A party's readings, in the rules' own terms: the value of a key, the hits of a prefix, how many records a node has, a record by its place and by its key.
+-- What is said of a record is its key, its value, its status and its start. They are readings of what the party sees, so places are counted among its own
+-- records. The readings as they are linked, with their places in bytes, stand above (`parties_calls`).
 use Prim.Native.Nat.{ℕ}
 use mathlib.Core.Bool.{Bool}
 use mathlib.Core.List.{List, [], _∷_}

@@ -1,5 +1,4 @@
 -- The two runs of the calls as they are linked: every call that is an event of the two runs tells and leaves what that event says and leaves. Assumes nothing.
-use Prim.Native.Nat.{ℕ}
 use mathlib.Core.Bool.{Bool, true, false}
 use mathlib.Core.List.{List, [], _∷_}
 use mathlib.Core.Option.{Option, none, some}
@@ -24,23 +23,20 @@ use Rattle.demand1.specs.Calls as calls
 use Rattle.demand1.specs.Calls.{Call, Kind, leaves}
 use Rattle.parties.specs.LentRuns.{LentUnspent, allFit, eventFits, lentHappen, lentHeard, lentSaid}
 use Rattle.parties.specs.TwoRuns.{Said, concerns, stripped}
-use Rattle.parties_calls.specs.Calls.{IsCall, OwnUnspent, Run, Step, beatOf, butVersion, eventsOf, stepOf, toldTo}
+use Rattle.parties_calls.specs.Calls.{IsCall, OwnUnspent, Run, Step, beatOf, butVersion, eventsOf, stepOf, toldBy, toldTo}
 use Rattle.parties_calls.specs.Linked.{beatTold, lentAsked, recordTold}
 use Rattle.parties_calls.proofs.Linked.{linked-two-runs}
 
 -- ---- one call
 
-abbrev left : (f : List ℕ → List ℕ) (t : Told) → Told
-left f t = record { number = t .number; values = f (t .values); need = t .need }
-
 -- what is left of a record, and of a header
-record-left : (a : RecordRead) → left butVersion (recordReadTold a) ≡ recordTold a
+record-left : (a : RecordRead) → toldBy butVersion (recordReadTold a) ≡ recordTold a
 unfolding recordReadTold
 record-left (rec.Is k v r) = refl
 record-left rec.Nothing = refl
 record-left (rec.Refused r) = refl
 
-header-left : (a : NodeHeader) → left beatOf (nodeHeaderTold a) ≡ beatTold a
+header-left : (a : NodeHeader) → toldBy beatOf (nodeHeaderTold a) ≡ beatTold a
 unfolding nodeHeaderTold
 header-left (header.Is h) = refl
 header-left (header.Refused r) = refl
@@ -146,9 +142,9 @@ run-events p (s ∷ ss) l r = go (step-does p s (r .1)) (run-events p ss (s .aft
         at true e ih = ap₂ (λ (t : Told) (x : List Told). t ∷ x) e ih
         at false e ih = ih
 
--- TICKET 9, of the calls as they are linked. Two runs of calls from the same bytes, whatever these are; where they are a table, it is shared. They agree on the party's own calls
--- and on all that is common; none of its own writes and deletes is answered 6. Then every call that concerns it tells the same in both, but for a record's version and for
--- max and last_gc of a header.
+-- TICKET 9, of the calls as they are linked. Two runs of calls from the same bytes, whatever these are; where they are a table, it is shared. They agree on the
+-- party's own calls and on all that is common; none of its own writes and deletes is answered 6. Then every call that concerns it tells the same in both, but
+-- for a record's version and for max and last_gc of a header.
 pub calls-two-runs : (p : Party) (ss rs : List Step) (l : Bytes) → decodeWhole l .kind .profile ≡ Shared → Run p ss l → Run p rs l → OwnUnspent p ss → OwnUnspent p rs
     → stripped p (eventsOf ss) ≡ stripped p (eventsOf rs) → toldTo p ss ≡ toldTo p rs
 calls-two-runs p ss rs l shared a b u v same =

@@ -39,9 +39,7 @@ use Rattle.overrides.specs.Both.{fromBoth}
 use Rattle.overrides.specs.Overrides.{validNode}
 use Rattle.overrides.specs.declared.Which.{Which}
 use Rattle.overrides.specs.declared.Which.the-variants as which
-use Rattle.over_find.specs.Over.{HandedOver, foundOver as foundOverAs, nothingHeld as noneHeld, valueOver}
-use Rattle.over_find.specs.Told.{foundOverTold}
-use Rattle.over_find.specs.declared.FoundOver.{FoundOver}
+use Rattle.over_find.specs.Over.{foundOver as foundOverAs, nothingHeld as noneHeld, valueOver}
 use Rattle.over_find.specs.declared.FoundOver.the-variants as foundOver
 use Rattle.over_list.specs.Merged.{listOver}
 use Rattle.over_list.specs.declared.ListedOver.the-variants as listedOver
@@ -50,7 +48,7 @@ use Rattle.parties.specs.LentRuns.{Lends, LentUnspent, allFit}
 use Rattle.parties.specs.TwoRuns.{Event, says, stripped}
 use Rattle.parties.proofs.LentRuns.{Alike, from-profile, lent-two-runs}
 use Rattle.parties_calls.specs.Linked as ask
-use Rattle.parties_calls.specs.Linked.{Asked, asked, beatTold, lentAsked, listSaid, recordTold, withOver}
+use Rattle.parties_calls.specs.Linked.{Asked, asked, beatTold, lentAsked, listSaid, overSaid, recordTold, withOver}
 use Rattle.parties_calls.proofs.Blind.{asked-blind}
 
 -- with overrides
@@ -74,15 +72,16 @@ asked-lent p (ask.PrefixRows i k) w o = ap (λ (x : Rows). says (rowsTold x) [])
 asked-lent p (ask.FindText i j x) w o =
     ap₂ (λ (a : Found) (b : HandedOut). says (foundTold a) (b .bytes ∷ [])) (from-profile w o (found.Refused BadTable) (λ f. textFoundAs f p x i j)) (from-profile w o nothingHeld (λ f. textPart f p x i j))
 asked-lent p (ask.FindOver i k over) w o =
-    ap₂ (λ (a : FoundOver) (b : HandedOver). says (foundOverTold a) (b .bytes ∷ []))
+    ap₂ overSaid
     (both-lent w o (λ a. foundOver.Refused a BadTable) (λ f n. foundOverAs f p i k n) over) (both-lent w o (λ a. noneHeld) (λ f n. valueOver f p i k n) over)
 asked-lent p (ask.ListOver i k list over) w o = ap listSaid (both-lent w o (λ a. given (listedOver.Refused a BadTable) list) (λ f n. listOver f p i k list n) over)
 asked-lent p ask.NodeCount w o = ap (λ (x : Count). says (countTold x) []) (from-whole w o (count.Refused BadTable) nodeCount)
 asked-lent p (ask.NodeNumber i) w o = ap (λ (x : NodeNumber). says (nodeNumberTold x) []) (from-whole w o (number.Refused BadTable) (nodeNumber i))
 asked-lent p (ask.Heartbeat i) w o = ap (λ (x : NodeHeader). says (beatTold x) []) (from-whole w o (header.Refused BadTable) (nodeHeader i))
 
--- Two runs of calls from the same bytes, whatever these are; where they are a table, it is shared. They agree on the party's own calls and on all that is common; none of its
--- own writes and deletes is answered 6. Then all that is said to the party is the same, places in bytes and handed out bytes too, but for versions.
+-- Two runs of calls from the same bytes, whatever these are; where they are a table, it is shared. They agree on the party's own calls and on all that is
+-- common; none of its own writes and deletes is answered 6. Then all that is said to the party is the same, places in bytes and handed out bytes too, but for
+-- versions.
 pub linked-two-runs : (p : Party) (es fs : List (Event Asked)) (l : List ℕ) → decodeWhole l .kind .profile ≡ Shared → allFit es ≡ true → allFit fs ≡ true
     → LentUnspent lentAsked p es l → LentUnspent lentAsked p fs l → stripped p es ≡ stripped p fs → Alike lentAsked p es fs l
 linked-two-runs = lent-two-runs lentAsked asked asked-lent asked-blind

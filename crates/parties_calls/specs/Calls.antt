@@ -1,6 +1,6 @@
--- The two runs of the calls as they are linked: each step of a run is a call of an entry point (`demand1: Calls`), lent the bytes that the step before it left. `stepOf` says what
--- event of the two runs a call is; the calls of digests, deltas, exchanges, grids and overrides are none, nor is the call that tells the front, which is an address. The
--- theorem is in proofs/Calls.
+-- The two runs of the calls as they are linked: each step of a run is a call of an entry point (`demand1: Calls`), lent the bytes that the step before it left.
+-- `stepOf` says what event of the two runs a call is; the calls of digests, deltas, exchanges, grids and overrides are none, nor is the call that tells the
+-- front, which is an address. The theorem is in proofs/Calls.
 use Prim.Native.Nat.{ℕ}
 use mathlib.Core.Path.{_≡_}
 use mathlib.Core.Bool.{true}
@@ -29,9 +29,12 @@ abbrev pub firstOf : (lent : List Bytes) → Bytes
 firstOf [] = []
 firstOf (l ∷ ls) = l
 
+-- some of what is told
+abbrev pub toldBy : (left : List ℕ → List ℕ) (told : Told) → Told
+toldBy left t = record { number = t .number; values = left (t .values); need = t .need }
+
 abbrev pub stepAs : {k : Kind} (table : Bytes) (call : Call k) (event : Event Asked) (left : List ℕ → List ℕ) → Option Step
-stepAs t c e left =
-    some (record { table = t; event = e; told = record { number = leaves c .answer .number; values = left (leaves c .answer .values); need = leaves c .answer .need }; after = firstOf (leaves c .lent) })
+stepAs t c e left = some (record { table = t; event = e; told = toldBy left (leaves c .answer); after = firstOf (leaves c .lent) })
 
 -- all that it tells
 abbrev pub allOf : (values : List ℕ) → List ℕ

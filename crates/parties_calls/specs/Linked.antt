@@ -1,5 +1,6 @@
--- The two runs (`parties`) with a party's readings as the entry points promise them: number and values, places in the table's bytes too, and the bytes that are handed out.
--- Two things are left out, since the other's writes change them: a record's version, and max and last_gc of a node's header. The theorem is in proofs/Linked.
+-- The two runs (`parties`) with a party's readings as the entry points promise them: number and values, places in the table's bytes too, and the bytes that are
+-- handed out. Two things are left out, since the other's writes change them: a record's version, and max and last_gc of a node's header. The theorem is in
+-- proofs/Linked.
 use Prim.Native.Nat.{ℕ}
 use mathlib.Core.List.{List, [], _∷_}
 use Rattle.fields.specs.Choice.{pick}
@@ -28,8 +29,9 @@ use Rattle.inspect_text.specs.Texts.{bytesIn, lentTextFound, lentTextPart, text
 use Rattle.inspect_text.specs.declared.Text.{Text}
 use Rattle.overrides.specs.Overrides.{validNode}
 use Rattle.overrides.specs.declared.Which.the-variants as which
-use Rattle.over_find.specs.Over.{foundOver, lentFindOver, lentValueOver, nothingHeld, valueOver}
+use Rattle.over_find.specs.Over.{HandedOver, foundOver, lentFindOver, lentValueOver, nothingHeld, valueOver}
 use Rattle.over_find.specs.Told.{foundOverTold}
+use Rattle.over_find.specs.declared.FoundOver.{FoundOver}
 use Rattle.over_find.specs.declared.FoundOver.the-variants as over
 use Rattle.over_list.specs.Merged.{lentListOver, listOver}
 use Rattle.over_list.specs.Told.{listedOverTold}
@@ -78,6 +80,9 @@ abbrev pub beatTold : (answer : NodeHeader) → Told
 beatTold (header.Is h) = accepted (h .heartbeat .0 ∷ [])
 beatTold (header.Refused r) = refused r []
 
+abbrev pub overSaid : (found : FoundOver) (part : HandedOver) → Said
+overSaid f part = says (foundOverTold f) (part .bytes ∷ [])
+
 abbrev pub listSaid : (of : Given ListedOver Bytes) → Said
 listSaid g = says (listedOverTold (g .answer)) (g .lent ∷ [])
 
@@ -97,7 +102,7 @@ asked f p (NodeRows i) t = says (rowsTold (nodeRowsAs f p i t)) []
 asked f p (PrefixRows i k) t = says (rowsTold (prefixRowsAs f p i k t)) []
 asked f p (FindText i j x) t = says (foundTold (textFound x i j (seen f p t))) (bytesIn x i j (seen f p t) ∷ [])
 asked f p (FindOver i k o) t =
-    says (foundOverTold (withOver (over.Refused which.Overrides BadTable) (λ n. foundOver f p i k n t) o)) (withOver nothingHeld (λ n. valueOver f p i k n t) o .bytes ∷ [])
+    overSaid (withOver (over.Refused which.Overrides BadTable) (λ n. foundOver f p i k n t) o) (withOver nothingHeld (λ n. valueOver f p i k n t) o)
 asked f p (ListOver i k l o) t = listSaid (withOver (given (listed.Refused which.Overrides BadTable) l) (λ n. listOver f p i k l n t) o)
 asked f p NodeCount t = says (countTold (nodeCount t)) []
 asked f p (NodeNumber i) t = says (nodeNumberTold (nodeNumber i t)) []
@@ -114,7 +119,7 @@ lentAsked p (RecordByKey i k) l = says (recordTold (lentRecordByKey p i k l)) []
 lentAsked p (NodeRows i) l = says (rowsTold (lentNodeRows p i l)) []
 lentAsked p (PrefixRows i k) l = says (rowsTold (lentPrefixRows p i k l)) []
 lentAsked p (FindText i j x) l = says (foundTold (lentTextFound p x i j l)) (lentTextPart p x i j l .bytes ∷ [])
-lentAsked p (FindOver i k o) l = says (foundOverTold (lentFindOver p i k o l)) (lentValueOver p i k o l .bytes ∷ [])
+lentAsked p (FindOver i k o) l = overSaid (lentFindOver p i k o l) (lentValueOver p i k o l)
 lentAsked p (ListOver i k list o) l = listSaid (lentListOver p i k list o l)
 lentAsked p NodeCount l = says (countTold (lentNodeCount l)) []
 lentAsked p (NodeNumber i) l = says (nodeNumberTold (lentNodeNumber i l)) []

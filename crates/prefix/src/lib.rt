@@ -146,7 +146,8 @@ fn write_shown(node: &[u8], base: usize, low: usize, high: usize, out: &mut [u8]
     let mut j = low;
     while j < high {
         if is_shown(node, j) {
-            out[next] = (j - base) as u8;
+            let place = j - base;
+            out[next] = place as u8;
             next += 1;
         }
         j += 1;

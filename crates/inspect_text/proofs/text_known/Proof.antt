@@ -1,12 +1,10 @@
 -- `inspect_text::text_known` meets its contract: the part that was found, which has the record's bytes. Assumes nothing.
-use Prim.Native.Nat.{ℕ}
 use mathlib.Core.Path.{_≡_, ap, ap₂, _∙_}
 use Rattle.rules.specs.Layout.{decode}
 use Rattle.rules.specs.Whole.{areaOf, decodeWhole}
 use Rattle.own_rows.specs.Sight.{frontIn}
 use Rattle.lookup.specs.Lookup.{movedBy}
 use Rattle.lookup.proofs.Values.{found-within, hands-found}
-use Rattle.inspect.specs.declared.Count.{Count}
 use Rattle.inspect_text.specs.Texts.{countedOr, textFoundAs}
 use Rattle.inspect_text.proofs.There.{whole-text-stands, counted-front}
 use borrow.Author.Needs.{needs}

@@ -83,7 +83,7 @@ returns c =
     let m : i .low + i .count - i .low ≡ i .count = omega arith in
     let seen : piece (i .low) (i .low + i .count) n ≡ take (i .count) (drop (i .low) (recsIn n)) = ap (λ (j : ℕ). take j (drop (i .low) (recsIn n))) m in
     let all : leftIn (a .overrides .now) (x .run-in .result .start) (x .run-in .result .end) n (i .low) (y .run-in2 .result .start) (y .run-in2 .result .end)
-        ≡ placesAs (a .profile) (a .party) (a .prefix .now) (recsIn (a .overrides .now)) (recsIn n) =
+    ≡ placesAs (a .profile) (a .party) (a .prefix .now) (recsIn (a .overrides .now)) (recsIn n) =
     sym (all-left (sees (a .profile) (a .party)) (a .prefix .now) (a .overrides .now) n _ _ _ _ (i .low) (i .low + i .count) _ _ (u .seen-run .ensures) (own-run x) (within z) (y .run-in2 .ensures))
     ∙ ap (λ (l : List Rec). placesOf (listing (sees (a .profile) (a .party)) (a .prefix .now) (recsIn (a .overrides .now)) l)) (seen ∙ piece-seen (a .profile) (a .party) n (s .pre .3) (s .pre .4) i (z .sight-of .ensures)) in
     (w .merge .ensures .0 ∙ ap length all, w .merge .ensures .1 ∙ all)
