@@ -31,6 +31,7 @@ use Rattle.rules.specs.Lent.{TableAndList, addWhole, both, fromTable, lentApply
 use Rattle.rules.specs.Listing.{decimal, digits, listing, listingOf, opLine}
 use Rattle.rules.specs.Local.{Outcome, add, call, callAs, gc, localBeat, offer, prefixed, prefixedAs, removeNode, writeAs}
 use Rattle.rules.specs.Node.{Deleting, DeletingAfterTtl, Node, Rec, act, beats, decide, find, fresh, hitsFrom, offerOf, wish}
+use Rattle.rules.specs.Party.{alone}
 use Rattle.rules.specs.Profile.{kind, meterKey, meterValue, numeral, profileObeys, readDeltaAs, readOpsAs, smaller, tableFormed, totalKey}
 use Rattle.rules.specs.Table.{Entry, Table, among, differ, entryObeys, keysRise, nodeObeys, nodeOf, numbersOf, obeys, recObeys, rising, setNode, versions}
 use Rattle.rules.specs.declared.Answer.{Answer}
@@ -403,7 +404,7 @@ beaten =
 -- ---- readings
 
 finds : AllShown calls.Find (0 ∷ 14 ∷ 2 ∷ 1 ∷ 19 ∷ [])
-unfolding calls.leaves foundTold nodeOf findRec zeros
+unfolding calls.leaves foundTold nodeOf findRec zeros alone keep
 finds =
     (calls.find (lent newly) [] seven Nobody, seen-good (λ a. foundTold a .number) (found.Refused BadTable) (λ p. findAs p Nobody 7 []) (whole newly) (whole-obeys newly newly-obeys) 0 refl)
     and (calls.find [] [] seven Nobody, from-bad (λ a. foundTold a .number) (found.Refused BadTable) (findAs (decodeWhole [] .kind .profile) Nobody 7 []) 14 refl)
@@ -515,12 +516,12 @@ both-good : {A : Type 0} (number : A → ℕ) (bad : Which → A) (rule : Profil
     → number (rule (w .kind .profile) fresh (w .table)) ≡ n
     → number (fromBoth bad (rule (decodeWhole (encodeWhole w) .kind .profile)) none-laid (encodeWhole w)) ≡ n
 unfolding fromBoth
-both-good number bad rule w o n e =
+both-good {A} number bad rule w o n e =
     ap (λ (b : Bool). number (pick b (fromTable (bad which.Table) (at (decodeNode none-laid .node)) (encodeWhole w)) (bad which.Overrides))) (valid-by-node (entry fresh) newly-entry)
     ∙ ap (λ (x : Entry). number (fromTable (bad which.Table) (at (x .node)) (encodeWhole w))) (decode-encode-node (entry fresh) (fits-entry (entry fresh) (entry-obeys (entry fresh) newly-entry)))
     ∙ seen-good number (bad which.Table) (λ p. rule p fresh) w o n e
   where
-    at : Node → Table → _
+    at : Node → Table → A
     at x = rule (decodeWhole (encodeWhole w) .kind .profile) x
 
 both-bad : {A : Type 0} (number : A → ℕ) (bad : Which → A) (rule : Node → Table → A) (t : Bytes) (n : ℕ) → number (bad which.Overrides) ≡ n → number (fromBoth bad rule [] t) ≡ n
@@ -528,7 +529,7 @@ unfolding fromBoth
 both-bad number bad rule t n e = ap (λ (b : Bool). number (pick b (fromTable (bad which.Table) (rule (decodeNode [] .node)) t) (bad which.Overrides))) none-over ∙ e
 
 finds-over : AllShown calls.FindOver (0 ∷ 14 ∷ 2 ∷ 1 ∷ 19 ∷ [])
-unfolding calls.leaves foundOverTold nodeOf findRec zeros
+unfolding calls.leaves foundOverTold nodeOf findRec zeros alone keep
 finds-over =
     (calls.find-over (lent newly) none-laid [] seven Nobody, both-good (λ a. foundOverTold a .number) (λ w. over.Refused w BadTable) (λ p. foundOver p Nobody 7 []) (whole newly) (whole-obeys newly newly-obeys) 0 refl)
     and (calls.find-over [] [] [] seven Nobody, both-bad (λ a. foundOverTold a .number) (λ w. over.Refused w BadTable) (foundOver (decodeWhole [] .kind .profile) Nobody 7 []) [] 14 refl)
@@ -538,7 +539,7 @@ finds-over =
     and no-more
 
 lists-over : AllShown calls.ListOver (0 ∷ 14 ∷ 2 ∷ 1 ∷ 8 ∷ [])
-unfolding calls.leaves listedOverTold nodeOf merging.listing merging.hitsIn merging.overlaid merging.placesOf startsWith zeros
+unfolding calls.leaves listedOverTold nodeOf merging.listing merging.hitsBy merging.overlaid merging.placesOf startsWith zeros
 lists-over =
     (calls.list-over (lent newly) none-laid [] [] seven Nobody, both-good (λ (a : Given ListedOver Bytes). listedOverTold (a .answer) .number) (λ w. given (merged.Refused w BadTable) []) (λ p. listOver p Nobody 7 [] []) (whole newly) (whole-obeys newly newly-obeys) 0 refl)
     and (calls.list-over [] [] [] [] seven Nobody, both-bad (λ (a : Given ListedOver Bytes). listedOverTold (a .answer) .number) (λ w. given (merged.Refused w BadTable) []) (listOver (decodeWhole [] .kind .profile) Nobody 7 [] []) [] 14 refl)
@@ -736,7 +737,7 @@ records-of =
     and no-more
 
 keyed : AllShown calls.RecordByKey (0 ∷ 14 ∷ 2 ∷ 1 ∷ 19 ∷ [])
-unfolding calls.leaves recordReadTold nodeOf readKey zeros
+unfolding calls.leaves recordReadTold nodeOf readKey zeros alone keep
 keyed =
     (calls.record-by-key (lent newly) [] seven Nobody, seen-good (λ a. recordReadTold a .number) (rec.Refused BadTable) (λ p. recordByKeyAs p Nobody 7 []) (whole newly) (whole-obeys newly newly-obeys) 0 refl)
     and (calls.record-by-key [] [] seven Nobody, from-bad (λ a. recordReadTold a .number) (rec.Refused BadTable) (recordByKeyAs (decodeWhole [] .kind .profile) Nobody 7 []) 14 refl)
@@ -883,7 +884,7 @@ unfolding lentApplyAs appliedTold
 not-applied = ap (λ (b : Bool). appliedTold (pick b (storedApply (decodeWhole []) (apply (waysIn (decodeWhole [] .kind)) [] 7 (decodeWhole [] .table) [])) (given (applied.Refused BadTable 0) (both [] [])) .answer) .number) none-valid
 
 applies : AllShown calls.Apply (0 ∷ 14 ∷ 13 ∷ 9 ∷ 1 ∷ 10 ∷ 11 ∷ 17 ∷ 19 ∷ 12 ∷ 8 ∷ [])
-unfolding calls.leaves received appliedTold apply all readDeltaAs readOpsAs meterKey readOp readNode readKeyValue readSetMaxVersion follow natOf among zeros deltaBytes opBytes textBytes flat bytesOf ninth partsOf
+unfolding calls.leaves received appliedTold apply all readDeltaAs readOpsAs meterKey readOp readNode readKeyValue readSetMaxVersion follow natOf among zeros deltaBytes opBytes textBytes flat bytesOf ninth partsOf startsWith
 applies =
     (calls.apply (lent []) (received [] refl) [] seven, applying (received [] refl) [] 0 refl)
     and (calls.apply [] (received [] refl) [] seven, not-applied)

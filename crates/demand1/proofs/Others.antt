@@ -266,10 +266,10 @@ called kind p q c none-brought bad other missing long f i k =
 
 -- a set: nothing to change, 5, 6
 sets : (kind : calls.Kind) → Of kind (answerTold plain.Done) → Of kind (answerTold (plain.Refused NodeFull)) → Of kind (answerTold (plain.Refused Exhausted)) → (c : Change) (k : Bytes) (n : Node) (o : Option Rec) → Of kind (answerTold (answerOf (allowed k n (unlessSame o c))))
-sets kind done full over c k n o = go o
+sets kind done no-room over c k n o = go o
   where
     grant : (f b : Bool) → Of kind (answerTold (answerOf (pick f (Refuse NodeFull) (pick b (Give c) (Refuse Exhausted)))))
-    grant true b = full
+    grant true b = no-room
     grant false true = done
     grant false false = over
 
