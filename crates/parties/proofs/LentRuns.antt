@@ -39,7 +39,7 @@ use Rattle.table.proofs.Encoded.{from-whole, on-whole, whole-whole}
 use Rattle.table.proofs.Wholes.{decode-encode-whole, valid-encode-whole, whole-obeys}
 use Rattle.parties.specs.Readings.{Lookup, Listing, Counting, RecordAt, RecordOf, foundSaid, readingSaid}
 use Rattle.parties.specs.TwoRuns.{Event, Writing, Calling, Asking, Removing, Adding, Dropping, Remembering, Offering, Beating, happen, after, Said, says, said, Telling, Blind, concerns, stripped, heard, Unspent, view}
-use Rattle.parties.specs.LentRuns.{LentTelling, Lends, lentHappen, lentAfter, lentReadingSaid, lentSaid, lentHeard, LentUnspent, lentView, clockFits, eventFits, allFit}
+use Rattle.parties.specs.LentRuns.{Alike, LentTelling, Lends, lentHappen, lentAfter, lentReadingSaid, lentSaid, lentHeard, LentUnspent, lentView, clockFits, eventFits, allFit}
 use Rattle.parties.proofs.Runs.{Sound, obeys-sound, stays-sound, two-tables}
 
 -- ---- the rules are kept
@@ -199,13 +199,6 @@ module _ {Ask : Type 0} (tells : LentTelling Ask) where
       go false ih = ih
 
 -- ---- two runs
-
--- what the two runs have in common
-pub record Alike {Ask : Type 0} (tells : LentTelling Ask) (p : Party) (es fs : List (Event Ask)) (l : List ℕ) : Type 0 where
-  pub hear : lentHeard tells p es l ≡ lentHeard tells p fs l
-  pub have : lentView p (lentAfter es l) ≡ lentView p (lentAfter fs l)
-  -- 14 is for both or for neither
-  pub stand : validWhole (lentAfter es l) ≡ validWhole (lentAfter fs l)
 
 module _ {Ask : Type 0} (lentTells : LentTelling Ask) (tells : Telling Ask) (lends : Lends lentTells tells) (blind : Blind tells) where
   -- Two runs of calls from the same bytes, whatever these are; where they are a table, it is shared.

@@ -1,7 +1,6 @@
 -- The two runs of the calls as they are linked: every call that is an event of the two runs tells and leaves what that event says and leaves. Assumes nothing.
 use mathlib.Core.Bool.{Bool, true, false}
 use mathlib.Core.List.{List, [], _∷_}
-use mathlib.Core.Option.{Option, none, some}
 use mathlib.Core.Path.{_≡_, refl, ap, ap₂, sym, _∙_, subst}
 use lib.Dec.{ltb}
 use borrow.Author.Tests.{lt-ltb}
@@ -23,7 +22,7 @@ use Rattle.demand1.specs.Calls as calls
 use Rattle.demand1.specs.Calls.{Call, Kind, leaves}
 use Rattle.parties.specs.LentRuns.{LentUnspent, allFit, eventFits, lentHappen, lentHeard, lentSaid}
 use Rattle.parties.specs.TwoRuns.{Said, concerns, stripped}
-use Rattle.parties_calls.specs.Calls.{IsCall, OwnUnspent, Run, Step, beatOf, butVersion, eventsOf, stepOf, toldBy, toldTo}
+use Rattle.parties_calls.specs.Calls.{Does, DoesIf, IsCall, OwnUnspent, Run, Step, beatOf, butVersion, eventsOf, stepOf, toldBy, toldTo}
 use Rattle.parties_calls.specs.Linked.{beatTold, lentAsked, recordTold}
 use Rattle.parties_calls.proofs.Linked.{linked-two-runs}
 
@@ -40,16 +39,6 @@ header-left : (a : NodeHeader) → toldBy beatOf (nodeHeaderTold a) ≡ beatTold
 unfolding nodeHeaderTold
 header-left (header.Is h) = refl
 header-left (header.Refused r) = refl
-
--- the call is the event
-pub record Does (s : Step) : Type 0 where
-  pub tells : s .told ≡ lentSaid lentAsked (s .event) (s .table) .told
-  pub leaves-so : s .after ≡ lentHappen (s .event) (s .table)
-  pub fits : eventFits (s .event) ≡ true
-
-abbrev DoesIf : Option Step → Type 0
-DoesIf none = Unit {0}
-DoesIf (some s) = Does s
 
 fit : (n : calls.U64) → ltb (n .value) numbers ≡ true
 fit n = lt-ltb (n .value) numbers (n .fits)

@@ -44,9 +44,9 @@ use Rattle.over_find.specs.declared.FoundOver.the-variants as foundOver
 use Rattle.over_list.specs.Merged.{listOver}
 use Rattle.over_list.specs.declared.ListedOver.the-variants as listedOver
 use Rattle.prefix.specs.Rows.{prefixRowsAs}
-use Rattle.parties.specs.LentRuns.{Lends, LentUnspent, allFit}
+use Rattle.parties.specs.LentRuns.{Alike, Lends, LentUnspent, allFit}
 use Rattle.parties.specs.TwoRuns.{Event, says, stripped}
-use Rattle.parties.proofs.LentRuns.{Alike, from-profile, lent-two-runs}
+use Rattle.parties.proofs.LentRuns.{from-profile, lent-two-runs}
 use Rattle.parties_calls.specs.Linked as ask
 use Rattle.parties_calls.specs.Linked.{Asked, asked, beatTold, lentAsked, listSaid, overSaid, recordTold, withOver}
 use Rattle.parties_calls.proofs.Blind.{asked-blind}

@@ -15,7 +15,8 @@ use Rattle.rules.specs.declared.Party.{Party}
 use Rattle.demand1.specs.Calls as calls
 use Rattle.demand1.specs.Calls.{Call, Kind, leaves}
 use Rattle.parties.specs.TwoRuns.{Event, Writing, Calling, Asking, Removing, Adding, Dropping, Remembering, Offering, Beating, concerns, changes}
-use Rattle.parties_calls.specs.Linked.{Asked, Find, ListPrefix, RecordCount, RecordAt, RecordOf, RecordByKey, NodeRows, PrefixRows, FindText, FindOver, ListOver, NodeCount, NodeNumber, Heartbeat}
+use Rattle.parties.specs.LentRuns.{eventFits, lentHappen, lentSaid}
+use Rattle.parties_calls.specs.Linked.{Asked, lentAsked, Find, ListPrefix, RecordCount, RecordAt, RecordOf, RecordByKey, NodeRows, PrefixRows, FindText, FindOver, ListOver, NodeCount, NodeNumber, Heartbeat}
 
 -- a call: the table that is lent to it, what it is in the two runs, what it tells, and the table afterwards
 pub record Step : Type 0 where
@@ -99,6 +100,16 @@ stepOf p (calls.apply t delta answers now) = none
 stepOf p (calls.list-delta delta out) = none
 stepOf p (calls.make-delta text out) = none
 stepOf p (calls.exchange publisher follower edition unasked unsent ties digest delta answers mtu now) = none
+
+-- the call is the event: it tells and leaves what the event says and leaves
+pub record Does (s : Step) : Type 0 where
+  pub tells : s .told ≡ lentSaid lentAsked (s .event) (s .table) .told
+  pub leaves-so : s .after ≡ lentHappen (s .event) (s .table)
+  pub fits : eventFits (s .event) ≡ true
+
+abbrev pub DoesIf : (step : Option Step) → Type 0
+DoesIf none = Unit {0}
+DoesIf (some s) = Does s
 
 -- ---- a run
 
