@@ -1216,11 +1216,10 @@ impl<S: Bytes> fmt::Debug for NodeState<'_, S> {
 impl<'a, S: Bytes> NodeState<'a, S> {
     #[inline]
     fn of(table: Lent<'a, S>, party: Party, node: u64) -> Result<NodeState<'a, S>, Refusal> {
-        // An owned table's header is read when it is asked for, once. A lent one's is read here, since each reading of it checks the table.
-        let header = OnceCell::new();
-        let number = if S::GOOD { ffi::record_count(&table, party.number(), node).number } else { header.get_or_init(|| ffi::node_header(&table, node)).number };
-        accepted(number)?;
-        Ok(NodeState { table, party, node, header })
+        // The header is read here, once: it tells whether the node is there, and looks at no party.
+        let read = ffi::node_header(&table, node);
+        accepted(read.number)?;
+        Ok(NodeState { table, party, node, header: OnceCell::from(read) })
     }
 
     /// Its number.
