@@ -67,6 +67,20 @@ typedef uint64_t kev_size;
 #define KEV_PROFILE_FREE 0  /* any record */
 #define KEV_PROFILE_METER 1 /* readings alone: keys of a to z, 0 to 9 and dots, at least one; values of 1 to 10 digits, or empty where the record is deleted or has a TTL */
 
+#define KEV_PROFILE_SHARED 2 /* two firms: every key begins m/ or b/, at most KEV_EACH records a node of each */
+
+/* ---- parties of a shared table
+ *
+ * Every call that looks at keys names its party, behind the table. Only a shared table looks at it. A number that is neither of the two is nobody: in a shared table no
+ * key is its own, it sees nothing and may write nothing; in every other table it is as good as any. A party is told of its own records alone, and what it is told does
+ * not depend on the other's, but for versions, and max and last_gc of kev_node_header. So the places that it is told (start, key_at, value_at, at) are those of a table
+ * that has its own records alone: they are counted from kev_party_front, not from the table. Where the table is not shared that is the table itself. */
+
+#define KEV_NOBODY 0
+#define KEV_METERING 1 /* the metering firm: its keys begin m/ */
+#define KEV_BUILDING 2 /* the building manager: its keys begin b/ */
+#define KEV_EACH 16    /* records of a node that a party may have, at most, tombstones counted */
+
 /* ---- editions of a digest */
 
 #define KEV_V0 0 /* a count, then the entries */
@@ -83,7 +97,7 @@ typedef uint64_t kev_size;
 #define KEV_ANSWER_REJECT 0            /* from the future, or nothing new */
 #define KEV_ANSWER_APPLY 1             /* taken */
 #define KEV_ANSWER_APPLY_AFTER_RESET 2 /* the node began afresh, then taken */
-#define KEV_ANSWER_ROOM 3              /* over 32 keys: the node stays as it is */
+#define KEV_ANSWER_ROOM 3              /* over 32 keys, in a shared table over 16 of a party: the node stays as it is */
 #define KEV_ANSWER_UNKNOWN 4           /* the table has no such node */
 #define KEV_ANSWER_FENCED 5            /* older than the reset that a fenced or guarded node is in: it stays as it is */
 
@@ -104,7 +118,7 @@ typedef uint64_t kev_size;
 #define KEV_NO_NODE 2          /* no such node */
 #define KEV_NO_KEY 3           /* no such key to delete */
 #define KEV_NINTH_NODE 4       /* a ninth node */
-#define KEV_NODE_FULL 5        /* a 33rd key */
+#define KEV_NODE_FULL 5        /* a 33rd key, in a shared table a party's 17th */
 #define KEV_EXHAUSTED 6        /* a version or heartbeat is 2^64-1 and must rise */
 #define KEV_BAD_MTU 7          /* an MTU below 100 or above 16,384 */
 #define KEV_NO_PLACE 8         /* a place past the end, or too little room behind it */
@@ -118,6 +132,7 @@ typedef uint64_t kev_size;
 #define KEV_BAD_LINE 16        /* a line of a listing is not as it is printed */
 #define KEV_BAD_FORM 17        /* a write or a delta's record that a meter table does not take */
 #define KEV_SMALLER_TOTAL 18   /* a write to the key total of a meter table that states a smaller number than the record there */
+#define KEV_OTHER_PARTY 19     /* in a shared table a key of neither party, or of the other one; in a delta for it a key of neither */
 #define KEV_BAD_EDITION 20     /* no such edition of a digest */
 #define KEV_BAD_PEER 21        /* a peer's number above 7 */
 #define KEV_NOBODY_PRESENT 22  /* no peer is present */
@@ -142,7 +157,7 @@ struct kev_node {
     uint64_t node;
 };
 
-/* A text in the caller's table: found is 1, and it is the len bytes from table + start on (see kev_text). */
+/* A text in the caller's table: found is 1, and it is the len bytes from front + start on (see kev_text). The front is the table, unless that is shared: see kev_party_front. */
 struct kev_found {
     uint64_t number;
     kev_size found;
@@ -178,7 +193,7 @@ struct kev_header {
 struct kev_record {
     uint64_t number;
     kev_size found;
-    kev_size key_at;   /* where its key begins in the table */
+    kev_size key_at;   /* where its key begins, from the front on */
     kev_size value_at; /* and its value */
     kev_size key_len;
     kev_size value_len;
@@ -187,7 +202,7 @@ struct kev_record {
     uint64_t start; /* when it was scheduled; 0 under Set */
 };
 
-/* Records of a node in one piece: count rows of KEV_ROW bytes, from table + at on. */
+/* Records of a node in one piece: count rows of KEV_ROW bytes, from front + at on. */
 struct kev_rows {
     uint64_t number;
     kev_size at;
@@ -274,17 +289,17 @@ struct kev_seen {
     uint64_t max;
 };
 
-/* The first byte of a text that was found in this table. */
+/* The first byte of a text that was found in this table. In a shared table hand in kev_party_front in its place. */
 static inline const uint8_t *kev_text(const uint8_t *table, struct kev_found text) {
     return table + text.start;
 }
 
-/* The first byte of a text that was found in these overrides or in this table. */
+/* The first byte of a text that was found in these overrides or in this table; of a shared table hand in kev_party_front. */
 static inline const uint8_t *kev_text_over(const uint8_t *overrides, const uint8_t *table, struct kev_found_over text) {
     return (text.over ? overrides : table) + text.start;
 }
 
-/* Record i of these rows, where i is below their count, as kev_record_at tells it; read in the table, without a call. A row is its
+/* Record i of these rows, where i is below their count, as kev_record_at tells it; read in the table, without a call. In a shared table hand in kev_party_front in its place. A row is its
  * key's length, 32 bytes of key, its value's length, 64 bytes of value, version, status, start (docs/FORMAT.md, "A record slot").
  * It is C, and not proved: tests/library/every.c holds it to kev_record_at. */
 static inline struct kev_record kev_row(const uint8_t *table, struct kev_rows rows, kev_size i) {
@@ -315,8 +330,8 @@ static inline struct kev_record kev_row(const uint8_t *table, struct kev_rows ro
 uint64_t kev_check(const uint8_t *table, kev_size table_len);
 
 /* The bytes become an empty table in this mode (KEV_PLAIN, KEV_FENCED, KEV_GUARDED) and of this profile (KEV_PROFILE_FREE,
- * KEV_PROFILE_METER), whatever stood there. 14 where table_len is not KEV_TABLE, or a number is that of no mode or no profile. Choose one
- * profile for all hubs of a net: a meter table refuses a whole delta for one record that it may not have.
+ * KEV_PROFILE_METER, KEV_PROFILE_SHARED), whatever stood there. 14 where table_len is not KEV_TABLE, or a number is that of no mode or no
+ * profile. Choose one profile for all hubs of a net: a meter or a shared table refuses a whole delta for one record that it may not have.
  * Numbers: 14. */
 uint64_t kev_new_table(uint8_t *table, kev_size table_len, kev_size mode, kev_size profile);
 
@@ -338,20 +353,21 @@ struct kev_heartbeat kev_last_heartbeat(const uint8_t *table, kev_size table_len
  * nothing changes. A record under TTL is scheduled from the clock on; under Set the clock is not looked at.
  * In a meter table 17 where the key or the value has not its form, and 18 where the key is total and the value states a smaller number
  * than that of the record there, unless it is deleted; an empty value is 0. No other local call gives 17 or 18.
- * Numbers: 14, 10, 2, 1, 17, 18, 5, 6. */
+ * In a shared table 19 where the key is not the party's own, by the two deletes too; and 5 for the party's own 17th key.
+ * Numbers: 14, 10, 2, 1, 17, 19, 18, 5, 6. */
 uint64_t kev_write(
-    uint8_t *table, kev_size table_len, uint64_t node, const uint8_t *key, kev_size key_len, const uint8_t *value,
+    uint8_t *table, kev_size table_len, uint64_t party, uint64_t node, const uint8_t *key, kev_size key_len, const uint8_t *value,
     kev_size value_len, uint64_t wanted, uint64_t clock);
 
 /* The key's record is emptied and hidden, and scheduled from the clock on: a tombstone.
- * Numbers: 14, 2, 1, 3, 6. */
+ * Numbers: 14, 2, 1, 19, 3, 6. */
 uint64_t kev_delete(
-    uint8_t *table, kev_size table_len, uint64_t node, const uint8_t *key, kev_size key_len, uint64_t clock);
+    uint8_t *table, kev_size table_len, uint64_t party, uint64_t node, const uint8_t *key, kev_size key_len, uint64_t clock);
 
 /* The key's record keeps its value and is scheduled from the clock on.
- * Numbers: 14, 2, 1, 3, 6. */
+ * Numbers: 14, 2, 1, 19, 3, 6. */
 uint64_t kev_delete_after_ttl(
-    uint8_t *table, kev_size table_len, uint64_t node, const uint8_t *key, kev_size key_len, uint64_t clock);
+    uint8_t *table, kev_size table_len, uint64_t party, uint64_t node, const uint8_t *key, kev_size key_len, uint64_t clock);
 
 /* Of every node, the scheduled records whose grace is over go.
  * Numbers: 14. */
@@ -367,15 +383,16 @@ uint64_t kev_local_beat(uint8_t *table, kev_size table_len, uint64_t node);
 
 /* ---- readings */
 
-/* The value of a key. Found is 0 where there is no such key, or its record is hidden.
- * Numbers: 14, 2, 1. */
-struct kev_found kev_find(const uint8_t *table, kev_size table_len, uint64_t node, const uint8_t *key, kev_size key_len);
+/* The value of a key. Found is 0 where there is no such key, or its record is hidden. In a shared table 19 where the key is not the party's own.
+ * Numbers: 14, 2, 1, 19. */
+struct kev_found kev_find(const uint8_t *table, kev_size table_len, uint64_t party, uint64_t node, const uint8_t *key, kev_size key_len);
 
 /* The records that are not hidden and whose keys begin with the prefix: their places in the node, a byte each, in key order at
- * the front of out. The count is how many. KEV_RECORDS places are always enough.
+ * the front of out. The count is how many. KEV_RECORDS places are always enough. In a shared table the party's own records alone, and places among these; a prefix of
+ * the other's keys lists nothing.
  * Numbers: 14, 2, 1, 8. */
 struct kev_count kev_list_prefix(
-    const uint8_t *table, kev_size table_len, uint64_t node, const uint8_t *prefix, kev_size prefix_len, uint8_t *out,
+    const uint8_t *table, kev_size table_len, uint64_t party, uint64_t node, const uint8_t *prefix, kev_size prefix_len, uint8_t *out,
     kev_size out_len);
 
 /* How many nodes the table holds.
@@ -390,39 +407,51 @@ struct kev_node kev_node_number(const uint8_t *table, kev_size table_len, kev_si
  * Numbers: 14, 2. */
 struct kev_header kev_node_header(const uint8_t *table, kev_size table_len, uint64_t node);
 
-/* How many records a node has, tombstones counted.
+/* How many records a node has, tombstones counted; in a shared table the party's own.
  * Numbers: 14, 2. */
-struct kev_count kev_record_count(const uint8_t *table, kev_size table_len, uint64_t node);
+struct kev_count kev_record_count(const uint8_t *table, kev_size table_len, uint64_t party, uint64_t node);
 
-/* The record in place j of a node, hidden or not, and where its key and value stand in the table; their keys ascend.
+/* The record in place j of a node, hidden or not, and where its key and value stand, from the front on; their keys ascend. In a shared table j counts the party's own
+ * records.
  * Numbers: 14, 2, 8. */
-struct kev_record kev_record_at(const uint8_t *table, kev_size table_len, uint64_t node, kev_size j);
+struct kev_record kev_record_at(const uint8_t *table, kev_size table_len, uint64_t party, uint64_t node, kev_size j);
 
 /* The same of the record in place j of the node in place i.
  * Numbers: 14, 8. */
-struct kev_record kev_record_of(const uint8_t *table, kev_size table_len, kev_size i, kev_size j);
+struct kev_record kev_record_of(const uint8_t *table, kev_size table_len, uint64_t party, kev_size i, kev_size j);
 
 /* The same of the record of a key. Found is 0 where there is none.
- * Numbers: 14, 2, 1. */
+ * Numbers: 14, 2, 1, 19. */
 struct kev_record kev_record_by_key(
-    const uint8_t *table, kev_size table_len, uint64_t node, const uint8_t *key, kev_size key_len);
+    const uint8_t *table, kev_size table_len, uint64_t party, uint64_t node, const uint8_t *key, kev_size key_len);
 
-/* All records of a node in one piece, hidden ones too, in key order: count rows of KEV_ROW bytes from table + at on (see kev_row).
+/* All records of a node in one piece, hidden ones too, in key order: count rows of KEV_ROW bytes from front + at on (see kev_row); in a shared table the party's own.
  * Numbers: 14, 2. */
-struct kev_rows kev_node_rows(const uint8_t *table, kev_size table_len, uint64_t node);
+struct kev_rows kev_node_rows(const uint8_t *table, kev_size table_len, uint64_t party, uint64_t node);
 
-/* The same of the records whose keys begin with the prefix, hidden ones too: keys ascend, so they stand together.
+/* How many bytes behind the table's first the front stands from which this party's places in this node are counted: 0, unless the table is shared and the party is
+ * KEV_METERING, whose records stand behind the building manager's. It is an address and no answer, and tells how many records the other has: use kev_party_front,
+ * and hand neither on to a party. It holds until the next call that writes to the table.
+ * Numbers: 14, 2. */
+struct kev_count kev_front(const uint8_t *table, kev_size table_len, uint64_t party, uint64_t node);
+
+/* The front itself, to be handed to kev_text, kev_text_over and kev_row in place of the table. Where kev_front is refused it is the table. */
+static inline const uint8_t *kev_party_front(const uint8_t *table, kev_size table_len, uint64_t party, uint64_t node) {
+    return table + kev_front(table, table_len, party, node).count;
+}
+
+/* The rows of the records whose keys begin with the prefix, hidden ones too: keys ascend, so they stand together.
  * Numbers: 14, 2, 1. */
 struct kev_rows kev_prefix_rows(
-    const uint8_t *table, kev_size table_len, uint64_t node, const uint8_t *prefix, kev_size prefix_len);
+    const uint8_t *table, kev_size table_len, uint64_t party, uint64_t node, const uint8_t *prefix, kev_size prefix_len);
 
-/* The key of the record in place j of a node.
+/* The key of the record in place j of a node; in a shared table j counts the party's own records.
  * Numbers: 14, 2, 8. */
-struct kev_found kev_key_at(const uint8_t *table, kev_size table_len, uint64_t node, kev_size j);
+struct kev_found kev_key_at(const uint8_t *table, kev_size table_len, uint64_t party, uint64_t node, kev_size j);
 
-/* The value of the record in place j of a node, hidden or not.
+/* The value of the record in place j of a node, hidden or not; j as in kev_key_at.
  * Numbers: 14, 2, 8. */
-struct kev_found kev_value_at(const uint8_t *table, kev_size table_len, uint64_t node, kev_size j);
+struct kev_found kev_value_at(const uint8_t *table, kev_size table_len, uint64_t party, uint64_t node, kev_size j);
 
 /* ---- overrides: labels of a site over those of a node */
 
@@ -456,17 +485,18 @@ uint64_t kev_delete_override_after_ttl(
 uint64_t kev_remove_overrides(uint8_t *overrides, kev_size overrides_len, uint64_t clock, uint64_t grace);
 
 /* The value of a key: the override's if its record is there and not hidden, else the node's. Found is 0 where neither shows one. 14 is asked
- * of the overrides first, then of the table; which says of which.
- * Numbers: 14, 2, 1. */
+ * of the overrides first, then of the table; which says of which. In a shared table 19 where the key is not the party's own.
+ * Numbers: 14, 2, 1, 19. */
 struct kev_found_over kev_find_over(
-    const uint8_t *overrides, kev_size overrides_len, const uint8_t *table, kev_size table_len, uint64_t node,
+    const uint8_t *overrides, kev_size overrides_len, const uint8_t *table, kev_size table_len, uint64_t party, uint64_t node,
     const uint8_t *key, kev_size key_len);
 
 /* The records of the overrides and of the node that are not hidden and whose keys begin with the prefix, each key once, in key order, at the
- * front of out, a byte each: the place in the node, or KEV_OVER and the place in the overrides. KEV_PLACES places are always enough.
+ * front of out, a byte each: the place in the node, or KEV_OVER and the place in the overrides. KEV_PLACES places are always enough. In a shared table the party's own
+ * keys alone, of the overrides too, and places in the node among its own records.
  * Numbers: 14, 2, 1, 8. */
 struct kev_listed_over kev_list_over(
-    const uint8_t *overrides, kev_size overrides_len, const uint8_t *table, kev_size table_len, uint64_t node,
+    const uint8_t *overrides, kev_size overrides_len, const uint8_t *table, kev_size table_len, uint64_t party, uint64_t node,
     const uint8_t *prefix, kev_size prefix_len, uint8_t *out, kev_size out_len);
 
 /* ---- digests and deltas */
@@ -516,8 +546,9 @@ struct kev_delta kev_read_delta(const uint8_t *delta, kev_size delta_len);
 
 /* Takes a peer's delta into the table, at the receiver's clock. For each node delta an answer (KEV_ANSWER_REJECT and on), a byte
  * each, at the front of answers; nodes is how many. KEV_NODES places are always enough. A meter table refuses the whole delta with 17 for one
- * record that has not its form, also where that record would be skipped or its node is not held; a total may be smaller here.
- * Numbers: 14, 13, 9, 1, 10, 11, 17, 12, 8. */
+ * record that has not its form, also where that record would be skipped or its node is not held; a total may be smaller here. A shared table refuses it with 19 for
+ * one key of neither party.
+ * Numbers: 14, 13, 9, 1, 10, 11, 17, 19, 12, 8. */
 struct kev_applied kev_apply(
     uint8_t *table, kev_size table_len, const uint8_t *delta, kev_size delta_len, uint64_t clock, uint8_t *answers,
     kev_size answers_len);
@@ -534,8 +565,8 @@ struct kev_made kev_make_delta(const uint8_t *text, kev_size text_len, uint8_t *
 
 /* One exchange of two tables in one memory: the follower's digest without the unasked nodes, the publisher's delta for it without
  * the unsent ones, the delta applied. Refused, it wrote nothing: so with 17, of applying, wherever the follower is a meter table and one
- * record of the publisher's table, sent or not, has not its form.
- * Numbers: 14, 20, 8, 7, 15, 17. */
+ * record of the publisher's table, sent or not, has not its form; and with 19, wherever it is a shared table and one key is of neither party.
+ * Numbers: 14, 20, 8, 7, 15, 17, 19. */
 struct kev_exchanged kev_exchange(
     const uint8_t *publisher, kev_size publisher_len, uint8_t *follower, kev_size follower_len, uint64_t edition,
     kev_size mtu, const uint64_t *unasked, kev_size unasked_len, const uint64_t *unsent, kev_size unsent_len,
@@ -609,18 +640,18 @@ uint64_t kev_good_remove_node(uint8_t *table, kev_size table_len, uint64_t node)
 /* Numbers: none. */
 struct kev_heartbeat kev_good_last_heartbeat(const uint8_t *table, kev_size table_len, uint64_t node);
 
-/* Numbers: 10, 2, 1, 17, 18, 5, 6. */
+/* Numbers: 10, 2, 1, 17, 19, 18, 5, 6. */
 uint64_t kev_good_write(
-    uint8_t *table, kev_size table_len, uint64_t node, const uint8_t *key, kev_size key_len, const uint8_t *value,
+    uint8_t *table, kev_size table_len, uint64_t party, uint64_t node, const uint8_t *key, kev_size key_len, const uint8_t *value,
     kev_size value_len, uint64_t wanted, uint64_t clock);
 
-/* Numbers: 2, 1, 3, 6. */
+/* Numbers: 2, 1, 19, 3, 6. */
 uint64_t kev_good_delete(
-    uint8_t *table, kev_size table_len, uint64_t node, const uint8_t *key, kev_size key_len, uint64_t clock);
+    uint8_t *table, kev_size table_len, uint64_t party, uint64_t node, const uint8_t *key, kev_size key_len, uint64_t clock);
 
-/* Numbers: 2, 1, 3, 6. */
+/* Numbers: 2, 1, 19, 3, 6. */
 uint64_t kev_good_delete_after_ttl(
-    uint8_t *table, kev_size table_len, uint64_t node, const uint8_t *key, kev_size key_len, uint64_t clock);
+    uint8_t *table, kev_size table_len, uint64_t party, uint64_t node, const uint8_t *key, kev_size key_len, uint64_t clock);
 
 /* Numbers: none. */
 uint64_t kev_good_remove_scheduled(uint8_t *table, kev_size table_len, uint64_t clock, uint64_t grace);
@@ -631,24 +662,24 @@ struct kev_count kev_good_offer_heartbeat(uint8_t *table, kev_size table_len, ui
 /* Numbers: 2, 6. */
 uint64_t kev_good_local_beat(uint8_t *table, kev_size table_len, uint64_t node);
 
-/* Numbers: 2, 1. */
+/* Numbers: 2, 1, 19. */
 struct kev_found kev_good_find(
-    const uint8_t *table, kev_size table_len, uint64_t node, const uint8_t *key, kev_size key_len);
+    const uint8_t *table, kev_size table_len, uint64_t party, uint64_t node, const uint8_t *key, kev_size key_len);
 
 /* Numbers: 2, 1, 8. */
 struct kev_count kev_good_list_prefix(
-    const uint8_t *table, kev_size table_len, uint64_t node, const uint8_t *prefix, kev_size prefix_len, uint8_t *out,
+    const uint8_t *table, kev_size table_len, uint64_t party, uint64_t node, const uint8_t *prefix, kev_size prefix_len, uint8_t *out,
     kev_size out_len);
 
 /* The overrides too are good: kev_new_overrides made them, or kev_check_overrides accepted them, and only calls on overrides wrote to them.
- * Numbers: 2, 1. */
+ * Numbers: 2, 1, 19. */
 struct kev_found_over kev_good_find_over(
-    const uint8_t *overrides, kev_size overrides_len, const uint8_t *table, kev_size table_len, uint64_t node,
+    const uint8_t *overrides, kev_size overrides_len, const uint8_t *table, kev_size table_len, uint64_t party, uint64_t node,
     const uint8_t *key, kev_size key_len);
 
 /* Numbers: 2, 1, 8. */
 struct kev_listed_over kev_good_list_over(
-    const uint8_t *overrides, kev_size overrides_len, const uint8_t *table, kev_size table_len, uint64_t node,
+    const uint8_t *overrides, kev_size overrides_len, const uint8_t *table, kev_size table_len, uint64_t party, uint64_t node,
     const uint8_t *prefix, kev_size prefix_len, uint8_t *out, kev_size out_len);
 
 /* Numbers: none. */
@@ -661,30 +692,33 @@ struct kev_node kev_good_node_number(const uint8_t *table, kev_size table_len, k
 struct kev_header kev_good_node_header(const uint8_t *table, kev_size table_len, uint64_t node);
 
 /* Numbers: 2. */
-struct kev_count kev_good_record_count(const uint8_t *table, kev_size table_len, uint64_t node);
+struct kev_count kev_good_record_count(const uint8_t *table, kev_size table_len, uint64_t party, uint64_t node);
 
 /* Numbers: 2, 8. */
-struct kev_record kev_good_record_at(const uint8_t *table, kev_size table_len, uint64_t node, kev_size j);
+struct kev_record kev_good_record_at(const uint8_t *table, kev_size table_len, uint64_t party, uint64_t node, kev_size j);
 
 /* Numbers: 8. */
-struct kev_record kev_good_record_of(const uint8_t *table, kev_size table_len, kev_size i, kev_size j);
+struct kev_record kev_good_record_of(const uint8_t *table, kev_size table_len, uint64_t party, kev_size i, kev_size j);
 
-/* Numbers: 2, 1. */
+/* Numbers: 2, 1, 19. */
 struct kev_record kev_good_record_by_key(
-    const uint8_t *table, kev_size table_len, uint64_t node, const uint8_t *key, kev_size key_len);
+    const uint8_t *table, kev_size table_len, uint64_t party, uint64_t node, const uint8_t *key, kev_size key_len);
 
 /* Numbers: 2. */
-struct kev_rows kev_good_node_rows(const uint8_t *table, kev_size table_len, uint64_t node);
+struct kev_rows kev_good_node_rows(const uint8_t *table, kev_size table_len, uint64_t party, uint64_t node);
+
+/* Numbers: 2. */
+struct kev_count kev_good_front(const uint8_t *table, kev_size table_len, uint64_t party, uint64_t node);
 
 /* Numbers: 2, 1. */
 struct kev_rows kev_good_prefix_rows(
-    const uint8_t *table, kev_size table_len, uint64_t node, const uint8_t *prefix, kev_size prefix_len);
+    const uint8_t *table, kev_size table_len, uint64_t party, uint64_t node, const uint8_t *prefix, kev_size prefix_len);
 
 /* Numbers: 2, 8. */
-struct kev_found kev_good_key_at(const uint8_t *table, kev_size table_len, uint64_t node, kev_size j);
+struct kev_found kev_good_key_at(const uint8_t *table, kev_size table_len, uint64_t party, uint64_t node, kev_size j);
 
 /* Numbers: 2, 8. */
-struct kev_found kev_good_value_at(const uint8_t *table, kev_size table_len, uint64_t node, kev_size j);
+struct kev_found kev_good_value_at(const uint8_t *table, kev_size table_len, uint64_t party, uint64_t node, kev_size j);
 
 /* Numbers: 20, 8. */
 struct kev_count kev_good_write_digest(
@@ -709,7 +743,7 @@ struct kev_judged kev_good_plan_fault(
     const uint64_t *excluded, kev_size excluded_len, const uint64_t *nodes, kev_size nodes_len, const uint64_t *counts,
     kev_size counts_len);
 
-/* Numbers: 13, 9, 1, 10, 11, 17, 12, 8. */
+/* Numbers: 13, 9, 1, 10, 11, 17, 19, 12, 8. */
 struct kev_applied kev_good_apply(
     uint8_t *table, kev_size table_len, const uint8_t *delta, kev_size delta_len, uint64_t clock, uint8_t *answers,
     kev_size answers_len);

@@ -28,7 +28,7 @@ static void write_all(uint8_t *table, const char *order, char first) {
             int record = record_of(order, turn);
             int keylen = snprintf(key, sizeof key, "key-%02d-%02d-%06d", node, record, record * 7919);
             int valuelen = snprintf(value, sizeof value, "%c123456789012345678901", first);
-            ok(kev_write(table, KEV_TABLE, (uint64_t)node, (uint8_t *)key, (kev_size)keylen, (uint8_t *)value, (kev_size)valuelen, KEV_SET, 0));
+            ok(kev_write(table, KEV_TABLE, KEV_NOBODY, (uint64_t)node, (uint8_t *)key, (kev_size)keylen, (uint8_t *)value, (kev_size)valuelen, KEV_SET, 0));
         }
 }
 

@@ -69,26 +69,26 @@ static void overrides_of(struct lent table) {
     GIVES(KEV_BAD_TABLE, kev_delete_override(T(over), TEXT("total"), 0));
     GIVES(KEV_BAD_TABLE, kev_delete_override_after_ttl(T(over), TEXT("total"), 0));
     GIVES(KEV_BAD_TABLE, kev_remove_overrides(T(over), 0, 0));
-    struct kev_found_over f = kev_find_over(T(over), T(shorter), 99, TEXT(long_key));
+    struct kev_found_over f = kev_find_over(T(over), T(shorter), KEV_NOBODY, 99, TEXT(long_key));
     CHECK(f.number == KEV_BAD_TABLE && f.which == 1 && f.found == 0);
-    struct kev_listed_over l = kev_list_over(T(over), T(shorter), 99, TEXT(long_key), NO_OUT);
+    struct kev_listed_over l = kev_list_over(T(over), T(shorter), KEV_NOBODY, 99, TEXT(long_key), NO_OUT);
     CHECK(l.number == KEV_BAD_TABLE && l.which == 1);
     CHECK(same(over));
     GIVES(KEV_BAD_TABLE, kev_new_overrides(T(shorter), 10));
     CHECK(same(shorter));
     GIVES(0, kev_new_overrides(T(over), 10));
     GIVES(0, kev_check_overrides(T(over)));
-    f = kev_find_over(T(over), T(shorter), 99, TEXT(long_key));
+    f = kev_find_over(T(over), T(shorter), KEV_NOBODY, 99, TEXT(long_key));
     CHECK(f.number == KEV_BAD_TABLE && f.which == 2);
-    l = kev_list_over(T(over), T(shorter), 99, TEXT(long_key), NO_OUT);
+    l = kev_list_over(T(over), T(shorter), KEV_NOBODY, 99, TEXT(long_key), NO_OUT);
     CHECK(l.number == KEV_BAD_TABLE && l.which == 2);
 
     /* without a record they are not there */
-    f = kev_find_over(T(over), T(table), 10, TEXT("total"));
-    struct kev_found plain = kev_find(T(table), 10, TEXT("total"));
+    f = kev_find_over(T(over), T(table), KEV_NOBODY, 10, TEXT("total"));
+    struct kev_found plain = kev_find(T(table), KEV_NOBODY, 10, TEXT("total"));
     CHECK(f.number == 0 && f.found == 1 && f.over == 0 && f.start == plain.start && f.len == plain.len && f.which == 0);
-    l = kev_list_over(T(over), T(table), 10, NO_BYTES, T(places));
-    struct kev_count hits = kev_list_prefix(T(table), 10, NO_BYTES, T(shorter));
+    l = kev_list_over(T(over), T(table), KEV_NOBODY, 10, NO_BYTES, T(places));
+    struct kev_count hits = kev_list_prefix(T(table), KEV_NOBODY, 10, NO_BYTES, T(shorter));
     CHECK(l.number == 0 && l.count == hits.count && memcmp(places.at, shorter.at, hits.count) == 0);
 
     GIVES(KEV_BAD_TAG, kev_write_override(T(over), TEXT(long_key), TEXT("x"), KEV_DELETE, 0));
@@ -99,31 +99,31 @@ static void overrides_of(struct lent table) {
     GIVES(KEV_TOO_LONG, kev_delete_override(T(over), TEXT(long_key), 5));
     GIVES(0, kev_write_override(T(over), TEXT("total"), TEXT("cellar"), KEV_SET, 0));
     GIVES(0, kev_write_override(T(over), TEXT("own"), NO_BYTES, KEV_TTL, 5));
-    f = kev_find_over(T(over), T(table), 10, TEXT("total"));
+    f = kev_find_over(T(over), T(table), KEV_NOBODY, 10, TEXT("total"));
     CHECK(f.over == 1 && f.len == 6 && memcmp(kev_text_over(over.at, table.at, f), "cellar", 6) == 0);
-    struct kev_found_over g = kev_good_find_over(T(over), T(table), 10, TEXT("total"));
+    struct kev_found_over g = kev_good_find_over(T(over), T(table), KEV_NOBODY, 10, TEXT("total"));
     CHECK(memcmp(&f, &g, sizeof f) == 0);
-    f = kev_find_over(T(over), T(table), 10, TEXT("own"));
+    f = kev_find_over(T(over), T(table), KEV_NOBODY, 10, TEXT("own"));
     CHECK(f.number == 0 && f.found == 1 && f.over == 1 && f.len == 0);
-    f = kev_find_over(T(over), T(table), 10, TEXT("absent"));
+    f = kev_find_over(T(over), T(table), KEV_NOBODY, 10, TEXT("absent"));
     CHECK(f.number == 0 && f.found == 0 && f.over == 0);
-    GIVES(KEV_NO_NODE, kev_find_over(T(over), T(table), 99, TEXT("own")).number);
-    GIVES(KEV_NO_NODE, kev_find_over(T(over), T(table), 99, TEXT(long_key)).number);
-    GIVES(KEV_TOO_LONG, kev_find_over(T(over), T(table), 10, TEXT(long_key)).number);
-    GIVES(KEV_NO_NODE, kev_list_over(T(over), T(table), 99, TEXT(long_key), T(few)).number);
-    GIVES(KEV_TOO_LONG, kev_list_over(T(over), T(table), 10, TEXT(long_key), T(few)).number);
-    GIVES(KEV_NO_PLACE, kev_list_over(T(over), T(table), 10, TEXT("t"), T(few)).number);
+    GIVES(KEV_NO_NODE, kev_find_over(T(over), T(table), KEV_NOBODY, 99, TEXT("own")).number);
+    GIVES(KEV_NO_NODE, kev_find_over(T(over), T(table), KEV_NOBODY, 99, TEXT(long_key)).number);
+    GIVES(KEV_TOO_LONG, kev_find_over(T(over), T(table), KEV_NOBODY, 10, TEXT(long_key)).number);
+    GIVES(KEV_NO_NODE, kev_list_over(T(over), T(table), KEV_NOBODY, 99, TEXT(long_key), T(few)).number);
+    GIVES(KEV_TOO_LONG, kev_list_over(T(over), T(table), KEV_NOBODY, 10, TEXT(long_key), T(few)).number);
+    GIVES(KEV_NO_PLACE, kev_list_over(T(over), T(table), KEV_NOBODY, 10, TEXT("t"), T(few)).number);
     CHECK(same(few));
     /* tariff of the node, total of the overrides */
-    l = kev_list_over(T(over), T(table), 10, TEXT("t"), T(places));
-    struct kev_listed_over m = kev_good_list_over(T(over), T(table), 10, TEXT("t"), T(places));
+    l = kev_list_over(T(over), T(table), KEV_NOBODY, 10, TEXT("t"), T(places));
+    struct kev_listed_over m = kev_good_list_over(T(over), T(table), KEV_NOBODY, 10, TEXT("t"), T(places));
     CHECK(l.count == 2 && m.count == 2 && places.at[0] < KEV_OVER && places.at[1] == KEV_OVER + 1);
     /* taken back, the node's shows again; then its place is free */
     GIVES(0, kev_delete_override(T(over), TEXT("total"), 10));
-    f = kev_find_over(T(over), T(table), 10, TEXT("total"));
+    f = kev_find_over(T(over), T(table), KEV_NOBODY, 10, TEXT("total"));
     CHECK(f.found == 1 && f.over == 0 && f.start == plain.start);
     GIVES(0, kev_delete_override_after_ttl(T(over), TEXT("own"), 10));
-    f = kev_find_over(T(over), T(table), 10, TEXT("own"));
+    f = kev_find_over(T(over), T(table), KEV_NOBODY, 10, TEXT("own"));
     CHECK(f.found == 1 && f.over == 1);
     GIVES(0, kev_remove_overrides(T(over), 19, 10));
     CHECK(over.at[32] == 2);
@@ -138,8 +138,8 @@ static void overrides_of(struct lent table) {
     mark(over);
     GIVES(KEV_NODE_FULL, kev_write_override(T(over), TEXT("one more"), TEXT("v"), KEV_SET, 0));
     CHECK(same(over));
-    CHECK(kev_list_over(T(over), T(table), 12, NO_BYTES, T(places)).count == KEV_PLACES);
-    GIVES(KEV_NO_PLACE, kev_list_over(T(over), T(table), 12, NO_BYTES, places.at, KEV_PLACES - 1).number);
+    CHECK(kev_list_over(T(over), T(table), KEV_NOBODY, 12, NO_BYTES, T(places)).count == KEV_PLACES);
+    GIVES(KEV_NO_PLACE, kev_list_over(T(over), T(table), KEV_NOBODY, 12, NO_BYTES, places.at, KEV_PLACES - 1).number);
     /* max is at its end */
     memset(over.at + 16, 0xFF, 8);
     GIVES(KEV_EXHAUSTED, kev_delete_override(T(over), TEXT("~A"), 0));
@@ -164,7 +164,7 @@ static void local_calls(void) {
     CHECK(same(brief));
     GIVES(KEV_BAD_TABLE, kev_new_table(T(table), 3, KEV_PROFILE_FREE));
     GIVES(KEV_BAD_TABLE, kev_new_table(T(table), (kev_size)-1, KEV_PROFILE_FREE));
-    GIVES(KEV_BAD_TABLE, kev_new_table(T(table), KEV_PLAIN, 2));
+    GIVES(KEV_BAD_TABLE, kev_new_table(T(table), KEV_PLAIN, 3));
     GIVES(KEV_BAD_TABLE, kev_new_table(T(table), KEV_PLAIN, (kev_size)-1));
     GIVES(KEV_BAD_TABLE, kev_new_table(T(table), 3, KEV_PROFILE_METER));
     CHECK(same(table));
@@ -195,23 +195,23 @@ static void local_calls(void) {
     CHECK(kev_last_heartbeat(T(table), 17).found == 0 && kev_good_last_heartbeat(T(table), 17).found == 0);
     BOTH(table, kev_remove_node(T(t), 17), kev_good_remove_node(T(t), 17));
 
-    BOTH(table, kev_write(T(t), 10, TEXT("total"), TEXT("41"), KEV_SET, 5), kev_good_write(T(t), 10, TEXT("total"), TEXT("41"), KEV_SET, 5));
-    BOTH(table, kev_write(T(t), 10, TEXT("tariff"), TEXT("night"), KEV_TTL, 5), kev_good_write(T(t), 10, TEXT("tariff"), TEXT("night"), KEV_TTL, 5));
-    BOTH(table, kev_write(T(t), 10, TEXT("tall"), NO_BYTES, KEV_SET, 5), kev_good_write(T(t), 10, TEXT("tall"), NO_BYTES, KEV_SET, 5));
+    BOTH(table, kev_write(T(t), KEV_NOBODY, 10, TEXT("total"), TEXT("41"), KEV_SET, 5), kev_good_write(T(t), KEV_NOBODY, 10, TEXT("total"), TEXT("41"), KEV_SET, 5));
+    BOTH(table, kev_write(T(t), KEV_NOBODY, 10, TEXT("tariff"), TEXT("night"), KEV_TTL, 5), kev_good_write(T(t), KEV_NOBODY, 10, TEXT("tariff"), TEXT("night"), KEV_TTL, 5));
+    BOTH(table, kev_write(T(t), KEV_NOBODY, 10, TEXT("tall"), NO_BYTES, KEV_SET, 5), kev_good_write(T(t), KEV_NOBODY, 10, TEXT("tall"), NO_BYTES, KEV_SET, 5));
     mark(table);
-    GIVES(0, kev_write(T(table), 10, TEXT("total"), TEXT("41"), KEV_SET, 9));
-    GIVES(KEV_BAD_TAG, kev_write(T(table), 99, TEXT("total"), TEXT("42"), KEV_DELETE, 5));
-    GIVES(KEV_BAD_TAG, kev_good_write(T(table), 10, TEXT("total"), TEXT("42"), 3, 5));
-    GIVES(KEV_NO_NODE, kev_write(T(table), 99, TEXT("total"), TEXT("42"), KEV_SET, 5));
-    GIVES(KEV_TOO_LONG, kev_write(T(table), 10, TEXT(long_key), TEXT("42"), KEV_SET, 5));
-    GIVES(KEV_TOO_LONG, kev_write(T(table), 10, TEXT("total"), TEXT(long_value), KEV_SET, 5));
-    GIVES(KEV_NO_KEY, kev_delete(T(table), 10, TEXT("absent"), 5));
-    GIVES(KEV_NO_KEY, kev_delete_after_ttl(T(table), 10, TEXT("absent"), 5));
-    GIVES(KEV_NO_NODE, kev_delete(T(table), 99, TEXT("total"), 5));
-    GIVES(KEV_TOO_LONG, kev_delete_after_ttl(T(table), 10, TEXT(long_key), 5));
+    GIVES(0, kev_write(T(table), KEV_NOBODY, 10, TEXT("total"), TEXT("41"), KEV_SET, 9));
+    GIVES(KEV_BAD_TAG, kev_write(T(table), KEV_NOBODY, 99, TEXT("total"), TEXT("42"), KEV_DELETE, 5));
+    GIVES(KEV_BAD_TAG, kev_good_write(T(table), KEV_NOBODY, 10, TEXT("total"), TEXT("42"), 3, 5));
+    GIVES(KEV_NO_NODE, kev_write(T(table), KEV_NOBODY, 99, TEXT("total"), TEXT("42"), KEV_SET, 5));
+    GIVES(KEV_TOO_LONG, kev_write(T(table), KEV_NOBODY, 10, TEXT(long_key), TEXT("42"), KEV_SET, 5));
+    GIVES(KEV_TOO_LONG, kev_write(T(table), KEV_NOBODY, 10, TEXT("total"), TEXT(long_value), KEV_SET, 5));
+    GIVES(KEV_NO_KEY, kev_delete(T(table), KEV_NOBODY, 10, TEXT("absent"), 5));
+    GIVES(KEV_NO_KEY, kev_delete_after_ttl(T(table), KEV_NOBODY, 10, TEXT("absent"), 5));
+    GIVES(KEV_NO_NODE, kev_delete(T(table), KEV_NOBODY, 99, TEXT("total"), 5));
+    GIVES(KEV_TOO_LONG, kev_delete_after_ttl(T(table), KEV_NOBODY, 10, TEXT(long_key), 5));
     CHECK(same(table));
-    BOTH(table, kev_delete(T(t), 10, TEXT("tall"), 6), kev_good_delete(T(t), 10, TEXT("tall"), 6));
-    BOTH(table, kev_delete_after_ttl(T(t), 10, TEXT("total"), 6), kev_good_delete_after_ttl(T(t), 10, TEXT("total"), 6));
+    BOTH(table, kev_delete(T(t), KEV_NOBODY, 10, TEXT("tall"), 6), kev_good_delete(T(t), KEV_NOBODY, 10, TEXT("tall"), 6));
+    BOTH(table, kev_delete_after_ttl(T(t), KEV_NOBODY, 10, TEXT("total"), 6), kev_good_delete_after_ttl(T(t), KEV_NOBODY, 10, TEXT("total"), 6));
 
     struct kev_count news = kev_offer_heartbeat(T(table), 11, 7);
     CHECK(news.number == 0 && news.count == 0);
@@ -227,30 +227,30 @@ static void local_calls(void) {
     char key[2] = "a";
     for (int i = 0; i < KEV_RECORDS; i++) {
         key[0] = (char)('A' + i);
-        GIVES(0, kev_write(T(table), 12, (const uint8_t *)key, 1, TEXT("v"), KEV_SET, 0));
+        GIVES(0, kev_write(T(table), KEV_NOBODY, 12, (const uint8_t *)key, 1, TEXT("v"), KEV_SET, 0));
     }
     mark(table);
-    GIVES(KEV_NODE_FULL, kev_write(T(table), 12, TEXT("one more"), TEXT("v"), KEV_SET, 0));
-    GIVES(KEV_NODE_FULL, kev_good_write(T(table), 12, TEXT("one more"), TEXT("v"), KEV_SET, 0));
+    GIVES(KEV_NODE_FULL, kev_write(T(table), KEV_NOBODY, 12, TEXT("one more"), TEXT("v"), KEV_SET, 0));
+    GIVES(KEV_NODE_FULL, kev_good_write(T(table), KEV_NOBODY, 12, TEXT("one more"), TEXT("v"), KEV_SET, 0));
     CHECK(same(table));
 
-    struct kev_found f = kev_find(T(table), 10, TEXT("total"));
+    struct kev_found f = kev_find(T(table), KEV_NOBODY, 10, TEXT("total"));
     CHECK(f.number == 0 && f.found == 1 && f.len == 2 && memcmp(kev_text(table.at, f), "41", 2) == 0);
-    struct kev_found g = kev_good_find(T(table), 10, TEXT("total"));
+    struct kev_found g = kev_good_find(T(table), KEV_NOBODY, 10, TEXT("total"));
     CHECK(memcmp(&f, &g, sizeof f) == 0);
-    f = kev_find(T(table), 10, TEXT("tall"));
+    f = kev_find(T(table), KEV_NOBODY, 10, TEXT("tall"));
     CHECK(f.number == 0 && f.found == 0 && f.start == 0 && f.len == 0);
-    GIVES(KEV_NO_NODE, kev_find(T(table), 99, TEXT("tall")).number);
-    GIVES(KEV_TOO_LONG, kev_find(T(table), 10, TEXT(long_key)).number);
+    GIVES(KEV_NO_NODE, kev_find(T(table), KEV_NOBODY, 99, TEXT("tall")).number);
+    GIVES(KEV_TOO_LONG, kev_find(T(table), KEV_NOBODY, 10, TEXT(long_key)).number);
     struct lent places = lend(2), few = lend(1);
-    struct kev_count hits = kev_list_prefix(T(table), 10, TEXT("t"), T(places));
+    struct kev_count hits = kev_list_prefix(T(table), KEV_NOBODY, 10, TEXT("t"), T(places));
     CHECK(hits.number == 0 && hits.count == 2 && places.at[0] == 1 && places.at[1] == 2);
-    hits = kev_good_list_prefix(T(table), 10, TEXT("t"), T(places));
+    hits = kev_good_list_prefix(T(table), KEV_NOBODY, 10, TEXT("t"), T(places));
     CHECK(hits.number == 0 && hits.count == 2);
-    GIVES(KEV_NO_PLACE, kev_list_prefix(T(table), 10, NO_BYTES, T(few)).number);
+    GIVES(KEV_NO_PLACE, kev_list_prefix(T(table), KEV_NOBODY, 10, NO_BYTES, T(few)).number);
     CHECK(same(few));
-    GIVES(KEV_TOO_LONG, kev_list_prefix(T(table), 10, TEXT(long_key), T(few)).number);
-    GIVES(KEV_NO_NODE, kev_list_prefix(T(table), 99, NO_BYTES, T(few)).number);
+    GIVES(KEV_TOO_LONG, kev_list_prefix(T(table), KEV_NOBODY, 10, TEXT(long_key), T(few)).number);
+    GIVES(KEV_NO_NODE, kev_list_prefix(T(table), KEV_NOBODY, 99, NO_BYTES, T(few)).number);
     overrides_of(table);
     CHECK(kev_node_count(T(table)).count == 7 && kev_good_node_count(T(table)).count == 7);
     CHECK(kev_node_number(T(table), 6).node == 16 && kev_good_node_number(T(table), 6).node == 16);
@@ -259,65 +259,65 @@ static void local_calls(void) {
     struct kev_header h = kev_node_header(T(table), 10), k = kev_good_node_header(T(table), 10);
     CHECK(h.number == 0 && h.max == 5 && h.last_gc == 0 && h.heartbeat == 0 && memcmp(&h, &k, sizeof h) == 0);
     GIVES(KEV_NO_NODE, kev_node_header(T(table), 99).number);
-    CHECK(kev_record_count(T(table), 10).count == 3 && kev_good_record_count(T(table), 10).count == 3);
-    GIVES(KEV_NO_NODE, kev_record_count(T(table), 99).number);
-    struct kev_record r = kev_record_at(T(table), 10, 0), s = kev_good_record_at(T(table), 10, 0);
+    CHECK(kev_record_count(T(table), KEV_NOBODY, 10).count == 3 && kev_good_record_count(T(table), KEV_NOBODY, 10).count == 3);
+    GIVES(KEV_NO_NODE, kev_record_count(T(table), KEV_NOBODY, 99).number);
+    struct kev_record r = kev_record_at(T(table), KEV_NOBODY, 10, 0), s = kev_good_record_at(T(table), KEV_NOBODY, 10, 0);
     CHECK(r.number == 0 && r.found == 1 && r.key_len == 4 && r.value_len == 0 && r.version == 4 && r.status == KEV_DELETE && r.start == 6);
     CHECK(memcmp(&r, &s, sizeof r) == 0);
-    f = kev_key_at(T(table), 10, 0);
+    f = kev_key_at(T(table), KEV_NOBODY, 10, 0);
     CHECK(r.key_at == f.start && r.key_len == f.len);
-    f = kev_value_at(T(table), 10, 0);
+    f = kev_value_at(T(table), KEV_NOBODY, 10, 0);
     CHECK(r.value_at == f.start && r.value_len == f.len);
-    s = kev_record_of(T(table), 0, 0);
+    s = kev_record_of(T(table), KEV_NOBODY, 0, 0);
     CHECK(memcmp(&r, &s, sizeof r) == 0);
-    s = kev_good_record_of(T(table), 0, 0);
+    s = kev_good_record_of(T(table), KEV_NOBODY, 0, 0);
     CHECK(memcmp(&r, &s, sizeof r) == 0);
-    GIVES(KEV_NO_PLACE, kev_record_of(T(table), 0, 3).number);
-    GIVES(KEV_NO_PLACE, kev_good_record_of(T(table), 7, 0).number);
-    GIVES(KEV_NO_PLACE, kev_record_at(T(table), 10, 3).number);
-    GIVES(KEV_NO_NODE, kev_record_at(T(table), 99, 0).number);
+    GIVES(KEV_NO_PLACE, kev_record_of(T(table), KEV_NOBODY, 0, 3).number);
+    GIVES(KEV_NO_PLACE, kev_good_record_of(T(table), KEV_NOBODY, 7, 0).number);
+    GIVES(KEV_NO_PLACE, kev_record_at(T(table), KEV_NOBODY, 10, 3).number);
+    GIVES(KEV_NO_NODE, kev_record_at(T(table), KEV_NOBODY, 99, 0).number);
     /* rows: every record of the node, hidden ones too, as the call for one record tells it; of a prefix those that begin with it */
-    struct kev_rows all = kev_node_rows(T(table), 10), known = kev_good_node_rows(T(table), 10), some;
+    struct kev_rows all = kev_node_rows(T(table), KEV_NOBODY, 10), known = kev_good_node_rows(T(table), KEV_NOBODY, 10), some;
     CHECK(all.number == 0 && all.count == 3 && memcmp(&all, &known, sizeof all) == 0);
     for (size_t i = 0; i < all.count; i++) {
-        r = kev_record_at(T(table), 10, i);
+        r = kev_record_at(T(table), KEV_NOBODY, 10, i);
         s = kev_row(table.at, all, i);
         CHECK(memcmp(&r, &s, sizeof r) == 0);
     }
-    GIVES(KEV_NO_NODE, kev_node_rows(T(table), 99).number);
-    GIVES(KEV_NO_NODE, kev_good_node_rows(T(table), 99).number);
-    some = kev_prefix_rows(T(table), 10, TEXT("tar"));
-    known = kev_good_prefix_rows(T(table), 10, TEXT("tar"));
+    GIVES(KEV_NO_NODE, kev_node_rows(T(table), KEV_NOBODY, 99).number);
+    GIVES(KEV_NO_NODE, kev_good_node_rows(T(table), KEV_NOBODY, 99).number);
+    some = kev_prefix_rows(T(table), KEV_NOBODY, 10, TEXT("tar"));
+    known = kev_good_prefix_rows(T(table), KEV_NOBODY, 10, TEXT("tar"));
     CHECK(some.number == 0 && some.count == 1 && some.at == all.at + KEV_ROW && memcmp(&some, &known, sizeof some) == 0);
-    some = kev_prefix_rows(T(table), 10, TEXT("ta"));
+    some = kev_prefix_rows(T(table), KEV_NOBODY, 10, TEXT("ta"));
     CHECK(some.number == 0 && some.count == 2 && some.at == all.at && kev_row(table.at, some, 0).status == KEV_DELETE);
-    some = kev_prefix_rows(T(table), 10, NO_BYTES);
+    some = kev_prefix_rows(T(table), KEV_NOBODY, 10, NO_BYTES);
     CHECK(some.number == 0 && some.count == 3 && some.at == all.at);
-    some = kev_prefix_rows(T(table), 10, TEXT("z"));
+    some = kev_prefix_rows(T(table), KEV_NOBODY, 10, TEXT("z"));
     CHECK(some.number == 0 && some.count == 0 && some.at == all.at + 3 * KEV_ROW);
-    GIVES(KEV_NO_NODE, kev_prefix_rows(T(table), 99, TEXT("t")).number);
-    GIVES(KEV_TOO_LONG, kev_prefix_rows(T(table), 10, TEXT(long_key)).number);
-    GIVES(KEV_TOO_LONG, kev_good_prefix_rows(T(table), 10, TEXT(long_key)).number);
-    r = kev_record_by_key(T(table), 10, TEXT("tariff"));
-    s = kev_good_record_by_key(T(table), 10, TEXT("tariff"));
+    GIVES(KEV_NO_NODE, kev_prefix_rows(T(table), KEV_NOBODY, 99, TEXT("t")).number);
+    GIVES(KEV_TOO_LONG, kev_prefix_rows(T(table), KEV_NOBODY, 10, TEXT(long_key)).number);
+    GIVES(KEV_TOO_LONG, kev_good_prefix_rows(T(table), KEV_NOBODY, 10, TEXT(long_key)).number);
+    r = kev_record_by_key(T(table), KEV_NOBODY, 10, TEXT("tariff"));
+    s = kev_good_record_by_key(T(table), KEV_NOBODY, 10, TEXT("tariff"));
     CHECK(r.found == 1 && r.status == KEV_TTL && r.start == 5 && memcmp(&r, &s, sizeof r) == 0);
     CHECK(memcmp(table.at + r.key_at, "tariff", r.key_len) == 0 && memcmp(table.at + r.value_at, "night", r.value_len) == 0);
-    r = kev_record_by_key(T(table), 10, TEXT("absent"));
+    r = kev_record_by_key(T(table), KEV_NOBODY, 10, TEXT("absent"));
     CHECK(r.number == 0 && r.found == 0 && r.version == 0);
-    GIVES(KEV_TOO_LONG, kev_record_by_key(T(table), 10, TEXT(long_key)).number);
-    GIVES(KEV_NO_NODE, kev_record_by_key(T(table), 99, TEXT("a")).number);
-    f = kev_key_at(T(table), 10, 1);
+    GIVES(KEV_TOO_LONG, kev_record_by_key(T(table), KEV_NOBODY, 10, TEXT(long_key)).number);
+    GIVES(KEV_NO_NODE, kev_record_by_key(T(table), KEV_NOBODY, 99, TEXT("a")).number);
+    f = kev_key_at(T(table), KEV_NOBODY, 10, 1);
     CHECK(f.found == 1 && f.len == 6 && memcmp(kev_text(table.at, f), "tariff", 6) == 0);
-    f = kev_good_key_at(T(table), 10, 2);
+    f = kev_good_key_at(T(table), KEV_NOBODY, 10, 2);
     CHECK(f.found == 1 && f.len == 5 && memcmp(kev_text(table.at, f), "total", 5) == 0);
-    f = kev_value_at(T(table), 10, 1);
+    f = kev_value_at(T(table), KEV_NOBODY, 10, 1);
     CHECK(f.found == 1 && f.len == 5 && memcmp(kev_text(table.at, f), "night", 5) == 0);
-    f = kev_good_value_at(T(table), 10, 0);
+    f = kev_good_value_at(T(table), KEV_NOBODY, 10, 0);
     CHECK(f.found == 1 && f.len == 0);
-    GIVES(KEV_NO_PLACE, kev_key_at(T(table), 10, 3).number);
-    GIVES(KEV_NO_NODE, kev_value_at(T(table), 99, 0).number);
+    GIVES(KEV_NO_PLACE, kev_key_at(T(table), KEV_NOBODY, 10, 3).number);
+    GIVES(KEV_NO_NODE, kev_value_at(T(table), KEV_NOBODY, 99, 0).number);
     BOTH(table, kev_remove_scheduled(T(t), 100, 50), kev_good_remove_scheduled(T(t), 100, 50));
-    CHECK(kev_record_count(T(table), 10).count == 0 && kev_node_header(T(table), 10).last_gc == 5);
+    CHECK(kev_record_count(T(table), KEV_NOBODY, 10).count == 0 && kev_node_header(T(table), 10).last_gc == 5);
 
     /* 14 of every call on a table */
     table.at[0] = 9;
@@ -326,25 +326,25 @@ static void local_calls(void) {
     GIVES(KEV_BAD_TABLE, kev_add_node(T(table), 1));
     GIVES(KEV_BAD_TABLE, kev_remove_node(T(table), 10));
     GIVES(KEV_BAD_TABLE, kev_last_heartbeat(T(table), 10).number);
-    GIVES(KEV_BAD_TABLE, kev_write(T(table), 10, TEXT("a"), TEXT("b"), 3, 0));
-    GIVES(KEV_BAD_TABLE, kev_delete(T(table), 10, TEXT("a"), 0));
-    GIVES(KEV_BAD_TABLE, kev_delete_after_ttl(T(table), 10, TEXT("a"), 0));
+    GIVES(KEV_BAD_TABLE, kev_write(T(table), KEV_NOBODY, 10, TEXT("a"), TEXT("b"), 3, 0));
+    GIVES(KEV_BAD_TABLE, kev_delete(T(table), KEV_NOBODY, 10, TEXT("a"), 0));
+    GIVES(KEV_BAD_TABLE, kev_delete_after_ttl(T(table), KEV_NOBODY, 10, TEXT("a"), 0));
     GIVES(KEV_BAD_TABLE, kev_remove_scheduled(T(table), 0, 0));
     GIVES(KEV_BAD_TABLE, kev_offer_heartbeat(T(table), 10, 1).number);
     GIVES(KEV_BAD_TABLE, kev_local_beat(T(table), 10));
-    GIVES(KEV_BAD_TABLE, kev_find(T(table), 10, TEXT("a")).number);
-    GIVES(KEV_BAD_TABLE, kev_list_prefix(T(table), 10, TEXT("a"), T(out)).number);
+    GIVES(KEV_BAD_TABLE, kev_find(T(table), KEV_NOBODY, 10, TEXT("a")).number);
+    GIVES(KEV_BAD_TABLE, kev_list_prefix(T(table), KEV_NOBODY, 10, TEXT("a"), T(out)).number);
     GIVES(KEV_BAD_TABLE, kev_node_count(T(table)).number);
     GIVES(KEV_BAD_TABLE, kev_node_number(T(table), 0).number);
     GIVES(KEV_BAD_TABLE, kev_node_header(T(table), 10).number);
-    GIVES(KEV_BAD_TABLE, kev_record_count(T(table), 10).number);
-    GIVES(KEV_BAD_TABLE, kev_record_at(T(table), 10, 0).number);
-    GIVES(KEV_BAD_TABLE, kev_record_of(T(table), 0, 0).number);
-    GIVES(KEV_BAD_TABLE, kev_node_rows(T(table), 10).number);
-    GIVES(KEV_BAD_TABLE, kev_prefix_rows(T(table), 10, TEXT("a")).number);
-    GIVES(KEV_BAD_TABLE, kev_record_by_key(T(table), 10, TEXT("a")).number);
-    GIVES(KEV_BAD_TABLE, kev_key_at(T(table), 10, 0).number);
-    GIVES(KEV_BAD_TABLE, kev_value_at(T(table), 10, 0).number);
+    GIVES(KEV_BAD_TABLE, kev_record_count(T(table), KEV_NOBODY, 10).number);
+    GIVES(KEV_BAD_TABLE, kev_record_at(T(table), KEV_NOBODY, 10, 0).number);
+    GIVES(KEV_BAD_TABLE, kev_record_of(T(table), KEV_NOBODY, 0, 0).number);
+    GIVES(KEV_BAD_TABLE, kev_node_rows(T(table), KEV_NOBODY, 10).number);
+    GIVES(KEV_BAD_TABLE, kev_prefix_rows(T(table), KEV_NOBODY, 10, TEXT("a")).number);
+    GIVES(KEV_BAD_TABLE, kev_record_by_key(T(table), KEV_NOBODY, 10, TEXT("a")).number);
+    GIVES(KEV_BAD_TABLE, kev_key_at(T(table), KEV_NOBODY, 10, 0).number);
+    GIVES(KEV_BAD_TABLE, kev_value_at(T(table), KEV_NOBODY, 10, 0).number);
     GIVES(KEV_BAD_TABLE, kev_write_digest(T(table), KEV_V0, NO_NUMBERS, T(out), 0).number);
     GIVES(KEV_BAD_TABLE, kev_compute(T(table), KEV_V0, NO_BYTES, 0, NO_NUMBERS, NO_NUMBERS, T(out), 0).number);
     GIVES(KEV_BAD_TABLE, kev_compute_plan(T(table), KEV_V0, NO_BYTES, 0, NO_NUMBERS, NO_NUMBERS, NO_NUMBERS, T(out), 0).number);
@@ -361,8 +361,8 @@ static void peers(void) {
     GIVES(0, kev_new_table(T(a), KEV_FENCED, KEV_PROFILE_FREE));
     GIVES(0, kev_new_table(T(b), KEV_FENCED, KEV_PROFILE_FREE));
     for (uint64_t node = 7; node < 9; node++) { GIVES(0, kev_add_node(T(a), node)); GIVES(0, kev_add_node(T(b), node)); }
-    GIVES(0, kev_write(T(a), 7, TEXT("total"), TEXT("41"), KEV_SET, 0));
-    GIVES(0, kev_write(T(a), 8, TEXT("flow"), TEXT("3"), KEV_SET, 0));
+    GIVES(0, kev_write(T(a), KEV_NOBODY, 7, TEXT("total"), TEXT("41"), KEV_SET, 0));
+    GIVES(0, kev_write(T(a), KEV_NOBODY, 8, TEXT("flow"), TEXT("3"), KEV_SET, 0));
 
     struct kev_count d = kev_write_digest(T(b), KEV_V0, NO_NUMBERS, T(digest), 0);
     CHECK(d.number == 0 && d.count == 66);
@@ -517,8 +517,8 @@ static void peers(void) {
     highest[25] = 2;
     put64(highest + 26, UINT64_MAX);
     CHECK(kev_apply(T(b), highest, sizeof highest, 5, T(answers)).number == 0 && answers.at[0] == KEV_ANSWER_APPLY);
-    GIVES(KEV_EXHAUSTED, kev_write(T(b), 7, TEXT("new"), TEXT("1"), KEV_SET, 0));
-    GIVES(KEV_EXHAUSTED, kev_good_delete(T(b), 7, TEXT("total"), 0));
+    GIVES(KEV_EXHAUSTED, kev_write(T(b), KEV_NOBODY, 7, TEXT("new"), TEXT("1"), KEV_SET, 0));
+    GIVES(KEV_EXHAUSTED, kev_good_delete(T(b), KEV_NOBODY, 7, TEXT("total"), 0));
 
     struct lent c2 = lend(KEV_TABLE);
     GIVES(0, kev_new_table(T(c2), KEV_PLAIN, KEV_PROFILE_FREE));
@@ -547,8 +547,8 @@ static void peers(void) {
 #define REFUSES(no, table, key, value, wanted)                                     \
     do {                                                                           \
         mark(table);                                                               \
-        GIVES(no, kev_write(T(table), 7, TEXT(key), TEXT(value), wanted, 9));      \
-        GIVES(no, kev_good_write(T(table), 7, TEXT(key), TEXT(value), wanted, 9)); \
+        GIVES(no, kev_write(T(table), KEV_NOBODY, 7, TEXT(key), TEXT(value), wanted, 9));      \
+        GIVES(no, kev_good_write(T(table), KEV_NOBODY, 7, TEXT(key), TEXT(value), wanted, 9)); \
         CHECK(same(table));                                                        \
     } while (0)
 
@@ -561,7 +561,7 @@ static void meters(void) {
     GIVES(0, kev_check(T(meter)));
     GIVES(0, kev_new_table(T(free_one), KEV_GUARDED, KEV_PROFILE_FREE));
     CHECK(free_one.at[KEV_PROFILE_AT] == KEV_PROFILE_FREE);
-    GIVES(KEV_NO_NODE, kev_write(T(meter), 7, TEXT("A"), TEXT("x"), KEV_SET, 0));
+    GIVES(KEV_NO_NODE, kev_write(T(meter), KEV_NOBODY, 7, TEXT("A"), TEXT("x"), KEV_SET, 0));
     GIVES(0, kev_add_node(T(meter), 7));
     GIVES(0, kev_add_node(T(free_one), 7));
 
@@ -575,36 +575,36 @@ static void meters(void) {
     REFUSES(KEV_BAD_FORM, meter, "a", "1.5", KEV_SET);
     REFUSES(KEV_BAD_FORM, meter, "a", "", KEV_SET);
     REFUSES(KEV_BAD_FORM, meter, "a", "12345678901", KEV_SET);
-    BOTH(meter, kev_write(T(t), 7, TEXT("a.1"), NO_BYTES, KEV_TTL, 5), kev_good_write(T(t), 7, TEXT("a.1"), NO_BYTES, KEV_TTL, 5));
-    BOTH(meter, kev_delete(T(t), 7, TEXT("A"), 5), kev_good_delete(T(t), 7, TEXT("A"), 5));
-    GIVES(KEV_NO_KEY, kev_delete_after_ttl(T(meter), 7, TEXT("A"), 5));
-    CHECK(kev_find(T(meter), 7, TEXT("A")).number == 0 && kev_find(T(meter), 7, TEXT("A")).found == 0);
+    BOTH(meter, kev_write(T(t), KEV_NOBODY, 7, TEXT("a.1"), NO_BYTES, KEV_TTL, 5), kev_good_write(T(t), KEV_NOBODY, 7, TEXT("a.1"), NO_BYTES, KEV_TTL, 5));
+    BOTH(meter, kev_delete(T(t), KEV_NOBODY, 7, TEXT("A"), 5), kev_good_delete(T(t), KEV_NOBODY, 7, TEXT("A"), 5));
+    GIVES(KEV_NO_KEY, kev_delete_after_ttl(T(meter), KEV_NOBODY, 7, TEXT("A"), 5));
+    CHECK(kev_find(T(meter), KEV_NOBODY, 7, TEXT("A")).number == 0 && kev_find(T(meter), KEV_NOBODY, 7, TEXT("A")).found == 0);
 
     /* totals: by number, and only against a record that is not deleted */
-    BOTH(meter, kev_write(T(t), 7, TEXT("total"), TEXT("0041823"), KEV_SET, 0), kev_good_write(T(t), 7, TEXT("total"), TEXT("0041823"), KEV_SET, 0));
+    BOTH(meter, kev_write(T(t), KEV_NOBODY, 7, TEXT("total"), TEXT("0041823"), KEV_SET, 0), kev_good_write(T(t), KEV_NOBODY, 7, TEXT("total"), TEXT("0041823"), KEV_SET, 0));
     REFUSES(KEV_SMALLER_TOTAL, meter, "total", "41283", KEV_SET);
     REFUSES(KEV_SMALLER_TOTAL, meter, "total", "9", KEV_TTL);
     REFUSES(KEV_SMALLER_TOTAL, meter, "total", "", KEV_TTL);
-    BOTH(meter, kev_write(T(t), 7, TEXT("total"), TEXT("41823"), KEV_SET, 0), kev_good_write(T(t), 7, TEXT("total"), TEXT("41823"), KEV_SET, 0));
-    BOTH(meter, kev_write(T(t), 7, TEXT("total"), TEXT("9999999999"), KEV_TTL, 5), kev_good_write(T(t), 7, TEXT("total"), TEXT("9999999999"), KEV_TTL, 5));
+    BOTH(meter, kev_write(T(t), KEV_NOBODY, 7, TEXT("total"), TEXT("41823"), KEV_SET, 0), kev_good_write(T(t), KEV_NOBODY, 7, TEXT("total"), TEXT("41823"), KEV_SET, 0));
+    BOTH(meter, kev_write(T(t), KEV_NOBODY, 7, TEXT("total"), TEXT("9999999999"), KEV_TTL, 5), kev_good_write(T(t), KEV_NOBODY, 7, TEXT("total"), TEXT("9999999999"), KEV_TTL, 5));
     REFUSES(KEV_SMALLER_TOTAL, meter, "total", "9999999998", KEV_SET);
-    GIVES(0, kev_delete_after_ttl(T(meter), 7, TEXT("total"), 6));
+    GIVES(0, kev_delete_after_ttl(T(meter), KEV_NOBODY, 7, TEXT("total"), 6));
     REFUSES(KEV_SMALLER_TOTAL, meter, "total", "1", KEV_SET);
-    GIVES(0, kev_delete(T(meter), 7, TEXT("total"), 7));
-    GIVES(0, kev_write(T(meter), 7, TEXT("total"), TEXT("1"), KEV_SET, 0));
-    GIVES(0, kev_write(T(free_one), 7, TEXT("total"), TEXT("5"), KEV_SET, 0));
-    GIVES(0, kev_write(T(free_one), 7, TEXT("total"), TEXT("4"), KEV_SET, 0));
+    GIVES(0, kev_delete(T(meter), KEV_NOBODY, 7, TEXT("total"), 7));
+    GIVES(0, kev_write(T(meter), KEV_NOBODY, 7, TEXT("total"), TEXT("1"), KEV_SET, 0));
+    GIVES(0, kev_write(T(free_one), KEV_NOBODY, 7, TEXT("total"), TEXT("5"), KEV_SET, 0));
+    GIVES(0, kev_write(T(free_one), KEV_NOBODY, 7, TEXT("total"), TEXT("4"), KEV_SET, 0));
     CHECK(kev_remove_node(T(free_one), 7) == 0 && kev_add_node(T(free_one), 8) == 0 && kev_add_node(T(meter), 8) == 0);
 
     /* a peer's record: judged for its form, not for its size; and the exchange in one call asks the whole table before it writes */
 #define EXCHANGE(from, to, ties_len) \
     kev_exchange(T(from), T(to), KEV_V0, 1400, NO_NUMBERS, NO_NUMBERS, ties, ties_len, 9, T(digest), T(delta), T(answers))
-    GIVES(0, kev_write(T(free_one), 8, TEXT("total"), TEXT("50"), KEV_SET, 0));
+    GIVES(0, kev_write(T(free_one), KEV_NOBODY, 8, TEXT("total"), TEXT("50"), KEV_SET, 0));
     CHECK(EXCHANGE(free_one, meter, 1).nodes == 1 && answers.at[0] == KEV_ANSWER_APPLY);
-    GIVES(0, kev_write(T(free_one), 8, TEXT("total"), TEXT("4"), KEV_SET, 0));
-    CHECK(EXCHANGE(free_one, meter, 1).nodes == 1 && kev_find(T(meter), 8, TEXT("total")).len == 1);
-    GIVES(KEV_SMALLER_TOTAL, kev_write(T(meter), 8, TEXT("total"), TEXT("3"), KEV_SET, 0));
-    GIVES(0, kev_write(T(free_one), 8, TEXT("Note"), TEXT("bell broken"), KEV_SET, 0));
+    GIVES(0, kev_write(T(free_one), KEV_NOBODY, 8, TEXT("total"), TEXT("4"), KEV_SET, 0));
+    CHECK(EXCHANGE(free_one, meter, 1).nodes == 1 && kev_find(T(meter), KEV_NOBODY, 8, TEXT("total")).len == 1);
+    GIVES(KEV_SMALLER_TOTAL, kev_write(T(meter), KEV_NOBODY, 8, TEXT("total"), TEXT("3"), KEV_SET, 0));
+    GIVES(0, kev_write(T(free_one), KEV_NOBODY, 8, TEXT("Note"), TEXT("bell broken"), KEV_SET, 0));
     mark(meter), mark(digest), mark(delta), mark(answers);
     struct kev_exchanged x = EXCHANGE(free_one, meter, 1);
     CHECK(given(x.number) == KEV_BAD_FORM && x.step == 3 && x.ops == 0 && x.bytes == 0 && x.nodes == 0);
@@ -625,13 +625,146 @@ static void meters(void) {
     /* the forms are rules of the table: the byte may be changed only where the records obey them */
     meter.at[KEV_PROFILE_AT] = KEV_PROFILE_FREE;
     GIVES(0, kev_check(T(meter)));
-    GIVES(0, kev_write(T(meter), 7, TEXT("Note"), TEXT("x"), KEV_SET, 0));
+    GIVES(0, kev_write(T(meter), KEV_NOBODY, 7, TEXT("Note"), TEXT("x"), KEV_SET, 0));
     meter.at[KEV_PROFILE_AT] = KEV_PROFILE_METER;
     GIVES(KEV_BAD_TABLE, kev_check(T(meter)));
     GIVES(KEV_BAD_TABLE, kev_add_node(T(meter), 8));
-    meter.at[KEV_PROFILE_AT] = 2;
+    meter.at[KEV_PROFILE_AT] = 3;
     GIVES(KEV_BAD_TABLE, kev_check(T(meter)));
     give_back(meter), give_back(free_one), give_back(digest), give_back(delta), give_back(answers);
+}
+
+/* A text that this party was told of, by its front. */
+static bool text_is(struct lent table, uint64_t party, uint64_t node, struct kev_found text, const char *expected) {
+    const uint8_t *front = kev_party_front(T(table), party, node);
+    return text.number == 0 && text.found == 1 && text.len == strlen(expected) && memcmp(kev_text(front, text), expected, text.len) == 0;
+}
+
+/* What a party is told of node 7, but for versions: the same in two tables that differ in the other's records alone. */
+static void told_alike(struct lent a, struct lent b, uint64_t party, const char *key) {
+    const uint8_t *name = (const uint8_t *)key;
+    struct kev_found f = kev_find(T(a), party, 7, name, strlen(key)), g = kev_find(T(b), party, 7, name, strlen(key));
+    CHECK(memcmp(&f, &g, sizeof f) == 0);
+    struct kev_rows rows = kev_node_rows(T(a), party, 7), others = kev_node_rows(T(b), party, 7);
+    CHECK(memcmp(&rows, &others, sizeof rows) == 0);
+    CHECK(rows.count == kev_record_count(T(a), party, 7).count && kev_record_count(T(b), party, 7).count == rows.count);
+    for (kev_size j = 0; j <= rows.count; j++) {
+        struct kev_record r = kev_record_at(T(a), party, 7, j), q = kev_record_at(T(b), party, 7, j);
+        struct kev_record place = kev_record_of(T(a), party, 0, j);
+        CHECK(j < rows.count ? memcmp(&r, &place, sizeof r) == 0 : given(place.number) == KEV_NO_PLACE);
+        r.version = q.version;
+        CHECK(memcmp(&r, &q, sizeof r) == 0);
+        f = kev_key_at(T(a), party, 7, j), g = kev_value_at(T(a), party, 7, j);
+        if (j < rows.count) {
+            struct kev_record row = kev_row(kev_party_front(T(a), party, 7), rows, j), real = kev_record_at(T(a), party, 7, j);
+            CHECK(memcmp(&row, &real, sizeof row) == 0 && f.start == r.key_at && g.start == r.value_at);
+        } else {
+            GIVES(KEV_NO_PLACE, f.number);
+        }
+    }
+    uint8_t places[KEV_RECORDS] = {0}, same_places[KEV_RECORDS] = {0};
+    struct kev_count hits = kev_list_prefix(T(a), party, 7, NO_BYTES, places, sizeof places);
+    CHECK(hits.count == kev_good_list_prefix(T(b), party, 7, NO_BYTES, same_places, sizeof same_places).count && memcmp(places, same_places, sizeof places) == 0);
+}
+
+/* Two firms on one table. */
+static void firms(void) {
+    struct lent shared = lend(KEV_TABLE), alone = lend(KEV_TABLE), free_one = lend(KEV_TABLE), over = lend(KEV_OVERRIDES);
+    struct lent digest = lend(KEV_DIGEST), delta = lend(8000), answers = lend(KEV_NODES), places = lend(KEV_PLACES);
+    static const uint64_t ties[1] = {0};
+    GIVES(0, kev_new_table(T(shared), KEV_GUARDED, KEV_PROFILE_SHARED));
+    CHECK(shared.at[KEV_PROFILE_AT] == KEV_PROFILE_SHARED);
+    GIVES(KEV_NO_NODE, kev_write(T(shared), KEV_METERING, 7, TEXT("b/x"), TEXT("1"), KEV_SET, 0));
+    GIVES(0, kev_add_node(T(shared), 7));
+
+    /* 19 behind 1 and before 3, by every call that names a key; never for a prefix */
+    mark(shared);
+    GIVES(KEV_BAD_TAG, kev_write(T(shared), KEV_METERING, 7, TEXT("b/x"), TEXT("1"), KEV_DELETE, 0));
+    GIVES(KEV_TOO_LONG, kev_write(T(shared), KEV_METERING, 7, TEXT("b/x"), TEXT(long_value), KEV_SET, 0));
+    GIVES(KEV_OTHER_PARTY, kev_write(T(shared), KEV_METERING, 7, TEXT("b/x"), TEXT("1"), KEV_SET, 0));
+    GIVES(KEV_OTHER_PARTY, kev_good_write(T(shared), KEV_BUILDING, 7, TEXT("m/x"), TEXT("1"), KEV_TTL, 0));
+    GIVES(KEV_OTHER_PARTY, kev_write(T(shared), KEV_METERING, 7, TEXT("m"), TEXT("1"), KEV_SET, 0));
+    GIVES(KEV_OTHER_PARTY, kev_write(T(shared), KEV_METERING, 7, NO_BYTES, NO_BYTES, KEV_SET, 0));
+    GIVES(KEV_OTHER_PARTY, kev_write(T(shared), 3, 7, TEXT("m/x"), TEXT("1"), KEV_SET, 0));
+    GIVES(KEV_OTHER_PARTY, kev_delete(T(shared), KEV_METERING, 7, TEXT("b/x"), 5));
+    GIVES(KEV_NO_KEY, kev_delete(T(shared), KEV_METERING, 7, TEXT("m/x"), 5));
+    GIVES(KEV_OTHER_PARTY, kev_delete_after_ttl(T(shared), KEV_NOBODY, 7, TEXT("m/x"), 5));
+    GIVES(KEV_OTHER_PARTY, kev_find(T(shared), KEV_BUILDING, 7, TEXT("m/x")).number);
+    GIVES(KEV_OTHER_PARTY, kev_good_record_by_key(T(shared), KEV_BUILDING, 7, TEXT("m/x")).number);
+    CHECK(kev_list_prefix(T(shared), KEV_BUILDING, 7, TEXT("m/"), T(places)).number == 0 && kev_prefix_rows(T(shared), KEV_BUILDING, 7, TEXT("z")).number == 0);
+    CHECK(same(shared));
+
+    /* each has sixteen to itself */
+    BOTH(shared, kev_write(T(t), KEV_METERING, 7, TEXT("m/total"), TEXT("41"), KEV_SET, 0), kev_good_write(T(t), KEV_METERING, 7, TEXT("m/total"), TEXT("41"), KEV_SET, 0));
+    memcpy(alone.at, shared.at, shared.len);
+    for (uint8_t i = 0; i < KEV_EACH; i++) {
+        const uint8_t key[3] = {'b', '/', (uint8_t)('a' + i)};
+        GIVES(0, kev_write(T(shared), KEV_BUILDING, 7, key, 3, TEXT("label"), KEV_TTL, 1));
+    }
+    mark(shared);
+    GIVES(KEV_NODE_FULL, kev_write(T(shared), KEV_BUILDING, 7, TEXT("b/z"), TEXT("label"), KEV_SET, 0));
+    GIVES(KEV_NODE_FULL, kev_good_write(T(shared), KEV_BUILDING, 7, TEXT("b/z"), TEXT("label"), KEV_SET, 0));
+    CHECK(same(shared));
+    GIVES(0, kev_write(T(shared), KEV_METERING, 7, TEXT("m/flow"), TEXT("3"), KEV_SET, 0));
+    GIVES(0, kev_write(T(alone), KEV_METERING, 7, TEXT("m/flow"), TEXT("3"), KEV_SET, 0));
+    GIVES(0, kev_delete(T(shared), KEV_METERING, 7, TEXT("m/flow"), 9));
+    GIVES(0, kev_delete(T(alone), KEV_METERING, 7, TEXT("m/flow"), 9));
+    CHECK(kev_record_count(T(shared), KEV_BUILDING, 7).count == KEV_EACH && kev_record_count(T(shared), KEV_NOBODY, 7).count == 0);
+
+    /* what the metering firm is told does not depend on the sixteen before its records; where its bytes stand does */
+    told_alike(shared, alone, KEV_METERING, "m/total");
+    told_alike(shared, alone, KEV_NOBODY, "m/total");
+    CHECK(text_is(shared, KEV_METERING, 7, kev_find(T(shared), KEV_METERING, 7, TEXT("m/total")), "41"));
+    CHECK(text_is(alone, KEV_METERING, 7, kev_good_find(T(alone), KEV_METERING, 7, TEXT("m/total")), "41"));
+    CHECK(text_is(shared, KEV_BUILDING, 7, kev_find(T(shared), KEV_BUILDING, 7, TEXT("b/c")), "label"));
+    CHECK(text_is(shared, KEV_METERING, 7, kev_good_key_at(T(shared), KEV_METERING, 7, 1), "m/total"));
+    CHECK(kev_front(T(shared), KEV_METERING, 7).count == KEV_EACH * KEV_ROW && kev_good_front(T(alone), KEV_METERING, 7).count == 0);
+    CHECK(kev_front(T(shared), KEV_BUILDING, 7).count == 0 && kev_front(T(shared), KEV_NOBODY, 7).count == 0);
+    GIVES(KEV_NO_NODE, kev_front(T(shared), KEV_METERING, 8).number);
+    GIVES(KEV_BAD_TABLE, kev_front(NO_BYTES, KEV_METERING, 7).number);
+
+    /* over labels of the site: its own keys alone */
+    GIVES(0, kev_new_overrides(T(over), 7));
+    GIVES(0, kev_write_override(T(over), TEXT("b/a"), TEXT("cellar"), KEV_SET, 0));
+    GIVES(0, kev_write_override(T(over), TEXT("m/new"), TEXT("8"), KEV_SET, 0));
+    GIVES(0, kev_write_override(T(over), TEXT("note"), TEXT("x"), KEV_SET, 0));
+    struct kev_found_over f = kev_find_over(T(over), T(shared), KEV_METERING, 7, TEXT("m/total"));
+    CHECK(f.found == 1 && f.over == 0 && memcmp(kev_text_over(over.at, kev_party_front(T(shared), KEV_METERING, 7), f), "41", 2) == 0);
+    GIVES(KEV_OTHER_PARTY, kev_find_over(T(over), T(shared), KEV_METERING, 7, TEXT("b/a")).number);
+    GIVES(KEV_OTHER_PARTY, kev_good_find_over(T(over), T(shared), KEV_METERING, 7, TEXT("note")).number);
+    struct kev_listed_over l = kev_list_over(T(over), T(shared), KEV_METERING, 7, NO_BYTES, T(places));
+    CHECK(l.number == 0 && l.count == 2 && places.at[0] == KEV_OVER + 1 && places.at[1] == 1);
+    CHECK(kev_good_list_over(T(over), T(shared), KEV_BUILDING, 7, TEXT("b"), T(places)).count == KEV_EACH && places.at[0] == KEV_OVER && places.at[1] == 1);
+    CHECK(kev_list_over(T(over), T(shared), KEV_NOBODY, 7, NO_BYTES, T(places)).count == 0);
+
+    /* a stream: both firms' keys, Room by party, 19 for a key of neither */
+    GIVES(0, kev_new_table(T(free_one), KEV_GUARDED, KEV_PROFILE_FREE));
+    GIVES(0, kev_add_node(T(free_one), 7));
+    for (uint8_t i = 0; i <= KEV_EACH; i++) {
+        const uint8_t key[3] = {'m', '/', (uint8_t)('a' + i)};
+        GIVES(0, kev_write(T(free_one), KEV_METERING, 7, key, 3, TEXT("1"), KEV_SET, 0));
+    }
+    GIVES(0, kev_new_table(T(alone), KEV_GUARDED, KEV_PROFILE_SHARED));
+    GIVES(0, kev_add_node(T(alone), 7));
+    struct kev_count d = kev_write_digest(T(alone), KEV_V0, NO_NUMBERS, T(digest), 0);
+    struct kev_computed c = kev_compute(T(free_one), KEV_V0, digest.at, d.count, 8000, NO_NUMBERS, ties, 1, T(delta), 0);
+    mark(alone);
+    CHECK(kev_apply(T(alone), delta.at, c.bytes, 9, T(answers)).nodes == 1 && answers.at[0] == KEV_ANSWER_ROOM && same(alone));
+    CHECK(kev_good_apply(T(alone), delta.at, c.bytes, 9, T(answers)).nodes == 1 && answers.at[0] == KEV_ANSWER_ROOM && same(alone));
+    GIVES(0, kev_write(T(free_one), KEV_NOBODY, 7, TEXT("neither"), TEXT("1"), KEV_SET, 0));
+    c = kev_compute(T(free_one), KEV_V0, digest.at, d.count, 8000, NO_NUMBERS, ties, 1, T(delta), 0);
+    GIVES(KEV_OTHER_PARTY, kev_apply(T(alone), delta.at, c.bytes, 9, T(answers)).number);
+    struct kev_exchanged x = kev_exchange(T(free_one), T(alone), KEV_V0, 8000, NO_NUMBERS, NO_NUMBERS, ties, 1, 9, T(digest), T(delta), T(answers));
+    CHECK(given(x.number) == KEV_OTHER_PARTY && x.step == 3 && same(alone));
+    x = kev_exchange(T(shared), T(alone), KEV_V0, 8000, NO_NUMBERS, NO_NUMBERS, ties, 1, 9, T(digest), T(delta), T(answers));
+    CHECK(x.number == 0 && x.nodes == 1 && answers.at[0] == KEV_ANSWER_APPLY);
+
+    /* the rules of 14 */
+    shared.at[KEV_PROFILE_AT] = KEV_PROFILE_METER;
+    GIVES(KEV_BAD_TABLE, kev_check(T(shared)));
+    free_one.at[KEV_PROFILE_AT] = KEV_PROFILE_SHARED;
+    GIVES(KEV_BAD_TABLE, kev_check(T(free_one)));
+    give_back(shared), give_back(alone), give_back(free_one), give_back(over), give_back(digest), give_back(delta), give_back(answers), give_back(places);
 }
 
 /* A grid as docs/FORMAT.md has its bytes: count of columns, numbers, who is present, the rows of last_gc, the rows of max. */
@@ -699,9 +832,9 @@ static void grids(void) {
     no_grid(shorter, table), no_grid(longer, table);
 
     /* nobody is present: 22 before 2, and no record goes */
-    GIVES(0, kev_write(T(table), 7, TEXT("lamp"), TEXT("on"), KEV_SET, 0));
-    GIVES(0, kev_write(T(table), 7, TEXT("door"), TEXT("shut"), KEV_SET, 0));
-    GIVES(0, kev_delete(T(table), 7, TEXT("lamp"), 100));
+    GIVES(0, kev_write(T(table), KEV_NOBODY, 7, TEXT("lamp"), TEXT("on"), KEV_SET, 0));
+    GIVES(0, kev_write(T(table), KEV_NOBODY, 7, TEXT("door"), TEXT("shut"), KEV_SET, 0));
+    GIVES(0, kev_delete(T(table), KEV_NOBODY, 7, TEXT("lamp"), 100));
     mark(table), mark(grid);
     struct kev_least least = kev_least_max(T(grid), 99);
     CHECK(given(least.number) == KEV_NOBODY_PRESENT && least.max == 0);
@@ -782,7 +915,7 @@ static void grids(void) {
     GIVES(0, kev_remove_carefully(T(grid), T(table), 149, 50));
     CHECK(same(table));
     GIVES(0, kev_remove_carefully(T(grid), T(table), 150, 50));
-    CHECK(kev_check(T(table)) == 0 && kev_record_count(T(table), 7).count == 1 && kev_node_header(T(table), 7).last_gc == 3);
+    CHECK(kev_check(T(table)) == 0 && kev_record_count(T(table), KEV_NOBODY, 7).count == 1 && kev_node_header(T(table), 7).last_gc == 3);
     put_pair(want, 3, 0, 0, 3), put_pair(want, 3, 1, 0, 4);
     CHECK(memcmp(grid.at, want, KEV_GRID) == 0);
 
@@ -898,7 +1031,7 @@ static void answers_to_deltas(void) {
         CHECK(answered(t, delta, one_record(delta, 7, 0, 9, 10, "a")) == KEV_ANSWER_REJECT);
         CHECK(same(t));
         CHECK(answered(t, delta, one_record(delta, 7, 0, 0, 1, "a")) == KEV_ANSWER_APPLY);
-        CHECK(kev_find(T(t), 7, TEXT("a")).found == 1 && kev_node_header(T(t), 7).max == 1);
+        CHECK(kev_find(T(t), KEV_NOBODY, 7, TEXT("a")).found == 1 && kev_node_header(T(t), 7).max == 1);
         mark(t);
         CHECK(answered(t, delta, one_record(delta, 7, 0, 0, 1, "a")) == KEV_ANSWER_REJECT);
         CHECK(same(t));
@@ -907,14 +1040,14 @@ static void answers_to_deltas(void) {
         CHECK(answered(t, delta, one_record(delta, 7, 5, 0, 3, "b")) == KEV_ANSWER_APPLY_AFTER_RESET);
         struct kev_header header = kev_node_header(T(t), 7);
         CHECK(header.last_gc == 5 && header.max == 3);
-        CHECK(kev_find(T(t), 7, TEXT("a")).found == 0 && kev_find(T(t), 7, TEXT("b")).found == 1);
+        CHECK(kev_find(T(t), KEV_NOBODY, 7, TEXT("a")).found == 0 && kev_find(T(t), KEV_NOBODY, 7, TEXT("b")).found == 1);
 
         /* older than that reset: taken by a plain node alone */
         struct lent before = lend(KEV_TABLE);
         memcpy(before.at, t.at, t.len);
         mark(t);
         CHECK(answered(t, delta, one_record(delta, 7, 0, 3, 4, "a")) == (mode == KEV_PLAIN ? KEV_ANSWER_APPLY : KEV_ANSWER_FENCED));
-        CHECK(mode == KEV_PLAIN ? kev_find(T(t), 7, TEXT("a")).found == 1 : same(t));
+        CHECK(mode == KEV_PLAIN ? kev_find(T(t), KEV_NOBODY, 7, TEXT("a")).found == 1 : same(t));
         /* one that reaches it, of a sender that has removed less: Fenced by a fenced node alone */
         memcpy(t.at, before.at, t.len);
         CHECK(answered(t, delta, one_record(delta, 7, 0, 3, 6, "a")) == (mode == KEV_FENCED ? KEV_ANSWER_FENCED : KEV_ANSWER_APPLY));
@@ -922,7 +1055,7 @@ static void answers_to_deltas(void) {
 
         /* a 33rd key: the node stays as it is */
         GIVES(0, kev_add_node(T(t), 9));
-        for (uint8_t key = 'A'; key < 'A' + KEV_RECORDS; key++) GIVES(0, kev_write(T(t), 9, &key, 1, NO_BYTES, KEV_SET, 0));
+        for (uint8_t key = 'A'; key < 'A' + KEV_RECORDS; key++) GIVES(0, kev_write(T(t), KEV_NOBODY, 9, &key, 1, NO_BYTES, KEV_SET, 0));
         mark(t);
         CHECK(answered(t, delta, one_record(delta, 9, 0, KEV_RECORDS, KEV_RECORDS + 1, "new")) == KEV_ANSWER_ROOM);
         CHECK(same(t));
@@ -940,18 +1073,18 @@ static void null_parts(void) {
     GIVES(0, kev_new_overrides(T(over), 7));
     GIVES(0, kev_new_grid(T(grid), T(t)));
     /* the empty key and the empty value are a key and a value */
-    BOTH(t, kev_write(T(t), 7, NO_BYTES, NO_BYTES, KEV_SET, 0), kev_good_write(T(t), 7, NO_BYTES, NO_BYTES, KEV_SET, 0));
-    struct kev_found found = kev_find(T(t), 7, NO_BYTES);
-    CHECK(found.found == 1 && found.len == 0 && kev_good_find(T(t), 7, NO_BYTES).start == found.start);
-    CHECK(kev_record_by_key(T(t), 7, NO_BYTES).found == 1 && kev_good_record_by_key(T(t), 7, NO_BYTES).found == 1);
-    CHECK(kev_prefix_rows(T(t), 7, NO_BYTES).count == 1 && kev_good_prefix_rows(T(t), 7, NO_BYTES).count == 1);
-    CHECK(kev_list_prefix(T(t), 7, NO_BYTES, T(out)).count == 1 && kev_good_list_prefix(T(t), 7, NO_BYTES, T(out)).count == 1);
-    GIVES(KEV_NO_PLACE, kev_list_prefix(T(t), 7, NO_BYTES, NO_OUT).number);
-    GIVES(KEV_NO_PLACE, kev_good_list_prefix(T(t), 7, NO_BYTES, NO_OUT).number);
+    BOTH(t, kev_write(T(t), KEV_NOBODY, 7, NO_BYTES, NO_BYTES, KEV_SET, 0), kev_good_write(T(t), KEV_NOBODY, 7, NO_BYTES, NO_BYTES, KEV_SET, 0));
+    struct kev_found found = kev_find(T(t), KEV_NOBODY, 7, NO_BYTES);
+    CHECK(found.found == 1 && found.len == 0 && kev_good_find(T(t), KEV_NOBODY, 7, NO_BYTES).start == found.start);
+    CHECK(kev_record_by_key(T(t), KEV_NOBODY, 7, NO_BYTES).found == 1 && kev_good_record_by_key(T(t), KEV_NOBODY, 7, NO_BYTES).found == 1);
+    CHECK(kev_prefix_rows(T(t), KEV_NOBODY, 7, NO_BYTES).count == 1 && kev_good_prefix_rows(T(t), KEV_NOBODY, 7, NO_BYTES).count == 1);
+    CHECK(kev_list_prefix(T(t), KEV_NOBODY, 7, NO_BYTES, T(out)).count == 1 && kev_good_list_prefix(T(t), KEV_NOBODY, 7, NO_BYTES, T(out)).count == 1);
+    GIVES(KEV_NO_PLACE, kev_list_prefix(T(t), KEV_NOBODY, 7, NO_BYTES, NO_OUT).number);
+    GIVES(KEV_NO_PLACE, kev_good_list_prefix(T(t), KEV_NOBODY, 7, NO_BYTES, NO_OUT).number);
     GIVES(0, kev_write_override(T(over), NO_BYTES, NO_BYTES, KEV_SET, 0));
-    CHECK(kev_find_over(T(over), T(t), 7, NO_BYTES).over == 1 && kev_good_find_over(T(over), T(t), 7, NO_BYTES).over == 1);
-    CHECK(kev_list_over(T(over), T(t), 7, NO_BYTES, T(out)).count == 1 && kev_good_list_over(T(over), T(t), 7, NO_BYTES, T(out)).count == 1);
-    GIVES(KEV_NO_PLACE, kev_list_over(T(over), T(t), 7, NO_BYTES, NO_OUT).number);
+    CHECK(kev_find_over(T(over), T(t), KEV_NOBODY, 7, NO_BYTES).over == 1 && kev_good_find_over(T(over), T(t), KEV_NOBODY, 7, NO_BYTES).over == 1);
+    CHECK(kev_list_over(T(over), T(t), KEV_NOBODY, 7, NO_BYTES, T(out)).count == 1 && kev_good_list_over(T(over), T(t), KEV_NOBODY, 7, NO_BYTES, T(out)).count == 1);
+    GIVES(KEV_NO_PLACE, kev_list_over(T(over), T(t), KEV_NOBODY, 7, NO_BYTES, NO_OUT).number);
     GIVES(0, kev_delete_override_after_ttl(T(over), NO_BYTES, 5));
     GIVES(0, kev_delete_override(T(over), NO_BYTES, 5));
     /* digests, deltas, plans and listings */
@@ -979,25 +1112,25 @@ static void null_parts(void) {
     GIVES(KEV_NO_PLACE, kev_exchange(T(t), T(other), KEV_V0, 100, NO_NUMBERS, NO_NUMBERS, NO_NUMBERS, 5, NO_OUT, NO_OUT, NO_OUT).number);
     give_back(other);
     GIVES(0, kev_tell(T(grid), 0, KEV_V1, NO_BYTES).number);
-    GIVES(0, kev_delete_after_ttl(T(t), 7, NO_BYTES, 5));
-    GIVES(0, kev_delete(T(t), 7, NO_BYTES, 5));
+    GIVES(0, kev_delete_after_ttl(T(t), KEV_NOBODY, 7, NO_BYTES, 5));
+    GIVES(0, kev_delete(T(t), KEV_NOBODY, 7, NO_BYTES, 5));
     /* what is no table, no overrides and no grid */
     GIVES(KEV_BAD_TABLE, kev_check(NO_BYTES));
     GIVES(KEV_BAD_TABLE, kev_new_table(NO_OUT, KEV_PLAIN, KEV_PROFILE_FREE));
     GIVES(KEV_BAD_TABLE, kev_add_node(NO_OUT, 7));
     GIVES(KEV_BAD_TABLE, kev_remove_node(NO_OUT, 7));
     GIVES(KEV_BAD_TABLE, kev_last_heartbeat(NO_BYTES, 7).number);
-    GIVES(KEV_BAD_TABLE, kev_write(NO_OUT, 7, NO_BYTES, NO_BYTES, KEV_SET, 0));
+    GIVES(KEV_BAD_TABLE, kev_write(NO_OUT, KEV_NOBODY, 7, NO_BYTES, NO_BYTES, KEV_SET, 0));
     GIVES(KEV_BAD_TABLE, kev_remove_scheduled(NO_OUT, 5, 5));
     GIVES(KEV_BAD_TABLE, kev_offer_heartbeat(NO_OUT, 7, 5).number);
     GIVES(KEV_BAD_TABLE, kev_local_beat(NO_OUT, 7));
-    GIVES(KEV_BAD_TABLE, kev_find(NO_BYTES, 7, NO_BYTES).number);
+    GIVES(KEV_BAD_TABLE, kev_find(NO_BYTES, KEV_NOBODY, 7, NO_BYTES).number);
     GIVES(KEV_BAD_TABLE, kev_node_count(NO_BYTES).number);
-    GIVES(KEV_BAD_TABLE, kev_node_rows(NO_BYTES, 7).number);
+    GIVES(KEV_BAD_TABLE, kev_node_rows(NO_BYTES, KEV_NOBODY, 7).number);
     GIVES(KEV_BAD_TABLE, kev_apply(NO_OUT, NO_BYTES, 5, NO_OUT).number);
     GIVES(KEV_BAD_TABLE, kev_check_overrides(NO_BYTES));
     GIVES(KEV_BAD_TABLE, kev_new_overrides(NO_OUT, 7));
-    GIVES(KEV_BAD_TABLE, kev_find_over(NO_BYTES, NO_BYTES, 7, NO_BYTES).number);
+    GIVES(KEV_BAD_TABLE, kev_find_over(NO_BYTES, NO_BYTES, KEV_NOBODY, 7, NO_BYTES).number);
     GIVES(KEV_BAD_TABLE, kev_new_grid(NO_OUT, T(t)));
     GIVES(KEV_BAD_TABLE, kev_remove_carefully(NO_BYTES, NO_OUT, 5, 5));
     give_back(t), give_back(over), give_back(grid), give_back(out), give_back(digest), give_back(answers);
@@ -1007,11 +1140,11 @@ int main(void) {
     local_calls();
     peers();
     meters();
+    firms();
     answers_to_deltas();
     null_parts();
     grids();
-    for (int number = 0; number < 19; number++) CHECK(seen[number]);
-    for (int number = 20; number < 24; number++) CHECK(seen[number]);
+    for (int number = 0; number < 24; number++) CHECK(seen[number]);
     printf("every.c: %lu checks held, %lu failed\n", held, failed);
     return failed ? 1 : 0;
 }

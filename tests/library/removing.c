@@ -27,11 +27,11 @@ static void make(int half) {
         ok(kev_add_node(full, KEV_TABLE, (uint64_t)node));
         for (int record = 0; record < RECORDS; record++) {
             int length = key_of(key, sizeof key, node, record);
-            ok(kev_write(full, KEV_TABLE, (uint64_t)node, (const uint8_t *)key, (kev_size)length, value, (kev_size)(16 + (32 * node + record) * 37 % 49), KEV_SET, 0));
+            ok(kev_write(full, KEV_TABLE, KEV_NOBODY, (uint64_t)node, (const uint8_t *)key, (kev_size)length, value, (kev_size)(16 + (32 * node + record) * 37 % 49), KEV_SET, 0));
         }
         for (int record = 0; half && record < RECORDS; record += 2) {
             int length = key_of(key, sizeof key, node, record);
-            ok(kev_delete(full, KEV_TABLE, (uint64_t)node, (const uint8_t *)key, (kev_size)length, NOW - GRACE));
+            ok(kev_delete(full, KEV_TABLE, KEV_NOBODY, (uint64_t)node, (const uint8_t *)key, (kev_size)length, NOW - GRACE));
         }
     }
 }
@@ -43,6 +43,6 @@ int main(int argc, char **argv) {
         memcpy(table, full, KEV_TABLE);
         ok(kev_good_remove_scheduled(table, KEV_TABLE, NOW, GRACE));
     }
-    printf("%s: %d records of a node are left\n", argv[1], (int)kev_record_count(table, KEV_TABLE, 0).count);
+    printf("%s: %d records of a node are left\n", argv[1], (int)kev_record_count(table, KEV_TABLE, KEV_NOBODY, 0).count);
     return 0;
 }

@@ -18,10 +18,10 @@ static uint64_t number;
 static kev_size bytes, text;
 
 static void check(void) { number = kev_check(table, KEV_TABLE); }
-static void find(void) { number = kev_find(table, KEV_TABLE, 7, (const uint8_t *)"k", 1).number; }
-static void write(void) { number = kev_write(table, KEV_TABLE, 7, (const uint8_t *)"k", 1, (const uint8_t *)"v", 1, KEV_SET, 0); }
+static void find(void) { number = kev_find(table, KEV_TABLE, KEV_NOBODY, 7, (const uint8_t *)"k", 1).number; }
+static void write(void) { number = kev_write(table, KEV_TABLE, KEV_NOBODY, 7, (const uint8_t *)"k", 1, (const uint8_t *)"v", 1, KEV_SET, 0); }
 static void removal(void) { number = kev_remove_scheduled(table, KEV_TABLE, 0, 1); }
-static void rows(void) { number = kev_prefix_rows(table, KEV_TABLE, 7, (const uint8_t *)"k", 1).number; }
+static void rows(void) { number = kev_prefix_rows(table, KEV_TABLE, KEV_NOBODY, 7, (const uint8_t *)"k", 1).number; }
 static void tell(void) { number = kev_write_digest(table, KEV_TABLE, KEV_V0, none, 0, digest, KEV_DIGEST, 0).number; }
 static void compute(void) {
     struct kev_computed told = kev_compute(table, KEV_TABLE, KEV_V0, no_nodes, 2, KEV_DELTA, none, 0, ties, KEV_NODES, delta, KEV_DELTA, 0);
@@ -79,7 +79,7 @@ int main(void) {
     for (node = 0; node < KEV_NODES; node++)
         for (record = 0; record < KEV_RECORDS - 1; record++) {
             snprintf(key, sizeof key, "%02u%030u", record * 7 % 31, record);
-            if (kev_write(table, KEV_TABLE, node, (const uint8_t *)key, KEV_KEY, (const uint8_t *)value, KEV_VALUE - record, KEV_SET, 0)) abort();
+            if (kev_write(table, KEV_TABLE, KEV_NOBODY, node, (const uint8_t *)key, KEV_KEY, (const uint8_t *)value, KEV_VALUE - record, KEV_SET, 0)) abort();
         }
     printf("stack.c: the deepest stack of each call, on full tables\n");
     deepest("the check", check, 0);

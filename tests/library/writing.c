@@ -28,14 +28,14 @@ int main(int argc, char **argv) {
         ok(kev_add_node(table, KEV_TABLE, (uint64_t)node));
         for (int r = 0; r < RECORDS; r++) {
             int length = key_of(key, sizeof key, node, r);
-            ok(kev_write(table, KEV_TABLE, (uint64_t)node, (const uint8_t *)key, (kev_size)length, (const uint8_t *)"0001000", 7, KEV_SET, 0));
+            ok(kev_write(table, KEV_TABLE, KEV_NOBODY, (uint64_t)node, (const uint8_t *)key, (kev_size)length, (const uint8_t *)"0001000", 7, KEV_SET, 0));
         }
     }
     const int length = key_of(key, sizeof key, NODE, record);
     for (int i = 0; i < atoi(argv[3]); i++) {
         snprintf(value, sizeof value, "%07d", 1001 + i);
-        ok(kev_good_write(table, KEV_TABLE, NODE, (const uint8_t *)key, (kev_size)length, (const uint8_t *)value, 7, KEV_SET, 0));
+        ok(kev_good_write(table, KEV_TABLE, KEV_NOBODY, NODE, (const uint8_t *)key, (kev_size)length, (const uint8_t *)value, 7, KEV_SET, 0));
     }
-    printf("%s, %s: version %lu\n", argv[1], argv[2], (unsigned long)kev_record_by_key(table, KEV_TABLE, NODE, (const uint8_t *)key, (kev_size)length).version);
+    printf("%s, %s: version %lu\n", argv[1], argv[2], (unsigned long)kev_record_by_key(table, KEV_TABLE, KEV_NOBODY, NODE, (const uint8_t *)key, (kev_size)length).version);
     return 0;
 }

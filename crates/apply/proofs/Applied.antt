@@ -9,9 +9,8 @@ use lib.Dec.{leb}
 use borrow.Author.Tests.{le-leb, lt-leb}
 use Rattle.fields.specs.Parts.{put}
 use Rattle.rules.specs.Delta as rule
-use Rattle.rules.specs.Apply.{Stream, Taking, applyNode, applyEach, codes, apply, Ways, waysIn, waysOf}
-use Rattle.rules.specs.Node.{Node}
-use Rattle.rules.specs.Profile.{Kind, readDeltaAs}
+use Rattle.rules.specs.Apply.{Stream, applyNode, applyEach, codes, apply, Ways, waysIn}
+use Rattle.rules.specs.Profile.{Kind, kind, readDeltaAs}
 use Rattle.rules.specs.Layout.{tableWidth, encode}
 use Rattle.rules.specs.Whole.{withTable, areaOf, encodeWhole, decodeWhole, validWhole}
 use Rattle.rules.specs.Given.{Gives}
@@ -25,7 +24,6 @@ use Rattle.rules.specs.declared.Applied.{Applied}
 use Rattle.rules.specs.declared.Applied.the-variants.{Nodes, Refused}
 use Rattle.rules.proofs.Refusing.{whole-bytes}
 use Rattle.table_check.proofs.Entry.{area-back}
-use Rattle.profiles.proofs.Lawful.{taken-as}
 use Rattle.profiles.proofs.Reading.{delta-plain}
 use Rattle.delta_form.specs.Forming.{deltaReadAs}
 use Rattle.delta_form.proofs.Formed.{as-good}
@@ -70,13 +68,6 @@ as-accepted p s ops nodes e a = go (readDeltaAs p s) refl e
     go : (o : rule.Ops) → readDeltaAs p s ≡ o → rule.readAnswer o ≡ read.Good ops nodes → o ≡ rule.Good (a .0)
     go (rule.Good os) q b = sym (delta-plain p s os q .0) ∙ a .1
     go (rule.Faulty y b) q c = let z : _≡_ {A = ℕ} 0 1 = cc in absurd (omega arith)
-
--- its nodes take as those of its mode
-pub taking-is : (k : Kind) (now : ℕ) → applyNode (waysIn k) now ≡ applyNode (waysOf (k .mode)) now
-taking-is k now = λ z d n. one d n z
-  where
-    one : (d : rule.NodeDelta) (n : Node) → applyNode (waysIn k) now d n ≡ applyNode (waysOf (k .mode)) now d n
-    one d n = taken-as k now d n
 
 -- ---- the call
 
@@ -129,20 +120,19 @@ module _ (delta : List ℕ) (clock : ℕ) (list l : List ℕ) where
           (rw (lentApplyAs, v, apply, q, n), rw (lentApplyAs, v, apply, q, n) (ap (λ (t : List ℕ). both t list) (sym (whole-bytes l v))))
 
       -- the area came back as s
-      pub applied-all : nodes ≤ length list → (mode : Mode) → mode ≡ k .mode → (s list′ : List ℕ)
-          → both s list′ ≡ partsApplied mode clock (partsFrom delta 0) list (areaOf l)
+      pub applied-all : nodes ≤ length list → (mode : Mode) → mode ≡ k .mode → (profile : Profile) → profile ≡ k .profile → (s list′ : List ℕ)
+          → both s list′ ≡ partsApplied (kind mode profile) clock (partsFrom delta 0) list (areaOf l)
           → Outcome (Nodes nodes) (s ++ drop tableWidth l) list′
       unfolding lentApplyAs apply
-      applied-all h mode m s list′ p =
+      applied-all h mode m profile f s list′ p =
           let q : ways .reads delta ≡ rule.Good (a .0) = reads in
           let n : leb (length (rule.partsOf (a .0))) (length list) ≡ true = le-leb (length (rule.partsOf (a .0))) (length list) (omega (arith, count)) in
           let same : partsFrom delta 0 ≡ rule.partsOf (a .0) = accepted-parts delta a in
           let after : Stream = applyEach (applyNode ways clock) (rule.partsOf (a .0)) (decodeWhole l .table) in
           let e : both s list′ ≡ both (encode (after .table)) (put 0 (codes (after .answers)) list) =
           p
-          ∙ ap (λ (x : Mode). partsApplied x clock (partsFrom delta 0) list (areaOf l)) m
-          ∙ ap (λ (xs : List rule.Part). partsApplied (k .mode) clock xs list (areaOf l)) same
-          ∙ ap (λ (f : Taking). both (encode (applyEach f (rule.partsOf (a .0)) (decodeWhole l .table) .table)) (put 0 (codes (applyEach f (rule.partsOf (a .0)) (decodeWhole l .table) .answers)) list)) (sym (taking-is k clock)) in
+          ∙ ap₂ (λ (x : Mode) (y : Profile). partsApplied (kind x y) clock (partsFrom delta 0) list (areaOf l)) m f
+          ∙ ap (λ (xs : List rule.Part). partsApplied k clock xs list (areaOf l)) same in
           let t : s ++ drop tableWidth l ≡ encodeWhole (withTable (after .table) (decodeWhole l)) =
           area-back l v (after .table) s (ap (λ (x : TableAndList). x .table) e) in
           (rw (lentApplyAs, v, apply, q, n) (ap Nodes count), rw (lentApplyAs, v, apply, q, n) (ap₂ both t (ap (λ (x : TableAndList). x .list) e)))

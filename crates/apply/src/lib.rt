@@ -21,8 +21,8 @@ pub fn mode_of(table: &[u8]) -> Mode
     Mode::of_byte(fields::byte_at(table, layout::AREA + layout::MODE))
 }
 
-// Applies the bytes of a delta to a good table: 13 for the delta's length, the first operation at fault, 17 straight after a record's own 11 where the table's
-// profile does not take it, 8 for the places of the answers.
+// Applies the bytes of a delta to a good table: 13 for the delta's length, the first operation at fault, 17 or 19 straight after a record's own 11 where the
+// table's profile does not take it, 8 for the places of the answers.
 pub fn apply_known(table: &mut [u8], delta: &[u8], clock: u64, answers: &mut [u8]) -> Applied
     requires { ⌜ validWhole (now table) ≡ true ⌝ }
     ensures { λ r. ⌜ Gives (lentApply (now (delta .entry)) clock (now (answers .entry)) (now (table .entry)))
@@ -45,6 +45,7 @@ pub fn apply_known(table: &mut [u8], delta: &[u8], clock: u64, answers: &mut [u8
             apply_parts::apply_each(
                 &mut table[..layout::AREA],
                 mode,
+                profile,
                 delta,
                 heads,
                 nodes,

@@ -16,25 +16,24 @@ use Rattle.fields.proofs.Parts.{put-nil, put-cons}
 use borrow.Rule.Slice.PartMut.{putMid}
 use Rattle.rules.specs.Sizes.{numbers}
 use Rattle.rules.specs.Answers.{codeOf}
-use Rattle.rules.specs.Node.{Rec, Node}
+use Rattle.rules.specs.Node.{Node}
 use Rattle.rules.specs.Table.{Table, nodeOf, setNode, obeys}
 use Rattle.rules.specs.Delta as rule
-use Rattle.rules.specs.Apply.{Taken, Stream, takenAs, withRoom, answered, statusOf, deltaStatus, outcome, applyNode, onNode, answering, applyEach, codes, waysOf}
+use Rattle.rules.specs.Profile.{Kind}
+use Rattle.rules.specs.Apply.{Taken, Stream, takenAs, withRoom, answered, statusOf, deltaStatus, outcome, applyNode, onNode, answering, applyEach, codes, waysIn}
 use Rattle.rules.specs.Layout.{nodeWidth, encodeNode, decodeNode, encode, decode, valid}
 use Rattle.rules.specs.Given.{Gives}
 use Rattle.rules.specs.Local.{gives}
 use Rattle.rules.specs.Lent.{stored, both}
 use Rattle.rules.specs.declared.DeltaStatus.{DeltaStatus}
 use Rattle.rules.specs.declared.DeltaStatus.the-variants.{Reject, Fenced, Apply, ApplyAfterReset}
-use Rattle.rules.specs.declared.Mode.{Mode}
-use Rattle.rules.specs.declared.Mode.the-variants as modes
 use Rattle.rules.specs.declared.NodeAnswer.{NodeAnswer}
 use Rattle.rules.specs.declared.NodeAnswer.the-variants as node
 use Rattle.rules.proofs.Obeys.{OkTable, table-facts, facts-table}
 use Rattle.rules.proofs.Received.{OkDelta, parts-ok}
 use Rattle.rules.proofs.Deltas.{delta-is}
 use Rattle.rules.proofs.Calls.{ok-each}
-use Rattle.rules.proofs.Keeps.{mode-lawful}
+use Rattle.profiles.proofs.Lawful.{kind-lawful}
 use Rattle.delta_op.specs.Plain.{opsFrom}
 use Rattle.delta_op.proofs.Plain.{good-plain}
 use Rattle.table.specs.Fits.{LaidNode}
@@ -45,21 +44,13 @@ use Rattle.table_read.proofs.Held.{node-seen, held-laid, held-rises, held-node,
 use Rattle.rules.specs.declared.Header.{Header}
 use Rattle.table.proofs.Tables.{length-table, decode-encode, valid-encode, encode-decode, valid-obeys, valid-long}
 use Rattle.delta_read.specs.NodeDeltas.{partsFrom, deltaOf, noPart}
-use Rattle.apply_node.specs.Taking.{hasRoom, Rising}
+use Rattle.apply_node.specs.Taking.{Rising}
 use Rattle.apply_grow.specs.Growing.{begun, grown, Stored}
 use Rattle.apply_parts.specs.Applying.{leaves, resets, answerAs, nodeTaken, nodeApplied, onHeld, partApplied, partsApplied, Accepted}
 
--- ---- the ways of a mode
-
--- every mode has document 01's room
-roomy-is : (m : Mode) (l : List Rec) → waysOf m .roomy l ≡ hasRoom l
-roomy-is modes.Plain l = refl
-roomy-is modes.Fenced l = refl
-roomy-is modes.Guarded l = refl
-
 -- ---- a node's answer, by the status
 
-module _ (mode : Mode) (clock : ℕ) (s : List ℕ) (gc from max at : ℕ) (b : List ℕ) (o : LaidNode b) where
+module _ (k : Kind) (clock : ℕ) (s : List ℕ) (gc from max at : ℕ) (b : List ℕ) (o : LaidNode b) where
   d : rule.NodeDelta
   d = deltaOf s gc from max at
 
@@ -67,61 +58,61 @@ module _ (mode : Mode) (clock : ℕ) (s : List ℕ) (gc from max at : ℕ) (b : 
   n = decodeNode b .node
 
   -- the header that was read is the node's
-  pub status-is : (h : Header) (v : DeltaStatus) → h ≡ headerOf (decodeNode b .node) → v ≡ statusOf (waysOf mode .fence) (h .«last_gc») (h .max) from gc max
-      → v ≡ deltaStatus (waysOf mode .fence) (decodeNode b .node) (deltaOf s gc from max at)
+  pub status-is : (h : Header) (v : DeltaStatus) → h ≡ headerOf (decodeNode b .node) → v ≡ statusOf (waysIn k .fence) (h .«last_gc») (h .max) from gc max
+      → v ≡ deltaStatus (waysIn k .fence) (decodeNode b .node) (deltaOf s gc from max at)
   unfolding deltaStatus
-  status-is h v e q = q ∙ ap (λ (x : Header). statusOf (waysOf mode .fence) (x .«last_gc») (x .max) from gc max) e
+  status-is h v e q = q ∙ ap (λ (x : Header). statusOf (waysIn k .fence) (x .«last_gc») (x .max) from gc max) e
 
-  by-room : (a : NodeAnswer) (x : Node) (r : Bool) (b′ : List ℕ) → Stored (withNode x (decodeNode b)) b r b′ → (y : Taken) → y ≡ withRoom (waysOf mode) a x (decodeNode b .node)
+  by-room : (a : NodeAnswer) (x : Node) (r : Bool) (b′ : List ℕ) → Stored (k .profile) (withNode x (decodeNode b)) b r b′ → (y : Taken) → y ≡ withRoom (waysIn k) a x (decodeNode b .node)
       → Gives (nodeTaken y b) (pick r a node.Room) b′
   by-room a x true b′ t y e =
-      let p : y ≡ takenAs a x = e ∙ ap (λ (q : Bool). pick q (takenAs a x) (takenAs node.Room (decodeNode b .node))) (roomy-is mode (x .recs) ∙ sym (t .room)) in
+      let p : y ≡ takenAs a x = e ∙ ap (λ (q : Bool). pick q (takenAs a x) (takenAs node.Room (decodeNode b .node))) (sym (t .room)) in
       (sym (ap (λ (z : Taken). z .answer) p), t .bytes ∙ ap (λ (z : Taken). encodeNode (withNode (z .node) (decodeNode b))) (sym p))
   by-room a x false b′ t y e =
-      let p : y ≡ takenAs node.Room (decodeNode b .node) = e ∙ ap (λ (q : Bool). pick q (takenAs a x) (takenAs node.Room (decodeNode b .node))) (roomy-is mode (x .recs) ∙ sym (t .room)) in
+      let p : y ≡ takenAs node.Room (decodeNode b .node) = e ∙ ap (λ (q : Bool). pick q (takenAs a x) (takenAs node.Room (decodeNode b .node))) (sym (t .room)) in
       (sym (ap (λ (z : Taken). z .answer) p), t .bytes ∙ sym (o .is) ∙ ap (λ (z : Taken). encodeNode (withNode (z .node) (decodeNode b))) (sym p))
 
-  module _ (v : DeltaStatus) (is : v ≡ deltaStatus (waysOf mode .fence) (decodeNode b .node) (deltaOf s gc from max at)) where
-    by-status : (w : DeltaStatus) → v ≡ w → applyNode (waysOf mode) clock d n ≡ answered (waysOf mode) w (outcome w clock d n) n
+  module _ (v : DeltaStatus) (is : v ≡ deltaStatus (waysIn k .fence) (decodeNode b .node) (deltaOf s gc from max at)) where
+    by-status : (w : DeltaStatus) → v ≡ w → applyNode (waysIn k) clock d n ≡ answered (waysIn k) w (outcome w clock d n) n
     unfolding d n applyNode
-    by-status w q = ap (λ (x : DeltaStatus). answered (waysOf mode) x (outcome x clock d n) n) (sym is ∙ q)
+    by-status w q = ap (λ (x : DeltaStatus). answered (waysIn k) x (outcome x clock d n) n) (sym is ∙ q)
 
-    pub untouched : leaves v ≡ true → (r : Bool) (a : NodeAnswer) → a ≡ answerAs v r → Gives (nodeApplied mode clock (deltaOf s gc from max at) b) a b
+    pub untouched : leaves v ≡ true → (r : Bool) (a : NodeAnswer) → a ≡ answerAs v r → Gives (nodeApplied k clock (deltaOf s gc from max at) b) a b
     unfolding d n
     untouched q r a ae = go v refl q ae
       where
-        stays : (c : NodeAnswer) → applyNode (waysOf mode) clock d n ≡ takenAs c n → a ≡ c → Gives (nodeApplied mode clock (deltaOf s gc from max at) b) a b
+        stays : (c : NodeAnswer) → applyNode (waysIn k) clock d n ≡ takenAs c n → a ≡ c → Gives (nodeApplied k clock (deltaOf s gc from max at) b) a b
         stays c y e = (e ∙ sym (ap (λ (z : Taken). z .answer) y), sym (o .is) ∙ ap (λ (z : Taken). encodeNode (withNode (z .node) (decodeNode b))) (sym y))
 
-        go : (w : DeltaStatus) → v ≡ w → leaves w ≡ true → a ≡ answerAs w r → Gives (nodeApplied mode clock (deltaOf s gc from max at) b) a b
+        go : (w : DeltaStatus) → v ≡ w → leaves w ≡ true → a ≡ answerAs w r → Gives (nodeApplied k clock (deltaOf s gc from max at) b) a b
         go Reject p q e = stays node.Reject (by-status Reject p) e
         go Fenced p q e = stays node.Fenced (by-status Fenced p) e
         go Apply p q e = let z : _≡_ {A = ℕ} 0 1 = cc in absurd (omega arith)
         go ApplyAfterReset p q e = let z : _≡_ {A = ℕ} 0 1 = cc in absurd (omega arith)
 
-    pub concluded : leaves v ≡ false → (f : Bool) → f ≡ resets v → (r : Bool) (b′ : List ℕ) → Stored (grown clock s at max (begun f gc (decodeNode b))) b r b′ → (a : NodeAnswer) → a ≡ answerAs v r
-        → Gives (nodeApplied mode clock (deltaOf s gc from max at) b) a b′
+    pub concluded : leaves v ≡ false → (f : Bool) → f ≡ resets v → (r : Bool) (b′ : List ℕ) → Stored (k .profile) (grown clock s at max (begun f gc (decodeNode b))) b r b′ → (a : NodeAnswer) → a ≡ answerAs v r
+        → Gives (nodeApplied k clock (deltaOf s gc from max at) b) a b′
     unfolding d n outcome
     concluded q f fe r b′ t a ae = go v refl q (fe) ae
       where
-        go : (w : DeltaStatus) → v ≡ w → leaves w ≡ false → f ≡ resets w → a ≡ answerAs w r → Gives (nodeApplied mode clock (deltaOf s gc from max at) b) a b′
+        go : (w : DeltaStatus) → v ≡ w → leaves w ≡ false → f ≡ resets w → a ≡ answerAs w r → Gives (nodeApplied k clock (deltaOf s gc from max at) b) a b′
         go Reject p q fe ae = let z : _≡_ {A = ℕ} 0 1 = cc in absurd (omega arith)
         go Fenced p q fe ae = let z : _≡_ {A = ℕ} 0 1 = cc in absurd (omega arith)
-        go Apply p q fe ae = rw ae (by-room node.Apply (outcome Apply clock d n) r b′ (rw fe at t) (applyNode (waysOf mode) clock d n) (by-status Apply p))
+        go Apply p q fe ae = rw ae (by-room node.Apply (outcome Apply clock d n) r b′ (rw fe at t) (applyNode (waysIn k) clock d n) (by-status Apply p))
         go ApplyAfterReset p q fe ae =
-            rw ae (by-room node.ApplyAfterReset (outcome ApplyAfterReset clock d n) r b′ (rw fe at t) (applyNode (waysOf mode) clock d n) (by-status ApplyAfterReset p))
+            rw ae (by-room node.ApplyAfterReset (outcome ApplyAfterReset clock d n) r b′ (rw fe at t) (applyNode (waysIn k) clock d n) (by-status ApplyAfterReset p))
 
 -- by the numbers that were read
-pub numbers-read : (mode : Mode) (clock : ℕ) (s : List ℕ) (gc gc′ from from′ max at : ℕ) → gc ≡ gc′ → from ≡ from′ → (b : List ℕ) (r : NodeAnswer) (b′ : List ℕ)
-    → Gives (nodeApplied mode clock (deltaOf s gc from max at) b) r b′ → Gives (nodeApplied mode clock (deltaOf s gc′ from′ max at) b) r b′
-numbers-read mode clock s gc gc′ from from′ max at p q b r b′ t = rw (p, q) at t
+pub numbers-read : (k : Kind) (clock : ℕ) (s : List ℕ) (gc gc′ from from′ max at : ℕ) → gc ≡ gc′ → from ≡ from′ → (b : List ℕ) (r : NodeAnswer) (b′ : List ℕ)
+    → Gives (nodeApplied k clock (deltaOf s gc from max at) b) r b′ → Gives (nodeApplied k clock (deltaOf s gc′ from′ max at) b) r b′
+numbers-read k clock s gc gc′ from from′ max at p q b r b′ t = rw (p, q) at t
 
 -- ---- one node delta on a table
 
-module _ (mode : Mode) (l : List ℕ) (v : valid l ≡ true) (clock : ℕ) (x : rule.Part) where
-  pub part-missing : spanIn (x .number) l ≡ Missing → Gives (stored (partApplied mode clock x (decode l))) node.Unknown l
+module _ (k : Kind) (l : List ℕ) (v : valid l ≡ true) (clock : ℕ) (x : rule.Part) where
+  pub part-missing : spanIn (x .number) l ≡ Missing → Gives (stored (partApplied k clock x (decode l))) node.Unknown l
   part-missing e =
-      stays-gives (x .number) l v (partApplied mode clock x (decode l)) node.Unknown (ap (λ (o : Option Node). onHeld mode clock x o (decode l)) (missing-node (x .number) l v e))
+      stays-gives (x .number) l v (partApplied k clock x (decode l)) node.Unknown (ap (λ (o : Option Node). onHeld k clock x o (decode l)) (missing-node (x .number) l v e))
 
   module _ {start end : ℕ} (e : spanIn (x .number) l ≡ Held start end) where
     -- what is lent to the node's rule
@@ -134,30 +125,30 @@ module _ (mode : Mode) (l : List ℕ) (v : valid l ≡ true) (clock : ℕ) (x : 
     pub lent-rising : Rising lent
     lent-rising = subst Rising (sym is-node) (record { laid = held-laid (x .number) l v e; keys = held-rises (x .number) l v e })
 
-    pub part-held : (r : NodeAnswer) (ys : List ℕ) → Gives (nodeApplied mode clock (x .delta) lent) r ys → Gives (stored (partApplied mode clock x (decode l))) r (putMid start (end - start) l ys)
+    pub part-held : (r : NodeAnswer) (ys : List ℕ) → Gives (nodeApplied k clock (x .delta) lent) r ys → Gives (stored (partApplied k clock x (decode l))) r (putMid start (end - start) l ys)
     part-held r ys g =
         let b : List ℕ = part start nodeWidth l in
-        let n : Node = applyNode (waysOf mode) clock (x .delta) (decodeNode b .node) .node in
-        let w : Gives (nodeApplied mode clock (x .delta) b) r ys = subst (λ (y : List ℕ). Gives (nodeApplied mode clock (x .delta) y) r ys) is-node g in
-        held-gives (x .number) l v e (partApplied mode clock x (decode l)) r n ys
-        (ap (λ (o : Option Node). onHeld mode clock x o (decode l)) (held-node (x .number) l v e)
+        let n : Node = applyNode (waysIn k) clock (x .delta) (decodeNode b .node) .node in
+        let w : Gives (nodeApplied k clock (x .delta) b) r ys = subst (λ (y : List ℕ). Gives (nodeApplied k clock (x .delta) y) r ys) is-node g in
+        held-gives (x .number) l v e (partApplied k clock x (decode l)) r n ys
+        (ap (λ (o : Option Node). onHeld k clock x o (decode l)) (held-node (x .number) l v e)
         ∙ ap (λ (a : NodeAnswer). gives a (setNode (x .number) n (decode l))) (sym (w .0)))
         (w .1)
 
-each-cons : (mode : Mode) (clock : ℕ) (x : rule.Part) (xs : List rule.Part) (t : Table)
-    → applyEach (applyNode (waysOf mode) clock) (x ∷ xs) t ≡ answering (partApplied mode clock x t .answer) (applyEach (applyNode (waysOf mode) clock) xs (partApplied mode clock x t .table))
+each-cons : (k : Kind) (clock : ℕ) (x : rule.Part) (xs : List rule.Part) (t : Table)
+    → applyEach (applyNode (waysIn k) clock) (x ∷ xs) t ≡ answering (partApplied k clock x t .answer) (applyEach (applyNode (waysIn k) clock) xs (partApplied k clock x t .table))
 unfolding applyEach
-each-cons mode clock x xs t = go (nodeOf (x .number) t)
+each-cons k clock x xs t = go (nodeOf (x .number) t)
   where
-    go : (o : Option Node) → onNode (applyNode (waysOf mode) clock) x o t (applyEach (applyNode (waysOf mode) clock) xs) ≡ answering (onHeld mode clock x o t .answer) (applyEach (applyNode (waysOf mode) clock) xs (onHeld mode clock x o t .table))
+    go : (o : Option Node) → onNode (applyNode (waysIn k) clock) x o t (applyEach (applyNode (waysIn k) clock) xs) ≡ answering (onHeld k clock x o t .answer) (applyEach (applyNode (waysIn k) clock) xs (onHeld k clock x o t .table))
     go none = refl
     go (some n) = refl
 
 -- a table that obeys still does
-part-ok : (mode : Mode) (clock : ℕ) → clock < numbers → (x : rule.Part) (t : Table) → OkDelta (x .delta) → OkTable t → OkTable (partApplied mode clock x t .table)
+part-ok : (k : Kind) (clock : ℕ) → clock < numbers → (x : rule.Part) (t : Table) → OkDelta (x .delta) → OkTable t → OkTable (partApplied k clock x t .table)
 unfolding applyEach
-part-ok mode clock h x t d ok =
-    subst OkTable (ap (λ (y : Stream). y .table) (each-cons mode clock x [] t)) (ok-each (waysOf mode) (mode-lawful mode) clock h (x ∷ []) t (λ y m. one y m) ok)
+part-ok k clock h x t d ok =
+    subst OkTable (ap (λ (y : Stream). y .table) (each-cons k clock x [] t)) (ok-each (waysIn k) (kind-lawful k) clock h (x ∷ []) t (λ y m. one y m) ok)
   where
     one : (y : rule.Part) → y ∈ x ∷ [] → OkDelta (y .delta)
     one y (here e) = subst (λ (z : rule.Part). OkDelta (z .delta)) (sym e) d
@@ -184,24 +175,24 @@ module _ (s : List ℕ) (a : Accepted s) where
         subst AllOk (sym accepted-parts) (parts-ok (a .0) rule.nothingRead (d .chain) (d .small))
 
 -- what holds at the head of the loop: the node deltas that are left, on the table as it is, give the whole's table and answers
-pub record Stands (mode : Mode) (clock : ℕ) (s t₀ l₀ : List ℕ) (i : ℕ) (t l : List ℕ) : Type 0 where
+pub record Stands (k : Kind) (clock : ℕ) (s t₀ l₀ : List ℕ) (i : ℕ) (t l : List ℕ) : Type 0 where
   pub good : valid t ≡ true
   pub same : length t ≡ length t₀
   pub long : length l ≡ length l₀
-  pub table : applyEach (applyNode (waysOf mode) clock) (drop i (partsFrom s 0)) (decode t) .table ≡ applyEach (applyNode (waysOf mode) clock) (partsFrom s 0) (decode t₀) .table
-  pub list : put i (codes (applyEach (applyNode (waysOf mode) clock) (drop i (partsFrom s 0)) (decode t) .answers)) l ≡ put 0 (codes (applyEach (applyNode (waysOf mode) clock) (partsFrom s 0) (decode t₀) .answers)) l₀
+  pub table : applyEach (applyNode (waysIn k) clock) (drop i (partsFrom s 0)) (decode t) .table ≡ applyEach (applyNode (waysIn k) clock) (partsFrom s 0) (decode t₀) .table
+  pub list : put i (codes (applyEach (applyNode (waysIn k) clock) (drop i (partsFrom s 0)) (decode t) .answers)) l ≡ put 0 (codes (applyEach (applyNode (waysIn k) clock) (partsFrom s 0) (decode t₀) .answers)) l₀
 
-module _ (mode : Mode) (clock : ℕ) (s t₀ l₀ : List ℕ) where
-  pub stands-first : valid t₀ ≡ true → Stands mode clock s t₀ l₀ 0 t₀ l₀
+module _ (k : Kind) (clock : ℕ) (s t₀ l₀ : List ℕ) where
+  pub stands-first : valid t₀ ≡ true → Stands k clock s t₀ l₀ 0 t₀ l₀
   stands-first v = record { good = v; same = refl; long = refl; table = refl; list = refl }
 
-  module _ (i : ℕ) (t l : List ℕ) (inv : Stands mode clock s t₀ l₀ i t l) where
+  module _ (i : ℕ) (t l : List ℕ) (inv : Stands k clock s t₀ l₀ i t l) where
     pub stands-last : length (partsFrom s 0) ≤ i
-        → both t l ≡ partsApplied mode clock (partsFrom s 0) l₀ t₀
+        → both t l ≡ partsApplied k clock (partsFrom s 0) l₀ t₀
     unfolding applyEach codes
     stands-last h =
         let e : drop i (partsFrom s 0) ≡ [] = drop-of-length-le (partsFrom s 0) {i = i} h in
-        let p : applyEach (applyNode (waysOf mode) clock) (drop i (partsFrom s 0)) (decode t) ≡ record { answers = []; table = decode t } = ap (λ (xs : List rule.Part). applyEach (applyNode (waysOf mode) clock) xs (decode t)) e in
+        let p : applyEach (applyNode (waysIn k) clock) (drop i (partsFrom s 0)) (decode t) ≡ record { answers = []; table = decode t } = ap (λ (xs : List rule.Part). applyEach (applyNode (waysIn k) clock) xs (decode t)) e in
         ap₂ both (sym (encode-decode t (inv .good)) ∙ ap encode (sym (ap (λ (y : Stream). y .table) p) ∙ inv .table))
         (sym (put-nil i l) ∙ ap (λ (y : Stream). put i (codes (y .answers)) l) (sym p) ∙ inv .list)
 
@@ -210,32 +201,32 @@ module _ (mode : Mode) (clock : ℕ) (s t₀ l₀ : List ℕ) where
       x = getD (partsFrom s 0) i noPart
 
       u : Table
-      u = partApplied mode clock x (decode t) .table
+      u = partApplied k clock x (decode t) .table
 
       left : drop i (partsFrom s 0) ≡ x ∷ drop (i + 1) (partsFrom s 0)
       unfolding x
       left = drop-cons (partsFrom s 0) i noPart h ∙ ap (λ (j : ℕ). getD (partsFrom s 0) i noPart ∷ drop j (partsFrom s 0)) (sym (add-one i))
 
-      pub stands-next : clock < numbers → Accepted s → AreBytes s → (r : NodeAnswer) (t′ l′ : List ℕ) → Gives (stored (partApplied mode clock (getD (partsFrom s 0) i noPart) (decode t))) r t′ → l′ ≡ set l i (codeOf r)
-          → Stands mode clock s t₀ l₀ (i + 1) t′ l′
+      pub stands-next : clock < numbers → Accepted s → AreBytes s → (r : NodeAnswer) (t′ l′ : List ℕ) → Gives (stored (partApplied k clock (getD (partsFrom s 0) i noPart) (decode t))) r t′ → l′ ≡ set l i (codeOf r)
+          → Stands k clock s t₀ l₀ (i + 1) t′ l′
       unfolding x u codes
-      stands-next k acc bytes r t′ l′ w q =
+      stands-next small acc bytes r t′ l′ w q =
           let rest : List rule.Part = drop (i + 1) (partsFrom s 0) in
-          let ok-u : OkTable u = part-ok mode clock k x (decode t) (all-ok s acc bytes x (in-at (partsFrom s 0) i noPart h)) (table-facts (decode t) (valid-obeys t (inv .good))) in
+          let ok-u : OkTable u = part-ok k clock small x (decode t) (all-ok s acc bytes x (in-at (partsFrom s 0) i noPart h)) (table-facts (decode t) (valid-obeys t (inv .good))) in
           let obeys-u : obeys u ≡ true = facts-table u ok-u in
           let d : decode t′ ≡ u = ap decode (w .1) ∙ decode-encode u obeys-u in
-          let a : NodeAnswer = partApplied mode clock x (decode t) .answer in
-          let p : applyEach (applyNode (waysOf mode) clock) (drop i (partsFrom s 0)) (decode t) ≡ answering a (applyEach (applyNode (waysOf mode) clock) rest (decode t′)) =
-          ap (λ (xs : List rule.Part). applyEach (applyNode (waysOf mode) clock) xs (decode t)) left
-          ∙ each-cons mode clock x rest (decode t)
-          ∙ ap (λ (v : Table). answering a (applyEach (applyNode (waysOf mode) clock) rest v)) (sym d) in
+          let a : NodeAnswer = partApplied k clock x (decode t) .answer in
+          let p : applyEach (applyNode (waysIn k) clock) (drop i (partsFrom s 0)) (decode t) ≡ answering a (applyEach (applyNode (waysIn k) clock) rest (decode t′)) =
+          ap (λ (xs : List rule.Part). applyEach (applyNode (waysIn k) clock) xs (decode t)) left
+          ∙ each-cons k clock x rest (decode t)
+          ∙ ap (λ (v : Table). answering a (applyEach (applyNode (waysIn k) clock) rest v)) (sym d) in
           record {
             good = ap valid (w .1) ∙ valid-encode u obeys-u;
             same = ap length (w .1) ∙ length-table u ∙ sym (valid-long t (inv .good)) ∙ inv .same;
             long = ap length q ∙ length-set l i (codeOf r) ∙ inv .long;
             table = sym (ap (λ (y : Stream). y .table) p) ∙ inv .table;
             list =
-                let others : List ℕ = codes (applyEach (applyNode (waysOf mode) clock) rest (decode t′) .answers) in
+                let others : List ℕ = codes (applyEach (applyNode (waysIn k) clock) rest (decode t′) .answers) in
                 ap (put (i + 1) others) (q ∙ ap (λ (y : NodeAnswer). set l i (codeOf y)) (w .0))
                 ∙ ap (λ (j : ℕ). put j others (set l i (codeOf a))) (add-one i)
                 ∙ put-cons i (codeOf a) others l place

@@ -1,9 +1,10 @@
-// The node deltas of an accepted delta on a good table: the status of each by the node's mode and numbers, the node changed or left, and one answer for each,
-// in stream order.
+// The node deltas of an accepted delta on a good table: the status of each by the table's mode and the numbers of node and delta, the room by the table's
+// profile, the node changed or left, and one answer for each, in stream order.
 use delta_read::Heads;
 use rules::DeltaStatus;
 use rules::Mode;
 use rules::NodeAnswer;
+use rules::Profile;
 use rules::wire;
 use table_read::Span;
 ghost use mathlib.Core.Bool.{true};
@@ -11,6 +12,7 @@ ghost use mathlib.Core.Path.{_≡_};
 ghost use Prim.Native.Nat.{_≤_};
 ghost use lib.ListN.{length};
 ghost use Rattle.rules.specs.Given.{Gives};
+ghost use Rattle.rules.specs.Profile.{kind};
 ghost use Rattle.rules.specs.Layout.{decode, valid};
 ghost use Rattle.rules.specs.Lent.{stored, both};
 ghost use Rattle.delta_op.specs.Plain.{recsFrom};
@@ -67,10 +69,11 @@ fn answer_as(status: DeltaStatus, room: bool) -> NodeAnswer
     }
 }
 
-// Applies the node delta with these numbers, whose records begin at `at` and are no more than `count`, to a node of a table in this mode.
+// Applies the node delta with these numbers, whose records begin at `at` and are no more than `count`, to a node of a table of this kind.
 fn apply_node(
     node: &mut [u8],
     mode: Mode,
+    profile: Profile,
     delta: &[u8],
     at: usize,
     count: usize,
@@ -80,7 +83,8 @@ fn apply_node(
     clock: u64,
 ) -> NodeAnswer
     requires { ⌜ Rising (now node) × (at ≤ length (now delta)) × (length (recsFrom (now delta) at) ≤ count) ⌝ }
-    ensures { λ r. ⌜ Gives (nodeApplied mode clock (deltaOf (now (delta .entry)) «last_gc» from max at) (now (node .entry))) r (now (node .exit)) ⌝ }
+    ensures { λ r. ⌜ Gives (nodeApplied (kind mode profile) clock (deltaOf (now (delta .entry)) «last_gc» from max at) (now (node .entry)))
+        r (now (node .exit)) ⌝ }
 {
     let own = table_read::read_header(node);
     let status = delta_status::check_delta_status(mode, own.last_gc, own.max, from, last_gc, max);
@@ -89,6 +93,7 @@ fn apply_node(
     }
     let room = apply_grow::grow_in_place(
         node,
+        profile,
         delta,
         at,
         count,
@@ -106,6 +111,7 @@ fn apply_node(
 fn apply_part(
     table: &mut [u8],
     mode: Mode,
+    profile: Profile,
     delta: &[u8],
     at: usize,
     count: usize,
@@ -114,7 +120,7 @@ fn apply_part(
 ) -> NodeAnswer
     requires { ⌜ (valid (now table) ≡ true)
         × (behindNode at ≤ length (now delta)) × (length (recsFrom (now delta) (behindNode at)) ≤ count) ⌝ }
-    ensures { λ r. ⌜ Gives (stored (partApplied mode clock (nodeDeltaAt (now (delta .entry)) at max) (decode (now (table .entry)))))
+    ensures { λ r. ⌜ Gives (stored (partApplied (kind mode profile) clock (nodeDeltaAt (now (delta .entry)) at max) (decode (now (table .entry)))))
         r (now (table .exit)) ⌝ }
 {
     let number = fields::read_u64(delta, at + wire::NODE_NUMBER);
@@ -124,6 +130,7 @@ fn apply_part(
         Span::Held { start, end } => apply_node(
             &mut table[start..end],
             mode,
+            profile,
             delta,
             at + wire::NODE_WIDTH,
             count,
@@ -140,6 +147,7 @@ fn apply_part(
 pub fn apply_each(
     table: &mut [u8],
     mode: Mode,
+    profile: Profile,
     delta: &[u8],
     heads: Heads,
     nodes: usize,
@@ -148,14 +156,23 @@ pub fn apply_each(
 )
     requires { ⌜ (valid (now table) ≡ true) × Accepted (now delta) × HeadsFound (now delta) nodes heads × (nodes ≤ length (now answers)) ⌝ }
     ensures { λ _. ⌜ both (now (table .exit)) (now (answers .exit))
-        ≡ partsApplied mode clock (partsFrom (now (delta .entry)) 0) (now (answers .entry)) (now (table .entry)) ⌝ }
+        ≡ partsApplied (kind mode profile) clock (partsFrom (now (delta .entry)) 0) (now (answers .entry)) (now (table .entry)) ⌝ }
 {
     let places = heads.at;
     let counts = heads.count;
     let maxes = heads.max;
     let mut i = 0;
     while i < nodes {
-        let answer = apply_part(table, mode, delta, places[i], counts[i], maxes[i], clock);
+        let answer = apply_part(
+            table,
+            mode,
+            profile,
+            delta,
+            places[i],
+            counts[i],
+            maxes[i],
+            clock,
+        );
         answers[i] = answer.code();
         i += 1;
     }

@@ -1,4 +1,4 @@
--- Document 01's verdict and a pass over the records before the fault come to the rules' own reading in the meter profile. Assumes nothing.
+-- Document 01's verdict and a pass over the records before the fault come to the rules' own reading in a profile. Assumes nothing.
 use Prim.Native.Nat.{ℕ, zero, suc, _+_, _-_, _≤_, _<_}
 use mathlib.Core.Bool.{Bool, true, false}
 use mathlib.Core.List.{List, [], _∷_}
@@ -11,12 +11,12 @@ use Rattle.fields.specs.Choice.{pick}
 use Rattle.fields.proofs.Choice.{pick-true, pick-false}
 use Rattle.rules.specs.Sizes.{maxDelta}
 use Rattle.rules.specs.Delta.{Op, OpRead, Got, Bad, Reading, nothingRead, Followed, Next, Fault, follow, Ops, Good, Faulty, andThen, onFollowed, onRead, readAnswer, readOp, readOps, readDelta, deltaRead}
-use Rattle.rules.specs.Profile.{andForm, opInForm, onReadAs, readDeltaAs, readOpsAs}
+use Rattle.rules.specs.Profile.{andForm, oddNumber, opInForm, onReadAs, readDeltaAs, readOpsAs}
 use Rattle.rules.specs.declared.DeltaRead.the-variants as read
 use Rattle.rules.specs.declared.Profile.{Profile}
-use Rattle.rules.specs.declared.Profile.the-variants.{Free, Meter}
+use Rattle.rules.specs.declared.Profile.the-variants.{Free}
 use Rattle.rules.specs.declared.Refusal.{Refusal}
-use Rattle.rules.specs.declared.Refusal.the-variants.{BadForm, TooMany}
+use Rattle.rules.specs.declared.Refusal.the-variants.{TooMany}
 use Rattle.delta_op.proofs.Plain.{shorter}
 use Rattle.profiles.proofs.Reading.{delta-plain, free-reads}
 use Rattle.delta_form.specs.Forming.{deltaReadAs, endOf, oddFrom, oddPlace, onOdd, unlessOdd}
@@ -28,8 +28,8 @@ abbrev endAt : (long : ℕ) (read : Ops) → ℕ
 endAt n (Good ops) = n
 endAt n (Faulty r f) = f
 
-abbrev odd : (o end : ℕ) (read : Ops) → Ops
-odd o end x = pick (ltb o end) (Faulty BadForm o) x
+abbrev odd : (p : Profile) (o end : ℕ) (read : Ops) → Ops
+odd p o end x = pick (ltb o end) (Faulty (oddNumber p) o) x
 
 faulty-at : (r q : Refusal) (a b : ℕ) → Faulty r a ≡ Faulty q b → a ≡ b
 faulty-at r q a b e = cc
@@ -67,12 +67,12 @@ within (suc n) at s (b ∷ l) r f e = go (readOp (b ∷ l)) refl e (λ t rest. w
 
 -- ---- the two readings
 
-module _ (long : ℕ) where
+module _ (p : Profile) (long : ℕ) where
   -- one operation in form more
-  then-odd : (o : Op) (x : Ops) (k end : ℕ) → andThen o (odd k end x) ≡ odd k end (andThen o x)
+  then-odd : (o : Op) (x : Ops) (k end : ℕ) → andThen o (odd p k end x) ≡ odd p k end (andThen o x)
   then-odd o x k end = go (ltb k end)
     where
-      go : (b : Bool) → andThen o (pick b (Faulty BadForm k) x) ≡ pick b (Faulty BadForm k) (andThen o x)
+      go : (b : Bool) → andThen o (pick b (Faulty (oddNumber p) k) x) ≡ pick b (Faulty (oddNumber p) k) (andThen o x)
       go true = refl
       go false = refl
 
@@ -80,24 +80,24 @@ module _ (long : ℕ) where
   end-then o (Good os) = refl
   end-then o (Faulty r f) = refl
 
-  not-before : (n : ℕ) (x : Ops) → x ≡ odd n n x
-  not-before n x = sym (pick-false (ltb n n) (Faulty BadForm n) x (le-ltb n n (omega arith)))
+  not-before : (n : ℕ) (x : Ops) → x ≡ odd p n n x
+  not-before n x = sym (pick-false (ltb n n) (Faulty (oddNumber p) n) x (le-ltb n n (omega arith)))
 
   -- from a place on, whose bytes reach to `long`
   as-odd : (n at : ℕ) (s : Reading) (l : List ℕ) → at + length l ≡ long → length l ≤ n
-      → readOpsAs Meter n at s l ≡ odd (oddFrom n at (endAt long (readOps n at s l)) l) (endAt long (readOps n at s l)) (readOps n at s l)
+      → readOpsAs p n at s l ≡ odd p (oddFrom p n at (endAt long (readOps n at s l)) l) (endAt long (readOps n at s l)) (readOps n at s l)
   unfolding readOps readOpsAs oddFrom
   as-odd zero at s l e h = not-before long (Good [])
   as-odd (suc n) at s [] e h =
       let z : long ≡ at = omega arith in
       not-before long (Good [])
-      ∙ ap (λ (k : ℕ). odd k long (Good [])) (sym (pick-false (ltb at long) _ long (le-ltb at long (omega arith))))
+      ∙ ap (λ (k : ℕ). odd p k long (Good [])) (sym (pick-false (ltb at long) _ long (le-ltb at long (omega arith))))
   as-odd (suc n) at s (b ∷ l) e h = go (readOp (b ∷ l)) refl (λ t rest p q. as-odd n (at + (suc (length l) - length rest)) t rest p q)
     where
       On : Type 0
       On = (t : Reading) (rest : List ℕ) → (at + (suc (length l) - length rest)) + length rest ≡ long → length rest ≤ n
-          → readOpsAs Meter n (at + (suc (length l) - length rest)) t rest
-          ≡ odd (oddFrom n (at + (suc (length l) - length rest)) (endAt long (readOps n (at + (suc (length l) - length rest)) t rest)) rest) (endAt long (readOps n (at + (suc (length l) - length rest)) t rest)) (readOps n (at + (suc (length l) - length rest)) t rest)
+          → readOpsAs p n (at + (suc (length l) - length rest)) t rest
+          ≡ odd p (oddFrom p n (at + (suc (length l) - length rest)) (endAt long (readOps n (at + (suc (length l) - length rest)) t rest)) rest) (endAt long (readOps n (at + (suc (length l) - length rest)) t rest)) (readOps n (at + (suc (length l) - length rest)) t rest)
 
       -- the place is before the end, where the operation may follow
       before : (o : Op) (rest : List ℕ) → length rest < suc (length l) → (t : Reading) → at < endAt long (readOps n (at + (suc (length l) - length rest)) t rest)
@@ -107,36 +107,36 @@ module _ (long : ℕ) where
           at-end (Good os) q = omega arith
           at-end (Faulty r f) q = let z = within n (at + (suc (length l) - length rest)) t rest r f q in let a = z .0 in omega arith
 
-      followed : (o : Op) (rest : List ℕ) → length rest < suc (length l) → (x : Followed) (f : Bool) → opInForm Meter o ≡ f → On
-          → onFollowed at o (λ t. readOpsAs Meter n (at + (suc (length l) - length rest)) t rest) (andForm f x)
-          ≡ odd (pick (ltb at (endAt long (onFollowed at o (λ t. readOps n (at + (suc (length l) - length rest)) t rest) x))) (pick f (oddFrom n (at + (suc (length l) - length rest)) (endAt long (onFollowed at o (λ t. readOps n (at + (suc (length l) - length rest)) t rest) x)) rest) at) (endAt long (onFollowed at o (λ t. readOps n (at + (suc (length l) - length rest)) t rest) x)))
+      followed : (o : Op) (rest : List ℕ) → length rest < suc (length l) → (x : Followed) (f : Bool) → opInForm p o ≡ f → On
+          → onFollowed at o (λ t. readOpsAs p n (at + (suc (length l) - length rest)) t rest) (andForm p f x)
+          ≡ odd p (pick (ltb at (endAt long (onFollowed at o (λ t. readOps n (at + (suc (length l) - length rest)) t rest) x))) (pick f (oddFrom p n (at + (suc (length l) - length rest)) (endAt long (onFollowed at o (λ t. readOps n (at + (suc (length l) - length rest)) t rest) x)) rest) at) (endAt long (onFollowed at o (λ t. readOps n (at + (suc (length l) - length rest)) t rest) x)))
           (endAt long (onFollowed at o (λ t. readOps n (at + (suc (length l) - length rest)) t rest) x)) (onFollowed at o (λ t. readOps n (at + (suc (length l) - length rest)) t rest) x)
       followed o rest g (Fault r) f q ih =
           not-before at (Faulty r at)
-          ∙ ap (λ (k : ℕ). odd k at (Faulty r at)) (sym (pick-false (ltb at at) (pick f (oddFrom n (at + (suc (length l) - length rest)) at rest) at) at (le-ltb at at (omega arith))))
+          ∙ ap (λ (k : ℕ). odd p k at (Faulty r at)) (sym (pick-false (ltb at at) (pick f (oddFrom p n (at + (suc (length l) - length rest)) at rest) at) at (le-ltb at at (omega arith))))
       followed o rest g (Next t) true q ih =
           let x : Ops = readOps n (at + (suc (length l) - length rest)) t rest in
           let end : ℕ = endAt long x in
           ap (andThen o) (ih t rest (omega arith) (omega arith))
-          ∙ then-odd o x (oddFrom n (at + (suc (length l) - length rest)) end rest) end
-          ∙ ap (λ (k : ℕ). odd k end (andThen o x)) (sym (pick-true (ltb at end) (oddFrom n (at + (suc (length l) - length rest)) end rest) end (lt-ltb at end (before o rest g t))))
-          ∙ ap (λ (e : ℕ). odd (pick (ltb at e) (oddFrom n (at + (suc (length l) - length rest)) e rest) e) e (andThen o x)) (sym (end-then o x))
+          ∙ then-odd o x (oddFrom p n (at + (suc (length l) - length rest)) end rest) end
+          ∙ ap (λ (k : ℕ). odd p k end (andThen o x)) (sym (pick-true (ltb at end) (oddFrom p n (at + (suc (length l) - length rest)) end rest) end (lt-ltb at end (before o rest g t))))
+          ∙ ap (λ (e : ℕ). odd p (pick (ltb at e) (oddFrom p n (at + (suc (length l) - length rest)) e rest) e) e (andThen o x)) (sym (end-then o x))
       followed o rest g (Next t) false q ih =
           let x : Ops = readOps n (at + (suc (length l) - length rest)) t rest in
           let end : ℕ = endAt long x in
           let lt : ltb at end ≡ true = lt-ltb at end (before o rest g t) in
-          sym (pick-true (ltb at end) (Faulty BadForm at) (andThen o x) lt)
-          ∙ ap (λ (k : ℕ). odd k end (andThen o x)) (sym (pick-true (ltb at end) at end lt))
-          ∙ ap (λ (e : ℕ). odd (pick (ltb at e) at e) e (andThen o x)) (sym (end-then o x))
+          sym (pick-true (ltb at end) (Faulty (oddNumber p) at) (andThen o x) lt)
+          ∙ ap (λ (k : ℕ). odd p k end (andThen o x)) (sym (pick-true (ltb at end) at end lt))
+          ∙ ap (λ (e : ℕ). odd p (pick (ltb at e) at e) e (andThen o x)) (sym (end-then o x))
 
       go : (x : OpRead) → readOp (b ∷ l) ≡ x → On
-          → onReadAs Meter at s (λ t rest. readOpsAs Meter n (at + (suc (length l) - length rest)) t rest) x
-          ≡ odd (pick (ltb at (endAt long (onRead at s (λ t rest. readOps n (at + (suc (length l) - length rest)) t rest) x))) (onOdd at (endAt long (onRead at s (λ t rest. readOps n (at + (suc (length l) - length rest)) t rest) x)) (λ rest. oddFrom n (at + (suc (length l) - length rest)) (endAt long (onRead at s (λ t rest. readOps n (at + (suc (length l) - length rest)) t rest) x)) rest) x) (endAt long (onRead at s (λ t rest. readOps n (at + (suc (length l) - length rest)) t rest) x)))
+          → onReadAs p at s (λ t rest. readOpsAs p n (at + (suc (length l) - length rest)) t rest) x
+          ≡ odd p (pick (ltb at (endAt long (onRead at s (λ t rest. readOps n (at + (suc (length l) - length rest)) t rest) x))) (onOdd p at (endAt long (onRead at s (λ t rest. readOps n (at + (suc (length l) - length rest)) t rest) x)) (λ rest. oddFrom p n (at + (suc (length l) - length rest)) (endAt long (onRead at s (λ t rest. readOps n (at + (suc (length l) - length rest)) t rest) x)) rest) x) (endAt long (onRead at s (λ t rest. readOps n (at + (suc (length l) - length rest)) t rest) x)))
           (endAt long (onRead at s (λ t rest. readOps n (at + (suc (length l) - length rest)) t rest) x)) (onRead at s (λ t rest. readOps n (at + (suc (length l) - length rest)) t rest) x)
-      go (Got o rest) q ih = followed o rest (shorter (b ∷ l) q) (follow s o) (opInForm Meter o) refl ih
+      go (Got o rest) q ih = followed o rest (shorter (b ∷ l) q) (follow s o) (opInForm p o) refl ih
       go (Bad r) q ih =
           not-before at (Faulty r at)
-          ∙ ap (λ (k : ℕ). odd k at (Faulty r at)) (sym (pick-false (ltb at at) at at (le-ltb at at (omega arith))))
+          ∙ ap (λ (k : ℕ). odd p k at (Faulty r at)) (sym (pick-false (ltb at at) at at (le-ltb at at (omega arith))))
 
 -- ---- the verdict
 
@@ -144,32 +144,32 @@ end-is : (n : ℕ) (x : Ops) → endOf n (readAnswer x) ≡ endAt n x
 end-is n (Good os) = refl
 end-is n (Faulty r f) = refl
 
-answer-odd : (k end : ℕ) (x : Ops) → readAnswer (odd k end x) ≡ unlessOdd k end (readAnswer x)
-answer-odd k end x = go (ltb k end)
+answer-odd : (p : Profile) (k end : ℕ) (x : Ops) → readAnswer (odd p k end x) ≡ unlessOdd p k end (readAnswer x)
+answer-odd p k end x = go (ltb k end)
   where
-    go : (b : Bool) → readAnswer (pick b (Faulty BadForm k) x) ≡ pick b (read.Refused BadForm k) (readAnswer x)
+    go : (b : Bool) → readAnswer (pick b (Faulty (oddNumber p) k) x) ≡ pick b (read.Refused (oddNumber p) k) (readAnswer x)
     go true = refl
     go false = refl
 
 -- nothing is looked at before the first place
-none-before : (n : ℕ) (l : List ℕ) → oddFrom n 0 0 l ≡ 0
+none-before : (p : Profile) (n : ℕ) (l : List ℕ) → oddFrom p n 0 0 l ≡ 0
 unfolding oddFrom
-none-before zero l = refl
-none-before (suc n) l = refl
+none-before p zero l = refl
+none-before p (suc n) l = refl
 
-pub meter-read : (l : List ℕ) → deltaReadAs Meter l ≡ unlessOdd (oddPlace l (endOf (length l) (deltaRead l))) (endOf (length l) (deltaRead l)) (deltaRead l)
+pub formed-read : (p : Profile) (l : List ℕ) → deltaReadAs p l ≡ unlessOdd p (oddPlace p l (endOf (length l) (deltaRead l))) (endOf (length l) (deltaRead l)) (deltaRead l)
 unfolding deltaReadAs deltaRead readDeltaAs readDelta
-meter-read l = go (leb (length l) maxDelta)
+formed-read p l = go (leb (length l) maxDelta)
   where
     go : (b : Bool)
-        → readAnswer (pick b (readOpsAs Meter (length l) 0 nothingRead l) (Faulty TooMany 0))
-        ≡ unlessOdd (oddFrom (length l) 0 (endOf (length l) (readAnswer (pick b (readOps (length l) 0 nothingRead l) (Faulty TooMany 0)))) l) (endOf (length l) (readAnswer (pick b (readOps (length l) 0 nothingRead l) (Faulty TooMany 0))))
+        → readAnswer (pick b (readOpsAs p (length l) 0 nothingRead l) (Faulty TooMany 0))
+        ≡ unlessOdd p (oddFrom p (length l) 0 (endOf (length l) (readAnswer (pick b (readOps (length l) 0 nothingRead l) (Faulty TooMany 0)))) l) (endOf (length l) (readAnswer (pick b (readOps (length l) 0 nothingRead l) (Faulty TooMany 0))))
         (readAnswer (pick b (readOps (length l) 0 nothingRead l) (Faulty TooMany 0)))
     go true =
-        ap readAnswer (as-odd (length l) (length l) 0 nothingRead l (omega arith) (omega arith))
-        ∙ answer-odd (oddFrom (length l) 0 (endAt (length l) (readOps (length l) 0 nothingRead l)) l) (endAt (length l) (readOps (length l) 0 nothingRead l)) (readOps (length l) 0 nothingRead l)
-        ∙ ap (λ (e : ℕ). unlessOdd (oddFrom (length l) 0 e l) e (readAnswer (readOps (length l) 0 nothingRead l))) (sym (end-is (length l) (readOps (length l) 0 nothingRead l)))
-    go false = sym (ap (λ (k : ℕ). pick (ltb k 0) (read.Refused BadForm k) (read.Refused TooMany 0)) (none-before (length l) l))
+        ap readAnswer (as-odd p (length l) (length l) 0 nothingRead l (omega arith) (omega arith))
+        ∙ answer-odd p (oddFrom p (length l) 0 (endAt (length l) (readOps (length l) 0 nothingRead l)) l) (endAt (length l) (readOps (length l) 0 nothingRead l)) (readOps (length l) 0 nothingRead l)
+        ∙ ap (λ (e : ℕ). unlessOdd p (oddFrom p (length l) 0 e l) e (readAnswer (readOps (length l) 0 nothingRead l))) (sym (end-is (length l) (readOps (length l) 0 nothingRead l)))
+    go false = sym (ap (λ (k : ℕ). pick (ltb k 0) (read.Refused (oddNumber p) k) (read.Refused TooMany 0)) (none-before p (length l) l))
 
 -- it ends within the bytes
 pub end-within : (l : List ℕ) → endOf (length l) (deltaRead l) ≤ length l

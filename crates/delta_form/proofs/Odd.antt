@@ -1,6 +1,6 @@
 -- The pass over the operations before a place: what is left of it gives the whole's answer. Assumes nothing.
 use Prim.Native.Nat.{ℕ, zero, suc, _+_, _-_, _≤_, _<_}
-use mathlib.Core.Bool.{Bool, true, false, _&&_}
+use mathlib.Core.Bool.{Bool, true, false}
 use mathlib.Core.List.{List}
 use mathlib.Core.Path.{_≡_, refl, ap, sym, subst, _∙_}
 use native.Mathlib.Omega.{arith}
@@ -11,8 +11,9 @@ use Rattle.fields.specs.Choice.{pick}
 use Rattle.fields.specs.Parts.{part}
 use Rattle.fields.proofs.Choice.{pick-true, pick-false}
 use Rattle.rules.specs.Delta as rule
-use Rattle.rules.specs.Profile.{meterKey, meterValue, opInForm}
-use Rattle.rules.specs.declared.Profile.the-variants.{Meter}
+use Rattle.rules.specs.Profile.{opInForm}
+use Rattle.rules.specs.declared.Profile.{Profile}
+use Rattle.rules.specs.declared.Profile.the-variants.{Free, Meter, Shared}
 use Rattle.rules.specs.declared.Refusal.{Refusal}
 use Rattle.rules.specs.declared.Status.{Status}
 use Rattle.delta_op.specs.Places.{Inside, meant, opAt, opOf}
@@ -21,73 +22,80 @@ use Rattle.delta_op.specs.declared.Op.the-variants as op
 use Rattle.delta_op.specs.declared.OpRead.{OpRead}
 use Rattle.delta_op.specs.declared.OpRead.the-variants.{Got, Bad}
 use Rattle.delta_op.proofs.Reading.{ends, read-at}
-use Rattle.delta_form.specs.Forming.{oddFrom, oddPlace, onOdd}
+use Rattle.delta_form.specs.Forming.{formedAt, oddFrom, oddPlace, onOdd}
 
 -- ---- one operation
 
 pub inside : (len : ℕ) (o : Op) (k n v m ver : ℕ) (st : Status) → o ≡ op.KeyValue k n v m ver st → Inside len o → (k + n ≤ len) × (v + m ≤ len)
 inside len o k n v m ver st e h = let i : Inside len (op.KeyValue k n v m ver st) = subst (Inside len) e h in (i .0, i .1)
 
-module _ (l : List ℕ) (o : Op) where
-  pub of-record : (k n v m ver : ℕ) (st : Status) → o ≡ op.KeyValue k n v m ver st → {t : Bool} → t ≡ (meterKey (part k n l) && meterValue st (part v m l)) → t ≡ opInForm Meter (opOf l o)
-  of-record k n v m ver st e q = q ∙ sym (ap (λ (x : Op). opInForm Meter (opOf l x)) e)
+-- the form looks at no version
+module _ (k v : List ℕ) (ver : ℕ) (st : Status) where
+  no-version : (p : Profile) → formedAt p k v st ≡ opInForm p (rule.KeyValueOp (record { key = k; value = v; version = ver; status = st }))
+  no-version Free = refl
+  no-version Meter = refl
+  no-version Shared = refl
 
-  pub of-node : (n g f : ℕ) → o ≡ op.Node n g f → true ≡ opInForm Meter (opOf l o)
-  of-node n g f e = sym (ap (λ (x : Op). opInForm Meter (opOf l x)) e)
+module _ (p : Profile) (l : List ℕ) (o : Op) where
+  pub of-record : (k n v m ver : ℕ) (st : Status) → o ≡ op.KeyValue k n v m ver st → {t : Bool} → t ≡ formedAt p (part k n l) (part v m l) st → t ≡ opInForm p (opOf l o)
+  of-record k n v m ver st e q = q ∙ no-version (part k n l) (part v m l) ver st p ∙ sym (ap (λ (x : Op). opInForm p (opOf l x)) e)
 
-  pub of-max : (m : ℕ) → o ≡ op.SetMaxVersion m → true ≡ opInForm Meter (opOf l o)
-  of-max m e = sym (ap (λ (x : Op). opInForm Meter (opOf l x)) e)
+  pub of-node : (n g f : ℕ) → o ≡ op.Node n g f → true ≡ opInForm p (opOf l o)
+  of-node n g f e = sym (ap (λ (x : Op). opInForm p (opOf l x)) e)
+
+  pub of-max : (m : ℕ) → o ≡ op.SetMaxVersion m → true ≡ opInForm p (opOf l o)
+  of-max m e = sym (ap (λ (x : Op). opInForm p (opOf l x)) e)
 
 -- ---- the pass
 
-abbrev pub So-far : (l : List ℕ) (end at : ℕ) → Type 0
-So-far l end at = (at ≤ length l) × ((k : ℕ) × (length l ≤ k + at) × (oddFrom k at end (drop at l) ≡ oddPlace l end))
+abbrev pub So-far : (p : Profile) (l : List ℕ) (end at : ℕ) → Type 0
+So-far p l end at = (at ≤ length l) × ((k : ℕ) × (length l ≤ k + at) × (oddFrom p k at end (drop at l) ≡ oddPlace p l end))
 
-pub begin : (l : List ℕ) (end : ℕ) → So-far l end 0
-begin l end = (omega arith, (length l, omega arith, refl))
+pub begin : (p : Profile) (l : List ℕ) (end : ℕ) → So-far p l end 0
+begin p l end = (omega arith, (length l, omega arith, refl))
 
-module _ (l : List ℕ) (end at : ℕ) (s : So-far l end at) where
-  pub over : end ≤ at → end ≡ oddPlace l end
+module _ (p : Profile) (l : List ℕ) (end at : ℕ) (s : So-far p l end at) where
+  pub over : end ≤ at → end ≡ oddPlace p l end
   unfolding oddFrom
   over h = go (s .1 .0) (s .1 .2)
     where
-      go : (k : ℕ) → oddFrom k at end (drop at l) ≡ oddPlace l end → end ≡ oddPlace l end
+      go : (k : ℕ) → oddFrom p k at end (drop at l) ≡ oddPlace p l end → end ≡ oddPlace p l end
       go zero e = e
       go (suc n) e = sym (pick-false (ltb at end) _ end (le-ltb at end h)) ∙ e
 
   module _ (h : at < end) (f : end ≤ length l) where
     -- one operation more
-    next-op : (n : ℕ) → length l ≤ suc n + at → oddFrom (suc n) at end (drop at l) ≡ oddPlace l end
-        → onOdd at end (λ rest. oddFrom n (at + (length (drop at l) - length rest)) end rest) (meant l (opAt l at)) ≡ oddPlace l end
+    next-op : (n : ℕ) → length l ≤ suc n + at → oddFrom p (suc n) at end (drop at l) ≡ oddPlace p l end
+        → onOdd p at end (λ rest. oddFrom p n (at + (length (drop at l) - length rest)) end rest) (meant l (opAt l at)) ≡ oddPlace p l end
     unfolding oddFrom
     next-op n g e =
-        sym (ap (onOdd at end (λ rest. oddFrom n (at + (length (drop at l) - length rest)) end rest)) (read-at l at (omega arith)))
-        ∙ sym (pick-true (ltb at end) (onOdd at end (λ rest. oddFrom n (at + (length (drop at l) - length rest)) end rest) (rule.readOp (drop at l))) end (lt-ltb at end h))
+        sym (ap (onOdd p at end (λ rest. oddFrom p n (at + (length (drop at l) - length rest)) end rest)) (read-at l at (omega arith)))
+        ∙ sym (pick-true (ltb at end) (onOdd p at end (λ rest. oddFrom p n (at + (length (drop at l) - length rest)) end rest) (rule.readOp (drop at l))) end (lt-ltb at end h))
         ∙ e
 
-    pub bad : (r : Refusal) → opAt l at ≡ Bad r → end ≡ oddPlace l end
+    pub bad : (r : Refusal) → opAt l at ≡ Bad r → end ≡ oddPlace p l end
     bad r e = go (s .1 .0) (s .1 .1) (s .1 .2)
       where
-        go : (k : ℕ) → length l ≤ k + at → oddFrom k at end (drop at l) ≡ oddPlace l end → end ≡ oddPlace l end
+        go : (k : ℕ) → length l ≤ k + at → oddFrom p k at end (drop at l) ≡ oddPlace p l end → end ≡ oddPlace p l end
         go zero g q = absurd (omega arith)
-        go (suc n) g q = sym (ap (λ (x : OpRead). onOdd at end (λ rest. oddFrom n (at + (length (drop at l) - length rest)) end rest) (meant l x)) e) ∙ next-op n g q
+        go (suc n) g q = sym (ap (λ (x : OpRead). onOdd p at end (λ rest. oddFrom p n (at + (length (drop at l) - length rest)) end rest) (meant l x)) e) ∙ next-op n g q
 
-    module _ (o : Op) (next : ℕ) (e : opAt l at ≡ Got o next) {t : Bool} (is : t ≡ opInForm Meter (opOf l o)) where
-      got : (n : ℕ) → length l ≤ suc n + at → oddFrom (suc n) at end (drop at l) ≡ oddPlace l end
-          → pick t (oddFrom n (at + (length (drop at l) - length (drop next l))) end (drop next l)) at ≡ oddPlace l end
+    module _ (o : Op) (next : ℕ) (e : opAt l at ≡ Got o next) {t : Bool} (is : t ≡ opInForm p (opOf l o)) where
+      got : (n : ℕ) → length l ≤ suc n + at → oddFrom p (suc n) at end (drop at l) ≡ oddPlace p l end
+          → pick t (oddFrom p n (at + (length (drop at l) - length (drop next l))) end (drop next l)) at ≡ oddPlace p l end
       got n g q =
-          ap (λ (x : Bool). pick x (oddFrom n (at + (length (drop at l) - length (drop next l))) end (drop next l)) at) is
-          ∙ sym (ap (λ (x : OpRead). onOdd at end (λ rest. oddFrom n (at + (length (drop at l) - length rest)) end rest) (meant l x)) e)
+          ap (λ (x : Bool). pick x (oddFrom p n (at + (length (drop at l) - length (drop next l))) end (drop next l)) at) is
+          ∙ sym (ap (λ (x : OpRead). onOdd p at end (λ rest. oddFrom p n (at + (length (drop at l) - length rest)) end rest) (meant l x)) e)
           ∙ next-op n g q
 
-      pub is-odd : t ≡ false → at ≡ oddPlace l end
+      pub is-odd : t ≡ false → at ≡ oddPlace p l end
       is-odd c = go (s .1 .0) (s .1 .1) (s .1 .2)
         where
-          go : (k : ℕ) → length l ≤ k + at → oddFrom k at end (drop at l) ≡ oddPlace l end → at ≡ oddPlace l end
+          go : (k : ℕ) → length l ≤ k + at → oddFrom p k at end (drop at l) ≡ oddPlace p l end → at ≡ oddPlace p l end
           go zero g q = absurd (omega arith)
-          go (suc n) g q = sym (pick-false t (oddFrom n (at + (length (drop at l) - length (drop next l))) end (drop next l)) at c) ∙ got n g q
+          go (suc n) g q = sym (pick-false t (oddFrom p n (at + (length (drop at l) - length (drop next l))) end (drop next l)) at c) ∙ got n g q
 
-      pub goes-on : t ≡ true → So-far l end next
+      pub goes-on : t ≡ true → So-far p l end next
       goes-on c = go (s .1 .0) (s .1 .1) (s .1 .2)
         where
           w : (at < next) × (next ≤ length l)
@@ -96,7 +104,7 @@ module _ (l : List ℕ) (end at : ℕ) (s : So-far l end at) where
           place : at + (length (drop at l) - length (drop next l)) ≡ next
           place = let a = w .0 in let b = w .1 in simp length-drop (omega arith)
 
-          go : (k : ℕ) → length l ≤ k + at → oddFrom k at end (drop at l) ≡ oddPlace l end → So-far l end next
+          go : (k : ℕ) → length l ≤ k + at → oddFrom p k at end (drop at l) ≡ oddPlace p l end → So-far p l end next
           go zero g q = absurd (omega arith)
           go (suc n) g q =
               let a = w .0 in
@@ -105,8 +113,8 @@ module _ (l : List ℕ) (end at : ℕ) (s : So-far l end at) where
                 (
                   n,
                   omega arith,
-                  ap (λ (j : ℕ). oddFrom n j end (drop next l)) (sym place)
-                      ∙ sym (pick-true t (oddFrom n (at + (length (drop at l) - length (drop next l))) end (drop next l)) at c)
+                  ap (λ (j : ℕ). oddFrom p n j end (drop next l)) (sym place)
+                      ∙ sym (pick-true t (oddFrom p n (at + (length (drop at l) - length (drop next l))) end (drop next l)) at c)
                       ∙ got n g q,
                 ),
               )

@@ -1,5 +1,6 @@
-// Reading a delta in a table's profile: a delta with one record out of form is refused whole, with 17 at that record's place, straight after the operation's
-// own 11. Document 01's verdict comes first, and then one more pass over the records before the fault. A free table makes none.
+// Reading a delta in a table's profile: a delta with one record out of form is refused whole, with the profile's number (17 meter, 19 shared) at that record's
+// place, straight after the operation's own 11. Document 01's verdict comes first, and then one more pass over the records before the fault. A free table makes
+// none.
 use delta_op::Op;
 use delta_op::OpRead;
 use rules::DeltaRead;
@@ -7,18 +8,17 @@ use rules::Profile;
 use rules::Refusal;
 use rules::Status;
 ghost use mathlib.Core.Path.{_≡_};
-ghost use mathlib.Core.Bool.{_&&_};
 ghost use Prim.Native.Nat.{_+_, _≤_};
 ghost use lib.ListN.{length};
 ghost use Rattle.fields.specs.Parts.{part};
 ghost use Rattle.rules.specs.Delta.{deltaRead};
-ghost use Rattle.rules.specs.Profile.{meterKey, meterValue, opInForm};
-ghost use Rattle.rules.specs.declared.Profile.the-variants.{Meter};
+ghost use Rattle.rules.specs.Profile.{oddNumber, opInForm};
 ghost use Rattle.delta_op.specs.Places.{Inside, opOf};
-ghost use Rattle.delta_form.specs.Forming.{deltaReadAs, endOf, oddPlace};
+ghost use Rattle.delta_form.specs.Forming.{deltaReadAs, endOf, formedAt, oddPlace};
 
 // Whether the record whose key and value stand at these places is in form.
 fn record_formed(
+    profile: Profile,
     delta: &[u8],
     keyat: usize,
     keylen: usize,
@@ -27,17 +27,25 @@ fn record_formed(
     status: Status,
 ) -> bool
     requires { ⌜ (keyat + keylen ≤ length (now delta)) × (valueat + valuelen ≤ length (now delta)) ⌝ }
-    ensures { λ r. ⌜ r ≡ (meterKey (part keyat keylen (now (delta .entry))) && meterValue status (part valueat valuelen (now (delta .entry)))) ⌝ }
+    ensures { λ r. ⌜ r ≡ formedAt profile (part keyat keylen (now (delta .entry))) (part valueat valuelen (now (delta .entry))) status ⌝ }
 {
     let keyend = keyat + keylen;
     let valueend = valueat + valuelen;
-    meter_form::is_formed(&delta[keyat..keyend], &delta[valueat..valueend], status)
+    match profile {
+        Profile::Free => true,
+        Profile::Meter => meter_form::is_formed(
+            &delta[keyat..keyend],
+            &delta[valueat..valueend],
+            status,
+        ),
+        Profile::Shared => party_form::is_someones(&delta[keyat..keyend]),
+    }
 }
 
 // Whether an operation is no record out of form.
-fn op_formed(delta: &[u8], op: Op) -> bool
+fn op_formed(profile: Profile, delta: &[u8], op: Op) -> bool
     requires { ⌜ Inside (length (now delta)) op ⌝ }
-    ensures { λ r. ⌜ r ≡ opInForm Meter (opOf (now (delta .entry)) op) ⌝ }
+    ensures { λ r. ⌜ r ≡ opInForm profile (opOf (now (delta .entry)) op) ⌝ }
 {
     match op {
         Op::Node {
@@ -52,15 +60,15 @@ fn op_formed(delta: &[u8], op: Op) -> bool
             valuelen,
             version: _,
             status,
-        } => record_formed(delta, keyat, keylen, valueat, valuelen, status),
+        } => record_formed(profile, delta, keyat, keylen, valueat, valuelen, status),
         Op::SetMaxVersion { max: _ } => true,
     }
 }
 
 // Where the first record out of form stands before `end`, or `end`.
-fn first_odd(delta: &[u8], end: usize) -> usize
+fn first_odd(profile: Profile, delta: &[u8], end: usize) -> usize
     requires { ⌜ end ≤ length (now delta) ⌝ }
-    ensures { λ r. ⌜ r ≡ oddPlace (now (delta .entry)) end ⌝ }
+    ensures { λ r. ⌜ r ≡ oddPlace profile (now (delta .entry)) end ⌝ }
 {
     let mut at = 0;
     while at < end {
@@ -68,7 +76,7 @@ fn first_odd(delta: &[u8], end: usize) -> usize
         let OpRead::Got { op, next } = read else {
             return end;
         };
-        if op_formed(delta, op) {
+        if op_formed(profile, delta, op) {
             at = next;
         } else {
             return at;
@@ -87,29 +95,41 @@ fn end_of(long: usize, read: DeltaRead) -> usize
     }
 }
 
-// The verdict on a delta in the meter profile, from document 01's.
-fn read_formed(delta: &[u8], read: DeltaRead) -> DeltaRead
+// The number of a record that is not in the form of a profile.
+pub fn odd_number(profile: Profile) -> Refusal
+    ensures { λ r. ⌜ r ≡ oddNumber profile ⌝ }
+{
+    match profile {
+        Profile::Free => Refusal::BadForm,
+        Profile::Meter => Refusal::BadForm,
+        Profile::Shared => Refusal::OtherParty,
+    }
+}
+
+// The verdict on a delta in a profile, from document 01's, by the records before the fault.
+fn read_formed(profile: Profile, delta: &[u8], read: DeltaRead) -> DeltaRead
     requires { ⌜ read ≡ deltaRead (now delta) ⌝ }
-    ensures { λ r. ⌜ r ≡ deltaReadAs Meter (now (delta .entry)) ⌝ }
+    ensures { λ r. ⌜ r ≡ deltaReadAs profile (now (delta .entry)) ⌝ }
 {
     let end = end_of(delta.len(), read);
-    let odd = first_odd(delta, end);
+    let odd = first_odd(profile, delta, end);
     if odd < end {
         return DeltaRead::Refused {
-            why: Refusal::BadForm,
+            why: odd_number(profile),
             at: odd,
         };
     }
     read
 }
 
-// The verdict on a delta in a profile, from document 01's.
+// The same, where a free table looks at no record.
 pub fn read_as(profile: Profile, delta: &[u8], read: DeltaRead) -> DeltaRead
     requires { ⌜ read ≡ deltaRead (now delta) ⌝ }
     ensures { λ r. ⌜ r ≡ deltaReadAs profile (now (delta .entry)) ⌝ }
 {
     match profile {
         Profile::Free => read,
-        Profile::Meter => read_formed(delta, read),
+        Profile::Meter => read_formed(profile, delta, read),
+        Profile::Shared => read_formed(profile, delta, read),
     }
 }

@@ -10,10 +10,11 @@ use Rattle.rules.specs.Sizes.{maxDelta, maxKey, maxNodes, maxValue}
 use Rattle.rules.specs.Table.{among}
 use Rattle.rules.specs.Digest as digest
 use Rattle.rules.specs.Delta.{Bad, Fault, Faulty, Followed, Good, Got, KeyValueOp, Next, NodeOp, Op, OpRead, Ops, Reading, SetMaxVersionOp, andThen, field, follow, lengthWidth, nothingRead, number, numberLacks, numberWidth, byteWidth, onFollowed, onRead, readDelta, readKeyValue, readNode, readOp, readOps, readSetMaxVersion, readTagged, statusOr, text, underNode, unlessEnd}
-use Rattle.rules.specs.Profile.{andForm, onReadAs, opInForm, readDeltaAs, readOpsAs}
+use Rattle.rules.specs.Profile.{andForm, oddNumber, onReadAs, opInForm, readDeltaAs, readOpsAs}
 use Rattle.rules.specs.declared.Profile.{Profile}
+use Rattle.rules.specs.declared.Profile.the-variants.{Free, Meter, Shared}
 use Rattle.rules.specs.declared.Refusal.{Refusal}
-use Rattle.rules.specs.declared.Refusal.the-variants.{TooLong, Cut, BadTag, OutOfOrder, NodeTwice, TooMany, BadEdition, BadForm}
+use Rattle.rules.specs.declared.Refusal.the-variants.{TooLong, Cut, BadTag, OutOfOrder, NodeTwice, TooMany, BadEdition, BadForm, OtherParty}
 use Rattle.rules.specs.declared.Status.{Status}
 
 -- ---- a digest: 20, 9, 13
@@ -182,15 +183,20 @@ module _ (F : Refusal → Type 0) (long : F TooLong) (cut : (n : ℕ) → F (Cut
       go true = ops-so (length l) 0 nothingRead l
       go false = many
 
-  -- in a profile 17 too
-  module _ (p : Profile) (form : F BadForm) where
-    form-so : (b : Bool) (f : Followed) → FollowedSo f → FollowedSo (andForm b f)
+  -- in a profile 17 or 19 too
+  module _ (p : Profile) (form : F BadForm) (other : F OtherParty) where
+    odd-so : (p : Profile) → F (oddNumber p)
+    odd-so Free = form
+    odd-so Meter = form
+    odd-so Shared = other
+
+    form-so : (b : Bool) (f : Followed) → FollowedSo f → FollowedSo (andForm p b f)
     form-so b (Fault r) h = h
     form-so true (Next s) h = tt
-    form-so false (Next s) h = form
+    form-so false (Next s) h = odd-so p
 
     on-read-as : (at : ℕ) (s : Reading) (next : Reading → List ℕ → Ops) (x : OpRead) → ReadSo x → ((s : Reading) (rest : List ℕ) → OpsSo (next s rest)) → OpsSo (onReadAs p at s next x)
-    on-read-as at s next (Got o rest) h n = followed-so at o (λ s′. next s′ rest) (andForm (opInForm p o) (follow s o)) (form-so (opInForm p o) (follow s o) (follow-so s o)) (λ s′. n s′ rest)
+    on-read-as at s next (Got o rest) h n = followed-so at o (λ s′. next s′ rest) (andForm p (opInForm p o) (follow s o)) (form-so (opInForm p o) (follow s o) (follow-so s o)) (λ s′. n s′ rest)
     on-read-as at s next (Bad r) h n = h
 
     ops-as : (n at : ℕ) (s : Reading) (l : Bytes) → OpsSo (readOpsAs p n at s l)

@@ -22,6 +22,7 @@ use Rattle.rules.specs.declared.Answer.the-variants as plain
 use Rattle.rules.specs.declared.Applied.the-variants as applied
 use Rattle.rules.specs.declared.Computed.{Computed}
 use Rattle.rules.specs.declared.Offered.the-variants as offered
+use Rattle.rules.specs.declared.Party.{Party}
 use Rattle.rules.specs.declared.Profile.{Profile}
 use Rattle.rules.specs.declared.Refusal.the-variants.{BadTable}
 use Rattle.rules.specs.declared.Written.{Written}
@@ -71,13 +72,13 @@ stays l v t o f e = valid-encode-whole (withTable t (decodeWhole l)) (same-nodes
 
 kept : {A : Type 0} (bad : A) (rule : Table → Outcome A) → ((t : Table) → obeys t ≡ true → obeys (rule t .table) ≡ true)
     → ((t : Table) → numbersOf (rule t .table) ≡ numbersOf t)
-    → (l : Bytes) → ((t : Table) → profileObeys (profileIn l) t ≡ true → profileObeys (profileIn l) (rule t .table) ≡ true)
+    → (l : Bytes) → ((t : Table) → obeys t ≡ true → profileObeys (profileIn l) t ≡ true → profileObeys (profileIn l) (rule t .table) ≡ true)
     → validWhole l ≡ true → validWhole (onTable bad rule l .lent) ≡ true
 unfolding onTable
 kept {A} bad rule f same l formed v =
     ap (λ (b : Bool). validWhole (pick b (storedIn (decodeWhole l) (rule (decodeWhole l .table))) (given bad l) .lent)) v
     ∙ stays l v (rule (decodeWhole l .table) .table) (f (decodeWhole l .table) (whole-obeys l v))
-    (formed (decodeWhole l .table) (whole-profile (decodeWhole l) (valid.whole-obeys l v))) (same (decodeWhole l .table))
+    (formed (decodeWhole l .table) (whole-obeys l v) (whole-profile (decodeWhole l) (valid.whole-obeys l v))) (same (decodeWhole l .table))
 
 -- with the memory too
 kept-whole : {A : Type 0} (bad : A) (rule : Whole → Given A Whole) → ((w : Whole) → obeysWhole w ≡ true → obeysWhole (rule w .lent) ≡ true)
@@ -96,20 +97,20 @@ made m l v = go (eqb (length l) wholeWidth)
     go false = v
 
 -- what a profile refuses changes nothing
-call-keeps-as : (p : Profile) (c : Call) (i : ℕ) (k : Bytes) (t : Table) → ClockFits c → obeys t ≡ true → obeys (callAs p c i k t .table) ≡ true
-call-keeps-as p c i k t fits o = call-as p c i k t (λ x. obeys (x .table) ≡ true) (call-keeps c i k t fits o) o o
+call-keeps-as : (p : Profile) (q : Party) (c : Call) (i : ℕ) (k : Bytes) (t : Table) → ClockFits c → obeys t ≡ true → obeys (callAs p q c i k t .table) ≡ true
+call-keeps-as p q c i k t fits o = call-as p q c i k t (λ x. obeys (x .table) ≡ true) (call-keeps c i k t fits o) (λ r by. o)
 
-write-keeps-as : (p : Profile) (wanted : ℕ) (v : Bytes) (now i : ℕ) (k : Bytes) (t : Table) → now < numbers → obeys t ≡ true → obeys (writeAs p wanted v now i k t .table) ≡ true
-write-keeps-as p wanted v now i k t fits o =
-    write-as p wanted v now i k t (λ x. obeys (x .table) ≡ true) (call-keeps-as p (Setting v) i k t tt o) (call-keeps-as p (SettingTtl v now) i k t fits o) o
+write-keeps-as : (p : Profile) (q : Party) (wanted : ℕ) (v : Bytes) (now i : ℕ) (k : Bytes) (t : Table) → now < numbers → obeys t ≡ true → obeys (writeAs p q wanted v now i k t .table) ≡ true
+write-keeps-as p q wanted v now i k t fits o =
+    write-as p q wanted v now i k t (λ x. obeys (x .table) ≡ true) (call-keeps-as p q (Setting v) i k t tt o) (call-keeps-as p q (SettingTtl v now) i k t fits o) o
 
 -- no node comes or goes by a write, a removal of records or a delta
-numbers-call-as : (p : Profile) (c : Call) (i : ℕ) (k : Bytes) (t : Table) → numbersOf (callAs p c i k t .table) ≡ numbersOf t
-numbers-call-as p c i k t = call-as p c i k t (λ o. numbersOf (o .table) ≡ numbersOf t) (numbers-call c i k t) refl refl
+numbers-call-as : (p : Profile) (q : Party) (c : Call) (i : ℕ) (k : Bytes) (t : Table) → numbersOf (callAs p q c i k t .table) ≡ numbersOf t
+numbers-call-as p q c i k t = call-as p q c i k t (λ o. numbersOf (o .table) ≡ numbersOf t) (numbers-call c i k t) (λ r by. refl)
 
-numbers-write : (p : Profile) (wanted : ℕ) (v : Bytes) (now i : ℕ) (k : Bytes) (t : Table) → numbersOf (writeAs p wanted v now i k t .table) ≡ numbersOf t
-numbers-write p wanted v now i k t =
-    write-as p wanted v now i k t (λ o. numbersOf (o .table) ≡ numbersOf t) (numbers-call-as p (Setting v) i k t) (numbers-call-as p (SettingTtl v now) i k t) refl
+numbers-write : (p : Profile) (q : Party) (wanted : ℕ) (v : Bytes) (now i : ℕ) (k : Bytes) (t : Table) → numbersOf (writeAs p q wanted v now i k t .table) ≡ numbersOf t
+numbers-write p q wanted v now i k t =
+    write-as p q wanted v now i k t (λ o. numbersOf (o .table) ≡ numbersOf t) (numbers-call-as p q (Setting v) i k t) (numbers-call-as p q (SettingTtl v now) i k t) refl
 
 numbers-gc : (now grace : ℕ) (t : Table) → numbersOf (gc now grace t .table) ≡ numbersOf t
 unfolding gc
@@ -231,32 +232,32 @@ obeying (calls.new-table t m p) = one t _ (made (kind m p) t)
 obeying (calls.add-node t i) = one t _ (kept-whole (plain.Refused BadTable) (addWhole (i .value)) (λ w o. add-keeps-whole w o (i .value) (i .fits)) t)
 obeying (calls.remove-node t i) = one t _ (kept-whole (plain.Refused BadTable) (removeWhole (i .value)) (λ w o. remove-keeps-whole w o (i .value)) t)
 obeying (calls.last-heartbeat t i) = λ e. e
-obeying (calls.write t k v i wanted now) =
+obeying (calls.write t k v i wanted now who) =
     let p = profileIn t in
-    one t _ (kept (plain.Refused BadTable) (writeAs p (wanted .value) v (now .value) (i .value) k) (λ t. write-keeps-as p (wanted .value) v (now .value) (i .value) k t (now .fits)) (numbers-write p (wanted .value) v (now .value) (i .value) k) t
-    (write-formed p (wanted .value) v (now .value) (i .value) k))
-obeying (calls.delete t k i now) =
+    one t _ (kept (plain.Refused BadTable) (writeAs p who (wanted .value) v (now .value) (i .value) k) (λ t. write-keeps-as p who (wanted .value) v (now .value) (i .value) k t (now .fits)) (numbers-write p who (wanted .value) v (now .value) (i .value) k) t
+    (write-formed p who (wanted .value) v (now .value) (i .value) k))
+obeying (calls.delete t k i now who) =
     let p = profileIn t in
     let c = Deleting (now .value) in
-    one t _ (kept (plain.Refused BadTable) (callAs p c (i .value) k) (λ t. call-keeps-as p c (i .value) k t (now .fits)) (numbers-call-as p c (i .value) k) t (call-formed p c (i .value) k))
-obeying (calls.delete-after-ttl t k i now) =
+    one t _ (kept (plain.Refused BadTable) (callAs p who c (i .value) k) (λ t. call-keeps-as p who c (i .value) k t (now .fits)) (numbers-call-as p who c (i .value) k) t (call-formed p who c (i .value) k))
+obeying (calls.delete-after-ttl t k i now who) =
     let p = profileIn t in
     let c = DeletingAfterTtl (now .value) in
-    one t _ (kept (plain.Refused BadTable) (callAs p c (i .value) k) (λ t. call-keeps-as p c (i .value) k t (now .fits)) (numbers-call-as p c (i .value) k) t (call-formed p c (i .value) k))
+    one t _ (kept (plain.Refused BadTable) (callAs p who c (i .value) k) (λ t. call-keeps-as p who c (i .value) k t (now .fits)) (numbers-call-as p who c (i .value) k) t (call-formed p who c (i .value) k))
 obeying (calls.remove-scheduled t now grace) =
-    one t _ (kept (plain.Refused BadTable) (gc (now .value) (grace .value)) (gc-keeps (now .value) (grace .value)) (numbers-gc (now .value) (grace .value)) t (gc-formed (profileIn t) (now .value) (grace .value)))
+    one t _ (kept (plain.Refused BadTable) (gc (now .value) (grace .value)) (gc-keeps (now .value) (grace .value)) (numbers-gc (now .value) (grace .value)) t (λ u ok. gc-formed (profileIn t) (now .value) (grace .value) u))
 obeying (calls.offer-heartbeat t i h) =
-    one t _ (kept (offered.Refused BadTable) (offer (i .value) (beats (h .value))) (λ t. offer-keeps (i .value) (beats (h .value)) t (h .fits)) (numbers-offer (i .value) (beats (h .value))) t (offer-formed (profileIn t) (i .value) (beats (h .value))))
-obeying (calls.local-beat t i) = one t _ (kept (plain.Refused BadTable) (localBeat (i .value)) (beat-keeps (i .value)) (numbers-beat (i .value)) t (beat-formed (profileIn t) (i .value)))
-obeying (calls.find t k i) = λ e. e
-obeying (calls.list-prefix t k out i) = λ e. e
+    one t _ (kept (offered.Refused BadTable) (offer (i .value) (beats (h .value))) (λ t. offer-keeps (i .value) (beats (h .value)) t (h .fits)) (numbers-offer (i .value) (beats (h .value))) t (λ u ok. offer-formed (profileIn t) (i .value) (beats (h .value)) u))
+obeying (calls.local-beat t i) = one t _ (kept (plain.Refused BadTable) (localBeat (i .value)) (beat-keeps (i .value)) (numbers-beat (i .value)) t (λ u ok. beat-formed (profileIn t) (i .value) u))
+obeying (calls.find t k i who) = λ e. e
+obeying (calls.list-prefix t k out i who) = λ e. e
 obeying (calls.new-overrides o i) = over o _ (λ v. over-new-keeps (i .value) o (i .fits) (over-long o v))
 obeying (calls.write-override o k v wanted now) = over o _ (over-write-keeps (wanted .value) v (now .value) k o (now .fits))
 obeying (calls.delete-override o k now) = over o _ (over-call-keeps (Deleting (now .value)) k o (now .fits))
 obeying (calls.delete-override-after-ttl o k now) = over o _ (over-call-keeps (DeletingAfterTtl (now .value)) k o (now .fits))
 obeying (calls.remove-overrides o now grace) = over o _ (removal-keeps (now .value) (grace .value) o)
-obeying (calls.find-over t o k i) = λ e. e
-obeying (calls.list-over t o k out i) = λ e. e
+obeying (calls.find-over t o k i who) = λ e. e
+obeying (calls.list-over t o k out i who) = λ e. e
 obeying (calls.new-grid t g) = pair t g t _ (λ w v. (w, new-keeps t g w v))
 obeying (calls.grid-add-node t g i) = pair t g _ _ (λ w v. grown (i .value) (i .fits) t g w v)
 obeying (calls.grid-remove-node t g i) = pair t g _ _ (λ w v. shrunk (i .value) t g w v)
@@ -268,13 +269,14 @@ obeying (calls.remove-carefully t g now grace) = pair t g _ g (λ w v. (carefull
 obeying (calls.node-count t) = λ e. e
 obeying (calls.node-number t i) = λ e. e
 obeying (calls.node-header t i) = λ e. e
-obeying (calls.record-count t i) = λ e. e
-obeying (calls.record-at t i j) = λ e. e
-obeying (calls.record-of t i j) = λ e. e
-obeying (calls.record-by-key t k i) = λ e. e
-obeying (calls.node-rows t i) = λ e. e
-obeying (calls.prefix-rows t k i) = λ e. e
-obeying (calls.find-text t i j x) = λ e. e
+obeying (calls.record-count t i who) = λ e. e
+obeying (calls.record-at t i j who) = λ e. e
+obeying (calls.record-of t i j who) = λ e. e
+obeying (calls.record-by-key t k i who) = λ e. e
+obeying (calls.node-rows t i who) = λ e. e
+obeying (calls.front t i who) = λ e. e
+obeying (calls.prefix-rows t k i who) = λ e. e
+obeying (calls.find-text t i j x who) = λ e. e
 obeying (calls.write-digest t edition excluded datagram place) = λ e. e
 obeying (calls.read-digest edition digest) = λ e. e
 obeying (calls.digest-entry digest edition i) = λ e. e

@@ -22,9 +22,10 @@ use Rattle.rules.specs.Memory.{heartbeatOf}
 use Rattle.rules.specs.Whole.{Whole, decodeWhole, encodeWhole, validWhole, wholeWidth, withTable}
 use Rattle.rules.specs.Lent.{addWhole, both, fromTable, lentApply, lentApplyAs, lentNew, lentRemoved, onTable, onWhole, rememberedAs, removeWhole, storedIn, storedApply}
 use Rattle.rules.specs.Listing.{listing}
-use Rattle.rules.specs.Local.{Outcome, add, answerOf, beatOn, call, callAs, callOn, gc, gives, listInto, localBeat, offer, offerOn, prefixOn, prefixed, removeNode, unlessGuarded, writeAs, yesNo}
+use Rattle.rules.specs.Local.{Outcome, add, answerOf, beatOn, call, callAs, callOn, gc, gives, listInto, localBeat, offer, offerOn, prefixOn, prefixed, prefixedAs, removeNode, unlessGuarded, writeAs, yesNo}
 use Rattle.rules.specs.Node.{Call, Change, Deleting, DeletingAfterTtl, Give, KeyValue, Leave, Node, Rec, Refuse, Setting, SettingTtl, allowed, beats, brought, decide, find, fullFor, hidden, hitsFrom, offerOf, sameStatus, unlessSame, wish}
-use Rattle.rules.specs.Profile.{Kind, brings, guardIn, kind, meterGuard, sizesFit}
+use Rattle.rules.specs.Party.{own, seen, sees}
+use Rattle.rules.specs.Profile.{Kind, brings, guardIn, kind, meterGuard, oddNumber, partyGuard, sizesFit}
 use Rattle.rules.specs.Table.{Entry, Table, addNode, among, dropNode, nodeOf, numbersOf}
 use Rattle.rules.specs.Layout.{nodePlace, nodeWidth, encodeNode, decodeNode}
 use Rattle.rules.specs.Delta.{statusByte}
@@ -38,16 +39,18 @@ use Rattle.rules.specs.declared.Computed.the-variants as computed
 use Rattle.rules.specs.declared.Listed.{Listed}
 use Rattle.rules.specs.declared.Listed.the-variants as listed
 use Rattle.rules.specs.declared.Offered.the-variants as offered
+use Rattle.rules.specs.declared.Party.{Party}
 use Rattle.rules.specs.declared.Profile.{Profile}
-use Rattle.rules.specs.declared.Profile.the-variants.{Free, Meter}
+use Rattle.rules.specs.declared.Profile.the-variants.{Free, Meter, Shared}
 use Rattle.rules.specs.declared.Refusal.{Refusal}
-use Rattle.rules.specs.declared.Refusal.the-variants.{BadForm, BadMtu, BadPeer, BadPlan, BadTable, BadTag, BadTies, Exhausted, NinthNode, NoNode, NobodyPresent, NodeFull, NoPlace, TooLong, BadEdition}
+use Rattle.rules.specs.declared.Refusal.the-variants.{BadMtu, BadPeer, BadPlan, BadTable, BadTag, BadTies, Exhausted, NinthNode, NoNode, NobodyPresent, NodeFull, NoPlace, OtherParty, TooLong, BadEdition}
 use Rattle.rules.specs.declared.Status.the-variants.{Set, Ttl}
 use Rattle.rules.specs.declared.Written.{Written}
 use Rattle.rules.specs.declared.Written.the-variants as written
 use Rattle.table_read.specs.Find.{nodeStart}
 use Rattle.nodes.specs.New.{lentMade}
-use Rattle.lookup.specs.Lookup.{findOn, findRec, foundIn, valuePlace}
+use Rattle.lookup.specs.Lookup as placed
+use Rattle.lookup.specs.Lookup.{findAs, findOn, findRec, foundIn, valuePlace}
 use Rattle.lookup.specs.Told.{foundTold}
 use Rattle.lookup.specs.declared.Found.{Found}
 use Rattle.lookup.specs.declared.Found.the-variants as found
@@ -71,16 +74,18 @@ use Rattle.grid.specs.Grid.{Grid, addColumn, columns, dropColumn, leastOf, maxP
 use Rattle.grid.specs.GridLayout.{decodeGrid, encodeGrid, gridWidth, validGrid}
 use Rattle.grid.specs.LentGrid.{both as beside, carefullyRemoved, gridOn, leastTold, lentCareful, lentColumnIn, lentColumnOut, lentLeast, lentNewGrid, lentSeen, lentTakeOut, lentTell, seenTold, tellOn, validBoth}
 use Rattle.grid.specs.declared.Least.the-variants as least
-use Rattle.grid.specs.declared.Seen.the-variants as seen
-use Rattle.inspect.specs.Look.{elementAt, headerOn, nodeCount, nodeHeader, nodeNumber, numberOn, readAt, readKey, readRec, readRecord, recordByKey, recordByKeyOn, recordCount, recordIn, recordOfPlaces, recordOn, recordsOn, rowsOn, nodeRows}
+use Rattle.grid.specs.declared.Seen.the-variants as told
+use Rattle.inspect.specs.Look as looking
+use Rattle.inspect.specs.Look.{elementAt, frontAs, frontTold, headerOn, nodeCount, nodeHeader, nodeNumber, nodeRowsAs, numberOn, readAt, readKey, readRec, readRecordAs, recordByKey, recordByKeyAs, recordByKeyOn, recordCountAs, recordIn, recordOfAs, recordOn, recordsOn, rowsOn}
 use Rattle.inspect.specs.Told.{countTold, nodeHeaderTold, nodeNumberTold, recordReadTold, rowsTold}
 use Rattle.inspect.specs.declared.Count.the-variants as count
 use Rattle.inspect.specs.declared.NodeHeader.the-variants as header
 use Rattle.inspect.specs.declared.NodeNumber.the-variants as number
+use Rattle.inspect.specs.declared.RecordRead.{RecordRead}
 use Rattle.inspect.specs.declared.RecordRead.the-variants as rec
 use Rattle.inspect.specs.declared.Rows.the-variants as rows
-use Rattle.prefix.specs.Rows.{runRows, prefixRowsOn, prefixRows}
-use Rattle.inspect_text.specs.Texts.{placeOn, textFound, textOn}
+use Rattle.prefix.specs.Rows.{runRows, prefixRowsAs, prefixRowsOn}
+use Rattle.inspect_text.specs.Texts.{placeOn, textFoundAs, textOn}
 use Rattle.inspect_text.specs.declared.Text.{Text}
 use Rattle.digest_read.specs.Held.{digestIn, heldOf, inPlaces, unused}
 use Rattle.digest_read.specs.declared.NodeDigest.{NodeDigest as Place}
@@ -94,7 +99,7 @@ use Rattle.exchange_ask.specs.declared.Ready.{Ready}
 use Rattle.exchange_ask.specs.declared.Ready.the-variants as ready
 use Rattle.exchange_ask.specs.declared.Step.the-variants.{Applying, Delta, Digest}
 use Rattle.rules.proofs.Obeys.{in-among}
-use Rattle.rules.proofs.Writing.{call-as, write-as}
+use Rattle.rules.proofs.Writing.{ByProfile, call-as, form, full, party, total, write-as}
 use Rattle.exchange.proofs.Refusing.{is-ready, ready-done}
 use Rattle.listing_make.specs.Make.{lentMake, madeTold}
 use Rattle.listing_make.proofs.Numbers.{made-numbers}
@@ -230,36 +235,41 @@ called-on kind c missing long f i k t = go (nodeOf i t)
     go none = missing
     go (some n) = limits n (leb (length k) maxKey && leb (length (brought c)) maxValue)
 
--- no profile refuses a call that brings no record
-unguarded : (p : Profile) (c : Call) (k : Bytes) → brings c k ≡ none → (o : Option Node) → guardIn p c k o ≡ none
-unguarded Free c k e o = refl
-unguarded Meter c k e none = refl
-unguarded Meter c k e (some n) = ap (λ (g : Option KeyValue). pick (sizesFit c k) (meterGuard g (find k (n .recs))) none) e ∙ go (sizesFit c k)
+-- of a call that brings no record a profile refuses another's key alone
+unguarded : (p : Profile) (q : Party) (c : Call) (k : Bytes) → brings c k ≡ none → (o : Option Node) (P : Option Refusal → Type 0) → P none → P (some OtherParty) → P (guardIn p q c k o)
+unguarded Free q c k e o P a b = a
+unguarded Meter q c k e none P a b = a
+unguarded Meter q c k e (some n) P a b = subst (λ (g : Option KeyValue). P (pick (sizesFit c k) (meterGuard g (find k (n .recs))) none)) (sym e) (go (sizesFit c k))
   where
-    go : (b : Bool) → pick {X = Option Refusal} b none none ≡ none
-    go true = refl
-    go false = refl
-
-plainly : (p : Profile) (c : Call) (i : ℕ) (k : Bytes) (t : Table) → brings c k ≡ none → callAs p c i k t ≡ call c i k t
-unfolding callAs
-plainly p c i k t e = ap (λ (g : Option Refusal). unlessGuarded g (call c i k t) t) (unguarded p c k e (nodeOf i t))
+    go : (x : Bool) → P (pick x none none)
+    go true = a
+    go false = a
+unguarded Shared q c k e none P a b = a
+unguarded Shared q c k e (some n) P a b = subst (λ (g : Option KeyValue). P (pick (sizesFit c k) (partyGuard (own q) k g (find k (n .recs)) (n .recs)) none)) (sym e) (go (sizesFit c k) (own q k))
+  where
+    go : (x y : Bool) → P (pick x (pick y none (some OtherParty)) none)
+    go true true = a
+    go true false = b
+    go false y = a
 
 -- 14 first
-called : (kind : calls.Kind) (p : Profile) (c : Call) → ((k : Bytes) → brings c k ≡ none) → Of kind (answerTold (plain.Refused BadTable)) → Of kind (answerTold (plain.Refused NoNode))
+called : (kind : calls.Kind) (p : Profile) (q : Party) (c : Call) → ((k : Bytes) → brings c k ≡ none) → Of kind (answerTold (plain.Refused BadTable)) → Of kind (answerTold (plain.Refused OtherParty))
+    → Of kind (answerTold (plain.Refused NoNode))
     → Of kind (answerTold (plain.Refused TooLong))
     → ((k : Bytes) (n : Node) (o : Option Rec) → find k (n .recs) ≡ o → Of kind (answerTold (answerOf (allowed k n (wish c o)))))
     → (i : ℕ) (k l : Bytes)
-    → Of kind (answerTold (onTable (plain.Refused BadTable) (callAs p c i k) l .answer))
-called kind p c none-brought bad missing long f i k =
-    on-table (λ a. Of kind (answerTold a)) (plain.Refused BadTable) (callAs p c i k) bad
-    (λ t. subst (λ (o : Outcome Answer). Of kind (answerTold (o .answer))) (sym (plainly p c i k t (none-brought k))) (called-on kind c missing long f i k t))
+    → Of kind (answerTold (onTable (plain.Refused BadTable) (callAs p q c i k) l .answer))
+unfolding callAs
+called kind p q c none-brought bad other missing long f i k =
+    on-table (λ a. Of kind (answerTold a)) (plain.Refused BadTable) (callAs p q c i k) bad
+    (λ t. unguarded p q c k (none-brought k) (nodeOf i t) (λ g. Of kind (answerTold (unlessGuarded g (call c i k t) t .answer))) (called-on kind c missing long f i k t) other)
 
 -- a set: nothing to change, 5, 6
 sets : (kind : calls.Kind) → Of kind (answerTold plain.Done) → Of kind (answerTold (plain.Refused NodeFull)) → Of kind (answerTold (plain.Refused Exhausted)) → (c : Change) (k : Bytes) (n : Node) (o : Option Rec) → Of kind (answerTold (answerOf (allowed k n (unlessSame o c))))
-sets kind done full over c k n o = go o
+sets kind done no-room over c k n o = go o
   where
     grant : (f b : Bool) → Of kind (answerTold (answerOf (pick f (Refuse NodeFull) (pick b (Give c) (Refuse Exhausted)))))
-    grant true b = full
+    grant true b = no-room
     grant false true = done
     grant false false = over
 
@@ -281,28 +291,34 @@ drops kind done over c k n r e =
     rise true = done
     rise false = over
 
--- 17 and 18 of the profile
-wrote : (p : Profile) (wanted : ℕ) (v : Bytes) (now i : ℕ) (k l : Bytes) → Of calls.Write (answerTold (onTable (plain.Refused BadTable) (writeAs p wanted v now i k) l .answer))
+-- 17, 18 and 19 of the profile
+wrote : (p : Profile) (q : Party) (wanted : ℕ) (v : Bytes) (now i : ℕ) (k l : Bytes) → Of calls.Write (answerTold (onTable (plain.Refused BadTable) (writeAs p q wanted v now i k) l .answer))
 unfolding wish answerTold among calls.refusals
-wrote p wanted v now i k =
-    on-table (λ a. Of calls.Write (answerTold a)) (plain.Refused BadTable) (writeAs p wanted v now i k) refl
-    (λ t. write-as p wanted v now i k t (λ o. Of calls.Write (answerTold (o .answer))) (in-profile t (Setting v) (called-on calls.Write (Setting v) refl refl (λ k n o e. sets calls.Write refl refl refl _ k n o) i k t))
+wrote p q wanted v now i k =
+    on-table (λ a. Of calls.Write (answerTold a)) (plain.Refused BadTable) (writeAs p q wanted v now i k) refl
+    (λ t. write-as p q wanted v now i k t (λ o. Of calls.Write (answerTold (o .answer))) (in-profile t (Setting v) (called-on calls.Write (Setting v) refl refl (λ k n o e. sets calls.Write refl refl refl _ k n o) i k t))
     (in-profile t (SettingTtl v now) (called-on calls.Write (SettingTtl v now) refl refl (λ k n o e. sets calls.Write refl refl refl _ k n o) i k t)) refl)
   where
-    in-profile : (t : Table) (c : Call) → Of calls.Write (answerTold (call c i k t .answer)) → Of calls.Write (answerTold (callAs p c i k t .answer))
-    in-profile t c h = call-as p c i k t (λ o. Of calls.Write (answerTold (o .answer))) h refl refl
+    in-profile : (t : Table) (c : Call) → Of calls.Write (answerTold (call c i k t .answer)) → Of calls.Write (answerTold (callAs p q c i k t .answer))
+    in-profile t c h = call-as p q c i k t (λ o. Of calls.Write (answerTold (o .answer))) h by
+      where
+        by : (r : Refusal) → ByProfile r → Of calls.Write (answerTold (plain.Refused r))
+        by r form = refl
+        by r total = refl
+        by r party = refl
+        by r full = refl
 
-deleted : (p : Profile) (now i : ℕ) (k l : Bytes) → Of calls.Delete (answerTold (onTable (plain.Refused BadTable) (callAs p (Deleting now) i k) l .answer))
+deleted : (p : Profile) (q : Party) (now i : ℕ) (k l : Bytes) → Of calls.Delete (answerTold (onTable (plain.Refused BadTable) (callAs p q (Deleting now) i k) l .answer))
 unfolding wish answerTold among calls.refusals
-deleted p now = called calls.Delete p (Deleting now) (λ k. refl) refl refl refl go
+deleted p q now = called calls.Delete p q (Deleting now) (λ k. refl) refl refl refl refl go
   where
     go : (k : Bytes) (n : Node) (o : Option Rec) → find k (n .recs) ≡ o → Of calls.Delete (answerTold (answerOf (allowed k n (wish (Deleting now) o))))
     go k n none e = refl
     go k n (some r) e = drops calls.Delete refl refl _ k n r e
 
-deleted-ttl : (p : Profile) (now i : ℕ) (k l : Bytes) → Of calls.DeleteAfterTtl (answerTold (onTable (plain.Refused BadTable) (callAs p (DeletingAfterTtl now) i k) l .answer))
+deleted-ttl : (p : Profile) (q : Party) (now i : ℕ) (k l : Bytes) → Of calls.DeleteAfterTtl (answerTold (onTable (plain.Refused BadTable) (callAs p q (DeletingAfterTtl now) i k) l .answer))
 unfolding wish answerTold among calls.refusals
-deleted-ttl p now = called calls.DeleteAfterTtl p (DeletingAfterTtl now) (λ k. refl) refl refl refl go
+deleted-ttl p q now = called calls.DeleteAfterTtl p q (DeletingAfterTtl now) (λ k. refl) refl refl refl refl go
   where
     go : (k : Bytes) (n : Node) (o : Option Rec) → find k (n .recs) ≡ o
         → Of calls.DeleteAfterTtl (answerTold (answerOf (allowed k n (wish (DeletingAfterTtl now) o))))
@@ -323,11 +339,17 @@ looked k start j (r ∷ l) = go (sameBytes k (r .kv .key)) (hidden (r .kv .statu
     go true false e = refl
     go false h e = e
 
-finds : (i : ℕ) (k l : Bytes) → Of calls.Find (foundTold (fromTable (found.Refused BadTable) (foundIn i k) l))
+finds : (p : Profile) (q : Party) (i : ℕ) (k l : Bytes) → Of calls.Find (foundTold (fromTable (found.Refused BadTable) (findAs p q i k) l))
 unfolding foundTold among calls.refusals
-finds i k l =
-    from-table (λ a. Of calls.Find (foundTold a)) (found.Refused BadTable) (foundIn i k) refl (λ t. go (nodeStart i t) (nodeOf i t)) l
+finds p q i k l =
+    from-table (λ a. Of calls.Find (foundTold a)) (found.Refused BadTable) (findAs p q i k) refl (λ t. named (sees p q k) (foundIn i k (seen p q t)) (go (nodeStart i (seen p q t)) (nodeOf i (seen p q t)))) l
   where
+    named : (b : Bool) (f : Found) → Of calls.Find (foundTold f) → Of calls.Find (foundTold (placed.unlessOther b f))
+    named true f h = h
+    named false (found.At start len) h = refl
+    named false found.Nothing h = refl
+    named false (found.Refused r) h = h
+
     limit : (start : ℕ) (n : Node) (b : Bool) → Of calls.Find (foundTold (pick b (findRec k start 0 (n .recs)) (found.Refused TooLong)))
     limit start n true = looked k start 0 (n .recs)
     limit start n false = refl
@@ -336,11 +358,11 @@ finds i k l =
     go start none = refl
     go start (some n) = limit start n (leb (length k) maxKey)
 
-lists : (i : ℕ) (k out l : Bytes) → Of calls.ListPrefix (listedTold (fromTable (given (listed.Refused BadTable) out) (λ t. prefixed i k t out) l .answer))
-unfolding prefixed listedTold among calls.refusals
-lists i k out l =
-    from-table (λ (a : Given Listed Bytes). Of calls.ListPrefix (listedTold (a .answer))) (given (listed.Refused BadTable) out) (λ t. prefixed i k t out) refl
-    (λ t. go (nodeOf i t)) l
+lists : (p : Profile) (q : Party) (i : ℕ) (k out l : Bytes) → Of calls.ListPrefix (listedTold (fromTable (given (listed.Refused BadTable) out) (λ t. prefixedAs p q i k t out) l .answer))
+unfolding prefixed prefixedAs listedTold among calls.refusals
+lists p q i k out l =
+    from-table (λ (a : Given Listed Bytes). Of calls.ListPrefix (listedTold (a .answer))) (given (listed.Refused BadTable) out) (λ t. prefixedAs p q i k t out) refl
+    (λ t. go (nodeOf i (seen p q t))) l
   where
     into : (hits : Bytes) (b : Bool) → Of calls.ListPrefix (listedTold (pick b (given (listed.Hits (length hits)) (put 0 hits out)) (given (listed.Refused NoPlace) out) .answer))
     into hits true = refl
@@ -426,12 +448,21 @@ from-both P bad rule b f o t = go (validNode o)
     go true = from-table P (bad which.Table) (rule (decodeNode o .node)) (b which.Table) (f (decodeNode o .node)) t
     go false = b which.Overrides
 
-found-over : (i : ℕ) (k o t : Bytes) → Of calls.FindOver (foundOverTold (lentFindOver i k o t))
+found-over : (q : Party) (i : ℕ) (k o t : Bytes) → Of calls.FindOver (foundOverTold (lentFindOver q i k o t))
 unfolding foundOverTold among calls.refusals
-found-over i k o t =
-    from-both (λ a. Of calls.FindOver (foundOverTold a)) (λ w. over.Refused w BadTable) (foundOver i k) (λ w. refl)
-    (λ n u. go (findOn k 0 (some n)) (nodeStart i u) (nodeOf i u)) o t
+found-over q i k o t =
+    from-both (λ a. Of calls.FindOver (foundOverTold a)) (λ w. over.Refused w BadTable) (foundOver (p t) q i k) (λ w. refl)
+    (λ n u. named (sees (p t) q k) (findOn k 0 (some n)) (foundIn i k (seen (p t) q u)) (go (findOn k 0 (some n)) (nodeStart i (seen (p t) q u)) (nodeOf i (seen (p t) q u)))) o t
   where
+    p : Bytes → Profile
+    p t = decodeWhole t .kind .profile
+
+    named : (b : Bool) (own f : Found) → Of calls.FindOver (foundOverTold (overOf own f)) → Of calls.FindOver (foundOverTold (overOf own (placed.unlessOther b f)))
+    named true own f h = h
+    named false own (found.At start len) h = refl
+    named false own found.Nothing h = refl
+    named false own (found.Refused r) h = h
+
     first : (own : Found) (x : FoundOver) → Of calls.FindOver (foundOverTold x) → Of calls.FindOver (foundOverTold (firstOf own x))
     first (found.At s n) x h = refl
     first found.Nothing x h = h
@@ -449,12 +480,15 @@ found-over i k o t =
     go own start none = refl
     go own start (some n) = limit own start n (leb (length k) maxKey)
 
-listed-over : (i : ℕ) (k out o t : Bytes) → Of calls.ListOver (listedOverTold (lentListOver i k out o t .answer))
+listed-over : (q : Party) (i : ℕ) (k out o t : Bytes) → Of calls.ListOver (listedOverTold (lentListOver q i k out o t .answer))
 unfolding listedOverTold among calls.refusals
-listed-over i k out o t =
-    from-both (λ (a : Given ListedOver Bytes). Of calls.ListOver (listedOverTold (a .answer))) (λ w. given (merged.Refused w BadTable) out) (listOver i k out) (λ w. refl)
-    (λ n u. go n (nodeOf i u)) o t
+listed-over q i k out o t =
+    from-both (λ (a : Given ListedOver Bytes). Of calls.ListOver (listedOverTold (a .answer))) (λ w. given (merged.Refused w BadTable) out) (listOver (p t) q i k out) (λ w. refl)
+    (λ n u. go (sees (p t) q) n (nodeOf i (seen (p t) q u))) o t
   where
+    p : Bytes → Profile
+    p t = decodeWhole t .kind .profile
+
     into : (hits : Bytes) (b : Bool)
         → Of calls.ListOver (listedOverTold (pick b (given (merged.Hits (length hits)) (put 0 hits out)) (given (merged.Refused which.Neither NoPlace) out) .answer))
     into hits true = refl
@@ -464,9 +498,9 @@ listed-over i k out o t =
     limit hits true = into hits (leb (length hits) (length out))
     limit hits false = refl
 
-    go : (n : Node) (m : Option Node) → Of calls.ListOver (listedOverTold (listOn k n m out .answer))
-    go n none = refl
-    go n (some m) = limit (merging.placesOf (merging.listing k (n .recs) (m .recs))) (leb (length k) maxKey)
+    go : (mine : Bytes → Bool) (n : Node) (m : Option Node) → Of calls.ListOver (listedOverTold (listOn mine k n m out .answer))
+    go mine n none = refl
+    go mine n (some m) = limit (merging.placesOf (merging.listing mine k (n .recs) (m .recs))) (leb (length k) maxKey)
 
 -- ---- grids
 
@@ -549,7 +583,7 @@ seen-is p i g = go (validGrid g) (ltb p maxPeers) (among i (columns (decodeGrid 
     j = placeOf i (columns x)
 
     go : (b c d e : Bool)
-        → Of calls.SeenBy (seenTold (pick b (pick c (pick d (pick e (seen.Pair (getD (getD (x .gcs) p []) j 0) (getD (getD (x .maxes) p []) j 0)) seen.Absent) (seen.Refused NoNode)) (seen.Refused BadPeer)) (seen.Refused BadTable)))
+        → Of calls.SeenBy (seenTold (pick b (pick c (pick d (pick e (told.Pair (getD (getD (x .gcs) p []) j 0) (getD (getD (x .maxes) p []) j 0)) told.Absent) (told.Refused NoNode)) (told.Refused BadPeer)) (told.Refused BadTable)))
     go true true true true = refl
     go true true true false = refl
     go true true false e = refl
@@ -588,18 +622,18 @@ headed i l = from-table (λ a. Of calls.NodeHeader (nodeHeaderTold a)) (header.R
     go none = refl
     go (some n) = refl
 
-record-counts : (i : ℕ) (l : Bytes) → Of calls.RecordCount (countTold (fromTable (count.Refused BadTable) (recordCount i) l))
+record-counts : (p : Profile) (q : Party) (i : ℕ) (l : Bytes) → Of calls.RecordCount (countTold (fromTable (count.Refused BadTable) (recordCountAs p q i) l))
 unfolding countTold among calls.refusals
-record-counts i l = from-table (λ a. Of calls.RecordCount (countTold a)) (count.Refused BadTable) (recordCount i) refl (λ t. go (nodeOf i t)) l
+record-counts p q i l = from-table (λ a. Of calls.RecordCount (countTold a)) (count.Refused BadTable) (recordCountAs p q i) refl (λ t. go (nodeOf i (seen p q t))) l
   where
     go : (o : Option Node) → Of calls.RecordCount (countTold (recordsOn o))
     go none = refl
     go (some n) = refl
 
-records : (i j : ℕ) (l : Bytes) → Of calls.RecordAt (recordReadTold (fromTable (rec.Refused BadTable) (readRecord i j) l))
+records : (p : Profile) (q : Party) (i j : ℕ) (l : Bytes) → Of calls.RecordAt (recordReadTold (fromTable (rec.Refused BadTable) (readRecordAs p q i j) l))
 unfolding recordReadTold among calls.refusals
-records i j l =
-    from-table (λ a. Of calls.RecordAt (recordReadTold a)) (rec.Refused BadTable) (readRecord i j) refl (λ t. go (nodeStart i t) (nodeOf i t)) l
+records p q i j l =
+    from-table (λ a. Of calls.RecordAt (recordReadTold a)) (rec.Refused BadTable) (readRecordAs p q i j) refl (λ t. go (nodeStart i (seen p q t)) (nodeOf i (seen p q t))) l
   where
     at : (start : ℕ) (o : Option Rec) → Of calls.RecordAt (recordReadTold (readAt start j o))
     at start none = refl
@@ -609,10 +643,10 @@ records i j l =
     go start none = refl
     go start (some n) = at start (elementAt j (n .recs))
 
-record-places : (i j : ℕ) (l : Bytes) → Of calls.RecordOf (recordReadTold (fromTable (rec.Refused BadTable) (recordOfPlaces i j) l))
+record-places : (p : Profile) (q : Party) (i j : ℕ) (l : Bytes) → Of calls.RecordOf (recordReadTold (fromTable (rec.Refused BadTable) (recordOfAs p q i j) l))
 unfolding recordReadTold among calls.refusals
-record-places i j l =
-    from-table (λ a. Of calls.RecordOf (recordReadTold a)) (rec.Refused BadTable) (recordOfPlaces i j) refl (λ t. go (nodePlace i) (elementAt i t)) l
+record-places p q i j l =
+    from-table (λ a. Of calls.RecordOf (recordReadTold a)) (rec.Refused BadTable) (recordOfAs p q i j) refl (λ t. go (nodePlace i) (elementAt i (seen p q t))) l
   where
     at : (start : ℕ) (o : Option Rec) → Of calls.RecordOf (recordReadTold (readAt start j o))
     at start none = refl
@@ -633,11 +667,18 @@ sought k start j (r ∷ l) = go (sameBytes k (r .kv .key)) (sought k start (suc 
     go true e = refl
     go false e = e
 
-keyed : (i : ℕ) (k l : Bytes) → Of calls.RecordByKey (recordReadTold (fromTable (rec.Refused BadTable) (recordByKey i k) l))
+keyed : (p : Profile) (q : Party) (i : ℕ) (k l : Bytes) → Of calls.RecordByKey (recordReadTold (fromTable (rec.Refused BadTable) (recordByKeyAs p q i k) l))
 unfolding recordReadTold among calls.refusals
-keyed i k l =
-    from-table (λ a. Of calls.RecordByKey (recordReadTold a)) (rec.Refused BadTable) (recordByKey i k) refl (λ t. go (nodeStart i t) (nodeOf i t)) l
+keyed p q i k l =
+    from-table (λ a. Of calls.RecordByKey (recordReadTold a)) (rec.Refused BadTable) (recordByKeyAs p q i k) refl
+    (λ t. named (sees p q k) (recordByKey i k (seen p q t)) (go (nodeStart i (seen p q t)) (nodeOf i (seen p q t)))) l
   where
+    named : (b : Bool) (r : RecordRead) → Of calls.RecordByKey (recordReadTold r) → Of calls.RecordByKey (recordReadTold (looking.unlessOther b r))
+    named true r h = h
+    named false (rec.Is k v r) h = refl
+    named false rec.Nothing h = refl
+    named false (rec.Refused r) h = h
+
     limit : (start : ℕ) (n : Node) (b : Bool) → Of calls.RecordByKey (recordReadTold (pick b (readKey k start 0 (n .recs)) (rec.Refused TooLong)))
     limit start n true = sought k start 0 (n .recs)
     limit start n false = refl
@@ -646,17 +687,26 @@ keyed i k l =
     go start none = refl
     go start (some n) = limit start n (leb (length k) maxKey)
 
-all-rows : (i : ℕ) (l : Bytes) → Of calls.NodeRows (rowsTold (fromTable (rows.Refused BadTable) (nodeRows i) l))
+-- where a party's rows begin
+fronts : (p : Profile) (q : Party) (i : ℕ) (l : Bytes) → Of calls.Front (countTold (fromTable (count.Refused BadTable) (frontAs p q i) l))
+unfolding countTold among calls.refusals
+fronts p q i l = from-table (λ a. Of calls.Front (countTold a)) (count.Refused BadTable) (frontAs p q i) refl (λ t. go (nodeOf i t)) l
+  where
+    go : (o : Option Node) → Of calls.Front (countTold (frontTold p q o))
+    go none = refl
+    go (some n) = refl
+
+all-rows : (p : Profile) (q : Party) (i : ℕ) (l : Bytes) → Of calls.NodeRows (rowsTold (fromTable (rows.Refused BadTable) (nodeRowsAs p q i) l))
 unfolding rowsTold among calls.refusals
-all-rows i l = from-table (λ a. Of calls.NodeRows (rowsTold a)) (rows.Refused BadTable) (nodeRows i) refl (λ t. go (nodeStart i t) (nodeOf i t)) l
+all-rows p q i l = from-table (λ a. Of calls.NodeRows (rowsTold a)) (rows.Refused BadTable) (nodeRowsAs p q i) refl (λ t. go (nodeStart i (seen p q t)) (nodeOf i (seen p q t))) l
   where
     go : (start : ℕ) (o : Option Node) → Of calls.NodeRows (rowsTold (rowsOn start o))
     go start none = refl
     go start (some n) = refl
 
-some-rows : (i : ℕ) (k l : Bytes) → Of calls.PrefixRows (rowsTold (fromTable (rows.Refused BadTable) (prefixRows i k) l))
+some-rows : (p : Profile) (q : Party) (i : ℕ) (k l : Bytes) → Of calls.PrefixRows (rowsTold (fromTable (rows.Refused BadTable) (prefixRowsAs p q i k) l))
 unfolding rowsTold among calls.refusals
-some-rows i k l = from-table (λ a. Of calls.PrefixRows (rowsTold a)) (rows.Refused BadTable) (prefixRows i k) refl (λ t. go (nodeStart i t) (nodeOf i t)) l
+some-rows p q i k l = from-table (λ a. Of calls.PrefixRows (rowsTold a)) (rows.Refused BadTable) (prefixRowsAs p q i k) refl (λ t. go (nodeStart i (seen p q t)) (nodeOf i (seen p q t))) l
   where
     limit : (start : ℕ) (n : Node) (b : Bool) → Of calls.PrefixRows (rowsTold (pick b (runRows k start (n .recs)) (rows.Refused TooLong)))
     limit start n true = refl
@@ -666,10 +716,10 @@ some-rows i k l = from-table (λ a. Of calls.PrefixRows (rowsTold a)) (rows.Refu
     go start none = refl
     go start (some n) = limit start n (leb (length k) maxKey)
 
-texts : (x : Text) (i j : ℕ) (l : Bytes) → Of calls.FindText (foundTold (fromTable (found.Refused BadTable) (textFound x i j) l))
+texts : (p : Profile) (q : Party) (x : Text) (i j : ℕ) (l : Bytes) → Of calls.FindText (foundTold (fromTable (found.Refused BadTable) (textFoundAs p q x i j) l))
 unfolding foundTold among calls.refusals
-texts x i j l =
-    from-table (λ a. Of calls.FindText (foundTold a)) (found.Refused BadTable) (textFound x i j) refl (λ t. go (nodeStart i t) (nodeOf i t)) l
+texts p q x i j l =
+    from-table (λ a. Of calls.FindText (foundTold a)) (found.Refused BadTable) (textFoundAs p q x i j) refl (λ t. go (nodeStart i (seen p q t)) (nodeOf i (seen p q t))) l
   where
     at : (start : ℕ) (o : Option Rec) → Of calls.FindText (foundTold (placeOn x start j o))
     at start none = refl
@@ -814,7 +864,7 @@ applies delta now answers l = start (validWhole l)
     go (Faulty r at) h = h
 
     start : (v : Bool) → Of calls.Apply (appliedTold (pick v (storedApply (decodeWhole l) (applyOps (applyNode (waysIn (decodeWhole l .kind)) now) (waysIn (decodeWhole l .kind) .reads delta) (decodeWhole l .table) answers)) (given (applied.Refused BadTable 0) (both l answers)) .answer))
-    start true = go (waysIn (decodeWhole l .kind) .reads delta) (delta-as F refl (λ n. refl) refl refl refl refl (decodeWhole l .kind .profile) refl delta)
+    start true = go (waysIn (decodeWhole l .kind) .reads delta) (delta-as F refl (λ n. refl) refl refl refl refl (decodeWhole l .kind .profile) refl refl delta)
     start false = refl
 
 shows : (delta out : Bytes) → Of calls.ListDelta (writtenTold (digest.writeBytes (listing delta) 0 out .answer))
@@ -839,21 +889,23 @@ asks-numbers true false c next h = refl
 asks-numbers true true false next h = refl
 asks-numbers true true true next h = h
 
-asks-taking : (formed b : Bool) → Asks (pick formed (pick b ready.Yes (ready.No Applying NoPlace)) (ready.No Applying BadForm))
+asks-taking : (o : Profile) (formed b : Bool) → Asks (pick formed (pick b ready.Yes (ready.No Applying NoPlace)) (ready.No Applying (oddNumber o)))
 unfolding among calls.refusals
-asks-taking true true = tt
-asks-taking true false = refl
-asks-taking false b = refl
+asks-taking o true true = tt
+asks-taking o true false = refl
+asks-taking Free false b = refl
+asks-taking Meter false b = refl
+asks-taking Shared false b = refl
 
-asks-on : (edition : ℕ) (unasked : List ℕ) (k : Rooms) (formed : Bool) (p f : Table) → Asks (readyOn edition unasked k formed p f)
+asks-on : (edition : ℕ) (unasked : List ℕ) (k : Rooms) (o : Profile) (formed : Bool) (p f : Table) → Asks (readyOn edition unasked k o formed p f)
 unfolding readyOn roomsFor takingFor askedOf among calls.refusals
-asks-on edition unasked k formed p f = known (digest.isEdition edition)
+asks-on edition unasked k o formed p f = known (digest.isEdition edition)
   where
-    go : (b : Bool) → Asks (pick b (unlessRefused (askedOf (k .mtu) 0 (k .delta) (k .ties) (length p)) (takingFor formed (k .answers) (length p))) (ready.No Digest NoPlace))
-    go true = asks-numbers (mtuFits (k .mtu)) (isFree 0 (k .mtu) (k .delta)) (eqb (k .ties) (length p)) _ (asks-taking formed (leb (length p) (k .answers)))
+    go : (b : Bool) → Asks (pick b (unlessRefused (askedOf (k .mtu) 0 (k .delta) (k .ties) (length p)) (takingFor o formed (k .answers) (length p))) (ready.No Digest NoPlace))
+    go true = asks-numbers (mtuFits (k .mtu)) (isFree 0 (k .mtu) (k .delta)) (eqb (k .ties) (length p)) _ (asks-taking o formed (leb (length p) (k .answers)))
     go false = refl
 
-    known : (b : Bool) → Asks (pick b (roomsFor edition unasked k formed p f) (ready.No Digest BadEdition))
+    known : (b : Bool) → Asks (pick b (roomsFor edition unasked k o formed p f) (ready.No Digest BadEdition))
     known true = go (leb (length (digest.digestBytes edition (digest.digestOf unasked f))) (k .digest))
     known false = refl
 
@@ -861,10 +913,10 @@ asks : (edition : ℕ) (unasked : List ℕ) (k : Rooms) (publisher follower : By
 unfolding readyFor among calls.refusals
 asks edition unasked k publisher follower = go (validWhole follower) (validWhole publisher)
   where
-    go : (u v : Bool) → Asks (pick u (pick v (readyOn edition unasked k (formsFit publisher follower) (decodeWhole publisher .table) (decodeWhole follower .table)) (ready.No Delta BadTable)) (ready.No Digest BadTable))
+    go : (u v : Bool) → Asks (pick u (pick v (readyOn edition unasked k (decodeWhole follower .kind .profile) (formsFit publisher follower) (decodeWhole publisher .table) (decodeWhole follower .table)) (ready.No Delta BadTable)) (ready.No Digest BadTable))
     go false v = refl
     go true false = refl
-    go true true = asks-on edition unasked k (formsFit publisher follower) (decodeWhole publisher .table) (decodeWhole follower .table)
+    go true true = asks-on edition unasked k (decodeWhole follower .kind .profile) (formsFit publisher follower) (decodeWhole publisher .table) (decodeWhole follower .table)
 
 exchanges : (g : Lending) (publisher follower : Bytes) → Of calls.Exchange (exchangedTold (lentExchange g publisher follower .answer))
 unfolding lentExchange exchangedTold
@@ -887,21 +939,21 @@ no-other (calls.new-table t m p) = made (kind m p) t
 no-other (calls.add-node t i) = added (i .value) t
 no-other (calls.remove-node t i) = removed (i .value) t
 no-other (calls.last-heartbeat t i) = asked-for (i .value) t
-no-other (calls.write t k v i wanted now) = wrote (decodeWhole t .kind .profile) (wanted .value) v (now .value) (i .value) k t
-no-other (calls.delete t k i now) = deleted (decodeWhole t .kind .profile) (now .value) (i .value) k t
-no-other (calls.delete-after-ttl t k i now) = deleted-ttl (decodeWhole t .kind .profile) (now .value) (i .value) k t
+no-other (calls.write t k v i wanted now who) = wrote (decodeWhole t .kind .profile) who (wanted .value) v (now .value) (i .value) k t
+no-other (calls.delete t k i now who) = deleted (decodeWhole t .kind .profile) who (now .value) (i .value) k t
+no-other (calls.delete-after-ttl t k i now who) = deleted-ttl (decodeWhole t .kind .profile) who (now .value) (i .value) k t
 no-other (calls.remove-scheduled t now grace) = collected (now .value) (grace .value) t
 no-other (calls.offer-heartbeat t i h) = offers (i .value) (h .value) t
 no-other (calls.local-beat t i) = beaten (i .value) t
-no-other (calls.find t k i) = finds (i .value) k t
-no-other (calls.list-prefix t k out i) = lists (i .value) k out t
+no-other (calls.find t k i who) = finds (decodeWhole t .kind .profile) who (i .value) k t
+no-other (calls.list-prefix t k out i who) = lists (decodeWhole t .kind .profile) who (i .value) k out t
 no-other (calls.new-overrides o i) = over-made (i .value) o
 no-other (calls.write-override o k v wanted now) = over-wrote (wanted .value) v (now .value) k o
 no-other (calls.delete-override o k now) = over-deleted (now .value) k o
 no-other (calls.delete-override-after-ttl o k now) = over-deleted-ttl (now .value) k o
 no-other (calls.remove-overrides o now grace) = over-cleaned (now .value) (grace .value) o
-no-other (calls.find-over t o k i) = found-over (i .value) k o t
-no-other (calls.list-over t o k out i) = listed-over (i .value) k out o t
+no-other (calls.find-over t o k i who) = found-over who (i .value) k o t
+no-other (calls.list-over t o k out i who) = listed-over who (i .value) k out o t
 no-other (calls.new-grid t g) = grid-made t g
 no-other (calls.grid-add-node t g i) = came (i .value) g t
 no-other (calls.grid-remove-node t g i) = went (i .value) g t
@@ -913,13 +965,14 @@ no-other (calls.remove-carefully t g now grace) = carefully (now .value) (grace 
 no-other (calls.node-count t) = counts t
 no-other (calls.node-number t i) = numbered i t
 no-other (calls.node-header t i) = headed (i .value) t
-no-other (calls.record-count t i) = record-counts (i .value) t
-no-other (calls.record-at t i j) = records (i .value) j t
-no-other (calls.record-of t i j) = record-places i j t
-no-other (calls.record-by-key t k i) = keyed (i .value) k t
-no-other (calls.node-rows t i) = all-rows (i .value) t
-no-other (calls.prefix-rows t k i) = some-rows (i .value) k t
-no-other (calls.find-text t i j x) = texts x (i .value) j t
+no-other (calls.record-count t i who) = record-counts (decodeWhole t .kind .profile) who (i .value) t
+no-other (calls.record-at t i j who) = records (decodeWhole t .kind .profile) who (i .value) j t
+no-other (calls.record-of t i j who) = record-places (decodeWhole t .kind .profile) who i j t
+no-other (calls.record-by-key t k i who) = keyed (decodeWhole t .kind .profile) who (i .value) k t
+no-other (calls.node-rows t i who) = all-rows (decodeWhole t .kind .profile) who (i .value) t
+no-other (calls.front t i who) = fronts (decodeWhole t .kind .profile) who (i .value) t
+no-other (calls.prefix-rows t k i who) = some-rows (decodeWhole t .kind .profile) who (i .value) k t
+no-other (calls.find-text t i j x who) = texts (decodeWhole t .kind .profile) who x (i .value) j t
 no-other (calls.write-digest t edition excluded datagram place) = digests edition excluded place datagram t
 no-other (calls.read-digest edition digest) = digest-reads edition digest
 no-other (calls.digest-entry digest edition i) = entries edition digest i

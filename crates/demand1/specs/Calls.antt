@@ -14,11 +14,12 @@ use Rattle.rules.specs.Lent.{lentAdd, lentRemoveNode, lentRemoved, lentCall, le
 use Rattle.rules.specs.Profile.{kind}
 use Rattle.rules.specs.Whole.{validWhole}
 use Rattle.rules.specs.declared.Mode.{Mode}
+use Rattle.rules.specs.declared.Party.{Party}
 use Rattle.rules.specs.declared.Profile.{Profile}
 use Rattle.nodes.specs.New.{lentMade}
 use Rattle.lookup.specs.Lookup.{lentFind}
 use Rattle.lookup.specs.Told.{foundTold}
-use Rattle.inspect.specs.Look.{lentNodeCount, lentNodeNumber, lentNodeHeader, lentRecordCount, lentReadRecord, lentRecordOf, lentRecordByKey, lentNodeRows}
+use Rattle.inspect.specs.Look.{lentNodeCount, lentNodeNumber, lentNodeHeader, lentRecordCount, lentReadRecord, lentRecordOf, lentRecordByKey, lentNodeRows, lentFront}
 use Rattle.inspect.specs.Told.{countTold, nodeNumberTold, nodeHeaderTold, recordReadTold, rowsTold}
 use Rattle.prefix.specs.Rows.{lentPrefixRows}
 use Rattle.overrides.specs.Overrides.{validNode, lentNewOverrides, lentWriteOverride, lentCallOverride, lentRemoveOverrides}
@@ -87,6 +88,7 @@ pub data Kind : Type 0 where
   RecordOf : Kind
   RecordByKey : Kind
   NodeRows : Kind
+  Front : Kind
   PrefixRows : Kind
   FindText : Kind
   WriteDigest : Kind
@@ -108,22 +110,22 @@ pub data Call : Kind → Type 0 where
   remove-node : (table : Bytes) (number : U64) → Call RemoveNode
   last-heartbeat : (table : Bytes) (number : U64) → Call LastHeartbeat
   -- the wanted status by its number, which may be any
-  write : (table key value : Bytes) (number wanted clock : U64) → Call Write
-  delete : (table key : Bytes) (number clock : U64) → Call Delete
-  delete-after-ttl : (table key : Bytes) (number clock : U64) → Call DeleteAfterTtl
+  write : (table key value : Bytes) (number wanted clock : U64) (party : Party) → Call Write
+  delete : (table key : Bytes) (number clock : U64) (party : Party) → Call Delete
+  delete-after-ttl : (table key : Bytes) (number clock : U64) (party : Party) → Call DeleteAfterTtl
   remove-scheduled : (table : Bytes) (clock grace : U64) → Call RemoveScheduled
   offer-heartbeat : (table : Bytes) (number heartbeat : U64) → Call OfferHeartbeat
   local-beat : (table : Bytes) (number : U64) → Call LocalBeat
-  find : (table key : Bytes) (number : U64) → Call Find
-  list-prefix : (table prefix out : Bytes) (number : U64) → Call ListPrefix
+  find : (table key : Bytes) (number : U64) (party : Party) → Call Find
+  list-prefix : (table prefix out : Bytes) (number : U64) (party : Party) → Call ListPrefix
   -- overrides are no table
   new-overrides : (overrides : Bytes) (number : U64) → Call NewOverrides
   write-override : (overrides key value : Bytes) (wanted clock : U64) → Call WriteOverride
   delete-override : (overrides key : Bytes) (clock : U64) → Call DeleteOverride
   delete-override-after-ttl : (overrides key : Bytes) (clock : U64) → Call DeleteOverrideAfterTtl
   remove-overrides : (overrides : Bytes) (clock grace : U64) → Call RemoveOverrides
-  find-over : (table overrides key : Bytes) (number : U64) → Call FindOver
-  list-over : (table overrides prefix out : Bytes) (number : U64) → Call ListOver
+  find-over : (table overrides key : Bytes) (number : U64) (party : Party) → Call FindOver
+  list-over : (table overrides prefix out : Bytes) (number : U64) (party : Party) → Call ListOver
   -- a grid stands beside a table; a digest that is told is bytes, so that what it tells are numbers
   new-grid : (table grid : Bytes) → Call NewGrid
   grid-add-node : (table grid : Bytes) (number : U64) → Call GridAddNode
@@ -136,13 +138,14 @@ pub data Call : Kind → Type 0 where
   node-count : (table : Bytes) → Call NodeCount
   node-number : (table : Bytes) (i : ℕ) → Call NodeNumber
   node-header : (table : Bytes) (number : U64) → Call NodeHeader
-  record-count : (table : Bytes) (number : U64) → Call RecordCount
-  record-at : (table : Bytes) (number : U64) (j : ℕ) → Call RecordAt
-  record-of : (table : Bytes) (i j : ℕ) → Call RecordOf
-  record-by-key : (table key : Bytes) (number : U64) → Call RecordByKey
-  node-rows : (table : Bytes) (number : U64) → Call NodeRows
-  prefix-rows : (table prefix : Bytes) (number : U64) → Call PrefixRows
-  find-text : (table : Bytes) (number : U64) (j : ℕ) (text : Text) → Call FindText
+  record-count : (table : Bytes) (number : U64) (party : Party) → Call RecordCount
+  record-at : (table : Bytes) (number : U64) (j : ℕ) (party : Party) → Call RecordAt
+  record-of : (table : Bytes) (i j : ℕ) (party : Party) → Call RecordOf
+  record-by-key : (table key : Bytes) (number : U64) (party : Party) → Call RecordByKey
+  node-rows : (table : Bytes) (number : U64) (party : Party) → Call NodeRows
+  front : (table : Bytes) (number : U64) (party : Party) → Call Front
+  prefix-rows : (table prefix : Bytes) (number : U64) (party : Party) → Call PrefixRows
+  find-text : (table : Bytes) (number : U64) (j : ℕ) (text : Text) (party : Party) → Call FindText
   write-digest : (table : Bytes) (edition : ℕ) (excluded : List ℕ) (datagram : Bytes) (place : ℕ) → Call WriteDigest
   read-digest : (edition : ℕ) (digest : Bytes) → Call ReadDigest
   digest-entry : (digest : Bytes) (edition i : ℕ) → Call DigestEntry
@@ -161,21 +164,21 @@ lentTo (new-table t m p) = t ∷ []
 lentTo (add-node t i) = t ∷ []
 lentTo (remove-node t i) = t ∷ []
 lentTo (last-heartbeat t i) = t ∷ []
-lentTo (write t k v i wanted now) = t ∷ k ∷ v ∷ []
-lentTo (delete t k i now) = t ∷ k ∷ []
-lentTo (delete-after-ttl t k i now) = t ∷ k ∷ []
+lentTo (write t k v i wanted now q) = t ∷ k ∷ v ∷ []
+lentTo (delete t k i now q) = t ∷ k ∷ []
+lentTo (delete-after-ttl t k i now q) = t ∷ k ∷ []
 lentTo (remove-scheduled t now grace) = t ∷ []
 lentTo (offer-heartbeat t i h) = t ∷ []
 lentTo (local-beat t i) = t ∷ []
-lentTo (find t k i) = t ∷ k ∷ []
-lentTo (list-prefix t k out i) = t ∷ k ∷ out ∷ []
+lentTo (find t k i q) = t ∷ k ∷ []
+lentTo (list-prefix t k out i q) = t ∷ k ∷ out ∷ []
 lentTo (new-overrides o i) = o ∷ []
 lentTo (write-override o k v wanted now) = o ∷ k ∷ v ∷ []
 lentTo (delete-override o k now) = o ∷ k ∷ []
 lentTo (delete-override-after-ttl o k now) = o ∷ k ∷ []
 lentTo (remove-overrides o now grace) = o ∷ []
-lentTo (find-over t o k i) = t ∷ o ∷ k ∷ []
-lentTo (list-over t o k out i) = t ∷ o ∷ k ∷ out ∷ []
+lentTo (find-over t o k i q) = t ∷ o ∷ k ∷ []
+lentTo (list-over t o k out i q) = t ∷ o ∷ k ∷ out ∷ []
 lentTo (new-grid t g) = t ∷ g ∷ []
 lentTo (grid-add-node t g i) = t ∷ g ∷ []
 lentTo (grid-remove-node t g i) = t ∷ g ∷ []
@@ -187,13 +190,14 @@ lentTo (remove-carefully t g now grace) = t ∷ g ∷ []
 lentTo (node-count t) = t ∷ []
 lentTo (node-number t i) = t ∷ []
 lentTo (node-header t i) = t ∷ []
-lentTo (record-count t i) = t ∷ []
-lentTo (record-at t i j) = t ∷ []
-lentTo (record-of t i j) = t ∷ []
-lentTo (record-by-key t k i) = t ∷ k ∷ []
-lentTo (node-rows t i) = t ∷ []
-lentTo (prefix-rows t k i) = t ∷ k ∷ []
-lentTo (find-text t i j x) = t ∷ []
+lentTo (record-count t i q) = t ∷ []
+lentTo (record-at t i j q) = t ∷ []
+lentTo (record-of t i j q) = t ∷ []
+lentTo (record-by-key t k i q) = t ∷ k ∷ []
+lentTo (node-rows t i q) = t ∷ []
+lentTo (front t i q) = t ∷ []
+lentTo (prefix-rows t k i q) = t ∷ k ∷ []
+lentTo (find-text t i j x q) = t ∷ []
 lentTo (write-digest t edition excluded datagram place) = t ∷ excluded ∷ datagram ∷ []
 lentTo (read-digest edition digest) = digest ∷ []
 lentTo (digest-entry digest edition i) = digest ∷ []
@@ -244,6 +248,7 @@ checks RecordAt = validWhole ∷ []
 checks RecordOf = validWhole ∷ []
 checks RecordByKey = validWhole ∷ []
 checks NodeRows = validWhole ∷ []
+checks Front = validWhole ∷ []
 checks PrefixRows = validWhole ∷ []
 checks FindText = validWhole ∷ []
 checks WriteDigest = validWhole ∷ []
@@ -295,6 +300,7 @@ tables RecordAt = 1
 tables RecordOf = 1
 tables RecordByKey = 1
 tables NodeRows = 1
+tables Front = 1
 tables PrefixRows = 1
 tables FindText = 1
 tables WriteDigest = 1
@@ -321,21 +327,21 @@ leaves (new-table t m p) = asTold answerTold (λ u. u ∷ []) (lentMade (kind m 
 leaves (add-node t i) = asTold answerTold (λ u. u ∷ []) (lentAdd (i .value) t)
 leaves (remove-node t i) = asTold answerTold (λ u. u ∷ []) (lentRemoveNode (i .value) t)
 leaves (last-heartbeat t i) = given (rememberedTold (lentRemoved (i .value) t)) (t ∷ [])
-leaves (write t k v i wanted now) = asTold answerTold (λ u. u ∷ k ∷ v ∷ []) (lentWrite (wanted .value) v (now .value) (i .value) k t)
-leaves (delete t k i now) = asTold answerTold (λ u. u ∷ k ∷ []) (lentCall (Deleting (now .value)) (i .value) k t)
-leaves (delete-after-ttl t k i now) = asTold answerTold (λ u. u ∷ k ∷ []) (lentCall (DeletingAfterTtl (now .value)) (i .value) k t)
+leaves (write t k v i wanted now q) = asTold answerTold (λ u. u ∷ k ∷ v ∷ []) (lentWrite q (wanted .value) v (now .value) (i .value) k t)
+leaves (delete t k i now q) = asTold answerTold (λ u. u ∷ k ∷ []) (lentCall q (Deleting (now .value)) (i .value) k t)
+leaves (delete-after-ttl t k i now q) = asTold answerTold (λ u. u ∷ k ∷ []) (lentCall q (DeletingAfterTtl (now .value)) (i .value) k t)
 leaves (remove-scheduled t now grace) = asTold answerTold (λ u. u ∷ []) (lentGc (now .value) (grace .value) t)
 leaves (offer-heartbeat t i h) = asTold offeredTold (λ u. u ∷ []) (lentOffer (i .value) (beats (h .value)) t)
 leaves (local-beat t i) = asTold answerTold (λ u. u ∷ []) (lentBeat (i .value) t)
-leaves (find t k i) = given (foundTold (lentFind (i .value) k t)) (t ∷ k ∷ [])
-leaves (list-prefix t k out i) = asTold listedTold (λ u. t ∷ k ∷ u ∷ []) (lentPrefixed (i .value) k out t)
+leaves (find t k i q) = given (foundTold (lentFind q (i .value) k t)) (t ∷ k ∷ [])
+leaves (list-prefix t k out i q) = asTold listedTold (λ u. t ∷ k ∷ u ∷ []) (lentPrefixed q (i .value) k out t)
 leaves (new-overrides o i) = asTold answerTold (λ u. u ∷ []) (lentNewOverrides (i .value) o)
 leaves (write-override o k v wanted now) = asTold answerTold (λ u. u ∷ k ∷ v ∷ []) (lentWriteOverride (wanted .value) v (now .value) k o)
 leaves (delete-override o k now) = asTold answerTold (λ u. u ∷ k ∷ []) (lentCallOverride (Deleting (now .value)) k o)
 leaves (delete-override-after-ttl o k now) = asTold answerTold (λ u. u ∷ k ∷ []) (lentCallOverride (DeletingAfterTtl (now .value)) k o)
 leaves (remove-overrides o now grace) = asTold answerTold (λ u. u ∷ []) (lentRemoveOverrides (now .value) (grace .value) o)
-leaves (find-over t o k i) = given (foundOverTold (lentFindOver (i .value) k o t)) (t ∷ o ∷ k ∷ [])
-leaves (list-over t o k out i) = asTold listedOverTold (λ u. t ∷ o ∷ k ∷ u ∷ []) (lentListOver (i .value) k out o t)
+leaves (find-over t o k i q) = given (foundOverTold (lentFindOver q (i .value) k o t)) (t ∷ o ∷ k ∷ [])
+leaves (list-over t o k out i q) = asTold listedOverTold (λ u. t ∷ o ∷ k ∷ u ∷ []) (lentListOver q (i .value) k out o t)
 leaves (new-grid t g) = asTold answerTold (λ u. t ∷ u ∷ []) (lentNewGrid t g)
 leaves (grid-add-node t g i) = asTold answerTold (λ u. u .table ∷ u .grid ∷ []) (lentColumnIn (i .value) g t)
 leaves (grid-remove-node t g i) = asTold answerTold (λ u. u .table ∷ u .grid ∷ []) (lentColumnOut (i .value) g t)
@@ -347,13 +353,14 @@ leaves (remove-carefully t g now grace) = asTold answerTold (λ u. u ∷ g ∷ [
 leaves (node-count t) = given (countTold (lentNodeCount t)) (t ∷ [])
 leaves (node-number t i) = given (nodeNumberTold (lentNodeNumber i t)) (t ∷ [])
 leaves (node-header t i) = given (nodeHeaderTold (lentNodeHeader (i .value) t)) (t ∷ [])
-leaves (record-count t i) = given (countTold (lentRecordCount (i .value) t)) (t ∷ [])
-leaves (record-at t i j) = given (recordReadTold (lentReadRecord (i .value) j t)) (t ∷ [])
-leaves (record-of t i j) = given (recordReadTold (lentRecordOf i j t)) (t ∷ [])
-leaves (record-by-key t k i) = given (recordReadTold (lentRecordByKey (i .value) k t)) (t ∷ k ∷ [])
-leaves (node-rows t i) = given (rowsTold (lentNodeRows (i .value) t)) (t ∷ [])
-leaves (prefix-rows t k i) = given (rowsTold (lentPrefixRows (i .value) k t)) (t ∷ k ∷ [])
-leaves (find-text t i j x) = given (foundTold (lentTextFound x (i .value) j t)) (t ∷ [])
+leaves (record-count t i q) = given (countTold (lentRecordCount q (i .value) t)) (t ∷ [])
+leaves (record-at t i j q) = given (recordReadTold (lentReadRecord q (i .value) j t)) (t ∷ [])
+leaves (record-of t i j q) = given (recordReadTold (lentRecordOf q i j t)) (t ∷ [])
+leaves (record-by-key t k i q) = given (recordReadTold (lentRecordByKey q (i .value) k t)) (t ∷ k ∷ [])
+leaves (node-rows t i q) = given (rowsTold (lentNodeRows q (i .value) t)) (t ∷ [])
+leaves (front t i q) = given (countTold (lentFront q (i .value) t)) (t ∷ [])
+leaves (prefix-rows t k i q) = given (rowsTold (lentPrefixRows q (i .value) k t)) (t ∷ k ∷ [])
+leaves (find-text t i j x q) = given (foundTold (lentTextFound q x (i .value) j t)) (t ∷ [])
 leaves (write-digest t edition excluded datagram place) = asTold writtenTold (λ u. t ∷ excluded ∷ u ∷ []) (lentDigest edition excluded place datagram t)
 leaves (read-digest edition digest) = given (digestTold (digestIn edition digest)) (digest ∷ [])
 leaves (digest-entry digest edition i) = given (entryTold i (digestIn edition digest)) (digest ∷ [])
@@ -378,20 +385,20 @@ refusals NewTable = 14 ∷ []
 refusals AddNode = 14 ∷ 4 ∷ []
 refusals RemoveNode = 14 ∷ 2 ∷ []
 refusals LastHeartbeat = 14 ∷ []
-refusals Write = 14 ∷ 10 ∷ 2 ∷ 1 ∷ 17 ∷ 18 ∷ 5 ∷ 6 ∷ []
-refusals Delete = 14 ∷ 2 ∷ 1 ∷ 3 ∷ 6 ∷ []
-refusals DeleteAfterTtl = 14 ∷ 2 ∷ 1 ∷ 3 ∷ 6 ∷ []
+refusals Write = 14 ∷ 10 ∷ 2 ∷ 1 ∷ 17 ∷ 19 ∷ 18 ∷ 5 ∷ 6 ∷ []
+refusals Delete = 14 ∷ 2 ∷ 1 ∷ 19 ∷ 3 ∷ 6 ∷ []
+refusals DeleteAfterTtl = 14 ∷ 2 ∷ 1 ∷ 19 ∷ 3 ∷ 6 ∷ []
 refusals RemoveScheduled = 14 ∷ []
 refusals OfferHeartbeat = 14 ∷ 2 ∷ []
 refusals LocalBeat = 14 ∷ 2 ∷ 6 ∷ []
-refusals Find = 14 ∷ 2 ∷ 1 ∷ []
+refusals Find = 14 ∷ 2 ∷ 1 ∷ 19 ∷ []
 refusals ListPrefix = 14 ∷ 2 ∷ 1 ∷ 8 ∷ []
 refusals NewOverrides = 14 ∷ []
 refusals WriteOverride = 14 ∷ 10 ∷ 1 ∷ 5 ∷ 6 ∷ []
 refusals DeleteOverride = 14 ∷ 1 ∷ 3 ∷ 6 ∷ []
 refusals DeleteOverrideAfterTtl = 14 ∷ 1 ∷ 3 ∷ 6 ∷ []
 refusals RemoveOverrides = 14 ∷ []
-refusals FindOver = 14 ∷ 2 ∷ 1 ∷ []
+refusals FindOver = 14 ∷ 2 ∷ 1 ∷ 19 ∷ []
 refusals ListOver = 14 ∷ 2 ∷ 1 ∷ 8 ∷ []
 refusals NewGrid = 14 ∷ []
 refusals GridAddNode = 14 ∷ 4 ∷ []
@@ -407,8 +414,9 @@ refusals NodeHeader = 14 ∷ 2 ∷ []
 refusals RecordCount = 14 ∷ 2 ∷ []
 refusals RecordAt = 14 ∷ 2 ∷ 8 ∷ []
 refusals RecordOf = 14 ∷ 8 ∷ []
-refusals RecordByKey = 14 ∷ 2 ∷ 1 ∷ []
+refusals RecordByKey = 14 ∷ 2 ∷ 1 ∷ 19 ∷ []
 refusals NodeRows = 14 ∷ 2 ∷ []
+refusals Front = 14 ∷ 2 ∷ []
 refusals PrefixRows = 14 ∷ 2 ∷ 1 ∷ []
 refusals FindText = 14 ∷ 2 ∷ 8 ∷ []
 refusals WriteDigest = 14 ∷ 20 ∷ 8 ∷ []
@@ -418,10 +426,10 @@ refusals Compute = 14 ∷ 20 ∷ 7 ∷ 8 ∷ 15 ∷ 9 ∷ 13 ∷ []
 refusals ComputePlan = 14 ∷ 20 ∷ 7 ∷ 8 ∷ 9 ∷ 13 ∷ 23 ∷ []
 refusals PlanFault = 14 ∷ 20 ∷ 7 ∷ 9 ∷ 13 ∷ 23 ∷ []
 refusals ReadDelta = 13 ∷ 9 ∷ 1 ∷ 10 ∷ 11 ∷ 12 ∷ []
-refusals Apply = 14 ∷ 13 ∷ 9 ∷ 1 ∷ 10 ∷ 11 ∷ 17 ∷ 12 ∷ 8 ∷ []
+refusals Apply = 14 ∷ 13 ∷ 9 ∷ 1 ∷ 10 ∷ 11 ∷ 17 ∷ 19 ∷ 12 ∷ 8 ∷ []
 refusals ListDelta = 8 ∷ []
 refusals MakeDelta = 16 ∷ 13 ∷ 11 ∷ 12 ∷ 8 ∷ []
-refusals Exchange = 14 ∷ 20 ∷ 8 ∷ 7 ∷ 15 ∷ 17 ∷ []
+refusals Exchange = 14 ∷ 20 ∷ 8 ∷ 7 ∷ 15 ∷ 17 ∷ 19 ∷ []
 
 -- ---- the calls that may change what is remembered
 
@@ -461,6 +469,7 @@ remembers RecordAt = false
 remembers RecordOf = false
 remembers RecordByKey = false
 remembers NodeRows = false
+remembers Front = false
 remembers PrefixRows = false
 remembers FindText = false
 remembers WriteDigest = false

@@ -314,7 +314,7 @@ module _ (ways : Ways) (law : Lawful ways) (is : List ℕ) where
         go Answered a k h = same (a .was) k (omega arith)
 
     goes-on : (e : Event) (st : Stage) → quiet e ≡ true → (a : At st w) → unlimited e ≡ true → granted ways e w ≡ true → Brings e st a
-    goes-on (Writing i k c) st q a u g = absurd (false≢true q)
+    goes-on (Writing i k who c) st q a u g = absurd (false≢true q)
     goes-on (Removing s removal) st q a u g = absurd (false≢true q)
     goes-on (Beating s i) st q a u g = leaves-it (Beating s i) refl (way-beating ways w s i) st a
     goes-on (Offering s i h) st q a u g = leaves-it (Offering s i h) refl (way-offering ways w s i h) st a

@@ -20,6 +20,7 @@ use Rattle.rules.specs.Sizes.{top}
 use Rattle.rules.specs.Table.{Table, nodeOf, removeAll, setNode}
 use Rattle.rules.specs.declared.Answer.the-variants.{Done, Refused}
 use Rattle.rules.specs.declared.Heartbeat.{Heartbeat}
+use Rattle.rules.specs.declared.Party.{Party}
 use Rattle.rules.specs.declared.Refusal.the-variants.{Exhausted}
 use Rattle.rules.specs.declared.Written.{Written}
 use Rattle.rules.specs.declared.Written.the-variants as written
@@ -172,9 +173,9 @@ module _ (ways : Ways) (i : ℕ) (w : World) where
       (_, we-write k x, λ z. withWrite (a z) (b z) (at i w))
   seen-decided j k p x e false q = (_, stays, ap ours-are (ap orFresh (node-set-other i j (act k x p) (w .publisher) q)))
 
-  pub seen-writing : (j : ℕ) (k : List ℕ) (c : Call) → Seen ways (at i w) (at i (calls ways (Writing j k c) w))
+  pub seen-writing : (j : ℕ) (k : List ℕ) (who : Party) (c : Call) → Seen ways (at i w) (at i (calls ways (Writing j k who c) w))
   unfolding call
-  seen-writing j k c = go (nodeOf j (w .publisher)) refl (eqb i j) refl
+  seen-writing j k who c = go (nodeOf j (w .publisher)) refl (eqb i j) refl
     where
       go : (o : Option Node) → nodeOf j (w .publisher) ≡ o → (b : Bool) → eqb i j ≡ b → Seen ways (at i w) (withWrite (pick b (givenIn k c o (w .given i)) (w .given i)) (nodeAt i (callOn c j k o (w .publisher) .table)) (at i w))
       go none e true q = (_, stays, refl)

@@ -19,14 +19,15 @@ use Rattle.rules.specs.Digest.{NodeDigest}
 use Rattle.rules.specs.Given.{Given}
 use Rattle.rules.specs.Local.{call, callAs, unlessGuarded}
 use Rattle.rules.specs.Node.{Call, KeyValue, Node}
-use Rattle.rules.specs.Profile.{Kind, guardIn, opInForm, profileObeys, readDeltaAs, recsFormed}
+use Rattle.rules.specs.Profile.{Kind, guardIn, opInForm, profileObeys, readDeltaAs, recsFormed, recsObey}
 use Rattle.rules.specs.Table.{Entry, Table, nodeOf}
 use Rattle.rules.specs.declared.Applied.the-variants as applied
 use Rattle.rules.specs.declared.Computed.{Computed}
+use Rattle.rules.specs.declared.Party.{Party}
 use Rattle.rules.specs.declared.Profile.{Profile}
 use Rattle.rules.specs.declared.Refusal.{Refusal}
 use Rattle.rules.specs.declared.Refusal.the-variants.{NoPlace}
-use Rattle.rules.proofs.Formed.{removed-formed}
+use Rattle.rules.proofs.Formed.{obey-formed, removed-formed}
 use Rattle.rules.proofs.Tables.{behind-from}
 use Rattle.profiles.proofs.Reading.{delta-formed}
 use Rattle.profiles.proofs.Sent.{append-formed, body-formed, delta-in-form, stale-formed}
@@ -38,12 +39,12 @@ use Rattle.demand3.specs.World.{givenAs, givenIn, sentAfter, unlessRefus
 
 -- ---- local calls
 
-pub by-guard : (p : Profile) (c : Call) (i : ℕ) (k : List ℕ) (t : Table) (P : Table → (List KeyValue → List KeyValue) → Type 0)
+pub by-guard : (p : Profile) (who : Party) (c : Call) (i : ℕ) (k : List ℕ) (t : Table) (P : Table → (List KeyValue → List KeyValue) → Type 0)
     → P t (λ h. h)
     → P (call c i k t .table) (givenIn k c (nodeOf i t))
-    → P (callAs p c i k t .table) (givenAs p k c (nodeOf i t))
+    → P (callAs p who c i k t .table) (givenAs p who k c (nodeOf i t))
 unfolding callAs
-by-guard p c i k t P refused called = go (guardIn p c k (nodeOf i t))
+by-guard p who c i k t P refused called = go (guardIn p who c k (nodeOf i t))
   where
     go : (g : Option Refusal) → P (unlessGuarded g (call c i k t) t .table) (λ h. unlessRefused g (givenIn k c (nodeOf i t) h) h)
     go none = called
@@ -81,7 +82,7 @@ module _ (p : Profile) where
       each : (s : StaleNode) → s ∈ staleNodes excluded ds [] t → recsFormed p (s .node .recs) ≡ true
       each s m =
           let x = behind-from excluded ds [] t m in
-          subst (λ (n : Node). recsFormed p (n .recs) ≡ true) (sym (x .node-is)) (all-from (λ (e : Entry). recsFormed p (e .node .recs)) t h (x .entry) (x .held))
+          subst (λ (n : Node). recsFormed p (n .recs) ≡ true) (sym (x .node-is)) (obey-formed p (x .entry .node .recs) (all-from (λ (e : Entry). recsObey p (e .node .recs)) t h (x .entry) (x .held)))
 
   -- these bytes are a delta to a table of the profile
   abbrev pub IsRead : List ℕ → Type 0

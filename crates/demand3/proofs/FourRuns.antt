@@ -11,6 +11,7 @@ use lib.ListN.{replicate}
 use Rattle.rules.specs.Node.{KeyValue, Rec, Node, Setting, Deleting, beats}
 use Rattle.rules.specs.Table.{Table, nodeOf}
 use Rattle.rules.specs.Apply.{Ways, fencedWays, plainWays}
+use Rattle.rules.specs.declared.Party.the-variants.{Nobody}
 use Rattle.rules.specs.declared.Status.the-variants.{Set}
 use Rattle.demand3.specs.Forms.{AsPlanned, ByClock, InLine}
 use Rattle.demand3.specs.World.{World, Publishers, Followers, Event, Writing, Beating, Offering, Removing, Digesting, Computing, Applying, Arriving, onExchange, start, after, happen}
@@ -60,7 +61,7 @@ exchange mtu = delta mtu ++ (Applying 50 (0 ∷ []) ∷ [])
 
 -- b is set at 1, a at 2; a is deleted at 3 and the tombstone removed: the publisher is at (3,3) with one record
 abbrev pub oneRecord : World
-oneRecord = after plainWays (Writing 7 b (Setting one) ∷ Writing 7 a (Setting one) ∷ Writing 7 a (Deleting 0) ∷ Removing Publishers (ByClock 9 5) ∷ []) (start seven)
+oneRecord = after plainWays (Writing 7 b Nobody (Setting one) ∷ Writing 7 a Nobody (Setting one) ∷ Writing 7 a Nobody (Deleting 0) ∷ Removing Publishers (ByClock 9 5) ∷ []) (start seven)
 
 -- a whole exchange
 abbrev pub whole : List Event
@@ -116,7 +117,7 @@ keys t = keysIn (nodeOf 7 t)
 abbrev pub removedThere : World
 removedThere =
     after plainWays
-    ((Writing 7 k (Setting one) ∷ []) ++ (exchange 300 ++ (Writing 7 b (Setting one) ∷ Writing 7 k (Deleting 0) ∷ Removing Publishers (ByClock 9 5) ∷ [])))
+    ((Writing 7 k Nobody (Setting one) ∷ []) ++ (exchange 300 ++ (Writing 7 b Nobody (Setting one) ∷ Writing 7 k Nobody (Deleting 0) ∷ Removing Publishers (ByClock 9 5) ∷ [])))
     (start seven)
 
 abbrev pub forgotten : World
@@ -127,9 +128,9 @@ forgotten = after plainWays (exchange 300) removedThere
 abbrev pub bothNodes : World
 bothNodes =
     after plainWays
-    (Writing 7 k (Setting one)
-    ∷ Writing 9 b (Setting one)
-    ∷ Writing 9 b (Setting [])
+    (Writing 7 k Nobody (Setting one)
+    ∷ Writing 9 b Nobody (Setting one)
+    ∷ Writing 9 b Nobody (Setting [])
     ∷ Digesting 1 [] 0 (replicate 64 0)
     ∷ Computing 1 [] (InLine (0 ∷ 0 ∷ [])) 300 0 (replicate 300 0)
     ∷ Applying 50 (0 ∷ 0 ∷ [])
@@ -140,11 +141,11 @@ bothNodes =
 abbrev pub oneBehind : World
 oneBehind =
     after plainWays
-    (Writing 9 b (Setting one)
+    (Writing 9 b Nobody (Setting one)
     ∷ Digesting 0 [] 0 (replicate 66 0)
     ∷ Computing 0 [] (InLine (0 ∷ 0 ∷ [])) 300 0 (replicate 300 0)
     ∷ Applying 50 (0 ∷ [])
-    ∷ Writing 7 k (Setting one)
+    ∷ Writing 7 k Nobody (Setting one)
     ∷ [])
     (start (7 ∷ 9 ∷ []))
 
@@ -160,15 +161,15 @@ untold = leavesOut ++ (leavesOut ++ (leavesOut ++ leavesOut))
 abbrev pub onItsWay : Ways → World
 onItsWay ways =
     after ways
-    ((Writing 7 (1 ∷ []) (Setting one) ∷ Writing 7 (2 ∷ []) (Setting one) ∷ Writing 7 a (Setting one) ∷ [])
-    ++ (exchange 300 ++ ((Writing 7 b (Setting (replicate 40 49)) ∷ Writing 7 k (Setting one) ∷ []) ++ delta 300)))
+    ((Writing 7 (1 ∷ []) Nobody (Setting one) ∷ Writing 7 (2 ∷ []) Nobody (Setting one) ∷ Writing 7 a Nobody (Setting one) ∷ [])
+    ++ (exchange 300 ++ ((Writing 7 b Nobody (Setting (replicate 40 49)) ∷ Writing 7 k Nobody (Setting one) ∷ []) ++ delta 300)))
     (start seven)
 
 -- k is deleted at 8 and removed. The next exchange, whose MTU ends before b, resets the follower to (10,3).
 abbrev pub wasReset : Ways → World
 wasReset ways =
     after ways
-    ((Writing 7 m (Setting one) ∷ Writing 7 n (Setting one) ∷ Writing 7 k (Deleting 0) ∷ Writing 7 m (Deleting 0) ∷ Writing 7 n (Deleting 0) ∷ Removing Publishers (ByClock 9 5) ∷ [])
+    ((Writing 7 m Nobody (Setting one) ∷ Writing 7 n Nobody (Setting one) ∷ Writing 7 k Nobody (Deleting 0) ∷ Writing 7 m Nobody (Deleting 0) ∷ Writing 7 n Nobody (Deleting 0) ∷ Removing Publishers (ByClock 9 5) ∷ [])
     ++ exchange 100)
     (onItsWay ways)
 

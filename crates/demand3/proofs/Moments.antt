@@ -228,9 +228,9 @@ module _ (ways : Ways) (law : Lawful ways) (is : List ℕ) (w : World) (ok : InO
       subst (λ (t : Table). Next ways is w (onSide Followers (λ u. t) w)) (sym (x .1)) (next-removing Followers (x .0))
 
   next-calls : (e : Event) → possible ways e ≡ true → Next ways is w (calls ways e w)
-  next-calls (Writing i k c) p =
+  next-calls (Writing i k who c) p =
       record {
-        seen = λ j. seen-writing ways j w i k c;
+        seen = λ j. seen-writing ways j w i k who c;
         order = ours _ (numbers-call c i k (w .publisher)) (kept (w .publisher) _ (call-keeps c i k (w .publisher) (clock-fits c (ltb-true _ _ p))) (ok .publisher-ok)) _;
       }
   next-calls (Beating Publishers i) p =

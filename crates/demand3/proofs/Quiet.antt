@@ -91,7 +91,7 @@ module _ (ways : Ways) (law : Lawful ways) (is : List ℕ) (w : World) (m : Mome
       by (inr e) = subst (Onward (p i) (f i)) (sym e) (part-onward now i (w .given i) (partAt i (partsOf (r .0))) flies)
 
   calm-calls : (e : Event) → quiet e ≡ true → Calm w (calls ways e w)
-  calm-calls (Writing j k c) q = absurd (false≢true q)
+  calm-calls (Writing j k who c) q = absurd (false≢true q)
   calm-calls (Removing s removal) q = absurd (false≢true q)
   calm-calls (Beating s j) q = calm-beats w s (λ t. localBeat j t .table) (λ t i. beaten-local i t j)
   calm-calls (Offering s j h) q = calm-beats w s (λ t. offer j h t .table) (λ t i. beaten-offer i t j h)

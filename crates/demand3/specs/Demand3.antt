@@ -70,7 +70,7 @@ AllRise t u = (i : ℕ) (a b : Node) → nodeOf i t ≡ some a → nodeOf i u �
 
 -- no write, no delete and no removal; beats, offers, exchanges and late deltas go on
 abbrev pub quiet : (event : Event) → Bool
-quiet (Writing i k c) = false
+quiet (Writing i k who c) = false
 quiet (Beating s i) = true
 quiet (Offering s i h) = true
 quiet (Removing s removal) = false
@@ -100,7 +100,7 @@ wideEnough excluded (AsPlanned nodes counts) mtu = not (isNone nodes)
 
 -- no node is excluded from the digest, and the computing counts
 abbrev pub unlimited : (event : Event) → Bool
-unlimited (Writing i k c) = true
+unlimited (Writing i k who c) = true
 unlimited (Beating s i) = true
 unlimited (Offering s i h) = true
 unlimited (Removing s removal) = true
@@ -136,7 +136,7 @@ isApplied ways now l t (DeltaSent b) = noRoom (apply ways b now t l .answer) (ap
 
 -- whether a call of an exchange is made and not refused
 abbrev pub granted : (ways : Ways) (event : Event) (world : World) → Bool
-granted ways (Writing i k c) w = true
+granted ways (Writing i k who c) w = true
 granted ways (Beating s i) w = true
 granted ways (Offering s i h) w = true
 granted ways (Removing s removal) w = true
@@ -156,7 +156,7 @@ pub data Stage : Type 0 where
 
 -- where a call brings it that is unlimited and granted
 abbrev pub onward : (event : Event) (stage : Stage) → Stage
-onward (Writing i k c) st = st
+onward (Writing i k who c) st = st
 onward (Beating s i) st = st
 onward (Offering s i h) st = st
 onward (Removing s removal) st = st
@@ -170,7 +170,7 @@ onward (Arriving k now l) st = st
 
 -- the applying is its end; the same delta, applied again, counts no more
 abbrev pub ending : (event : Event) (stage : Stage) → ℕ
-ending (Writing i k c) st = 0
+ending (Writing i k who c) st = 0
 ending (Beating s i) st = 0
 ending (Offering s i h) st = 0
 ending (Removing s removal) st = 0

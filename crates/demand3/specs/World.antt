@@ -18,6 +18,7 @@ use Rattle.rules.specs.Digest.{writeDigest}
 use Rattle.rules.specs.Apply.{Ways, apply}
 use Rattle.rules.specs.Profile.{guardIn}
 use Rattle.rules.specs.declared.Heartbeat.{Heartbeat}
+use Rattle.rules.specs.declared.Party.{Party}
 use Rattle.rules.specs.declared.Profile.{Profile}
 use Rattle.rules.specs.declared.Refusal.{Refusal}
 use Rattle.rules.specs.declared.Written.{Written}
@@ -59,8 +60,8 @@ pub data Side : Type 0 where
   Followers : Side
 
 pub data Event : Type 0 where
-  -- set, set with TTL, delete or delete after TTL on the publisher: node, key, the call with its value and time
-  Writing : ℕ → List ℕ → Call → Event
+  -- set, set with TTL, delete or delete after TTL on the publisher: node, key, the party that a shared table looks at, the call with its value and time
+  Writing : ℕ → List ℕ → Party → Call → Event
   -- a local beat, a heartbeat offer: node, and the heartbeat offered
   Beating : Side → ℕ → Event
   Offering : Side → ℕ → Heartbeat → Event
@@ -89,7 +90,7 @@ timeOf (DeletingAfterTtl now) = now
 
 -- Times and heartbeats are numbers of eight bytes: with another there is no such call. Deltas come late only where the follower's ways say so.
 abbrev pub possible : (ways : Ways) (event : Event) → Bool
-possible ways (Writing i k c) = ltb (timeOf c) numbers
+possible ways (Writing i k who c) = ltb (timeOf c) numbers
 possible ways (Beating s i) = true
 possible ways (Offering s i h) = ltb (h .0) numbers
 possible ways (Removing s removal) = true
@@ -115,13 +116,13 @@ abbrev pub givenIn : (key : Bytes) (call : Call) (held : Option Node) (given : L
 givenIn k c none h = h
 givenIn k c (some n) h = givenAfter k (decide c k n) n h
 
--- a call that the profile of the table refuses (17, 18) gives none either; so it is in lent bytes and in nets
+-- a call that the profile of the table refuses (17, 18, 19, or 5 by party) gives none either; so it is in lent bytes and in nets
 abbrev pub unlessRefused : (refused : Option Refusal) (after before : List KeyValue) → List KeyValue
 unlessRefused none g h = g
 unlessRefused (some r) g h = h
 
-abbrev pub givenAs : (profile : Profile) (key : Bytes) (call : Call) (held : Option Node) (given : List KeyValue) → List KeyValue
-givenAs p k c o h = unlessRefused (guardIn p c k o) (givenIn k c o h) h
+abbrev pub givenAs : (profile : Profile) (party : Party) (key : Bytes) (call : Call) (held : Option Node) (given : List KeyValue) → List KeyValue
+givenAs p q k c o h = unlessRefused (guardIn p q c k o) (givenIn k c o h) h
 
 -- ---- what is on its way after a call; a refused one sends nothing, and what was on its way stays
 
@@ -185,7 +186,7 @@ abbrev pub onSent : (sent : List Bytes) (world : World) → World
 onSent ss w = record { publisher = w .publisher; follower = w .follower; given = w .given; exchange = w .exchange; sent = ss }
 
 abbrev pub calls : (ways : Ways) (event : Event) (world : World) → World
-calls ways (Writing i k c) w =
+calls ways (Writing i k who c) w =
     record {
       publisher = call c i k (w .publisher) .table;
       follower = w .follower;

@@ -40,7 +40,7 @@ use Rattle.demand3_bytes.proofs.LentWorld.{Formed, Ran, apply-encoded, 
 
 module _ (pm fm : Kind) (w : World) (p : obeys (w .publisher) ≡ true) (f : obeys (w .follower) ≡ true) (form : Formed pm fm w) where
   granted-lent : (e : Event) → lentGranted e (lent pm fm w) ≡ granted (ways pm fm) e w
-  granted-lent (Writing i k c) = refl
+  granted-lent (Writing i k who c) = refl
   granted-lent (Beating s i) = refl
   granted-lent (Offering s i h) = refl
   granted-lent (Removing s removal) = refl

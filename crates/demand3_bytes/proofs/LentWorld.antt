@@ -9,14 +9,14 @@ use mathlib.Core.Option.{Option, none, some}
 use native.Mathlib.Omega.{arith}
 use lib.Dec.{eqb}
 use Rattle.fields.specs.Choice.{_∈_, all, pick}
-use Rattle.fields.proofs.Choice.{and-left, and-right, in-none}
+use Rattle.fields.proofs.Choice.{and-intro, and-left, and-right, in-none}
 use Rattle.rules.specs.Given.{Given, given}
 use Rattle.rules.specs.Node.{Call, KeyValue}
-use Rattle.rules.specs.Table.{Table, nodeOf, obeys}
+use Rattle.rules.specs.Table.{Entry, Table, nodeOf, obeys}
 use Rattle.rules.specs.Local.{Outcome, call, callAs, gives, localBeat, offer, unlessGuarded}
 use Rattle.rules.specs.Digest.{writeDigest}
 use Rattle.rules.specs.Apply.{Ways, apply, waysIn}
-use Rattle.rules.specs.Profile.{Kind, guardIn, profileObeys}
+use Rattle.rules.specs.Profile.{Kind, guardIn, profileObeys, recsObey}
 use Rattle.rules.specs.Whole.{Whole, decodeWhole, encodeWhole, obeysWhole}
 use Rattle.rules.specs.Lent.{TableAndList, fromTable, lentApply, onTable, onWhole, storedApply, storedIn}
 use Rattle.rules.specs.declared.Answer.{Answer}
@@ -28,6 +28,7 @@ use Rattle.rules.specs.declared.Computed.{Computed}
 use Rattle.rules.specs.declared.Computed.the-variants as computed
 use Rattle.rules.specs.declared.Applied.{Applied}
 use Rattle.rules.specs.declared.Profile.{Profile}
+use Rattle.rules.specs.declared.Party.{Party}
 use Rattle.rules.specs.declared.Refusal.{Refusal}
 use Rattle.rules.specs.declared.Refusal.the-variants.{BadTable}
 use Rattle.rules.proofs.Obeys.{facts-table}
@@ -36,6 +37,7 @@ use Rattle.profiles.proofs.Lawful.{kind-lawful}
 use Rattle.demand3.specs.Demand3.{allQuiet, quiet}
 use Rattle.demand3.specs.Forms.{Order, Removal, computeBy, lentComputeBy, lentRemovedBy, removedBy}
 use Rattle.demand3.specs.World.{Applying, Arriving, Beating, Computing, DeltaSent, DigestSent, Digesting, Event, Exchange, Followers, Idle, Offering, Publishers, Removing, Sending, Side, World, Writing, after, afterDelta, afterDigest, calls, computedFor, appliedTo, freshTable, givenAs, givenIn, happen, nthSent, onExchange, onSent, onSide, possible, sentAfter, sentOn, start, unlessRefused}
+use Rattle.rules.proofs.Formed.{none-obey}
 use Rattle.demand3.proofs.Formed.{IsRead, removal-formed, sent-read}
 use Rattle.demand3.proofs.Forms.{comes, lent-computing, lent-removal}
 use Rattle.demand3.proofs.Moments.{InOrder, moment-start, next-event}
@@ -74,7 +76,7 @@ none-some r e = let z : _≡_ {A = ℕ} 0 1 = cc in absurd (omega arith)
 pub fresh-formed : (p : Profile) (is : List ℕ) → profileObeys p (freshTable is) ≡ true
 unfolding profileObeys freshTable all
 fresh-formed p [] = refl
-fresh-formed p (i ∷ is) = fresh-formed p is
+fresh-formed p (i ∷ is) = and-intro (recsObey p []) (all (λ (e : Entry). recsObey p (e .node .recs)) (freshTable is)) (none-obey p) (fresh-formed p is)
 
 -- ---- the bytes of a world of tables, the publisher's of kind pk and the follower's of kind fk
 
@@ -97,7 +99,7 @@ module _ (pk fk : Kind) where
 
   -- what the publisher's profile refuses of an event: a write
   abbrev pub guardOn : Event → World → Option Refusal
-  guardOn (Writing i k c) w = guardIn (pk .profile) c k (nodeOf i (w .publisher))
+  guardOn (Writing i k who c) w = guardIn (pk .profile) who c k (nodeOf i (w .publisher))
   guardOn (Beating s i) w = none
   guardOn (Offering s i h) w = none
   guardOn (Removing s removal) w = none
@@ -108,7 +110,7 @@ module _ (pk fk : Kind) where
   guardOn (Arriving k now l) w = none
 
   pub quiet-free : (e : Event) (w : World) → quiet e ≡ true → guardOn e w ≡ none
-  quiet-free (Writing i k c) w q = absurd (false≢true q)
+  quiet-free (Writing i k who c) w q = absurd (false≢true q)
   quiet-free (Beating s i) w q = refl
   quiet-free (Offering s i h) w q = refl
   quiet-free (Removing s removal) w q = refl
@@ -144,7 +146,7 @@ module _ (pk fk : Kind) where
 
     -- ---- a write
 
-    module _ (i : ℕ) (k : List ℕ) (c : Call) where
+    module _ (i : ℕ) (k : List ℕ) (who : Party) (c : Call) where
       abbrev guarded : Option Refusal → World
       guarded g =
           record {
@@ -159,19 +161,19 @@ module _ (pk fk : Kind) where
       abbrev bytesBy : Whole → LentWorld
       bytesBy u =
           record {
-            publisher = onTable (plain.Refused BadTable) (callAs (u .kind .profile) c i k) (ofKind pk (w .publisher)) .lent;
+            publisher = onTable (plain.Refused BadTable) (callAs (u .kind .profile) who c i k) (ofKind pk (w .publisher)) .lent;
             follower = ofKind fk (w .follower);
-            given = λ j. pick (eqb j i) (givenAs (u .kind .profile) k c (nodeOf i (u .table)) (w .given j)) (w .given j);
+            given = λ j. pick (eqb j i) (givenAs (u .kind .profile) who k c (nodeOf i (u .table)) (w .given j)) (w .given j);
             exchange = w .exchange;
             sent = w .sent;
           }
 
-      writing-lent : lentCalls (Writing i k c) (lent w) ≡ lent (guarded (guardOn (Writing i k c) w))
+      writing-lent : lentCalls (Writing i k who c) (lent w) ≡ lent (guarded (guardOn (Writing i k who c) w))
       unfolding callAs
       writing-lent =
           ap bytesBy (stands pk (w .publisher) p (form .publisher))
-          ∙ ap (λ (o : Given Answer (List ℕ)). record { publisher = o .lent; follower = ofKind fk (w .follower); given = guarded (guardOn (Writing i k c) w) .given; exchange = w .exchange; sent = w .sent })
-          (on-encoded pk (w .publisher) p (form .publisher) (plain.Refused BadTable) (callAs (pk .profile) c i k))
+          ∙ ap (λ (o : Given Answer (List ℕ)). record { publisher = o .lent; follower = ofKind fk (w .follower); given = guarded (guardOn (Writing i k who c) w) .given; exchange = w .exchange; sent = w .sent })
+          (on-encoded pk (w .publisher) p (form .publisher) (plain.Refused BadTable) (callAs (pk .profile) who c i k))
 
       refused-writing : (r : Refusal) → guarded (some r) ≡ w
       refused-writing r =
@@ -182,16 +184,16 @@ module _ (pk fk : Kind) where
           go h true = refl
           go h false = refl
 
-      written-formed : guardOn (Writing i k c) w ≡ none → profileObeys (pk .profile) (call c i k (w .publisher) .table) ≡ true
+      written-formed : guardOn (Writing i k who c) w ≡ none → profileObeys (pk .profile) (call c i k (w .publisher) .table) ≡ true
       unfolding callAs
       written-formed e =
           subst (λ (g : Option Refusal). profileObeys (pk .profile) (unlessGuarded g (call c i k (w .publisher)) (w .publisher) .table) ≡ true) e
-          (call-formed (pk .profile) c i k (w .publisher) (form .publisher))
+          (call-formed (pk .profile) who c i k (w .publisher) p (form .publisher))
 
     -- ---- what the profile lets through
 
     calls-lent : (e : Event) → guardOn e w ≡ none → lentCalls e (lent w) ≡ lent (calls ways e w)
-    calls-lent (Writing i k c) g = writing-lent i k c ∙ ap (λ (r : Option Refusal). lent (guarded i k c r)) g
+    calls-lent (Writing i k who c) g = writing-lent i k who c ∙ ap (λ (r : Option Refusal). lent (guarded i k who c r)) g
     calls-lent (Beating s i) g = on-side s (plain.Refused BadTable) (localBeat i)
     calls-lent (Offering s i h) g = on-side s (offered.Refused BadTable) (offer i h)
     calls-lent (Removing s removal) g = removed-lent s removal
@@ -236,7 +238,7 @@ module _ (pk fk : Kind) where
     applied-formed now answers (DeltaSent b) = record { publisher = form .publisher; follower = apply-formed fk b now (w .follower) answers (form .follower); sent = form .sent }
 
     calls-formed : (e : Event) → guardOn e w ≡ none → Formed (calls ways e w)
-    calls-formed (Writing i k c) g = record { publisher = written-formed i k c g; follower = form .follower; sent = form .sent }
+    calls-formed (Writing i k who c) g = record { publisher = written-formed i k who c g; follower = form .follower; sent = form .sent }
     calls-formed (Beating s i) g = side-formed s (λ t. localBeat i t .table) (λ q. beat-formed q i)
     calls-formed (Offering s i h) g = side-formed s (λ t. offer i h t .table) (λ q. offer-formed q i h)
     calls-formed (Removing s removal) g = side-formed s (removedBy removal) (λ q. removal-formed q removal)
@@ -267,7 +269,7 @@ module _ (pk fk : Kind) where
 
     -- a write that the profile refuses changes nothing
     refused-calls : (e : Event) (r : Refusal) → guardOn e w ≡ some r → lentCalls e (lent w) ≡ lent w
-    refused-calls (Writing i k c) r g = writing-lent i k c ∙ ap (λ (o : Option Refusal). lent (guarded i k c o)) g ∙ ap lent (refused-writing i k c r)
+    refused-calls (Writing i k who c) r g = writing-lent i k who c ∙ ap (λ (o : Option Refusal). lent (guarded i k who c o)) g ∙ ap lent (refused-writing i k who c r)
     refused-calls (Beating s i) r g = none-some r g
     refused-calls (Offering s i h) r g = none-some r g
     refused-calls (Removing s removal) r g = none-some r g

@@ -1,4 +1,4 @@
--- Between tables of one profile nothing that was ever computed is refused with 17. Assumes nothing but that the fresh tables obey document 01's rules.
+-- Between tables of one profile nothing that was ever computed is refused with 17 or 19. Assumes nothing but that the fresh tables obey document 01's rules.
 use Prim.Native.Nat.{ℕ}
 use mathlib.Core.Bool.{Bool, false, false≢true, true}
 use mathlib.Core.List.{List}
@@ -7,24 +7,24 @@ use native.Mathlib.Omega.{arith}
 use lib.Dec.{leb}
 use lib.ListN.{length}
 use Rattle.fields.specs.Choice.{_∈_, pick}
-use Rattle.rules.specs.Apply.{Taking, Ways, apply, applyNode, applyOps, applyParts, waysIn, waysOf}
-use Rattle.rules.specs.Delta.{NodeDelta, Ops, Part, partsOf, readDelta}
+use Rattle.rules.specs.Apply.{Taking, Ways, answered, apply, applyNode, applyOps, applyParts, deltaStatus, outcome, waysIn}
+use Rattle.rules.specs.Delta.{NodeDelta, Ops, Part, partsOf}
 use Rattle.rules.specs.Digest.{digestBytes, digestOf, isEdition}
 use Rattle.rules.specs.Given.{Given, given}
 use Rattle.rules.specs.Lent.{TableAndList, both, lentApply, lentApplyAs, storedApply}
 use Rattle.rules.specs.Node.{Node}
-use Rattle.rules.specs.Profile.{Kind, profileObeys}
+use Rattle.rules.specs.Profile.{Kind, oddNumber, profileObeys, tableFormed}
 use Rattle.rules.specs.Table.{Table, obeys}
 use Rattle.rules.specs.Whole.{Whole, decodeWhole, encodeWhole, obeysWhole, validWhole}
 use Rattle.rules.specs.declared.Applied.{Applied}
 use Rattle.rules.specs.declared.Applied.the-variants as applied
-use Rattle.rules.specs.declared.Mode.{Mode}
-use Rattle.rules.specs.declared.Mode.the-variants.{Fenced, Guarded, Plain}
+use Rattle.rules.specs.declared.DeltaStatus.{DeltaStatus}
+use Rattle.rules.specs.declared.DeltaStatus.the-variants.{Apply, ApplyAfterReset, Fenced, Reject}
 use Rattle.rules.specs.declared.Profile.{Profile}
 use Rattle.rules.specs.declared.Refusal.{Refusal}
-use Rattle.rules.specs.declared.Refusal.the-variants.{BadEdition, BadForm, BadTable, NoPlace}
+use Rattle.rules.specs.declared.Refusal.the-variants.{BadEdition, BadTable, NoPlace}
+use Rattle.rules.proofs.Formed.{table-formed}
 use Rattle.rules.proofs.Obeys.{facts-table}
-use Rattle.profiles.proofs.Lawful.{taken-as}
 use Rattle.profiles.proofs.Reading.{delta-plain}
 use Rattle.table.proofs.Wholes.{decode-encode-whole, valid-encode-whole}
 use Rattle.compute.specs.Asking.{askedOf}
@@ -41,16 +41,10 @@ use Rattle.exchange.proofs.Refusing.{is-ready, ready-done}
 use Rattle.demand3.proofs.Formed.{IsRead, only-places}
 use Rattle.demand3.specs.World.{Event, World, after, freshTable, start}
 use Rattle.demand3_bytes.proofs.LentWorld.{apply-encoded, from-start, lent, lent-run, stands, ways, whole, whole-is}
-use Rattle.demand3_bytes.specs.LentDemand3.{LentOneProfile}
+use Rattle.demand3_bytes.specs.LentDemand3.{LentOneProfile, readingAll}
 use Rattle.demand3_bytes.specs.LentWorld.{LentWorld, lentAfter, lentStart, ofKind}
 
 -- ---- a delta that the table's profile reads
-
--- every mode reads as document 01 does
-mode-reads : (m : Mode) (b : List ℕ) → waysOf m .reads b ≡ readDelta b
-mode-reads Plain b = refl
-mode-reads Fenced b = refl
-mode-reads Guarded b = refl
 
 module _ (k : Kind) (b : List ℕ) (read : IsRead (k .profile) b) (now : ℕ) (t : Table) (l : List ℕ) where
   abbrev parts : List Part
@@ -60,19 +54,23 @@ module _ (k : Kind) (b : List ℕ) (read : IsRead (k .profile) b) (now : ℕ) (t
   unfolding apply
   it-is = ap (λ (o : Ops). applyOps (applyNode (waysIn k) now) o t l) (read .1)
 
-  -- the node takes as in its mode
-  taking : applyNode (waysIn k) now ≡ applyNode (waysOf (k .mode)) now
-  taking = λ z d n. one d n z
+  -- what a node takes does not hang on the reading
+  one : (d : NodeDelta) (n : Node) → applyNode (waysIn k) now d n ≡ applyNode (readingAll k) now d n
+  unfolding applyNode
+  one d n = go (deltaStatus (waysIn k .fence) n d)
     where
-      one : (d : NodeDelta) (n : Node) → applyNode (waysIn k) now d n ≡ applyNode (waysOf (k .mode)) now d n
-      one d n = taken-as k now d n
+      go : (s : DeltaStatus) → answered (waysIn k) s (outcome s now d n) n ≡ answered (readingAll k) s (outcome s now d n) n
+      go Reject = refl
+      go Apply = refl
+      go ApplyAfterReset = refl
+      go Fenced = refl
 
-  as-its-mode : apply (waysIn k) b now t l ≡ apply (waysOf (k .mode)) b now t l
+  taking : applyNode (waysIn k) now ≡ applyNode (readingAll k) now
+  taking = λ z d n. one d n z
+
+  as-read : apply (waysIn k) b now t l ≡ apply (readingAll k) b now t l
   unfolding apply
-  as-its-mode =
-      it-is
-      ∙ ap (λ (take : Taking). applyParts take parts t l) taking
-      ∙ ap (λ (o : Ops). applyOps (applyNode (waysOf (k .mode)) now) o t l) (sym (mode-reads (k .mode) b ∙ delta-plain (k .profile) b (read .0) (read .1) .0))
+  as-read = it-is ∙ ap (λ (take : Taking). applyParts take parts t l) taking ∙ ap (λ (o : Ops). applyOps (applyNode (readingAll k) now) o t l) (sym (delta-plain (k .profile) b (read .0) (read .1) .0))
 
 -- applying in any ways, of the bytes of a whole that obeys
 apply-as : (w : Whole) → obeysWhole w ≡ true → (its : Ways) (b : List ℕ) (now : ℕ) (l : List ℕ) → lentApplyAs its b now l (encodeWhole w) ≡ storedApply w (apply its b now (w .table) l)
@@ -92,7 +90,7 @@ module _ (edition : ℕ) (unasked : List ℕ) (k : Rooms) (publisher follower : 
       (askedOf (k .mtu) 0 (k .delta) (k .ties) (length (decodeWhole publisher .table))) (formsFit publisher follower) fit (leb (length (decodeWhole publisher .table)) (k .answers))
     where
       go : (u v e d : Bool) (n : Asked) (x : Bool) → x ≡ true → (p : Bool)
-          → pick u (pick v (pick e (pick d (unlessRefused n (pick x (pick p ready.Yes (ready.No Applying NoPlace)) (ready.No Applying BadForm))) (ready.No Digest NoPlace)) (ready.No Digest BadEdition)) (ready.No Delta BadTable)) (ready.No Digest BadTable) ≡ ready.No Applying why
+          → pick u (pick v (pick e (pick d (unlessRefused n (pick x (pick p ready.Yes (ready.No Applying NoPlace)) (ready.No Applying (oddNumber (decodeWhole follower .kind .profile))))) (ready.No Digest NoPlace)) (ready.No Digest BadEdition)) (ready.No Delta BadTable)) (ready.No Digest BadTable) ≡ ready.No Applying why
           → why ≡ NoPlace
       go true true true true asked.Good true f true q = let z : _≡_ {A = ℕ} 0 1 = cc in absurd (omega arith)
       go true true true true asked.Good true f false q = cc
@@ -120,11 +118,11 @@ module _ (k : Kind) (t : Table) (o : obeys t ≡ true) (f : profileObeys (k .pro
   bytes-places : (why : Refusal) (at : ℕ) → lentApply b now answers (ofKind k t) .answer ≡ applied.Refused why at → why ≡ NoPlace
   bytes-places why at e = only-places k b read now t answers why at (ap (λ (g : Given Applied TableAndList). g .answer) (sym (apply-encoded k t o f b now answers)) ∙ e)
 
-  bytes-free : lentApply b now answers (ofKind k t) ≡ lentApplyAs (waysOf (k .mode)) b now answers (ofKind k t)
+  bytes-free : lentApply b now answers (ofKind k t) ≡ lentApplyAs (readingAll k) b now answers (ofKind k t)
   bytes-free =
       apply-encoded k t o f b now answers
-      ∙ ap (storedApply (whole k t o f)) (as-its-mode k b read now t answers)
-      ∙ sym (apply-as (whole k t o f) (whole-is k t o f) (waysOf (k .mode)) b now answers)
+      ∙ ap (storedApply (whole k t o f)) (as-read k b read now t answers)
+      ∙ sym (apply-as (whole k t o f) (whole-is k t o f) (readingAll k) b now answers)
 
 module _ (pk fk : Kind) (is : List ℕ) (ok : obeys (freshTable is) ≡ true) where
   -- whatever was computed is read by the follower
@@ -149,9 +147,9 @@ module _ (pk fk : Kind) (is : List ℕ) (ok : obeys (freshTable is) ≡ true) wh
     fits : formsFit (lent pk fk w .publisher) (lent pk fk w .follower) ≡ true
     fits =
         let sender = from-start pk fk is ok es .forms .publisher in
-        ap (λ (u : Whole). profileObeys (u .kind .profile) (decodeWhole (ofKind pk (w .publisher)) .table)) (stands fk (w .follower) obeyed formed)
-        ∙ ap (λ (u : Whole). profileObeys (fk .profile) (u .table)) (stands pk (w .publisher) (facts-table (w .publisher) (from-start pk fk is ok es .order .publisher-ok)) sender)
-        ∙ subst (λ (p : Profile). profileObeys p (w .publisher) ≡ true) alike sender
+        ap (λ (u : Whole). tableFormed (u .kind .profile) (decodeWhole (ofKind pk (w .publisher)) .table)) (stands fk (w .follower) obeyed formed)
+        ∙ ap (λ (u : Whole). tableFormed (fk .profile) (u .table)) (stands pk (w .publisher) (facts-table (w .publisher) (from-start pk fk is ok es .order .publisher-ok)) sender)
+        ∙ table-formed (fk .profile) (w .publisher) (subst (λ (p : Profile). profileObeys p (w .publisher) ≡ true) alike sender)
 
   pub lent-one-profile : LentOneProfile pk fk is
   lent-one-profile =
@@ -162,7 +160,7 @@ module _ (pk fk : Kind) (is : List ℕ) (ok : obeys (freshTable is) ≡ true) wh
             (λ m now answers. bytes-places fk (w alike es .follower) (obeyed alike es) (formed alike es) b (reads alike es b m) now answers);
         as-free =
             λ alike es b.
-            here alike es (λ v. b ∈ v .sent → (now : ℕ) (answers : List ℕ) → lentApply b now answers (v .follower) ≡ lentApplyAs (waysOf (fk .mode)) b now answers (v .follower))
+            here alike es (λ v. b ∈ v .sent → (now : ℕ) (answers : List ℕ) → lentApply b now answers (v .follower) ≡ lentApplyAs (readingAll fk) b now answers (v .follower))
             (λ m now answers. bytes-free fk (w alike es .follower) (obeyed alike es) (formed alike es) b (reads alike es b m) now answers);
         exchange-places = λ alike es g. here alike es (λ v. (why : Refusal) → lentExchange g (v .publisher) (v .follower) .answer ≡ exchanged.Refused Applying why → why ≡ NoPlace) (exchange-asks g _ _ (fits alike es));
       }

@@ -8,7 +8,8 @@ use mathlib.Core.List.{List, [], _∷_}
 use mathlib.Core.Option.{some}
 use Rattle.fields.specs.Numbers.{Bytes}
 use Rattle.fields.specs.Choice.{_∈_, pick}
-use Rattle.rules.specs.Apply.{waysIn, waysOf}
+use Rattle.rules.specs.Apply.{Ways, waysIn}
+use Rattle.rules.specs.Delta.{readDelta}
 use Rattle.rules.specs.Node.{Node}
 use Rattle.rules.specs.Profile.{Kind}
 use Rattle.rules.specs.Table.{nodeOf, numbersOf}
@@ -49,7 +50,7 @@ lentIsApplied now answers l (DeltaSent b) = noRoom (lentApply b now answers l .a
 
 -- whether a call of an exchange is made and not refused
 abbrev pub lentGranted : (event : Event) (world : LentWorld) → Bool
-lentGranted (Writing i k c) w = true
+lentGranted (Writing i k who c) w = true
 lentGranted (Beating s i) w = true
 lentGranted (Offering s i h) w = true
 lentGranted (Removing s removal) w = true
@@ -86,9 +87,13 @@ pub record LentDemand3 (p f : Kind) (is : List ℕ) : Type 0 where
 
 -- ---- tables of one profile
 
--- Where publisher and follower have the same profile, no delta that was ever computed, in document 01's order or by a plan, is refused with 17, whenever it is applied: answer places
--- (8) are all that it may lack, and applying it is what applying is in the follower's mode alone. So whether an exchange counts does not hang on profiles. An exchange in
--- one call is refused at its applying for answer places alone. A meter follower of a free publisher is promised no such thing: there the count asks that nothing be refused.
+-- the ways of a kind, but that every delta of document 01 is read
+abbrev pub readingAll : (kind : Kind) → Ways
+readingAll k = record { reads = readDelta; roomy = waysIn k .roomy; fence = waysIn k .fence; late = waysIn k .late }
+
+-- Where publisher and follower have the same profile, no delta that was ever computed, in document 01's order or by a plan, is refused with 17 or 19, whenever it is applied: answer
+-- places (8) are all that it may lack, and applying it is what applying is where every record is in form. So whether an exchange counts does not hang on forms. An exchange in
+-- one call is refused at its applying for answer places alone. A meter or shared follower of a free publisher is promised no such thing: there the count asks that nothing be refused.
 pub record LentOneProfile (p f : Kind) (is : List ℕ) : Type 0 where
   pub only-places : p .profile ≡ f .profile
       → (es : List Event) (b : Bytes)
@@ -100,7 +105,7 @@ pub record LentOneProfile (p f : Kind) (is : List ℕ) : Type 0 where
       → (es : List Event) (b : Bytes)
       → b ∈ lentAfter es (lentStart p f is) .sent
       → (now : ℕ) (answers : Bytes)
-      → lentApply b now answers (lentAfter es (lentStart p f is) .follower) ≡ lentApplyAs (waysOf (f .mode)) b now answers (lentAfter es (lentStart p f is) .follower)
+      → lentApply b now answers (lentAfter es (lentStart p f is) .follower) ≡ lentApplyAs (readingAll f) b now answers (lentAfter es (lentStart p f is) .follower)
   pub exchange-places : p .profile ≡ f .profile
       → (es : List Event) (g : Lending) (why : Refusal)
       → lentExchange g (lentAfter es (lentStart p f is) .publisher) (lentAfter es (lentStart p f is) .follower) .answer ≡ exchanged.Refused step.Applying why

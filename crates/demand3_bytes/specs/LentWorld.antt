@@ -89,11 +89,11 @@ onWay x ss w = record { publisher = w .publisher; follower = w .follower; given 
 
 -- what a write gives is told by the bytes that it finds
 abbrev pub lentCalls : (event : Event) (world : LentWorld) → LentWorld
-lentCalls (Writing i k c) w =
+lentCalls (Writing i k who c) w =
     record {
-      publisher = lentCall c i k (w .publisher) .lent;
+      publisher = lentCall who c i k (w .publisher) .lent;
       follower = w .follower;
-      given = λ j. pick (eqb j i) (givenAs (kindIn (w .publisher) .profile) k c (nodeOf i (tableIn (w .publisher))) (w .given j)) (w .given j);
+      given = λ j. pick (eqb j i) (givenAs (kindIn (w .publisher) .profile) who k c (nodeOf i (tableIn (w .publisher))) (w .given j)) (w .given j);
       exchange = w .exchange;
       sent = w .sent;
     }

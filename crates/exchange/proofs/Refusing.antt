@@ -16,9 +16,10 @@ use Rattle.rules.specs.Digest.{Entries, NodeDigest, digestBytes, digestOf, isEd
 use Rattle.rules.specs.Delta.{Good, Op, deltaBytes, partsOf, readDelta}
 use Rattle.rules.specs.Compute.{deltaFor, written}
 use Rattle.rules.specs.Apply.{apply, waysIn}
+use Rattle.rules.specs.Profile.{oddNumber}
 use Rattle.rules.specs.Whole.{areaOf, decodeWhole, validWhole}
 use Rattle.rules.specs.Lent.{fromTable, lentApply, lentApplyAs, lentCompute, lentDigest}
-use Rattle.rules.specs.declared.Refusal.the-variants.{BadEdition, BadForm, BadTable, NoPlace}
+use Rattle.rules.specs.declared.Refusal.the-variants.{BadEdition, BadTable, NoPlace}
 use Rattle.rules.specs.declared.Written.{Written}
 use Rattle.rules.specs.declared.Written.the-variants as written-as
 use Rattle.rules.specs.declared.Computed.{Computed}
@@ -28,7 +29,7 @@ use Rattle.rules.proofs.Digests.{read-written}
 use Rattle.table.proofs.Tables.{valid-obeys}
 use Rattle.table.proofs.Wholes.{area-valid}
 use Rattle.profiles.proofs.Reading.{delta-formed}
-use Rattle.profiles.proofs.Sent.{delta-in-form}
+use Rattle.profiles.proofs.Sent.{sent-in-form}
 use Rattle.compute.specs.Asking.{askedOf}
 use Rattle.compute.specs.declared.Asked.{Asked}
 use Rattle.compute.specs.declared.Asked.the-variants as asked
@@ -68,7 +69,7 @@ is-ready g publisher follower =
         → (n : Asked) → askedOf (g .mtu) 0 (length (g .delta)) (length (g .ties)) (length (decodeWhole publisher .table)) ≡ n
         → (x : Bool) → formsFit publisher follower ≡ x
         → (p : Bool) → leb (length (decodeWhole publisher .table)) (length (g .answers)) ≡ p
-        → pick u (pick v (pick k (pick d (unlessRefused n (pick x (pick p ready.Yes (ready.No Applying NoPlace)) (ready.No Applying BadForm))) (ready.No Digest NoPlace)) (ready.No Digest BadEdition)) (ready.No Delta BadTable)) (ready.No Digest BadTable) ≡ ready.Yes
+        → pick u (pick v (pick k (pick d (unlessRefused n (pick x (pick p ready.Yes (ready.No Applying NoPlace)) (ready.No Applying (oddNumber (decodeWhole follower .kind .profile))))) (ready.No Digest NoPlace)) (ready.No Digest BadEdition)) (ready.No Delta BadTable)) (ready.No Digest BadTable) ≡ ready.Yes
         → IsReady g publisher follower
     go true u true v true k true d asked.Good n true x true p e =
         record { follower-valid = u; publisher-valid = v; known = k; digest-fits = leb-true _ _ d; formed = x; numbers-good = n; places = leb-true _ _ p }
@@ -133,7 +134,7 @@ module _ (g : Lending) (publisher follower : List ℕ) (r : IsReady g publisher 
       let b = le-leb (length (partsOf sent)) (length (g .answers)) (omega arith) in
       let d = part 0 (length (deltaBytes sent)) (put 0 (deltaBytes sent) (g .delta)) in
       let q : waysIn (decodeWhole follower .kind) .reads d ≡ Good sent =
-      delta-formed (decodeWhole follower .kind .profile) d sent (delta-in-form (decodeWhole follower .kind .profile) (g .unsent) (g .ties) ds (decodeWhole publisher .table) (r .formed) (g .mtu)) delta-read in
+      delta-formed (decodeWhole follower .kind .profile) d sent (sent-in-form (decodeWhole follower .kind .profile) (g .unsent) (g .ties) ds (decodeWhole publisher .table) (r .formed) (g .mtu)) delta-read in
       rw (r .follower-valid, q, b) refl
 
   -- Nothing is refused.

@@ -120,8 +120,8 @@ fn exchange_good(
 
 // One exchange, with the digest in one edition at both ends. The digest leaves out the nodes `unasked`, the delta the nodes `unsent`; each stands at the front
 // of its datagram. It is refused before anything is written, in this order: 14 of the follower's table, 14 of the publisher's, 20, 8 for the digest's bytes, 7,
-// 8 for the delta's bytes, 15, 17 for a record of the publisher that is not in the follower's form, 8 for the answers. Both tables, both datagrams and the
-// answers are then as they were.
+// 8 for the delta's bytes, 15, 17 or 19 for a record of the publisher that is not in the follower's form, 8 for the answers. Both tables, both datagrams and
+// the answers are then as they were.
 pub fn exchange(
     publisher: &[u8],
     follower: &mut [u8],

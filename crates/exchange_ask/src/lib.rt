@@ -8,11 +8,10 @@ use table::layout;
 ghost use mathlib.Core.Path.{_≡_};
 ghost use mathlib.Core.Bool.{true};
 ghost use Rattle.rules.specs.Layout.{decode};
-ghost use Rattle.rules.specs.Profile.{profileObeys};
+ghost use Rattle.rules.specs.Profile.{tableFormed};
 ghost use Rattle.rules.specs.Whole.{decodeWhole, validWhole};
-ghost use Rattle.rules.specs.declared.Profile.the-variants.{Meter};
 ghost use Rattle.table.specs.Fits.{LaidTable};
-ghost use Rattle.exchange_ask.specs.Asking.{formsFit, readyFor, readyOn, rooms, roomsFor, takingFor};
+ghost use Rattle.exchange_ask.specs.Asking.{readyFor, readyOn, rooms, roomsFor, takingFor};
 
 // The step of an exchange that a refusal belongs to: the follower's digest, the publisher's delta, applying it to the follower.
 pub enum Step {
@@ -27,32 +26,26 @@ pub enum Ready {
     No { step: Step, why: Refusal },
 }
 
-// Whether the records of a good publisher are in the form of a good follower's profile. They are looked at only where the profiles differ and the follower's is
-// not free.
-fn forms_fit(publisher: &[u8], follower: &[u8]) -> bool
-    requires { ⌜ (validWhole (now publisher) ≡ true) × (validWhole (now follower) ≡ true) ⌝ }
-    ensures { λ r. ⌜ r ≡ formsFit (now (publisher .entry)) (now (follower .entry)) ⌝ }
-{
-    match profile_check::profile_of(follower) {
-        Profile::Free => true,
-        Profile::Meter => meter_fits(publisher),
-    }
-}
-
-// Whether those of a good table are in the form of the meter profile: its own forms say so, or its records do.
-fn meter_fits(publisher: &[u8]) -> bool
+// Whether the records of a good publisher are in the form of a follower's profile. They are looked at only where the profiles differ and the follower's is
+// not free: a good table is in the form of its own.
+fn forms_fit(publisher: &[u8], profile: Profile) -> bool
     requires { ⌜ validWhole (now publisher) ≡ true ⌝ }
-    ensures { λ r. ⌜ r ≡ profileObeys Meter (decodeWhole (now (publisher .entry)) .table) ⌝ }
+    ensures { λ r. ⌜ r ≡ tableFormed profile (decodeWhole (now (publisher .entry)) .table) ⌝ }
 {
-    match profile_check::profile_of(publisher) {
-        Profile::Free => profile_check::check_forms(&publisher[..layout::AREA]),
-        Profile::Meter => true,
+    let own = profile_check::profile_of(publisher);
+    if profile.byte() == own.byte() {
+        return true;
+    }
+    match profile {
+        Profile::Free => true,
+        Profile::Meter => profile_check::check_forms(profile, &publisher[..layout::AREA]),
+        Profile::Shared => profile_check::check_forms(profile, &publisher[..layout::AREA]),
     }
 }
 
-// What applying would ask: 17, then 8 for the answers. A place for each node of the publisher's table is enough, as the delta has no more.
-fn ask_taking(formed: bool, answers: usize, nodes: usize) -> Ready
-    ensures { λ r. ⌜ r ≡ takingFor formed answers nodes ⌝ }
+// What applying would ask: 17 or 19, then 8 for the answers. A place for each node of the publisher's table is enough, as the delta has no more.
+fn ask_taking(profile: Profile, formed: bool, answers: usize, nodes: usize) -> Ready
+    ensures { λ r. ⌜ r ≡ takingFor profile formed answers nodes ⌝ }
 {
     if formed {
         if answers < nodes {
@@ -65,7 +58,7 @@ fn ask_taking(formed: bool, answers: usize, nodes: usize) -> Ready
     }
     Ready::No {
         step: Step::Applying,
-        why: Refusal::BadForm,
+        why: delta_form::odd_number(profile),
     }
 }
 
@@ -80,10 +73,11 @@ fn ask_rooms(
     digest: usize,
     delta: usize,
     answers: usize,
+    profile: Profile,
     formed: bool,
 ) -> Ready
     requires { ⌜ LaidTable (now publisher) × LaidTable (now follower) ⌝ }
-    ensures { λ r. ⌜ r ≡ roomsFor edition (now (unasked .entry)) (rooms mtu ties digest delta answers) formed
+    ensures { λ r. ⌜ r ≡ roomsFor edition (now (unasked .entry)) (rooms mtu ties digest delta answers) profile formed
         (decode (now (publisher .entry))) (decode (now (follower .entry))) ⌝ }
 {
     if digest < digest_write::digest_size(follower, edition, unasked) {
@@ -100,7 +94,7 @@ fn ask_rooms(
             why,
         };
     }
-    ask_taking(formed, answers, nodes)
+    ask_taking(profile, formed, answers, nodes)
 }
 
 // Of good tables: 20 for another edition, told of the digest, then as above.
@@ -114,10 +108,11 @@ fn ask_good(
     digest: usize,
     delta: usize,
     answers: usize,
+    profile: Profile,
     formed: bool,
 ) -> Ready
     requires { ⌜ LaidTable (now publisher) × LaidTable (now follower) ⌝ }
-    ensures { λ r. ⌜ r ≡ readyOn edition (now (unasked .entry)) (rooms mtu ties digest delta answers) formed
+    ensures { λ r. ⌜ r ≡ readyOn edition (now (unasked .entry)) (rooms mtu ties digest delta answers) profile formed
         (decode (now (publisher .entry))) (decode (now (follower .entry))) ⌝ }
 {
     if wire::is_edition(edition) {
@@ -131,6 +126,7 @@ fn ask_good(
             digest,
             delta,
             answers,
+            profile,
             formed,
         );
     }
@@ -156,7 +152,8 @@ pub fn ask(
 {
     if table_check::check_table(follower) {
         if table_check::check_table(publisher) {
-            let formed = forms_fit(publisher, follower);
+            let profile = profile_check::profile_of(follower);
+            let formed = forms_fit(publisher, profile);
             return ask_good(
                 &publisher[..layout::AREA],
                 &follower[..layout::AREA],
@@ -167,6 +164,7 @@ pub fn ask(
                 digest,
                 delta,
                 answers,
+                profile,
                 formed,
             );
         }

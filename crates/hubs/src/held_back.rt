@@ -8,6 +8,7 @@ use lookup::Found;
 use rules::Applied;
 use rules::Computed;
 use rules::Mode;
+use rules::Party;
 use rules::Profile;
 use rules::Status;
 use rules::Written;
@@ -88,7 +89,7 @@ fn deliver(follower: &mut [u8], delta: &[u8]) {
 
 fn say_tariff(name: &[u8], hub: &[u8]) {
     say::text(name);
-    match lookup::find(hub, METER, b"tariff") {
+    match lookup::find(hub, Party::Nobody, METER, b"tariff") {
         Found::At { start: _, len: _ } => say::text(b" has a tariff\n"),
         Found::Nothing => say::text(b" has no tariff\n"),
         Found::Refused(r) => say::number(b"refused ", r.number()),
@@ -96,7 +97,7 @@ fn say_tariff(name: &[u8], hub: &[u8]) {
 }
 
 fn set(hub: &mut [u8], key: &[u8], value: &[u8]) {
-    say::done(local::write(hub, METER, key, value, Status::Set, 0));
+    say::done(local::write(hub, Party::Nobody, METER, key, value, Status::Set, 0));
 }
 
 // Up to the delta that is held back.
@@ -109,7 +110,7 @@ fn hold_back(publisher: &mut [u8], follower: &mut [u8], late: &mut [u8]) {
 
 // While it is on its way.
 fn go_on(publisher: &mut [u8], follower: &mut [u8]) {
-    say::done(local::delete(publisher, METER, b"tariff", 0));
+    say::done(local::delete(publisher, Party::Nobody, METER, b"tariff", 0));
     say::done(removal::remove_scheduled(publisher, 0, 0));
     set(
         publisher,

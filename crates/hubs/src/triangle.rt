@@ -8,6 +8,7 @@ use inspect::NodeHeader;
 use inspect::RecordRead;
 use inspect_text::Text;
 use rules::Mode;
+use rules::Party;
 use rules::Profile;
 use rules::Status;
 use rules::wire;
@@ -32,9 +33,9 @@ fn say_record(hub: &[u8], j: usize) {
         key: _,
         value: _,
         record: r,
-    } = inspect::record_at(hub, METER, j) {
+    } = inspect::record_at(hub, Party::Nobody, METER, j) {
         say::text(b" ");
-        say::text(inspect_text::text_at(hub, METER, j, Text::Key));
+        say::text(inspect_text::text_at(hub, Party::Nobody, METER, j, Text::Key));
         say::number(b"@", r.version);
     }
 }
@@ -75,7 +76,7 @@ fn hear(name: &[u8], other: &[u8], hub: &mut [u8]) {
 // ---- the story
 
 fn set(hub: &mut [u8], key: &[u8], value: &[u8]) {
-    say::done(local::write(hub, METER, key, value, Status::Set, 0));
+    say::done(local::write(hub, Party::Nobody, METER, key, value, Status::Set, 0));
 }
 
 // F has both records.
@@ -87,7 +88,7 @@ fn begin(p: &mut [u8], f: &mut [u8]) {
 
 // The tariff is deleted, and its tombstone removed.
 fn go_on(p: &mut [u8]) {
-    say::done(local::delete(p, METER, b"tariff", 0));
+    say::done(local::delete(p, Party::Nobody, METER, b"tariff", 0));
     say::done(removal::remove_scheduled(p, 0, 0));
 }
 

@@ -11,6 +11,7 @@ use inspect::RecordRead;
 use inspect_text::Text;
 use rules::Header;
 use rules::Mode;
+use rules::Party;
 use rules::Profile;
 use rules::Refusal;
 use rules::Status;
@@ -36,7 +37,7 @@ fn open(hub: &mut [u8]) {
 
 // A reading that stays until another takes its place.
 fn read_off(hub: &mut [u8], number: u64, key: &[u8], value: &[u8]) {
-    say::done(local::write(hub, number, key, value, Status::Set, 0));
+    say::done(local::write(hub, Party::Nobody, number, key, value, Status::Set, 0));
 }
 
 fn first_day_power(hub: &mut [u8]) {
@@ -53,14 +54,22 @@ fn first_day_power(hub: &mut [u8]) {
 fn first_day_water(hub: &mut [u8]) {
     read_off(hub, WATER, b"total", b"000088.031 m3");
     read_off(hub, WATER, b"flow", b"0 0 0 3 11 4 2 0 0 6 9 1");
-    say::done(local::write(hub, WATER, b"valve", b"open", Status::Ttl, 1000));
+    say::done(local::write(
+        hub,
+        Party::Nobody,
+        WATER,
+        b"valve",
+        b"open",
+        Status::Ttl,
+        1000,
+    ));
 }
 
 // The tariff is deleted, and the valve's time has come: the removal takes both. The flow is to go later.
 fn second_day(hub: &mut [u8]) {
     read_off(hub, POWER, b"total", b"004139.0 kWh");
-    say::done(local::delete(hub, POWER, b"tariff", 50000));
-    say::done(local::delete_after_ttl(hub, WATER, b"flow", 80000));
+    say::done(local::delete(hub, Party::Nobody, POWER, b"tariff", 50000));
+    say::done(local::delete_after_ttl(hub, Party::Nobody, WATER, b"flow", 80000));
     say::done(removal::remove_scheduled(hub, 90000, 30000));
 }
 
@@ -76,8 +85,8 @@ fn count(c: Count) -> u64 {
 // Records, tombstones and TTL records counted, and nodes together.
 fn holdings(hub: &[u8]) -> u64 {
     let records = std::num::wrapping_add_u64(
-        count(inspect::record_count(hub, POWER)),
-        count(inspect::record_count(hub, WATER)),
+        count(inspect::record_count(hub, Party::Nobody, POWER)),
+        count(inspect::record_count(hub, Party::Nobody, WATER)),
     );
     std::num::wrapping_add_u64(records, count(inspect::node_count(hub)))
 }
@@ -105,14 +114,14 @@ fn say_record(hub: &[u8], number: u64, j: usize) {
         key: _,
         value: _,
         record: r,
-    } = inspect::record_at(hub, number, j) {
+    } = inspect::record_at(hub, Party::Nobody, number, j) {
         let status = r.status;
         if let Status::Set = status {
             say::number(b"  ", number);
             say::text(b" ");
-            say::text(inspect_text::text_at(hub, number, j, Text::Key));
+            say::text(inspect_text::text_at(hub, Party::Nobody, number, j, Text::Key));
             say::text(b" = ");
-            say::text(inspect_text::text_at(hub, number, j, Text::Value));
+            say::text(inspect_text::text_at(hub, Party::Nobody, number, j, Text::Value));
             say::number(b" at version ", r.version);
             say::text(b"\n");
         }

@@ -14,10 +14,11 @@ use answers::KevRecord;
 use answers::KevRows;
 use inspect_text::Text;
 use rules::Heartbeat;
+use rules::Party;
 use table::layout;
 ghost use mathlib.Core.Bool.{true};
 ghost use mathlib.Core.Path.{_≡_};
-ghost use Rattle.rules.specs.Answers.{answerTold, offeredTold, rememberedTold, listedTold, writtenTold, computedTold, appliedTold};
+ghost use Rattle.rules.specs.Answers.{partyOf, answerTold, offeredTold, rememberedTold, listedTold, writtenTold, computedTold, appliedTold};
 ghost use Rattle.rules.specs.Given.{Gives};
 ghost use Rattle.rules.specs.Node.{Deleting, DeletingAfterTtl, beats};
 ghost use Rattle.rules.specs.Whole.{validWhole};
@@ -26,7 +27,7 @@ ghost use Rattle.rules.specs.Lent.{lentPrefixed, lentDigest, lentCompute, both,
 ghost use Rattle.lookup.specs.Lookup.{lentFind};
 ghost use Rattle.lookup.specs.Told.{foundTold};
 ghost use Rattle.inspect.specs.Look.{lentNodeCount, lentNodeNumber, lentNodeHeader, lentRecordCount, lentReadRecord, lentRecordOf, lentRecordByKey};
-ghost use Rattle.inspect.specs.Look.{lentNodeRows};
+ghost use Rattle.inspect.specs.Look.{lentNodeRows, lentFront};
 ghost use Rattle.inspect.specs.Told.{countTold, nodeNumberTold, nodeHeaderTold, recordReadTold, rowsTold};
 ghost use Rattle.prefix.specs.Rows.{lentPrefixRows};
 ghost use Rattle.inspect_text.specs.Texts.{lentTextFound};
@@ -72,10 +73,11 @@ pub extern "C" fn kev_good_last_heartbeat(table: &[u8], number: u64) -> KevHeart
 
 // ---- local calls
 
-// The key's record takes this value under the wanted status, 0 Set or 2 TTL: 10, 2, 1, 17, 18, 5, 6.
+// The key's record takes this value under the wanted status, 0 Set or 2 TTL: 10, 2, 1, 17, 19, 18, 5, 6.
 #[no_mangle]
 pub extern "C" fn kev_good_write(
     table: &mut [u8],
+    party: u64,
     number: u64,
     key: &[u8],
     value: &[u8],
@@ -83,35 +85,57 @@ pub extern "C" fn kev_good_write(
     clock: u64,
 ) -> u64
     requires { ⌜ validWhole (now table) ≡ true ⌝ }
-    ensures { λ r. ⌜ Gives (shownAs answerTold numberShown (lentWrite wanted (now (value .entry)) clock number (now (key .entry)) (now (table .entry))))
+    ensures { λ r. ⌜ Gives
+        (shownAs answerTold numberShown (lentWrite (partyOf party) wanted (now (value .entry)) clock number (now (key .entry)) (now (table .entry))))
         r (now (table .exit)) ⌝ }
 {
-    answers::number(local::write_known(table, number, key, value, local::wanted(wanted), clock))
+    answers::number(local::write_known(
+        table,
+        Party::of_number(party),
+        number,
+        key,
+        value,
+        local::wanted(wanted),
+        clock,
+    ))
 }
 
-// The key's record is emptied, hidden and scheduled: 2, 1, 3, 6.
+// The key's record is emptied, hidden and scheduled: 2, 1, 19, 3, 6.
 #[no_mangle]
-pub extern "C" fn kev_good_delete(table: &mut [u8], number: u64, key: &[u8], clock: u64) -> u64
-    requires { ⌜ validWhole (now table) ≡ true ⌝ }
-    ensures { λ r. ⌜ Gives (shownAs answerTold numberShown (lentCall (Deleting clock) number (now (key .entry)) (now (table .entry))))
-        r (now (table .exit)) ⌝ }
-{
-    answers::number(local::delete_known(table, number, key, clock))
-}
-
-// The key's record keeps its value and is scheduled: 2, 1, 3, 6.
-#[no_mangle]
-pub extern "C" fn kev_good_delete_after_ttl(
+pub extern "C" fn kev_good_delete(
     table: &mut [u8],
+    party: u64,
     number: u64,
     key: &[u8],
     clock: u64,
 ) -> u64
     requires { ⌜ validWhole (now table) ≡ true ⌝ }
-    ensures { λ r. ⌜ Gives (shownAs answerTold numberShown (lentCall (DeletingAfterTtl clock) number (now (key .entry)) (now (table .entry))))
+    ensures { λ r. ⌜ Gives (shownAs answerTold numberShown (lentCall (partyOf party) (Deleting clock) number (now (key .entry)) (now (table .entry))))
         r (now (table .exit)) ⌝ }
 {
-    answers::number(local::delete_after_ttl_known(table, number, key, clock))
+    answers::number(local::delete_known(table, Party::of_number(party), number, key, clock))
+}
+
+// The key's record keeps its value and is scheduled: 2, 1, 19, 3, 6.
+#[no_mangle]
+pub extern "C" fn kev_good_delete_after_ttl(
+    table: &mut [u8],
+    party: u64,
+    number: u64,
+    key: &[u8],
+    clock: u64,
+) -> u64
+    requires { ⌜ validWhole (now table) ≡ true ⌝ }
+    ensures { λ r. ⌜ Gives (shownAs answerTold numberShown (lentCall (partyOf party) (DeletingAfterTtl clock) number (now (key .entry)) (now (table .entry))))
+        r (now (table .exit)) ⌝ }
+{
+    answers::number(local::delete_after_ttl_known(
+        table,
+        Party::of_number(party),
+        number,
+        key,
+        clock,
+    ))
 }
 
 // The scheduled records whose grace is over go, of all nodes.
@@ -148,42 +172,51 @@ pub extern "C" fn kev_good_local_beat(table: &mut [u8], number: u64) -> u64
 
 // ---- readings
 
-// Where the value of the key stands in the table: 2, 1.
+// Where the value of the key stands in the table: 2, 1, 19.
 #[no_mangle]
-pub extern "C" fn kev_good_find(table: &[u8], number: u64, key: &[u8]) -> KevFound
+pub extern "C" fn kev_good_find(table: &[u8], party: u64, number: u64, key: &[u8]) -> KevFound
     requires { ⌜ validWhole (now table) ≡ true ⌝ }
-    ensures { λ r. ⌜ r ≡ foundShown (foundTold (lentFind number (now (key .entry)) (now (table .entry)))) ⌝ }
+    ensures { λ r. ⌜ r ≡ foundShown (foundTold (lentFind (partyOf party) number (now (key .entry)) (now (table .entry)))) ⌝ }
 {
-    answers::found(lookup::find_good(&table[..layout::AREA], number, key))
+    answers::found(lookup::find_known(table, Party::of_number(party), number, key))
 }
 
 // The places of the node's records whose keys begin with the prefix, a byte each; the count is how many: 2, 1, 8.
 #[no_mangle]
 pub extern "C" fn kev_good_list_prefix(
     table: &[u8],
+    party: u64,
     number: u64,
     prefix: &[u8],
     out: &mut [u8],
 ) -> KevCount
     requires { ⌜ validWhole (now table) ≡ true ⌝ }
-    ensures { λ r. ⌜ Gives (shownAs listedTold countShown (lentPrefixed number (now (prefix .entry)) (now (out .entry)) (now (table .entry))))
+    ensures { λ r. ⌜ Gives (shownAs listedTold countShown (lentPrefixed (partyOf party) number (now (prefix .entry)) (now (out .entry)) (now (table .entry))))
         r (now (out .exit)) ⌝ }
 {
-    answers::hits(prefix::list_good(&table[..layout::AREA], number, prefix, out))
+    answers::hits(prefix::list_known(table, Party::of_number(party), number, prefix, out))
 }
 
-// Where the value of the key stands, in overrides that `kev_check_overrides` accepts or in the table: 2, 1.
+// Where the value of the key stands, in overrides that `kev_check_overrides` accepts or in the table: 2, 1, 19.
 #[no_mangle]
 pub extern "C" fn kev_good_find_over(
     overrides: &[u8],
     table: &[u8],
+    party: u64,
     number: u64,
     key: &[u8],
 ) -> KevFoundOver
     requires { ⌜ (validNode (now overrides) ≡ true) × (validWhole (now table) ≡ true) ⌝ }
-    ensures { λ r. ⌜ r ≡ foundOverShown (foundOverTold (lentFindOver number (now (key .entry)) (now (overrides .entry)) (now (table .entry)))) ⌝ }
+    ensures { λ r. ⌜ r ≡ foundOverShown (foundOverTold
+        (lentFindOver (partyOf party) number (now (key .entry)) (now (overrides .entry)) (now (table .entry)))) ⌝ }
 {
-    answers::found_over(over_find::find_over_good(overrides, &table[..layout::AREA], number, key))
+    answers::found_over(over_find::find_over_known(
+        overrides,
+        table,
+        Party::of_number(party),
+        number,
+        key,
+    ))
 }
 
 // The merged listing of such overrides and the node, a byte for each hit; the count is how many: 2, 1, 8.
@@ -191,6 +224,7 @@ pub extern "C" fn kev_good_find_over(
 pub extern "C" fn kev_good_list_over(
     overrides: &[u8],
     table: &[u8],
+    party: u64,
     number: u64,
     prefix: &[u8],
     out: &mut [u8],
@@ -198,12 +232,13 @@ pub extern "C" fn kev_good_list_over(
     requires { ⌜ (validNode (now overrides) ≡ true) × (validWhole (now table) ≡ true) ⌝ }
     ensures { λ r. ⌜ Gives
         (shownAs listedOverTold listedOverShown
-        (lentListOver number (now (prefix .entry)) (now (out .entry)) (now (overrides .entry)) (now (table .entry))))
+        (lentListOver (partyOf party) number (now (prefix .entry)) (now (out .entry)) (now (overrides .entry)) (now (table .entry))))
         r (now (out .exit)) ⌝ }
 {
-    answers::hits_over(over_list::list_over_good(
+    answers::hits_over(over_list::list_over_known(
         overrides,
-        &table[..layout::AREA],
+        table,
+        Party::of_number(party),
         number,
         prefix,
         out,
@@ -239,74 +274,105 @@ pub extern "C" fn kev_good_node_header(table: &[u8], number: u64) -> KevHeader
 
 // How many records a node has, tombstones counted: 2.
 #[no_mangle]
-pub extern "C" fn kev_good_record_count(table: &[u8], number: u64) -> KevCount
+pub extern "C" fn kev_good_record_count(table: &[u8], party: u64, number: u64) -> KevCount
     requires { ⌜ validWhole (now table) ≡ true ⌝ }
-    ensures { λ r. ⌜ r ≡ countShown (countTold (lentRecordCount number (now (table .entry)))) ⌝ }
+    ensures { λ r. ⌜ r ≡ countShown (countTold (lentRecordCount (partyOf party) number (now (table .entry)))) ⌝ }
 {
-    answers::count(inspect::record_count_good(&table[..layout::AREA], number))
+    answers::count(inspect::record_count_known(table, Party::of_number(party), number))
 }
 
 // The record in place `j` of a node: 2, 8.
 #[no_mangle]
-pub extern "C" fn kev_good_record_at(table: &[u8], number: u64, j: usize) -> KevRecord
+pub extern "C" fn kev_good_record_at(table: &[u8], party: u64, number: u64, j: usize) -> KevRecord
     requires { ⌜ validWhole (now table) ≡ true ⌝ }
-    ensures { λ r. ⌜ r ≡ recordShown (recordReadTold (lentReadRecord number j (now (table .entry)))) ⌝ }
+    ensures { λ r. ⌜ r ≡ recordShown (recordReadTold (lentReadRecord (partyOf party) number j (now (table .entry)))) ⌝ }
 {
-    answers::record(inspect::record_at_good(&table[..layout::AREA], number, j))
+    answers::record(inspect::record_at_known(table, Party::of_number(party), number, j))
 }
 
 // The record in place `j` of the node in place `i`: 8.
 #[no_mangle]
-pub extern "C" fn kev_good_record_of(table: &[u8], i: usize, j: usize) -> KevRecord
+pub extern "C" fn kev_good_record_of(table: &[u8], party: u64, i: usize, j: usize) -> KevRecord
     requires { ⌜ validWhole (now table) ≡ true ⌝ }
-    ensures { λ r. ⌜ r ≡ recordShown (recordReadTold (lentRecordOf i j (now (table .entry)))) ⌝ }
+    ensures { λ r. ⌜ r ≡ recordShown (recordReadTold (lentRecordOf (partyOf party) i j (now (table .entry)))) ⌝ }
 {
-    answers::record(inspect::record_of_good(&table[..layout::AREA], i, j))
+    answers::record(inspect::record_of_known(table, Party::of_number(party), i, j))
 }
 
-// The record of a key, hidden or not: 2, 1.
+// The record of a key, hidden or not: 2, 1, 19.
 #[no_mangle]
-pub extern "C" fn kev_good_record_by_key(table: &[u8], number: u64, key: &[u8]) -> KevRecord
+pub extern "C" fn kev_good_record_by_key(
+    table: &[u8],
+    party: u64,
+    number: u64,
+    key: &[u8],
+) -> KevRecord
     requires { ⌜ validWhole (now table) ≡ true ⌝ }
-    ensures { λ r. ⌜ r ≡ recordShown (recordReadTold (lentRecordByKey number (now (key .entry)) (now (table .entry)))) ⌝ }
+    ensures { λ r. ⌜ r ≡ recordShown (recordReadTold (lentRecordByKey (partyOf party) number (now (key .entry)) (now (table .entry)))) ⌝ }
 {
-    answers::record(inspect::record_by_key_good(&table[..layout::AREA], number, key))
+    answers::record(inspect::record_by_key_known(table, Party::of_number(party), number, key))
 }
 
 // All records of a node in one piece, tombstones too: 2.
 #[no_mangle]
-pub extern "C" fn kev_good_node_rows(table: &[u8], number: u64) -> KevRows
+pub extern "C" fn kev_good_node_rows(table: &[u8], party: u64, number: u64) -> KevRows
     requires { ⌜ validWhole (now table) ≡ true ⌝ }
-    ensures { λ r. ⌜ r ≡ rowsShown (rowsTold (lentNodeRows number (now (table .entry)))) ⌝ }
+    ensures { λ r. ⌜ r ≡ rowsShown (rowsTold (lentNodeRows (partyOf party) number (now (table .entry)))) ⌝ }
 {
-    answers::rows(inspect::node_rows_good(&table[..layout::AREA], number))
+    answers::rows(inspect::node_rows_known(table, Party::of_number(party), number))
 }
 
-// The same of those whose keys begin with the prefix: 2, 1.
+// The front from which the places are counted that a party is told of a node, in bytes behind the table's: 2.
 #[no_mangle]
-pub extern "C" fn kev_good_prefix_rows(table: &[u8], number: u64, prefix: &[u8]) -> KevRows
+pub extern "C" fn kev_good_front(table: &[u8], party: u64, number: u64) -> KevCount
     requires { ⌜ validWhole (now table) ≡ true ⌝ }
-    ensures { λ r. ⌜ r ≡ rowsShown (rowsTold (lentPrefixRows number (now (prefix .entry)) (now (table .entry)))) ⌝ }
+    ensures { λ r. ⌜ r ≡ countShown (countTold (lentFront (partyOf party) number (now (table .entry)))) ⌝ }
 {
-    answers::rows(prefix::prefix_rows_good(&table[..layout::AREA], number, prefix))
+    answers::count(inspect::front_known(table, Party::of_number(party), number))
+}
+
+// The rows of those whose keys begin with the prefix: 2, 1.
+#[no_mangle]
+pub extern "C" fn kev_good_prefix_rows(
+    table: &[u8],
+    party: u64,
+    number: u64,
+    prefix: &[u8],
+) -> KevRows
+    requires { ⌜ validWhole (now table) ≡ true ⌝ }
+    ensures { λ r. ⌜ r ≡ rowsShown (rowsTold (lentPrefixRows (partyOf party) number (now (prefix .entry)) (now (table .entry)))) ⌝ }
+{
+    answers::rows(prefix::prefix_rows_known(table, Party::of_number(party), number, prefix))
 }
 
 // Where the key of the record in place `j` of a node stands in the table: 2, 8.
 #[no_mangle]
-pub extern "C" fn kev_good_key_at(table: &[u8], number: u64, j: usize) -> KevFound
+pub extern "C" fn kev_good_key_at(table: &[u8], party: u64, number: u64, j: usize) -> KevFound
     requires { ⌜ validWhole (now table) ≡ true ⌝ }
-    ensures { λ r. ⌜ r ≡ foundShown (foundTold (lentTextFound Key number j (now (table .entry)))) ⌝ }
+    ensures { λ r. ⌜ r ≡ foundShown (foundTold (lentTextFound (partyOf party) Key number j (now (table .entry)))) ⌝ }
 {
-    answers::found(inspect_text::find_text_good(&table[..layout::AREA], number, j, Text::Key))
+    answers::found(inspect_text::find_text_known(
+        table,
+        Party::of_number(party),
+        number,
+        j,
+        Text::Key,
+    ))
 }
 
 // The same of its value, hidden or not: 2, 8.
 #[no_mangle]
-pub extern "C" fn kev_good_value_at(table: &[u8], number: u64, j: usize) -> KevFound
+pub extern "C" fn kev_good_value_at(table: &[u8], party: u64, number: u64, j: usize) -> KevFound
     requires { ⌜ validWhole (now table) ≡ true ⌝ }
-    ensures { λ r. ⌜ r ≡ foundShown (foundTold (lentTextFound Value number j (now (table .entry)))) ⌝ }
+    ensures { λ r. ⌜ r ≡ foundShown (foundTold (lentTextFound (partyOf party) Value number j (now (table .entry)))) ⌝ }
 {
-    answers::found(inspect_text::find_text_good(&table[..layout::AREA], number, j, Text::Value))
+    answers::found(inspect_text::find_text_known(
+        table,
+        Party::of_number(party),
+        number,
+        j,
+        Text::Value,
+    ))
 }
 
 // ---- digests and deltas

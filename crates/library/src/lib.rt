@@ -21,10 +21,11 @@ use answers::KevRows;
 use inspect_text::Text;
 use rules::Heartbeat;
 use rules::Mode;
+use rules::Party;
 use rules::Profile;
 use rules::Refusal;
 ghost use mathlib.Core.Path.{_≡_};
-ghost use Rattle.rules.specs.Answers.{answerTold, offeredTold, rememberedTold, listedTold, writtenTold, computedTold, readTold, appliedTold};
+ghost use Rattle.rules.specs.Answers.{partyOf, answerTold, offeredTold, rememberedTold, listedTold, writtenTold, computedTold, readTold, appliedTold};
 ghost use Rattle.rules.specs.Given.{Gives};
 ghost use Rattle.rules.specs.Node.{Deleting, DeletingAfterTtl, beats};
 ghost use Rattle.rules.specs.Delta.{deltaRead};
@@ -34,7 +35,7 @@ ghost use Rattle.rules.specs.Lent.{lentPrefixed, lentDigest, lentCompute, both,
 ghost use Rattle.lookup.specs.Lookup.{lentFind};
 ghost use Rattle.lookup.specs.Told.{foundTold};
 ghost use Rattle.inspect.specs.Look.{lentNodeCount, lentNodeNumber, lentNodeHeader, lentRecordCount, lentReadRecord, lentRecordOf, lentRecordByKey};
-ghost use Rattle.inspect.specs.Look.{lentNodeRows};
+ghost use Rattle.inspect.specs.Look.{lentNodeRows, lentFront};
 ghost use Rattle.inspect.specs.Told.{countTold, nodeNumberTold, nodeHeaderTold, recordReadTold, rowsTold};
 ghost use Rattle.prefix.specs.Rows.{lentPrefixRows};
 ghost use Rattle.inspect_text.specs.Texts.{lentTextFound};
@@ -116,38 +117,60 @@ pub extern "C" fn kev_last_heartbeat(table: &[u8], number: u64) -> KevHeartbeat
 
 // ---- local calls
 
-// The key's record takes this value under the wanted status, 0 Set or 2 TTL: 14, 10, 2, 1, 17, 18, 5, 6.
+// The key's record takes this value under the wanted status, 0 Set or 2 TTL: 14, 10, 2, 1, 17, 19, 18, 5, 6.
 #[no_mangle]
 pub extern "C" fn kev_write(
     table: &mut [u8],
+    party: u64,
     number: u64,
     key: &[u8],
     value: &[u8],
     wanted: u64,
     clock: u64,
 ) -> u64
-    ensures { λ r. ⌜ Gives (shownAs answerTold numberShown (lentWrite wanted (now (value .entry)) clock number (now (key .entry)) (now (table .entry))))
+    ensures { λ r. ⌜ Gives
+        (shownAs answerTold numberShown (lentWrite (partyOf party) wanted (now (value .entry)) clock number (now (key .entry)) (now (table .entry))))
         r (now (table .exit)) ⌝ }
 {
-    answers::number(local::write(table, number, key, value, local::wanted(wanted), clock))
+    answers::number(local::write(
+        table,
+        Party::of_number(party),
+        number,
+        key,
+        value,
+        local::wanted(wanted),
+        clock,
+    ))
 }
 
-// The key's record is emptied, hidden and scheduled: 14, 2, 1, 3, 6.
+// The key's record is emptied, hidden and scheduled: 14, 2, 1, 19, 3, 6.
 #[no_mangle]
-pub extern "C" fn kev_delete(table: &mut [u8], number: u64, key: &[u8], clock: u64) -> u64
-    ensures { λ r. ⌜ Gives (shownAs answerTold numberShown (lentCall (Deleting clock) number (now (key .entry)) (now (table .entry))))
+pub extern "C" fn kev_delete(
+    table: &mut [u8],
+    party: u64,
+    number: u64,
+    key: &[u8],
+    clock: u64,
+) -> u64
+    ensures { λ r. ⌜ Gives (shownAs answerTold numberShown (lentCall (partyOf party) (Deleting clock) number (now (key .entry)) (now (table .entry))))
         r (now (table .exit)) ⌝ }
 {
-    answers::number(local::delete(table, number, key, clock))
+    answers::number(local::delete(table, Party::of_number(party), number, key, clock))
 }
 
-// The key's record keeps its value and is scheduled: 14, 2, 1, 3, 6.
+// The key's record keeps its value and is scheduled: 14, 2, 1, 19, 3, 6.
 #[no_mangle]
-pub extern "C" fn kev_delete_after_ttl(table: &mut [u8], number: u64, key: &[u8], clock: u64) -> u64
-    ensures { λ r. ⌜ Gives (shownAs answerTold numberShown (lentCall (DeletingAfterTtl clock) number (now (key .entry)) (now (table .entry))))
+pub extern "C" fn kev_delete_after_ttl(
+    table: &mut [u8],
+    party: u64,
+    number: u64,
+    key: &[u8],
+    clock: u64,
+) -> u64
+    ensures { λ r. ⌜ Gives (shownAs answerTold numberShown (lentCall (partyOf party) (DeletingAfterTtl clock) number (now (key .entry)) (now (table .entry))))
         r (now (table .exit)) ⌝ }
 {
-    answers::number(local::delete_after_ttl(table, number, key, clock))
+    answers::number(local::delete_after_ttl(table, Party::of_number(party), number, key, clock))
 }
 
 // The scheduled records whose grace is over go, of all nodes: 14.
@@ -176,26 +199,27 @@ pub extern "C" fn kev_local_beat(table: &mut [u8], number: u64) -> u64
 
 // ---- readings
 
-// Where the value of the key stands in the table: 14, 2, 1.
+// Where the value of the key stands in the table: 14, 2, 1, 19.
 #[no_mangle]
-pub extern "C" fn kev_find(table: &[u8], number: u64, key: &[u8]) -> KevFound
-    ensures { λ r. ⌜ r ≡ foundShown (foundTold (lentFind number (now (key .entry)) (now (table .entry)))) ⌝ }
+pub extern "C" fn kev_find(table: &[u8], party: u64, number: u64, key: &[u8]) -> KevFound
+    ensures { λ r. ⌜ r ≡ foundShown (foundTold (lentFind (partyOf party) number (now (key .entry)) (now (table .entry)))) ⌝ }
 {
-    answers::found(lookup::find(table, number, key))
+    answers::found(lookup::find(table, Party::of_number(party), number, key))
 }
 
 // The places of the node's records whose keys begin with the prefix, a byte each; the count is how many: 14, 2, 1, 8.
 #[no_mangle]
 pub extern "C" fn kev_list_prefix(
     table: &[u8],
+    party: u64,
     number: u64,
     prefix: &[u8],
     out: &mut [u8],
 ) -> KevCount
-    ensures { λ r. ⌜ Gives (shownAs listedTold countShown (lentPrefixed number (now (prefix .entry)) (now (out .entry)) (now (table .entry))))
+    ensures { λ r. ⌜ Gives (shownAs listedTold countShown (lentPrefixed (partyOf party) number (now (prefix .entry)) (now (out .entry)) (now (table .entry))))
         r (now (out .exit)) ⌝ }
 {
-    answers::hits(prefix::list_prefix(table, number, prefix, out))
+    answers::hits(prefix::list_prefix(table, Party::of_number(party), number, prefix, out))
 }
 
 // ---- overrides
@@ -260,17 +284,25 @@ pub extern "C" fn kev_remove_overrides(overrides: &mut [u8], clock: u64, grace: 
     answers::number(overrides::remove_overrides(overrides, clock, grace))
 }
 
-// Where the value of the key stands, in the overrides or in the table: 14 of the overrides, 14 of the table, 2, 1.
+// Where the value of the key stands, in the overrides or in the table: 14 of the overrides, 14 of the table, 2, 1, 19.
 #[no_mangle]
 pub extern "C" fn kev_find_over(
     overrides: &[u8],
     table: &[u8],
+    party: u64,
     number: u64,
     key: &[u8],
 ) -> KevFoundOver
-    ensures { λ r. ⌜ r ≡ foundOverShown (foundOverTold (lentFindOver number (now (key .entry)) (now (overrides .entry)) (now (table .entry)))) ⌝ }
+    ensures { λ r. ⌜ r ≡ foundOverShown (foundOverTold
+        (lentFindOver (partyOf party) number (now (key .entry)) (now (overrides .entry)) (now (table .entry)))) ⌝ }
 {
-    answers::found_over(over_find::find_over(overrides, table, number, key))
+    answers::found_over(over_find::find_over(
+        overrides,
+        table,
+        Party::of_number(party),
+        number,
+        key,
+    ))
 }
 
 // The merged listing of the overrides and the node, a byte for each hit; the count is how many: 14 of the overrides, 14 of the table, 2, 1, 8.
@@ -278,16 +310,24 @@ pub extern "C" fn kev_find_over(
 pub extern "C" fn kev_list_over(
     overrides: &[u8],
     table: &[u8],
+    party: u64,
     number: u64,
     prefix: &[u8],
     out: &mut [u8],
 ) -> KevListedOver
     ensures { λ r. ⌜ Gives
         (shownAs listedOverTold listedOverShown
-        (lentListOver number (now (prefix .entry)) (now (out .entry)) (now (overrides .entry)) (now (table .entry))))
+        (lentListOver (partyOf party) number (now (prefix .entry)) (now (out .entry)) (now (overrides .entry)) (now (table .entry))))
         r (now (out .exit)) ⌝ }
 {
-    answers::hits_over(over_list::list_over(overrides, table, number, prefix, out))
+    answers::hits_over(over_list::list_over(
+        overrides,
+        table,
+        Party::of_number(party),
+        number,
+        prefix,
+        out,
+    ))
 }
 
 // ---- readings of nodes and records
@@ -318,66 +358,74 @@ pub extern "C" fn kev_node_header(table: &[u8], number: u64) -> KevHeader
 
 // How many records a node has, tombstones counted: 14, 2.
 #[no_mangle]
-pub extern "C" fn kev_record_count(table: &[u8], number: u64) -> KevCount
-    ensures { λ r. ⌜ r ≡ countShown (countTold (lentRecordCount number (now (table .entry)))) ⌝ }
+pub extern "C" fn kev_record_count(table: &[u8], party: u64, number: u64) -> KevCount
+    ensures { λ r. ⌜ r ≡ countShown (countTold (lentRecordCount (partyOf party) number (now (table .entry)))) ⌝ }
 {
-    answers::count(inspect::record_count(table, number))
+    answers::count(inspect::record_count(table, Party::of_number(party), number))
 }
 
 // The record in place `j` of a node: 14, 2, 8.
 #[no_mangle]
-pub extern "C" fn kev_record_at(table: &[u8], number: u64, j: usize) -> KevRecord
-    ensures { λ r. ⌜ r ≡ recordShown (recordReadTold (lentReadRecord number j (now (table .entry)))) ⌝ }
+pub extern "C" fn kev_record_at(table: &[u8], party: u64, number: u64, j: usize) -> KevRecord
+    ensures { λ r. ⌜ r ≡ recordShown (recordReadTold (lentReadRecord (partyOf party) number j (now (table .entry)))) ⌝ }
 {
-    answers::record(inspect::record_at(table, number, j))
+    answers::record(inspect::record_at(table, Party::of_number(party), number, j))
 }
 
 // The record in place `j` of the node in place `i`: 14, 8.
 #[no_mangle]
-pub extern "C" fn kev_record_of(table: &[u8], i: usize, j: usize) -> KevRecord
-    ensures { λ r. ⌜ r ≡ recordShown (recordReadTold (lentRecordOf i j (now (table .entry)))) ⌝ }
+pub extern "C" fn kev_record_of(table: &[u8], party: u64, i: usize, j: usize) -> KevRecord
+    ensures { λ r. ⌜ r ≡ recordShown (recordReadTold (lentRecordOf (partyOf party) i j (now (table .entry)))) ⌝ }
 {
-    answers::record(inspect::record_of(table, i, j))
+    answers::record(inspect::record_of(table, Party::of_number(party), i, j))
 }
 
-// The record of a key, hidden or not: 14, 2, 1.
+// The record of a key, hidden or not: 14, 2, 1, 19.
 #[no_mangle]
-pub extern "C" fn kev_record_by_key(table: &[u8], number: u64, key: &[u8]) -> KevRecord
-    ensures { λ r. ⌜ r ≡ recordShown (recordReadTold (lentRecordByKey number (now (key .entry)) (now (table .entry)))) ⌝ }
+pub extern "C" fn kev_record_by_key(table: &[u8], party: u64, number: u64, key: &[u8]) -> KevRecord
+    ensures { λ r. ⌜ r ≡ recordShown (recordReadTold (lentRecordByKey (partyOf party) number (now (key .entry)) (now (table .entry)))) ⌝ }
 {
-    answers::record(inspect::record_by_key(table, number, key))
+    answers::record(inspect::record_by_key(table, Party::of_number(party), number, key))
 }
 
 // All records of a node in one piece, tombstones too: 14, 2.
 #[no_mangle]
-pub extern "C" fn kev_node_rows(table: &[u8], number: u64) -> KevRows
-    ensures { λ r. ⌜ r ≡ rowsShown (rowsTold (lentNodeRows number (now (table .entry)))) ⌝ }
+pub extern "C" fn kev_node_rows(table: &[u8], party: u64, number: u64) -> KevRows
+    ensures { λ r. ⌜ r ≡ rowsShown (rowsTold (lentNodeRows (partyOf party) number (now (table .entry)))) ⌝ }
 {
-    answers::rows(inspect::node_rows(table, number))
+    answers::rows(inspect::node_rows(table, Party::of_number(party), number))
 }
 
-// The same of those whose keys begin with the prefix: 14, 2, 1.
+// The front from which the places are counted that a party is told of a node, in bytes behind the table's: 14, 2.
 #[no_mangle]
-pub extern "C" fn kev_prefix_rows(table: &[u8], number: u64, prefix: &[u8]) -> KevRows
-    ensures { λ r. ⌜ r ≡ rowsShown (rowsTold (lentPrefixRows number (now (prefix .entry)) (now (table .entry)))) ⌝ }
+pub extern "C" fn kev_front(table: &[u8], party: u64, number: u64) -> KevCount
+    ensures { λ r. ⌜ r ≡ countShown (countTold (lentFront (partyOf party) number (now (table .entry)))) ⌝ }
 {
-    answers::rows(prefix::prefix_rows(table, number, prefix))
+    answers::count(inspect::front(table, Party::of_number(party), number))
+}
+
+// The rows of those whose keys begin with the prefix: 14, 2, 1.
+#[no_mangle]
+pub extern "C" fn kev_prefix_rows(table: &[u8], party: u64, number: u64, prefix: &[u8]) -> KevRows
+    ensures { λ r. ⌜ r ≡ rowsShown (rowsTold (lentPrefixRows (partyOf party) number (now (prefix .entry)) (now (table .entry)))) ⌝ }
+{
+    answers::rows(prefix::prefix_rows(table, Party::of_number(party), number, prefix))
 }
 
 // Where the key of the record in place `j` of a node stands in the table: 14, 2, 8.
 #[no_mangle]
-pub extern "C" fn kev_key_at(table: &[u8], number: u64, j: usize) -> KevFound
-    ensures { λ r. ⌜ r ≡ foundShown (foundTold (lentTextFound Key number j (now (table .entry)))) ⌝ }
+pub extern "C" fn kev_key_at(table: &[u8], party: u64, number: u64, j: usize) -> KevFound
+    ensures { λ r. ⌜ r ≡ foundShown (foundTold (lentTextFound (partyOf party) Key number j (now (table .entry)))) ⌝ }
 {
-    answers::found(inspect_text::find_text(table, number, j, Text::Key))
+    answers::found(inspect_text::find_text(table, Party::of_number(party), number, j, Text::Key))
 }
 
 // The same of its value, hidden or not: 14, 2, 8.
 #[no_mangle]
-pub extern "C" fn kev_value_at(table: &[u8], number: u64, j: usize) -> KevFound
-    ensures { λ r. ⌜ r ≡ foundShown (foundTold (lentTextFound Value number j (now (table .entry)))) ⌝ }
+pub extern "C" fn kev_value_at(table: &[u8], party: u64, number: u64, j: usize) -> KevFound
+    ensures { λ r. ⌜ r ≡ foundShown (foundTold (lentTextFound (partyOf party) Value number j (now (table .entry)))) ⌝ }
 {
-    answers::found(inspect_text::find_text(table, number, j, Text::Value))
+    answers::found(inspect_text::find_text(table, Party::of_number(party), number, j, Text::Value))
 }
 
 // ---- digests and deltas

@@ -7,17 +7,19 @@ use mathlib.Core.Option.{Option, none, some}
 use native.Mathlib.Omega.{arith}
 use lib.ListN.{drop, take-append-drop}
 use borrow.Rule.Slice.PartMut.{putMid}
+use Rattle.fields.specs.Choice.{pick}
 use Rattle.fields.specs.Parts.{part}
-use Rattle.rules.specs.Given.{Gives}
+use Rattle.rules.specs.Given.{Gives, given}
 use Rattle.rules.specs.Node.{Node, Call, act, decide}
 use Rattle.rules.specs.Table.{Table, nodeOf, setNode}
 use Rattle.rules.specs.Profile.{guardIn}
 use Rattle.rules.specs.Local.{Outcome, gives, callOn, call, callAs, unlessGuarded}
-use Rattle.rules.specs.Lent.{stored, onTable, lentCall}
+use Rattle.rules.specs.Lent.{stored, storedIn, onTable, lentCall}
 use Rattle.rules.specs.Layout.{nodeWidth, tableWidth, decode, valid}
 use Rattle.rules.specs.Whole.{areaOf, decodeWhole, validWhole}
 use Rattle.rules.specs.declared.Answer.{Answer}
 use Rattle.rules.specs.declared.Answer.the-variants.{Refused}
+use Rattle.rules.specs.declared.Party.{Party}
 use Rattle.rules.specs.declared.Profile.{Profile}
 use Rattle.rules.specs.declared.Refusal.{Refusal}
 use Rattle.rules.specs.declared.Refusal.the-variants.{BadTable, NoNode}
@@ -58,21 +60,28 @@ whole-stays {A} bad rule l v r e =
     (good-table bad rule l v r (areaOf l) (subst (λ (o : Outcome A). Gives (stored o) r (areaOf l)) (sym e) (refl, sym (encode-decode (areaOf l) (area-valid l v)))))
 
 module _ (c : Call) (n : ℕ) (k l : List ℕ) (v : validWhole l ≡ true) where
-  abbrev p : Profile
-  p = decodeWhole l .kind .profile
-
   abbrev t : Table
   t = decode (areaOf l)
 
-  pub passed : guardIn p c k (nodeOf n t) ≡ none → (r : Answer) (s : List ℕ) → Gives (stored (call c n k t)) r s → Gives (lentCall c n k l) r (s ++ drop tableWidth l)
-  unfolding callAs
-  passed e r s g =
-      good-table (Refused BadTable) (callAs p c n k) l v r s
-      (subst (λ (x : Option Refusal). Gives (stored (unlessGuarded x (call c n k t) t)) r s) (sym e) g)
+  -- document 01's call on the whole
+  pub on-whole : (r : Answer) (s : List ℕ) → Gives (stored (call c n k t)) r s → Gives (onTable (Refused BadTable) (call c n k) l) r (s ++ drop tableWidth l)
+  on-whole r s g = good-table (Refused BadTable) (call c n k) l v r s g
 
-  pub refused : (r : Refusal) → guardIn p c k (nodeOf n t) ≡ some r → Gives (lentCall c n k l) (Refused r) l
-  unfolding callAs
-  refused r e = whole-stays (Refused BadTable) (callAs p c n k) l v (Refused r) (ap (λ (x : Option Refusal). unlessGuarded x (call c n k t) t) e)
+  module _ (q : Party) where
+    abbrev p : Profile
+    p = decodeWhole l .kind .profile
+
+    pub let-through : guardIn p q c k (nodeOf n t) ≡ none → (r : Answer) (m : List ℕ) → Gives (onTable (Refused BadTable) (call c n k) l) r m → Gives (lentCall q c n k l) r m
+    unfolding callAs onTable
+    let-through e r m g =
+        subst (λ (x : Option Refusal). Gives (pick (validWhole l) (storedIn (decodeWhole l) (unlessGuarded x (call c n k t) t)) (given (Refused BadTable) l)) r m) (sym e) g
+
+    pub passed : guardIn p q c k (nodeOf n t) ≡ none → (r : Answer) (s : List ℕ) → Gives (stored (call c n k t)) r s → Gives (lentCall q c n k l) r (s ++ drop tableWidth l)
+    passed e r s g = let-through e r (s ++ drop tableWidth l) (on-whole r s g)
+
+    pub refused : (r : Refusal) → guardIn p q c k (nodeOf n t) ≡ some r → Gives (lentCall q c n k l) (Refused r) l
+    unfolding callAs
+    refused r e = whole-stays (Refused BadTable) (callAs p q c n k) l v (Refused r) (ap (λ (x : Option Refusal). unlessGuarded x (call c n k t) t) e)
 
 -- what the guard answered
 pub guard-passed : (o : Option Refusal) → Passed ≡ guardedBy o → o ≡ none

@@ -1,10 +1,13 @@
 // The local calls that give a version, on a lent table: the write, delete, delete after TTL. The write takes the wanted status, Set or TTL. The entry points
 // take any bytes and refuse in document 01's order: 14, for the write then 10, then 2, then what the node's rules say (crate `local_node`): 1, 3, nothing
-// to change, 5, 6. In a table of the meter profile (crate `local_guard`) a write is refused with 17 straight behind 1, and with 18 before 5. A refused call
-// changes no byte. A name with `known` in it is for a table known to be good, so that a caller need not pay for the check again.
+// to change, 5, 6. In a table of the meter profile (crate `local_guard`) a write is refused with 17 straight behind 1, and with 18 before 5. In a shared table
+// any of the calls is refused with 19 straight behind 1 where the key is not the party's own, and 5 goes by the party's records; in other tables the party
+// is not looked at. A refused call changes no byte. A name with `known` in it is for a table known to be good, so that a caller need not pay for the check
+// again.
 use local_guard::Guarded;
 use local_node::Kind;
 use rules::Answer;
+use rules::Party;
 use rules::Profile;
 use rules::Refusal;
 use rules::Status;
@@ -12,19 +15,18 @@ use table::layout;
 use table_read::Span;
 ghost use mathlib.Core.Path.{_≡_};
 ghost use mathlib.Core.Bool.{true};
-ghost use mathlib.Core.Option.{none};
 ghost use Rattle.rules.specs.Answers.{answerTold};
 ghost use Rattle.rules.specs.Given.{Gives, Tells};
 ghost use Rattle.rules.specs.Node.{Deleting, DeletingAfterTtl};
 ghost use Rattle.rules.specs.Local as rule;
 ghost use Rattle.rules.specs.Delta.{statusByte};
-ghost use Rattle.rules.specs.Lent.{stored, lentCall, lentWrite};
+ghost use Rattle.rules.specs.Lent.{stored, onTable, lentCall, lentWrite};
 ghost use Rattle.rules.specs.Layout.{decode, valid};
-ghost use Rattle.rules.specs.Whole.{areaOf, decodeWhole, validWhole};
-ghost use Rattle.rules.specs.Profile.{guardIn};
-ghost use Rattle.rules.specs.Table.{nodeOf};
+ghost use Rattle.rules.specs.Whole.{decodeWhole, validWhole};
+ghost use Rattle.rules.specs.declared.Answer.the-variants as answer;
+ghost use Rattle.rules.specs.declared.Refusal.the-variants.{BadTable};
 ghost use Rattle.local_node.specs.Writes.{callOf};
-ghost use Rattle.local.specs.Wanted.{askedBy, wantedOf};
+ghost use Rattle.local.specs.Wanted.{askedBy, isShared, wantedOf};
 
 // One of document 01's four calls at a key of a node of a good table: 2, then what the node's rules say.
 fn call_good(
@@ -47,7 +49,7 @@ fn call_good(
     }
 }
 
-// The same on a whole table whose profile lets the call through.
+// The same on a whole table.
 fn call_let(
     table: &mut [u8],
     number: u64,
@@ -56,16 +58,18 @@ fn call_let(
     value: &[u8],
     clock: u64,
 ) -> Answer
-    requires { ⌜ (validWhole (now table) ≡ true)
-        × (guardIn (decodeWhole (now table) .kind .profile) (callOf kind (now value) clock) (now key) (nodeOf number (decode (areaOf (now table)))) ≡ none) ⌝ }
-    ensures { λ r. ⌜ Gives (lentCall (callOf kind (now (value .entry)) clock) number (now (key .entry)) (now (table .entry))) r (now (table .exit)) ⌝ }
+    requires { ⌜ validWhole (now table) ≡ true ⌝ }
+    ensures { λ r. ⌜ Gives
+        (onTable (answer.Refused BadTable) (rule.call (callOf kind (now (value .entry)) clock) number (now (key .entry))) (now (table .entry)))
+        r (now (table .exit)) ⌝ }
 {
     call_good(&mut table[..layout::AREA], number, kind, key, value, clock)
 }
 
-// The same in the table's profile: what this refuses, then the call.
+// The same in the table's profile, by a party: what the profile refuses, then the call.
 fn call_guarded(
     table: &mut [u8],
+    party: Party,
     number: u64,
     kind: Kind,
     key: &[u8],
@@ -73,10 +77,18 @@ fn call_guarded(
     clock: u64,
 ) -> Answer
     requires { ⌜ validWhole (now table) ≡ true ⌝ }
-    ensures { λ r. ⌜ Gives (lentCall (callOf kind (now (value .entry)) clock) number (now (key .entry)) (now (table .entry))) r (now (table .exit)) ⌝ }
+    ensures { λ r. ⌜ Gives (lentCall party (callOf kind (now (value .entry)) clock) number (now (key .entry)) (now (table .entry))) r (now (table .exit)) ⌝ }
 {
     let profile = profile_check::profile_of(table);
-    match local_guard::guard(&table[..layout::AREA], profile, number, kind, key, value) {
+    match local_guard::guard(
+        &table[..layout::AREA],
+        profile,
+        party,
+        number,
+        kind,
+        key,
+        value,
+    ) {
         Guarded::Passed => call_good(&mut table[..layout::AREA], number, kind, key, value, clock),
         Guarded::Refused(why) => Answer::Refused(why),
     }
@@ -85,6 +97,7 @@ fn call_guarded(
 // The same. A free table lets all through, and pays one compare.
 fn call_known(
     table: &mut [u8],
+    party: Party,
     number: u64,
     kind: Kind,
     key: &[u8],
@@ -92,21 +105,30 @@ fn call_known(
     clock: u64,
 ) -> Answer
     requires { ⌜ validWhole (now table) ≡ true ⌝ }
-    ensures { λ r. ⌜ Gives (lentCall (callOf kind (now (value .entry)) clock) number (now (key .entry)) (now (table .entry))) r (now (table .exit)) ⌝ }
+    ensures { λ r. ⌜ Gives (lentCall party (callOf kind (now (value .entry)) clock) number (now (key .entry)) (now (table .entry))) r (now (table .exit)) ⌝ }
 {
     match profile_check::profile_of(table) {
         Profile::Free => call_let(table, number, kind, key, value, clock),
-        Profile::Meter => call_guarded(table, number, kind, key, value, clock),
+        Profile::Meter => call_guarded(table, party, number, kind, key, value, clock),
+        Profile::Shared => call_guarded(table, party, number, kind, key, value, clock),
     }
 }
 
 // One of the four calls on any bytes.
-fn call(table: &mut [u8], number: u64, kind: Kind, key: &[u8], value: &[u8], clock: u64) -> Answer
-    ensures { λ r. ⌜ Tells answerTold (lentCall (callOf kind (now (value .entry)) clock) number (now (key .entry)) (now (table .entry)))
+fn call(
+    table: &mut [u8],
+    party: Party,
+    number: u64,
+    kind: Kind,
+    key: &[u8],
+    value: &[u8],
+    clock: u64,
+) -> Answer
+    ensures { λ r. ⌜ Tells answerTold (lentCall party (callOf kind (now (value .entry)) clock) number (now (key .entry)) (now (table .entry)))
         r (now (table .exit)) ⌝ }
 {
     if table_check::check_table(table) {
-        return call_guarded(table, number, kind, key, value, clock);
+        return call_guarded(table, party, number, kind, key, value, clock);
     }
     Answer::Refused(Refusal::BadTable)
 }
@@ -145,6 +167,7 @@ pub fn wanted(n: u64) -> Status
 // The write on a good table: 10, then as the call that it asks for.
 fn write_guarded(
     table: &mut [u8],
+    party: Party,
     number: u64,
     key: &[u8],
     value: &[u8],
@@ -152,11 +175,11 @@ fn write_guarded(
     clock: u64,
 ) -> Answer
     requires { ⌜ validWhole (now table) ≡ true ⌝ }
-    ensures { λ r. ⌜ Gives (lentWrite (statusByte wanted) (now (value .entry)) clock number (now (key .entry)) (now (table .entry)))
+    ensures { λ r. ⌜ Gives (lentWrite party (statusByte wanted) (now (value .entry)) clock number (now (key .entry)) (now (table .entry)))
         r (now (table .exit)) ⌝ }
 {
     match asked_call(wanted) {
-        Asked::Call(kind) => call_guarded(table, number, kind, key, value, clock),
+        Asked::Call(kind) => call_guarded(table, party, number, kind, key, value, clock),
         Asked::Nothing => Answer::Refused(Refusal::BadTag),
     }
 }
@@ -164,6 +187,7 @@ fn write_guarded(
 // The same, without a step aside where the table is free.
 pub fn write_known(
     table: &mut [u8],
+    party: Party,
     number: u64,
     key: &[u8],
     value: &[u8],
@@ -171,11 +195,11 @@ pub fn write_known(
     clock: u64,
 ) -> Answer
     requires { ⌜ validWhole (now table) ≡ true ⌝ }
-    ensures { λ r. ⌜ Gives (lentWrite (statusByte wanted) (now (value .entry)) clock number (now (key .entry)) (now (table .entry)))
+    ensures { λ r. ⌜ Gives (lentWrite party (statusByte wanted) (now (value .entry)) clock number (now (key .entry)) (now (table .entry)))
         r (now (table .exit)) ⌝ }
 {
     match asked_call(wanted) {
-        Asked::Call(kind) => call_known(table, number, kind, key, value, clock),
+        Asked::Call(kind) => call_known(table, party, number, kind, key, value, clock),
         Asked::Nothing => Answer::Refused(Refusal::BadTag),
     }
 }
@@ -184,6 +208,7 @@ pub fn write_known(
 // record is scheduled from this time on; under Set the time is not looked at.
 pub fn write(
     table: &mut [u8],
+    party: Party,
     number: u64,
     key: &[u8],
     value: &[u8],
@@ -191,42 +216,88 @@ pub fn write(
     clock: u64,
 ) -> Answer
     ensures { λ r. ⌜ Tells answerTold
-        (lentWrite (statusByte wanted) (now (value .entry)) clock number (now (key .entry)) (now (table .entry)))
+        (lentWrite party (statusByte wanted) (now (value .entry)) clock number (now (key .entry)) (now (table .entry)))
         r (now (table .exit)) ⌝ }
 {
     if table_check::check_table(table) {
-        return write_guarded(table, number, key, value, wanted, clock);
+        return write_guarded(table, party, number, key, value, wanted, clock);
     }
     Answer::Refused(Refusal::BadTable)
 }
 
 // ---- the deletes
 
-// The two on a good table. Every profile lets them through.
-pub fn delete_known(table: &mut [u8], number: u64, key: &[u8], clock: u64) -> Answer
+// Whether a table is shared.
+fn is_shared(table: &[u8]) -> bool
     requires { ⌜ validWhole (now table) ≡ true ⌝ }
-    ensures { λ r. ⌜ Gives (lentCall (Deleting clock) number (now (key .entry)) (now (table .entry))) r (now (table .exit)) ⌝ }
+    ensures { λ r. ⌜ r ≡ isShared (decodeWhole (now (table .entry)) .kind .profile) ⌝ }
 {
+    match profile_check::profile_of(table) {
+        Profile::Free => false,
+        Profile::Meter => false,
+        Profile::Shared => true,
+    }
+}
+
+// The two on a good table. The profiles let them through, but for the shared one.
+pub fn delete_known(table: &mut [u8], party: Party, number: u64, key: &[u8], clock: u64) -> Answer
+    requires { ⌜ validWhole (now table) ≡ true ⌝ }
+    ensures { λ r. ⌜ Gives (lentCall party (Deleting clock) number (now (key .entry)) (now (table .entry))) r (now (table .exit)) ⌝ }
+{
+    if is_shared(table) {
+        return call_guarded(table, party, number, Kind::Deleting, key, b"", clock);
+    }
     call_let(table, number, Kind::Deleting, key, b"", clock)
 }
 
-pub fn delete_after_ttl_known(table: &mut [u8], number: u64, key: &[u8], clock: u64) -> Answer
+pub fn delete_after_ttl_known(
+    table: &mut [u8],
+    party: Party,
+    number: u64,
+    key: &[u8],
+    clock: u64,
+) -> Answer
     requires { ⌜ validWhole (now table) ≡ true ⌝ }
-    ensures { λ r. ⌜ Gives (lentCall (DeletingAfterTtl clock) number (now (key .entry)) (now (table .entry))) r (now (table .exit)) ⌝ }
+    ensures { λ r. ⌜ Gives (lentCall party (DeletingAfterTtl clock) number (now (key .entry)) (now (table .entry))) r (now (table .exit)) ⌝ }
 {
+    if is_shared(table) {
+        return call_guarded(
+            table,
+            party,
+            number,
+            Kind::DeletingAfterTtl,
+            key,
+            b"",
+            clock,
+        );
+    }
     call_let(table, number, Kind::DeletingAfterTtl, key, b"", clock)
 }
 
 // Delete: the key's record is emptied and hidden, and scheduled from this time on.
-pub fn delete(table: &mut [u8], number: u64, key: &[u8], clock: u64) -> Answer
-    ensures { λ r. ⌜ Tells answerTold (lentCall (Deleting clock) number (now (key .entry)) (now (table .entry))) r (now (table .exit)) ⌝ }
+pub fn delete(table: &mut [u8], party: Party, number: u64, key: &[u8], clock: u64) -> Answer
+    ensures { λ r. ⌜ Tells answerTold (lentCall party (Deleting clock) number (now (key .entry)) (now (table .entry))) r (now (table .exit)) ⌝ }
 {
-    call(table, number, Kind::Deleting, key, b"", clock)
+    call(table, party, number, Kind::Deleting, key, b"", clock)
 }
 
 // Delete after TTL: the key's record keeps its value, and is scheduled from this time on.
-pub fn delete_after_ttl(table: &mut [u8], number: u64, key: &[u8], clock: u64) -> Answer
-    ensures { λ r. ⌜ Tells answerTold (lentCall (DeletingAfterTtl clock) number (now (key .entry)) (now (table .entry))) r (now (table .exit)) ⌝ }
+pub fn delete_after_ttl(
+    table: &mut [u8],
+    party: Party,
+    number: u64,
+    key: &[u8],
+    clock: u64,
+) -> Answer
+    ensures { λ r. ⌜ Tells answerTold (lentCall party (DeletingAfterTtl clock) number (now (key .entry)) (now (table .entry))) r (now (table .exit)) ⌝ }
 {
-    call(table, number, Kind::DeletingAfterTtl, key, b"", clock)
+    call(
+        table,
+        party,
+        number,
+        Kind::DeletingAfterTtl,
+        key,
+        b"",
+        clock,
+    )
 }

@@ -1,4 +1,4 @@
--- What the meter profile refuses of a call, step by step as the code takes them. Assumes nothing.
+-- What a profile refuses of a call, step by step as the code takes them. Assumes nothing.
 use Prim.Native.Nat.{ℕ, _≤_, _<_}
 use mathlib.Core.Bool.{Bool, true, false, not, _&&_}
 use mathlib.Core.List.{List}
@@ -11,10 +11,12 @@ use Rattle.fields.specs.Choice.{pick, _∈_}
 use Rattle.fields.specs.Order.{sameBytes}
 use Rattle.fields.proofs.Choice.{all-from, and-no, and-right, and-yes}
 use Rattle.rules.specs.Sizes.{maxKey, maxValue}
-use Rattle.rules.specs.Node.{KeyValue, Node, Rec, hidden}
+use Rattle.rules.specs.Node.{Call, KeyValue, Node, Rec, hidden}
 use Rattle.rules.specs.Profile.{guardAt, guardIn, inForm, meterGuard, meterKey, meterValue, numeral, recsFormed, smaller, totalKey}
+use Rattle.rules.specs.declared.Party.{Party}
+use Rattle.rules.specs.declared.Party.the-variants.{Nobody}
 use Rattle.rules.specs.declared.Profile.{Profile}
-use Rattle.rules.specs.declared.Profile.the-variants.{Free, Meter}
+use Rattle.rules.specs.declared.Profile.the-variants.{Free, Meter, Shared}
 use Rattle.rules.specs.declared.Refusal.the-variants.{BadForm, SmallerTotal}
 use Rattle.rules.specs.declared.Status.{Status}
 use Rattle.local_node.specs.Writes.{callOf}
@@ -96,23 +98,33 @@ no-write true = refl
 no-write false = refl
 
 module _ (v k : List ℕ) (l : List Rec) (kd : Kind) where
-  pub of-set : kd ≡ kind.Setting → (g : Guarded) → g ≡ guardedBy (guardAt Meter (callOf kind.Setting v 0) k l) → g ≡ guardedBy (guardAt Meter (callOf kd v 0) k l)
-  of-set e g q = q ∙ sym (ap (λ (x : Kind). guardedBy (guardAt Meter (callOf x v 0) k l)) e)
+  pub of-set : kd ≡ kind.Setting → (g : Guarded) → g ≡ guardedBy (guardAt Meter Nobody (callOf kind.Setting v 0) k l) → g ≡ guardedBy (guardAt Meter Nobody (callOf kd v 0) k l)
+  of-set e g q = q ∙ sym (ap (λ (x : Kind). guardedBy (guardAt Meter Nobody (callOf x v 0) k l)) e)
 
-  pub of-ttl : kd ≡ kind.SettingTtl → (g : Guarded) → g ≡ guardedBy (guardAt Meter (callOf kind.SettingTtl v 0) k l) → g ≡ guardedBy (guardAt Meter (callOf kd v 0) k l)
-  of-ttl e g q = q ∙ sym (ap (λ (x : Kind). guardedBy (guardAt Meter (callOf x v 0) k l)) e)
+  pub of-ttl : kd ≡ kind.SettingTtl → (g : Guarded) → g ≡ guardedBy (guardAt Meter Nobody (callOf kind.SettingTtl v 0) k l) → g ≡ guardedBy (guardAt Meter Nobody (callOf kd v 0) k l)
+  of-ttl e g q = q ∙ sym (ap (λ (x : Kind). guardedBy (guardAt Meter Nobody (callOf x v 0) k l)) e)
 
-  pub of-delete : kd ≡ kind.Deleting → Passed ≡ guardedBy (guardAt Meter (callOf kd v 0) k l)
-  of-delete e = no-write (leb (length k) maxKey && leb 0 maxValue) ∙ sym (ap (λ (x : Kind). guardedBy (guardAt Meter (callOf x v 0) k l)) e)
+  pub of-delete : kd ≡ kind.Deleting → Passed ≡ guardedBy (guardAt Meter Nobody (callOf kd v 0) k l)
+  of-delete e = no-write (leb (length k) maxKey && leb 0 maxValue) ∙ sym (ap (λ (x : Kind). guardedBy (guardAt Meter Nobody (callOf x v 0) k l)) e)
 
-  pub of-delete-after : kd ≡ kind.DeletingAfterTtl → Passed ≡ guardedBy (guardAt Meter (callOf kd v 0) k l)
-  of-delete-after e = no-write (leb (length k) maxKey && leb 0 maxValue) ∙ sym (ap (λ (x : Kind). guardedBy (guardAt Meter (callOf x v 0) k l)) e)
+  pub of-delete-after : kd ≡ kind.DeletingAfterTtl → Passed ≡ guardedBy (guardAt Meter Nobody (callOf kd v 0) k l)
+  of-delete-after e = no-write (leb (length k) maxKey && leb 0 maxValue) ∙ sym (ap (λ (x : Kind). guardedBy (guardAt Meter Nobody (callOf x v 0) k l)) e)
+
+-- the meter profile does not look at the party
+pub any-party : (q : Party) (c : Call) (k : List ℕ) (o : Option Node) → guardIn Meter Nobody c k o ≡ guardIn Meter q c k o
+any-party q c k none = refl
+any-party q c k (some n) = refl
 
 -- the time is not looked at
-pub any-time : (p : Profile) (kd : Kind) (v k : List ℕ) (o : Option Node) (now : ℕ) → guardIn p (callOf kd v 0) k o ≡ guardIn p (callOf kd v now) k o
-any-time Free kd v k o now = refl
-any-time Meter kd v k none now = refl
-any-time Meter kind.Setting v k (some n) now = refl
-any-time Meter kind.SettingTtl v k (some n) now = refl
-any-time Meter kind.Deleting v k (some n) now = refl
-any-time Meter kind.DeletingAfterTtl v k (some n) now = refl
+pub any-time : (p : Profile) (q : Party) (kd : Kind) (v k : List ℕ) (o : Option Node) (now : ℕ) → guardIn p q (callOf kd v 0) k o ≡ guardIn p q (callOf kd v now) k o
+any-time Free q kd v k o now = refl
+any-time Meter q kd v k none now = refl
+any-time Meter q kind.Setting v k (some n) now = refl
+any-time Meter q kind.SettingTtl v k (some n) now = refl
+any-time Meter q kind.Deleting v k (some n) now = refl
+any-time Meter q kind.DeletingAfterTtl v k (some n) now = refl
+any-time Shared q kd v k none now = refl
+any-time Shared q kind.Setting v k (some n) now = refl
+any-time Shared q kind.SettingTtl v k (some n) now = refl
+any-time Shared q kind.Deleting v k (some n) now = refl
+any-time Shared q kind.DeletingAfterTtl v k (some n) now = refl

@@ -1,1 +1,2 @@
 pub mod Guarding
+pub mod Sharing

@@ -1,6 +1,8 @@
-// What the meter profile refuses of a local call, behind 2 and 1: a write out of form (17), and one to `total` that states a smaller number than the unhidden
-// record there (18). What it lets through is document 01's call. It changes nothing. A free table pays one compare.
+// What a profile refuses of a local call, behind 2 and 1. The meter profile: a write out of form (17), and one to `total` that states a smaller number than the
+// unhidden record there (18). The shared profile: any call at a key that is not the party's own (19), and a write of a party's 17th key (5). What is let
+// through is document 01's call. It changes nothing. A free table pays one compare.
 use local_node::Kind;
+use rules::Party;
 use rules::Profile;
 use rules::Record;
 use rules::Refusal;
@@ -9,6 +11,7 @@ use table_read::Place;
 use table_read::Span;
 ghost use mathlib.Core.Path.{_≡_};
 ghost use mathlib.Core.Bool.{true, not, _&&_};
+ghost use mathlib.Core.List.{[]};
 ghost use mathlib.Core.Option.{none, some};
 ghost use Prim.Native.Nat.{_≤_};
 ghost use lib.Dec.{leb, ltb};
@@ -17,10 +20,14 @@ ghost use Rattle.fields.specs.Choice.{pick};
 ghost use Rattle.rules.specs.Sizes.{maxKey, maxValue};
 ghost use Rattle.rules.specs.Node.{hidden, find};
 ghost use Rattle.rules.specs.Table.{keysRise, nodeOf};
-ghost use Rattle.rules.specs.Profile.{guardAt, guardIn, inForm, meterGuard, meterValue, numeral, profileObeys, recsFormed, smaller};
+ghost use Rattle.rules.specs.Party.{own};
+ghost use Rattle.rules.specs.Profile.{brings, fullGuard, guardAt, guardIn, meterGuard, sizesFit, smaller};
+ghost use Rattle.rules.specs.Profile.{inForm, meterValue, numeral, profileObeys, recsFormed};
 ghost use Rattle.rules.specs.Layout.{decode, decodeRec, recWidth, valid};
-ghost use Rattle.rules.specs.declared.Profile.the-variants.{Meter};
+ghost use Rattle.rules.specs.declared.Party.the-variants.{Nobody};
+ghost use Rattle.rules.specs.declared.Profile.the-variants.{Meter, Shared};
 ghost use Rattle.rules.specs.declared.Refusal.the-variants.{SmallerTotal};
+ghost use Rattle.rules.specs.declared.Status.the-variants.{Set};
 ghost use Rattle.table.specs.Tests.{keyLength, recsIn, valueLength};
 ghost use Rattle.table.specs.Fits.{LaidNode};
 ghost use Rattle.local_node.specs.Writes.{callOf};
@@ -31,6 +38,8 @@ pub enum Guarded {
     Passed,
     Refused(Refusal),
 }
+
+// ---- the meter profile
 
 // Whether a record of this status is hidden.
 fn is_hidden(status: Status) -> bool
@@ -101,7 +110,7 @@ fn guard_write(node: &[u8], key: &[u8], value: &[u8], status: Status) -> Guarded
 // One of the four calls at a key of a node: the deletes pass.
 fn guard_node(node: &[u8], kind: Kind, key: &[u8], value: &[u8]) -> Guarded
     requires { ⌜ LaidNode (now node) × (keysRise (recsIn (now node)) ≡ true) × (recsFormed Meter (recsIn (now node)) ≡ true) ⌝ }
-    ensures { λ r. ⌜ r ≡ guardedBy (guardAt Meter (callOf kind (now (value .entry)) 0) (now (key .entry)) (recsIn (now (node .entry)))) ⌝ }
+    ensures { λ r. ⌜ r ≡ guardedBy (guardAt Meter Nobody (callOf kind (now (value .entry)) 0) (now (key .entry)) (recsIn (now (node .entry)))) ⌝ }
 {
     match kind {
         Kind::Setting => guard_write(node, key, value, Status::Set),
@@ -114,7 +123,8 @@ fn guard_node(node: &[u8], kind: Kind, key: &[u8], value: &[u8]) -> Guarded
 // On a good meter table: a node that is not held passes, as 2 comes first.
 fn guard_meter(table: &[u8], number: u64, kind: Kind, key: &[u8], value: &[u8]) -> Guarded
     requires { ⌜ (valid (now table) ≡ true) × (profileObeys Meter (decode (now table)) ≡ true) ⌝ }
-    ensures { λ r. ⌜ r ≡ guardedBy (guardIn Meter (callOf kind (now (value .entry)) 0) (now (key .entry)) (nodeOf number (decode (now (table .entry))))) ⌝ }
+    ensures { λ r. ⌜ r ≡ guardedBy
+        (guardIn Meter Nobody (callOf kind (now (value .entry)) 0) (now (key .entry)) (nodeOf number (decode (now (table .entry))))) ⌝ }
 {
     match table_read::node_span(table, number) {
         Span::Held { start, end } => guard_node(&table[start..end], kind, key, value),
@@ -122,20 +132,105 @@ fn guard_meter(table: &[u8], number: u64, kind: Kind, key: &[u8], value: &[u8]) 
     }
 }
 
-// Whether the profile of a good table lets a call through.
+// ---- the shared profile
+
+// Whether key and value are within 1. The deletes bring no value.
+fn is_sized(kind: Kind, key: &[u8], value: &[u8]) -> bool
+    ensures { λ r. ⌜ r ≡ sizesFit (callOf kind (now (value .entry)) 0) (now (key .entry)) ⌝ }
+{
+    if Record::KEY < key.len() {
+        return false;
+    }
+    match kind {
+        Kind::Setting => value.len() <= Record::VALUE,
+        Kind::SettingTtl => value.len() <= Record::VALUE,
+        Kind::Deleting => true,
+        Kind::DeletingAfterTtl => true,
+    }
+}
+
+// A write at an own key: 5 where the party has 16 and the key is not there. The count is quicker found than the key.
+fn guard_own(node: &[u8], party: Party, key: &[u8]) -> Guarded
+    requires { ⌜ LaidNode (now node) × (keysRise (recsIn (now node)) ≡ true) × (recsFormed Shared (recsIn (now node)) ≡ true) ⌝ }
+    ensures { λ r. ⌜ r ≡ guardedBy (fullGuard (own party) (some (bringing (now (key .entry)) [] Set))
+        (find (now (key .entry)) (recsIn (now (node .entry)))) (recsIn (now (node .entry)))) ⌝ }
+{
+    let seen = own_rows::sight_of(node, Profile::Shared, party);
+    if seen.count < Party::RECORDS {
+        return Guarded::Passed;
+    }
+    match table_read::search_key(node, key) {
+        Place::At(_) => Guarded::Passed,
+        Place::Free(_) => Guarded::Refused(Refusal::NodeFull),
+    }
+}
+
+// One of the four calls at an own key: the deletes pass.
+fn guard_kind(node: &[u8], party: Party, kind: Kind, key: &[u8], value: &[u8]) -> Guarded
+    requires { ⌜ LaidNode (now node) × (keysRise (recsIn (now node)) ≡ true) × (recsFormed Shared (recsIn (now node)) ≡ true) ⌝ }
+    ensures { λ r. ⌜ r ≡ guardedBy (fullGuard (own party) (brings (callOf kind (now (value .entry)) 0) (now (key .entry)))
+        (find (now (key .entry)) (recsIn (now (node .entry)))) (recsIn (now (node .entry)))) ⌝ }
+{
+    match kind {
+        Kind::Setting => guard_own(node, party, key),
+        Kind::SettingTtl => guard_own(node, party, key),
+        Kind::Deleting => Guarded::Passed,
+        Kind::DeletingAfterTtl => Guarded::Passed,
+    }
+}
+
+// One of the four calls at a key of a node: 1 comes before, then 19, though the key be not there, then 5.
+fn guard_party(node: &[u8], party: Party, kind: Kind, key: &[u8], value: &[u8]) -> Guarded
+    requires { ⌜ LaidNode (now node) × (keysRise (recsIn (now node)) ≡ true) × (recsFormed Shared (recsIn (now node)) ≡ true) ⌝ }
+    ensures { λ r. ⌜ r ≡ guardedBy (guardAt Shared party (callOf kind (now (value .entry)) 0) (now (key .entry)) (recsIn (now (node .entry)))) ⌝ }
+{
+    if is_sized(kind, key, value) {
+        if party_form::owns(party, key) {
+            return guard_kind(node, party, kind, key, value);
+        }
+        return Guarded::Refused(Refusal::OtherParty);
+    }
+    Guarded::Passed
+}
+
+// On a good shared table: a node that is not held passes, as 2 comes first.
+fn guard_shared(
+    table: &[u8],
+    party: Party,
+    number: u64,
+    kind: Kind,
+    key: &[u8],
+    value: &[u8],
+) -> Guarded
+    requires { ⌜ (valid (now table) ≡ true) × (profileObeys Shared (decode (now table)) ≡ true) ⌝ }
+    ensures { λ r. ⌜ r ≡ guardedBy
+        (guardIn Shared party (callOf kind (now (value .entry)) 0) (now (key .entry)) (nodeOf number (decode (now (table .entry))))) ⌝ }
+{
+    match table_read::node_span(table, number) {
+        Span::Held { start, end } => guard_party(&table[start..end], party, kind, key, value),
+        Span::Missing => Guarded::Passed,
+    }
+}
+
+// ---- any profile
+
+// Whether the profile of a good table lets a call of a party through.
 pub fn guard(
     table: &[u8],
     profile: Profile,
+    party: Party,
     number: u64,
     kind: Kind,
     key: &[u8],
     value: &[u8],
 ) -> Guarded
     requires { ⌜ (valid (now table) ≡ true) × (profileObeys profile (decode (now table)) ≡ true) ⌝ }
-    ensures { λ r. ⌜ r ≡ guardedBy (guardIn profile (callOf kind (now (value .entry)) 0) (now (key .entry)) (nodeOf number (decode (now (table .entry))))) ⌝ }
+    ensures { λ r. ⌜ r ≡ guardedBy
+        (guardIn profile party (callOf kind (now (value .entry)) 0) (now (key .entry)) (nodeOf number (decode (now (table .entry))))) ⌝ }
 {
     match profile {
         Profile::Free => Guarded::Passed,
         Profile::Meter => guard_meter(table, number, kind, key, value),
+        Profile::Shared => guard_shared(table, party, number, kind, key, value),
     }
 }

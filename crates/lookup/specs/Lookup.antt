@@ -1,7 +1,9 @@
--- Where a lookup finds a value in the bytes of a lent table. The rules (rules/specs/Local, `lookup`) say which value it is; here is where it stands,
--- so that the call can hand out those very bytes. `valueIn` goes back: what stands at a place that was found is the rules' answer.
+-- Where a lookup finds a value in the bytes of a lent table. The rules (rules/specs/Local, `lookup`, `lookupAs`) say which value it is; here is where it
+-- stands, so that the call can hand out those very bytes. `valueIn` goes back: what stands at a place that was found is the rules' answer. What a party is told
+-- are the places of the table that it sees (`seen`): the table with its own records alone. In the lent bytes the value stands further back by the front.
 use Prim.Native.Nat.{ℕ, suc, _+_, _≤_}
 use mathlib.Core.Path.{_≡_}
+use mathlib.Core.Bool.{Bool, true, false}
 use mathlib.Core.List.{List, [], _∷_}
 use mathlib.Core.Option.{Option, none, some}
 use lib.ListN.{length}
@@ -14,11 +16,16 @@ use Rattle.fields.specs.Widths.{offset}
 use Rattle.rules.specs.Sizes.{maxKey}
 use Rattle.rules.specs.Node.{Rec, Node, hidden}
 use Rattle.rules.specs.Table.{Table, nodeOf}
+use Rattle.rules.specs.Party.{sees, seen}
 use Rattle.rules.specs.Local as rule
 use Rattle.rules.specs.Layout.{recWidths, recPlace}
-use Rattle.rules.specs.Lent.{fromTable, lentLookup}
-use Rattle.rules.specs.declared.Refusal.the-variants.{TooLong, NoNode, BadTable}
+use Rattle.rules.specs.Whole.{decodeWhole}
+use Rattle.rules.specs.Lent.{fromTable}
+use Rattle.rules.specs.declared.Profile.{Profile}
+use Rattle.rules.specs.declared.Party.{Party}
+use Rattle.rules.specs.declared.Refusal.the-variants.{TooLong, NoNode, BadTable, OtherParty}
 use Rattle.table_read.specs.Find.{nodeStart}
+use Rattle.own_rows.specs.Sight.{seenHeld, frontIn}
 use Rattle.lookup.specs.declared.Found.{Found}
 use Rattle.lookup.specs.declared.Found.the-variants.{At, Nothing, Refused}
 
@@ -46,9 +53,26 @@ findOn key start (some n) = pick (leb (length key) maxKey) (findRec key start 0 
 abbrev pub foundIn : (number : ℕ) (key : Bytes) (table : Table) → Found
 foundIn number key table = findOn key (nodeStart number table) (nodeOf number table)
 
--- in lent bytes: 14, 2, 1
-abbrev pub lentFind : (number : ℕ) (key table : Bytes) → Found
-lentFind number key table = fromTable (Refused BadTable) (foundIn number key) table
+-- ---- by a party: in what it sees
+
+-- 19 behind the others
+abbrev pub unlessOther : (sees : Bool) (found : Found) → Found
+unlessOther true f = f
+unlessOther false (At start len) = Refused OtherParty
+unlessOther false Nothing = Refused OtherParty
+unlessOther false (Refused r) = Refused r
+
+-- in the node that is held: 2, 1, 19
+abbrev pub findOnAs : (profile : Profile) (party : Party) (key : Bytes) (start : ℕ) (held : Option Node) → Found
+findOnAs p q key start held = unlessOther (sees p q key) (findOn key start (seenHeld p q held))
+
+-- in a good table: 2, 1, 19
+abbrev pub findAs : (profile : Profile) (party : Party) (number : ℕ) (key : Bytes) (table : Table) → Found
+findAs p q number key table = unlessOther (sees p q key) (foundIn number key (seen p q table))
+
+-- in lent bytes: 14, 2, 1, 19
+abbrev pub lentFind : (party : Party) (number : ℕ) (key table : Bytes) → Found
+lentFind q number key table = fromTable (Refused BadTable) (findAs (decodeWhole table .kind .profile) q number key) table
 
 -- ---- what stands there
 
@@ -93,9 +117,21 @@ handed (rule.Value v) = v
 handed rule.Nothing = []
 handed (rule.NotFound r) = []
 
--- the value of a key in a good table, and in lent bytes
-abbrev pub valuePart : (number : ℕ) (key : Bytes) (table : Table) → HandedOut
-valuePart number key table = record { bytes = handed (rule.lookup number key table); start = startOf (foundIn number key table) }
+-- so many bytes further back
+abbrev pub movedBy : (front : ℕ) (found : Found) → Found
+movedBy front (At start len) = At (start + front) len
+movedBy front Nothing = Nothing
+movedBy front (Refused r) = Refused r
 
-abbrev pub lentValuePart : (number : ℕ) (key table : Bytes) → HandedOut
-lentValuePart number key table = record { bytes = handed (lentLookup number key table); start = startOf (lentFind number key table) }
+-- the value of a key in what a party sees of a good table
+abbrev pub valuePart : (profile : Profile) (party : Party) (number : ℕ) (key : Bytes) (table : Table) → HandedOut
+valuePart p q number key table =
+    record { bytes = handed (rule.lookupAs p q number key table); start = startOf (movedBy (frontIn p q number table) (findAs p q number key table)) }
+
+-- the empty part at the front
+abbrev pub nothingHeld : HandedOut
+nothingHeld = record { bytes = []; start = 0 }
+
+-- and of lent bytes
+abbrev pub lentValuePart : (party : Party) (number : ℕ) (key table : Bytes) → HandedOut
+lentValuePart q number key table = fromTable nothingHeld (valuePart (decodeWhole table .kind .profile) q number key) table

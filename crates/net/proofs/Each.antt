@@ -17,6 +17,7 @@ use Rattle.rules.specs.Local.{add, call, callAs, callOn, localBeat, offer, remo
 use Rattle.rules.specs.Node.{Call, Decision, KeyValue, Node, Rec, act, decide, fresh, remove, withHeartbeat}
 use Rattle.rules.specs.Table.{Table, nodeOf, numbersOf, setNode}
 use Rattle.rules.specs.declared.Heartbeat.{Heartbeat}
+use Rattle.rules.specs.declared.Party.{Party}
 use Rattle.rules.specs.declared.Profile.{Profile}
 use Rattle.demand3.proofs.EachNode.{Beaten, beaten-local, beaten-offer, node-taken, nodeAt, orFresh}
 use Rattle.demand3.proofs.Formed.{by-guard}
@@ -50,9 +51,9 @@ module _ (w : Net) (R : ℕ → ℕ → Node → Node → Type 0) (same : (x i :
       go false q = subst (R x i (nodeAt i t)) (sym (ap orFresh (node-set-other i j m t q))) (same x i (nodeAt i t))
 
   -- in any profile
-  pub each-call : (p : Profile) (c : Call) (x j : ℕ) (k : List ℕ) → ((n : Node) (z : Decision) → R x j n (act k z n)) → Each x (callAs p c j k (w .hubs x) .table)
+  pub each-call : (p : Profile) (who : Party) (c : Call) (x j : ℕ) (k : List ℕ) → ((n : Node) (z : Decision) → R x j n (act k z n)) → Each x (callAs p who c j k (w .hubs x) .table)
   unfolding call
-  each-call p c x j k f = by-guard p c j k (w .hubs x) (λ u g. Each x u) (each-same x) (go (nodeOf j (w .hubs x)) refl)
+  each-call p who c x j k f = by-guard p who c j k (w .hubs x) (λ u g. Each x u) (each-same x) (go (nodeOf j (w .hubs x)) refl)
     where
       go : (o : Option Node) → nodeOf j (w .hubs x) ≡ o → Each x (callOn c j k o (w .hubs x) .table)
       go none q = each-same x

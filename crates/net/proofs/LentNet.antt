@@ -29,6 +29,7 @@ use Rattle.rules.specs.declared.Applied.the-variants as applied
 use Rattle.rules.specs.declared.Computed.{Computed}
 use Rattle.rules.specs.declared.Computed.the-variants as computed
 use Rattle.rules.specs.declared.Offered.the-variants as offered
+use Rattle.rules.specs.declared.Party.{Party}
 use Rattle.rules.specs.declared.Profile.{Profile}
 use Rattle.rules.specs.declared.Refusal.{Refusal}
 use Rattle.rules.specs.declared.Refusal.the-variants.{BadTable, NoPlace}
@@ -203,28 +204,28 @@ module _ (owner : ℕ → ℕ) (kinds : ℕ → Kind) where
     one-profile p all b m x = let r = g .sent b m in places-alone (kinds x) (l .hubs x) (g .hubs x) b (subst (λ (q : Profile). IsRead q b) (all (r .0) ∙ sym (all x)) (r .1))
 
     -- a write goes by the profile that stands in the bytes, and that is the hub's
-    module _ (x i : ℕ) (k : List ℕ) (c : Call) where
+    module _ (x i : ℕ) (k : List ℕ) (who : Party) (c : Call) where
       abbrev bytesAs : Profile → LentNet
       bytesAs p =
           record {
-            hubs = λ y. pick (eqb y x) (onTable (plain.Refused BadTable) (callAs p c i k) (l .hubs x) .lent) (l .hubs y);
-            given = λ j. pick (eqb j i) (givenAs p k c (nodeOf i (net .hubs x)) (l .given j)) (l .given j);
+            hubs = λ y. pick (eqb y x) (onTable (plain.Refused BadTable) (callAs p who c i k) (l .hubs x) .lent) (l .hubs y);
+            given = λ j. pick (eqb j i) (givenAs p who k c (nodeOf i (net .hubs x)) (l .given j)) (l .given j);
             sent = l .sent;
             saved = l .saved;
           }
 
-      same-numbers : (p : Profile) → numbersOf (callAs p c i k (net .hubs x) .table) ≡ numbersOf (net .hubs x)
-      same-numbers p = by-guard p c i k (net .hubs x) (λ u h. numbersOf u ≡ numbersOf (net .hubs x)) refl (numbers-call c i k (net .hubs x))
+      same-numbers : (p : Profile) → numbersOf (callAs p who c i k (net .hubs x) .table) ≡ numbersOf (net .hubs x)
+      same-numbers p = by-guard p who c i k (net .hubs x) (λ u h. numbersOf u ≡ numbersOf (net .hubs x)) refl (numbers-call c i k (net .hubs x))
 
-      writing : obeys (callAs (kinds x .profile) c i k (net .hubs x) .table) ≡ true → Same (calls plan (Writing x i k c) net) (lentCalls (Writing x i k c) l)
+      writing : obeys (callAs (kinds x .profile) who c i k (net .hubs x) .table) ≡ true → Same (calls plan (Writing x i k who c) net) (lentCalls (Writing x i k who c) l)
       writing o =
-          subst (λ (a : Kind). Same (calls plan (Writing x i k c) net) (bytesAs (a .profile))) (sym (g .hubs x .kind-is))
+          subst (λ (a : Kind). Same (calls plan (Writing x i k who c) net) (bytesAs (a .profile))) (sym (g .hubs x .kind-is))
           (on-hub _ x _ _
-          (on-table (kinds x) (l .hubs x) (g .hubs x) (plain.Refused BadTable) (callAs (kinds x .profile) c i k) o (call-formed (kinds x .profile) c i k (net .hubs x) (formed x)) (same-numbers (kinds x .profile))))
+          (on-table (kinds x) (l .hubs x) (g .hubs x) (plain.Refused BadTable) (callAs (kinds x .profile) who c i k) o (call-formed (kinds x .profile) who c i k (net .hubs x) (whole-table (decodeWhole (l .hubs x)) (ok (kinds x) (l .hubs x) (g .hubs x))) (formed x)) (same-numbers (kinds x .profile))))
 
     calls-lent : (e : Event) → possible owner e net ≡ true → ((x : ℕ) → OkTable (calls plan e net .hubs x)) → Same (calls plan e net) (lentCalls e l)
     unfolding addWhole removeWhole tablesOf
-    calls-lent (Writing x i k c) p m = writing x i k c (obeyed x _ m)
+    calls-lent (Writing x i k who c) p m = writing x i k who c (obeyed x _ m)
     calls-lent (Beating x i) p m = on-hub _ x _ _ (on-table (kinds x) (l .hubs x) (g .hubs x) (plain.Refused BadTable) (localBeat i) (obeyed x _ m) (beat-formed (kinds x .profile) i _ (formed x)) (numbers-beat i _))
     calls-lent (Offering x i h) p m = on-hub _ x _ _ (on-table (kinds x) (l .hubs x) (g .hubs x) (offered.Refused BadTable) (offer i h) (obeyed x _ m) (offer-formed (kinds x .profile) i h _ (formed x)) (numbers-offer i h _))
     calls-lent (Removing x removal) p m =

@@ -25,6 +25,7 @@ use Rattle.rules.specs.Node.{Call, Decision, Give, KeyValue, Leave, Node, Rec, 
 use Rattle.rules.specs.Sizes.{numbers}
 use Rattle.rules.specs.Table.{Entry, Table, nodeOf, removeAll, setNode}
 use Rattle.rules.specs.declared.Computed.{Computed}
+use Rattle.rules.specs.declared.Party.{Party}
 use Rattle.rules.specs.declared.Profile.{Profile}
 use Rattle.demand3.proofs.Computing.{computed-honest}
 use Rattle.demand3.proofs.EachNode.{Beaten, beaten-local, beaten-offer, node-taken, nodeAt, orFresh, removed}
@@ -263,8 +264,8 @@ module _ (owner : ℕ → ℕ) (w : Net) (ok : Moment owner w) where
         go none q okay = nowhere
         go (some p) q okay = decided (decide c k p) p q okay
 
-    moment-writing : (p : Profile) (c : Call) → timeOf c < numbers → Written (callAs p c i k t .table) (givenAs p k c (nodeOf i t))
-    moment-writing p c clock = by-guard p c i k t Written nowhere (called c clock)
+    moment-writing : (p : Profile) (who : Party) (c : Call) → timeOf c < numbers → Written (callAs p who c i k t .table) (givenAs p who k c (nodeOf i t))
+    moment-writing p who c clock = by-guard p who c i k t Written nowhere (called c clock)
 
   -- ---- computing
 
@@ -398,7 +399,7 @@ module _ (owner : ℕ → ℕ) (w : Net) (ok : Moment owner w) where
 
 -- a delta that was ever computed comes only to a hub that is not plain
 abbrev pub MayCome : Plan → Event → Type 0
-MayCome plan (Writing x i k c) = Unit {0}
+MayCome plan (Writing x i k who c) = Unit {0}
 MayCome plan (Beating x i) = Unit {0}
 MayCome plan (Offering x i h) = Unit {0}
 MayCome plan (Removing x removal) = Unit {0}
@@ -410,7 +411,7 @@ MayCome plan (Saving x) = Unit {0}
 MayCome plan (Restoring x k) = Unit {0}
 
 ready-for : (plan : Plan) → Ready plan → (e : Event) → MayCome plan e
-ready-for plan ready (Writing x i k c) = tt
+ready-for plan ready (Writing x i k who c) = tt
 ready-for plan ready (Beating x i) = tt
 ready-for plan ready (Offering x i h) = tt
 ready-for plan ready (Removing x removal) = tt
@@ -423,7 +424,7 @@ ready-for plan ready (Restoring x k) = tt
 
 module _ (plan : Plan) (w : Net) (ok : Moment (plan .owner) w) where
   pub moment-calls : (e : Event) → MayCome plan e → possible (plan .owner) e w ≡ true → Moment (plan .owner) (calls plan e w)
-  moment-calls (Writing x i k c) law p = moment-writing (plan .owner) w ok x i k (eqb-true _ _ (and-left _ _ p)) (plan .profiles x) c (ltb-true _ _ (and-right (eqb (plan .owner i) x) _ p))
+  moment-calls (Writing x i k who c) law p = moment-writing (plan .owner) w ok x i k (eqb-true _ _ (and-left _ _ p)) (plan .profiles x) who c (ltb-true _ _ (and-right (eqb (plan .owner i) x) _ p))
   moment-calls (Beating x j) law p =
       changed (plan .owner) w ok x _ (kept (w .hubs x) _ (beat-keeps j (w .hubs x)) (ok .tables x .obeyed)) (fits-beaten (plan .owner) w ok x _ (λ i. beaten-local i (w .hubs x) j))
   moment-calls (Offering x j b) law p =

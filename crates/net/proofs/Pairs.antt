@@ -16,6 +16,7 @@ use Rattle.rules.specs.Delta.{Part, partsOf}
 use Rattle.rules.specs.Local.{call, callAs, callOn}
 use Rattle.rules.specs.Node.{Call, Decision, Give, Leave, Node, Refuse, act, decide, write}
 use Rattle.rules.specs.Table.{Table, nodeOf, setNode}
+use Rattle.rules.specs.declared.Party.{Party}
 use Rattle.rules.specs.declared.Profile.{Profile}
 use Rattle.demand3.proofs.EachNode.{Beaten, beaten-local, beaten-offer, nodeAt, orFresh}
 use Rattle.demand3.proofs.Formed.{by-guard}
@@ -55,9 +56,9 @@ act-up k (Refuse r) n = rises-same n
 act-up k Leave n = rises-same n
 act-up k (Give c) n = inr (refl, omega arith)
 
-call-up : (p : Profile) (c : Call) (j : ℕ) (k : List ℕ) (t : Table) → Up t (callAs p c j k t .table)
+call-up : (p : Profile) (who : Party) (c : Call) (j : ℕ) (k : List ℕ) (t : Table) → Up t (callAs p who c j k t .table)
 unfolding call
-call-up p c j k t = by-guard p c j k t (λ u g. Up t u) (same t) (go (nodeOf j t) refl)
+call-up p who c j k t = by-guard p who c j k t (λ u g. Up t u) (same t) (go (nodeOf j t) refl)
   where
     go : (o : Option Node) → nodeOf j t ≡ o → Up t (callOn c j k o t .table)
     go none q = same t
@@ -84,7 +85,7 @@ module _ (plan : Plan) (w : Net) where
       go false q = same (w .hubs y)
 
   calls-up : (e : Event) → goesOn e ≡ true → (y : ℕ) → Up (w .hubs y) (calls plan e w .hubs y)
-  calls-up (Writing x i k c) g = there x _ (call-up (plan .profiles x) c i k (w .hubs x))
+  calls-up (Writing x i k who c) g = there x _ (call-up (plan .profiles x) who c i k (w .hubs x))
   calls-up (Beating x j) g = there x _ (beaten-up (w .hubs x) _ (λ i. beaten-local i (w .hubs x) j))
   calls-up (Offering x j b) g = there x _ (beaten-up (w .hubs x) _ (λ i. beaten-offer i (w .hubs x) j b))
   calls-up (Removing x removal) g =

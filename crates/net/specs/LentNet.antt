@@ -63,10 +63,10 @@ lentRestored (some old) l = old
 
 -- what a write gives is told by the bytes that it finds
 abbrev pub lentCalls : (event : Event) (net : LentNet) → LentNet
-lentCalls (Writing x i k c) w =
+lentCalls (Writing x i k who c) w =
     record {
-      hubs = λ y. pick (eqb y x) (lentCall c i k (w .hubs x) .lent) (w .hubs y);
-      given = λ j. pick (eqb j i) (givenAs (decodeWhole (w .hubs x) .kind .profile) k c (nodeOf i (decodeWhole (w .hubs x) .table)) (w .given j)) (w .given j);
+      hubs = λ y. pick (eqb y x) (lentCall who c i k (w .hubs x) .lent) (w .hubs y);
+      given = λ j. pick (eqb j i) (givenAs (decodeWhole (w .hubs x) .kind .profile) who k c (nodeOf i (decodeWhole (w .hubs x) .table)) (w .given j)) (w .given j);
       sent = w .sent;
       saved = w .saved;
     }

@@ -18,6 +18,7 @@ use Rattle.rules.specs.Delta.{Op, Good, Part, partsOf, readDelta}
 use Rattle.rules.specs.Apply.{Ways, Lawful, takenAs, applyNode}
 use Rattle.rules.specs.declared.Heartbeat.{Heartbeat}
 use Rattle.rules.specs.declared.NodeAnswer.the-variants as node
+use Rattle.rules.specs.declared.Party.{Party}
 use Rattle.rules.specs.declared.Profile.{Profile}
 use Rattle.demand3.specs.Forms.{Order, Removal, removedBy}
 use Rattle.demand3.specs.World.{timeOf, givenAs, sentFor, nthSent, appliedTo}
@@ -53,7 +54,7 @@ begin = record { hubs = λ x. []; given = λ i. []; sent = []; saved = λ x. [] 
 -- the first number is the hub's
 pub data Event : Type 0 where
   -- set, set with TTL, delete or delete after TTL, on a node that the hub owns: node, key, the call with its value and time
-  Writing : ℕ → ℕ → List ℕ → Call → Event
+  Writing : ℕ → ℕ → List ℕ → Party → Call → Event
   -- a local beat, a heartbeat offer: node, and the heartbeat offered
   Beating : ℕ → ℕ → Event
   Offering : ℕ → ℕ → Heartbeat → Event
@@ -88,7 +89,7 @@ nothingLost owner x t (some old) = all (λ (e : Entry). pick (eqb (owner (e .num
 
 -- only the owner writes, and it does not remove its node; numbers are of eight bytes
 abbrev pub possible : (owner : ℕ → ℕ) (event : Event) (net : Net) → Bool
-possible owner (Writing x i k c) w = eqb (owner i) x && ltb (timeOf c) numbers
+possible owner (Writing x i k who c) w = eqb (owner i) x && ltb (timeOf c) numbers
 possible owner (Beating x i) w = true
 possible owner (Offering x i h) w = ltb (h .0) numbers
 possible owner (Removing x removal) w = true
@@ -111,10 +112,10 @@ restored (some old) t = old
 
 -- a write that the hub's profile refuses (17, 18) changes nothing and gives nothing
 abbrev pub calls : (plan : Plan) (event : Event) (net : Net) → Net
-calls plan (Writing x i k c) w =
+calls plan (Writing x i k who c) w =
     record {
-      hubs = λ y. pick (eqb y x) (callAs (plan .profiles x) c i k (w .hubs x) .table) (w .hubs y);
-      given = λ j. pick (eqb j i) (givenAs (plan .profiles x) k c (nodeOf i (w .hubs x)) (w .given j)) (w .given j);
+      hubs = λ y. pick (eqb y x) (callAs (plan .profiles x) who c i k (w .hubs x) .table) (w .hubs y);
+      given = λ j. pick (eqb j i) (givenAs (plan .profiles x) who k c (nodeOf i (w .hubs x)) (w .given j)) (w .given j);
       sent = w .sent;
       saved = w .saved;
     }
@@ -153,7 +154,7 @@ pub record NetSound (plan : Plan) (w : Net) : Type 0 where
 
 -- no table is restored, and no node removed
 abbrev pub goesOn : (event : Event) → Bool
-goesOn (Writing x i k c) = true
+goesOn (Writing x i k who c) = true
 goesOn (Beating x i) = true
 goesOn (Offering x i h) = true
 goesOn (Removing x removal) = true

@@ -259,9 +259,9 @@ module _ (plan : Plan) (law : (x : ℕ) → Lawful (plan .ways x)) (ms : List �
 
   eventful : (e : Event) → CarefulEvent ms e v → possible (plan .owner) e v ≡ true → Keeps (calls plan e v)
   unfolding act write
-  eventful (Writing x i key c) m p =
-      let each = each-hub v R same x (callAs (plan .profiles x) c i key (v .hubs x) .table) (each-call v R same (plan .profiles x) c x i key (λ n z. acted key n z)) in
-      going _ (moment-calls plan v ok (Writing x i key c) tt p) (record { max-up = λ y i. each y i .0; gc-same = λ y i m. each y i .1 }) (k .sent-low)
+  eventful (Writing x i key who c) m p =
+      let each = each-hub v R same x (callAs (plan .profiles x) who c i key (v .hubs x) .table) (each-call v R same (plan .profiles x) who c x i key (λ n z. acted key n z)) in
+      going _ (moment-calls plan v ok (Writing x i key who c) tt p) (record { max-up = λ y i. each y i .0; gc-same = λ y i m. each y i .1 }) (k .sent-low)
     where
       acted : (key : List ℕ) (n : Node) (z : Decision) → R 0 0 n (act key z n)
       acted key n (Refuse r) = same 0 0 n

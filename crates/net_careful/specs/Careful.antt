@@ -49,7 +49,7 @@ CarefulOver ms x (ByClock now grace) w = ⊥
 CarefulOver ms x (Carefully grid now grace) w = (y : ℕ) → y ∈ ms → (y ≡ x → ⊥) → ToldBy (w .hubs y) (decodeGrid grid)
 
 abbrev pub CarefulEvent : (members : List ℕ) (event : Event) (net : Net) → Type 0
-CarefulEvent ms (Writing x i k c) w = x ∈ ms
+CarefulEvent ms (Writing x i k who c) w = x ∈ ms
 CarefulEvent ms (Beating x i) w = x ∈ ms
 CarefulEvent ms (Offering x i h) w = x ∈ ms
 CarefulEvent ms (Removing x removal) w = (x ∈ ms) × CarefulOver ms x removal w

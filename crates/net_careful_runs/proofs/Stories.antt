@@ -5,6 +5,7 @@ use mathlib.Core.List.{List, [], _∷_, _++_}
 use lib.ListN.{replicate}
 use Rattle.rules.specs.Digest.{digestBytes}
 use Rattle.rules.specs.Node.{Deleting, Setting}
+use Rattle.rules.specs.declared.Party.the-variants.{Nobody}
 use Rattle.grid.specs.Grid.{Grid, newGrid, takeOut, tellRow}
 use Rattle.grid.specs.GridLayout.{encodeGrid}
 use Rattle.demand3.specs.Forms.{ByClock, Carefully, InLine}
@@ -19,7 +20,7 @@ abbrev pub twoTold : (peer max other most : ℕ) → Grid
 twoTold p m q n = tellRow q (told 0 n) (oneTold p m)
 
 abbrev pub deletesB : List Event
-deletesB = Writing 0 7 b (Deleting 0) ∷ []
+deletesB = Writing 0 7 b Nobody (Deleting 0) ∷ []
 
 -- ---- careful at the owner alone
 
@@ -64,9 +65,9 @@ computes g m mtu = Computing 0 0 (digestBytes 0 (told g m)) [] (InLine (0 ∷ []
 -- alone present, and sets c. G hears the owner in 100 bytes and is at (3,1); the late delta comes, and b with it; G hears the owner.
 abbrev pub takenOut : List Event
 takenOut =
-    (Adding 0 7 ∷ Adding 1 7 ∷ Adding 2 7 ∷ Writing 0 7 a (Setting long) ∷ [])
+    (Adding 0 7 ∷ Adding 1 7 ∷ Adding 2 7 ∷ Writing 0 7 a Nobody (Setting long) ∷ [])
     ++ (hears 2 0 0 0
     ++ ((set b ∷ computes 0 1 300 ∷ [])
     ++ (deletesB
     ++ (hears 1 0 0 0
-    ++ ((Removing 0 (Carefully (encodeGrid (takeOut 2 (twoTold 1 3 2 1))) 9 5) ∷ Writing 0 7 c (Setting long) ∷ computes 0 1 100 ∷ Arriving 2 0 50 (0 ∷ []) ∷ Arriving 2 2 50 (0 ∷ []) ∷ []) ++ hears 2 0 3 2)))))
+    ++ ((Removing 0 (Carefully (encodeGrid (takeOut 2 (twoTold 1 3 2 1))) 9 5) ∷ Writing 0 7 c Nobody (Setting long) ∷ computes 0 1 100 ∷ Arriving 2 0 50 (0 ∷ []) ∷ Arriving 2 2 50 (0 ∷ []) ∷ []) ++ hears 2 0 3 2)))))

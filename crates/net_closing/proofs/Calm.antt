@@ -75,7 +75,7 @@ module _ (plan : Plan) (ready : Ready plan) (i : ℕ) where
     other j q e = false≢true (sym (ap not (eq-eqb i j (sym e))) ∙ q)
 
     calls-onward : (e : Event) → calm i e ≡ true → (y : ℕ) → Each w On on-same y (calls plan e w .hubs y)
-    calls-onward (Writing x j k c) q = each-hub w On on-same x _ (each-call w On on-same (plan .profiles x) c x j k (λ n z e. absurd (other j q e)))
+    calls-onward (Writing x j k who c) q = each-hub w On on-same x _ (each-call w On on-same (plan .profiles x) who c x j k (λ n z e. absurd (other j q e)))
     calls-onward (Beating x j) q = each-hub w On on-same x _ (each-beat w On on-same x j (on-beat x))
     calls-onward (Offering x j h) q = each-hub w On on-same x _ (each-offer w On on-same x j h (on-beat x))
     calls-onward (Removing x removal) q = each-hub w On on-same x _ (each-remove w On on-same x removal (λ j due e. removes due))
@@ -100,9 +100,9 @@ module _ (plan : Plan) (ready : Ready plan) (i : ℕ) where
         go false = stays
 
     calls-given : (e : Event) → calm i e ≡ true → calls plan e w .given i ≡ w .given i
-    calls-given (Writing x j k c) q = at (eqb i j) q
+    calls-given (Writing x j k who c) q = at (eqb i j) q
       where
-        at : (b : Bool) → not b ≡ true → pick b (givenAs (plan .profiles x) k c (nodeOf j (w .hubs x)) (w .given i)) (w .given i) ≡ w .given i
+        at : (b : Bool) → not b ≡ true → pick b (givenAs (plan .profiles x) who k c (nodeOf j (w .hubs x)) (w .given i)) (w .given i) ≡ w .given i
         at true p = absurd (false≢true p)
         at false p = refl
     calls-given (Beating x j) q = refl

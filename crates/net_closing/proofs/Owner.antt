@@ -100,7 +100,7 @@ module _ (plan : Plan) (ready : Ready plan) (i : ℕ) where
 
     calls-on : (e : Event) → ownerRemoves plan i e ≡ true → possible (plan .owner) e w ≡ true → (y : ℕ) → Each w On on-same y (calls plan e w .hubs y)
     unfolding remove
-    calls-on (Writing x j k c) q p = each-hub w On on-same x _ (each-call w On on-same (plan .profiles x) c x j k (on-act x j k))
+    calls-on (Writing x j k who c) q p = each-hub w On on-same x _ (each-call w On on-same (plan .profiles x) who c x j k (on-act x j k))
     calls-on (Beating x j) q p = each-hub w On on-same x _ (each-beat w On on-same x j (on-beat x))
     calls-on (Offering x j h) q p = each-hub w On on-same x _ (each-offer w On on-same x j h (on-beat x))
     calls-on (Removing x removal) q p =
@@ -158,7 +158,7 @@ module _ (plan : Plan) (ready : Ready plan) (i : ℕ) where
 
     calls-rest : (e : Event) → Rest (calls plan e w)
     unfolding Rest
-    calls-rest (Writing x j k c) = as-before
+    calls-rest (Writing x j k who c) = as-before
     calls-rest (Beating x j) = as-before
     calls-rest (Offering x j h) = as-before
     calls-rest (Removing x removal) = as-before
@@ -262,7 +262,7 @@ module _ (plan : Plan) (ready : Ready plan) (i : ℕ) where
       )
 
       calls-goes : (e : Event) → settled i e ≡ true → (y : ℕ) → Each w Goes goes-same y (calls plan e w .hubs y)
-      calls-goes (Writing x j k c) q = each-hub w Goes goes-same x _ (each-call w Goes goes-same (plan .profiles x) c x j k (λ n z e. absurd (other j q e)))
+      calls-goes (Writing x j k who c) q = each-hub w Goes goes-same x _ (each-call w Goes goes-same (plan .profiles x) who c x j k (λ n z e. absurd (other j q e)))
       calls-goes (Beating x j) q = each-hub w Goes goes-same x _ (each-beat w Goes goes-same x j (goes-beat x))
       calls-goes (Offering x j h) q = each-hub w Goes goes-same x _ (each-offer w Goes goes-same x j h (goes-beat x))
       calls-goes (Removing x removal) q = absurd (false≢true q)
@@ -286,7 +286,7 @@ module _ (plan : Plan) (ready : Ready plan) (i : ℕ) where
 
       -- a settled event is one of those in which only owners remove
       also : (e : Event) → settled i e ≡ true → ownerRemoves plan i e ≡ true
-      also (Writing x j k c) q = refl
+      also (Writing x j k who c) q = refl
       also (Beating x j) q = refl
       also (Offering x j h) q = refl
       also (Removing x removal) q = absurd (false≢true q)

@@ -171,7 +171,7 @@ module _ (plan : Plan) (ready : Ready plan) (i : ℕ) (hears : (x y : ℕ) → T
         at (suc k) b q = st .from k b q
 
     static-calls : (e : Event) → LocalAt hears i e s → StaticIn (calls plan e w) (sendersAfter e w s)
-    static-calls (Writing x j k c) q = on-hub x _ (each-call w On on-same (plan .profiles x) c x j k (on-act x j k))
+    static-calls (Writing x j k who c) q = on-hub x _ (each-call w On on-same (plan .profiles x) who c x j k (on-act x j k))
     static-calls (Beating x j) q = on-hub x _ (each-beat w On on-same x j (on-beat x))
     static-calls (Offering x j h) q = on-hub x _ (each-offer w On on-same x j h (on-beat x))
     static-calls (Removing x removal) q = on-hub x _ (each-remove w On on-same x removal (λ j due. on-remove x due j))
@@ -191,7 +191,7 @@ module _ (plan : Plan) (ready : Ready plan) (i : ℕ) (hears : (x y : ℕ) → T
     static-calls (Restoring x k) q = absurd q
 
     static-stays : (e : Event) → possible (plan .owner) e w ≡ false → StaticIn w (sendersAfter e w s)
-    static-stays (Writing x j k c) q = st
+    static-stays (Writing x j k who c) q = st
     static-stays (Beating x j) q = st
     static-stays (Offering x j h) q = st
     static-stays (Removing x removal) q = st

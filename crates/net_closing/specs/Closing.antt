@@ -65,7 +65,7 @@ pub record HeardWhole (plan : Plan) (i x y : ℕ) (w : Net) (q : Asked) : Type 0
 
 -- nobody writes node i or removes it, and no table is restored
 abbrev pub calm : (node : ℕ) (event : Event) → Bool
-calm i (Writing x j k c) = not (eqb i j)
+calm i (Writing x j k who c) = not (eqb i j)
 calm i (Beating x j) = true
 calm i (Offering x j h) = true
 calm i (Removing x removal) = true
@@ -78,7 +78,7 @@ calm i (Restoring x k) = false
 
 -- nor does any hub remove records
 abbrev pub settled : (node : ℕ) (event : Event) → Bool
-settled i (Writing x j k c) = not (eqb i j)
+settled i (Writing x j k who c) = not (eqb i j)
 settled i (Beating x j) = true
 settled i (Offering x j h) = true
 settled i (Removing x removal) = false
@@ -134,7 +134,7 @@ Least ways = (ownGc ownMax gc m : ℕ) → ownGc ≤ max ownMax (max gc m) → w
 
 -- no hub but the owner of node i removes records, and the owner is not restored
 abbrev pub ownerRemoves : (plan : Plan) (node : ℕ) (event : Event) → Bool
-ownerRemoves plan i (Writing x j k c) = true
+ownerRemoves plan i (Writing x j k who c) = true
 ownerRemoves plan i (Beating x j) = true
 ownerRemoves plan i (Offering x j h) = true
 ownerRemoves plan i (Removing x removal) = eqb x (plan .owner i)
@@ -149,7 +149,7 @@ ownerRemoves plan i (Restoring x k) = not (eqb x (plan .owner i))
 
 -- who computed each delta, the newest first; a refused call sends nothing
 abbrev pub sendersAfter : (event : Event) (net : Net) (senders : List ℕ) → List ℕ
-sendersAfter (Writing x i k c) w s = s
+sendersAfter (Writing x i k who c) w s = s
 sendersAfter (Beating x i) w s = s
 sendersAfter (Offering x i h) w s = s
 sendersAfter (Removing x removal) w s = s
@@ -166,7 +166,7 @@ Neighbour hears x (some y) = hears x y
 
 -- a hub takes deltas only of those that it hears, late and twice too; nobody removes node i, and no table is restored
 abbrev pub LocalAt : (hears : (x y : ℕ) → Type 0) (node : ℕ) (event : Event) (senders : List ℕ) → Type 0
-LocalAt hears i (Writing x j k c) s = Unit {0}
+LocalAt hears i (Writing x j k who c) s = Unit {0}
 LocalAt hears i (Beating x j) s = Unit {0}
 LocalAt hears i (Offering x j h) s = Unit {0}
 LocalAt hears i (Removing x removal) s = Unit {0}

@@ -59,7 +59,7 @@ acts x i k n (Give c) = omega arith
 module _ (plan : Plan) (ready : Ready plan) (w : Net) (ok : Moment (plan .owner) w) where
   farther-calls : (e : Event) → goesOn e ≡ true → (y i : ℕ) → Farther y i (nodeAt i (w .hubs y)) (nodeAt i (calls plan e w .hubs y))
   unfolding remove outcome
-  farther-calls (Writing x j k c) g = each-hub w Farther no-farther x _ (each-call w Farther no-farther (plan .profiles x) c x j k (acts x j k))
+  farther-calls (Writing x j k who c) g = each-hub w Farther no-farther x _ (each-call w Farther no-farther (plan .profiles x) who c x j k (acts x j k))
   farther-calls (Beating x j) g = each-hub w Farther no-farther x _ (each-beat w Farther no-farther x j (λ i n b. omega arith))
   farther-calls (Offering x j b) g = each-hub w Farther no-farther x _ (each-offer w Farther no-farther x j b (λ i n c. omega arith))
   farther-calls (Removing x removal) g =

@@ -25,6 +25,7 @@ use Rattle.rules.specs.Node.{Call, Decision, Give, KeyValue, Leave, Node, Refus
 use Rattle.rules.specs.Sizes.{numbers}
 use Rattle.rules.specs.Table.{Entry, Table, nodeOf, setNode}
 use Rattle.rules.specs.declared.Computed.{Computed}
+use Rattle.rules.specs.declared.Party.{Party}
 use Rattle.rules.specs.declared.Profile.{Profile}
 use Rattle.demand3.proofs.Computing.{computed-honest}
 use Rattle.demand3.proofs.EachNode.{nodeAt, orFresh}
@@ -322,8 +323,8 @@ module _ (owner : ℕ → ℕ) (w : Losing) (ok : Firm owner w) where
             wrote (setNode i (act k z p) t) _ okay (fits p q b z) (more p q b z)
 
     -- in its profile
-    pub firm-writing : (p : Profile) (c : Call) → timeOf c < numbers → caughtUp (o i) (nodeOf i t) ≡ true → Written (callAs p c i k t .table) (λ j. pick (eqb j i) (givenAs p k c (nodeOf i t) (h j)) (h j))
-    firm-writing p c clock up = by-guard p c i k t (λ u g. Written u (λ j. pick (eqb j i) (g (h j)) (h j))) nowhere (called c clock up)
+    pub firm-writing : (p : Profile) (who : Party) (c : Call) → timeOf c < numbers → caughtUp (o i) (nodeOf i t) ≡ true → Written (callAs p who c i k t .table) (λ j. pick (eqb j i) (givenAs p who k c (nodeOf i t) (h j)) (h j))
+    firm-writing p who c clock up = by-guard p who c i k t (λ u g. Written u (λ j. pick (eqb j i) (g (h j)) (h j))) nowhere (called c clock up)
 
   -- ---- computing, by a hub that has stored what it gave
 

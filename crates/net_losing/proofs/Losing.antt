@@ -53,7 +53,7 @@ module _ (plan : Plan) (ready : Ready plan) (w : Losing) (ok : Firm (plan .owner
   beats x i m b y = fit-beat (eqb (own i) x) (w .forgot x) (w .out i) (n .given i) m y b
 
   firm-calls : (e : Event) → allowed own e w ≡ true → possible own e n ≡ true → Firm own (withNet (calls plan e n) (outAfter own e w) w)
-  firm-calls (Writing x i k c) a p = firm-writing own w ok x i k (eqb-true _ _ (and-left _ _ p)) (plan .profiles x) c (ltb-true _ _ (and-right (eqb (own i) x) _ p)) a
+  firm-calls (Writing x i k who c) a p = firm-writing own w ok x i k (eqb-true _ _ (and-left _ _ p)) (plan .profiles x) who c (ltb-true _ _ (and-right (eqb (own i) x) _ p)) a
   firm-calls (Beating x j) a p = on-hub own w ok x _ (kept (n .hubs x) _ (beat-keeps j (n .hubs x)) (ok .obeyed x)) (each-beat n R same x j (beats x))
   firm-calls (Offering x j b) a p = on-hub own w ok x _ (kept (n .hubs x) _ (offer-keeps j b (n .hubs x) (ltb-true _ _ p)) (ok .obeyed x)) (each-offer n R same x j b (beats x))
   firm-calls (Removing x removal) a p =
@@ -71,7 +71,7 @@ module _ (plan : Plan) (ready : Ready plan) (w : Losing) (ok : Firm (plan .owner
 
   -- what is not possible changes nothing
   unchanged : (e : Event) → possible own e n ≡ false → Firm own (withNet n (outAfter own e w) w)
-  unchanged (Writing x i k c) p = ok
+  unchanged (Writing x i k who c) p = ok
   unchanged (Beating x i) p = ok
   unchanged (Offering x i b) p = ok
   unchanged (Removing x removal) p = ok

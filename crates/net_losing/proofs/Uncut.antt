@@ -22,6 +22,7 @@ use Rattle.rules.specs.Node.{Call, Decision, Give, KeyValue, Leave, Node, Refus
 use Rattle.rules.specs.Table.{Table, nodeOf}
 use Rattle.rules.specs.Whole.{decodeWhole}
 use Rattle.rules.specs.declared.Computed.{Computed}
+use Rattle.rules.specs.declared.Party.{Party}
 use Rattle.rules.specs.Profile.{Kind}
 use Rattle.demand3.proofs.EachNode.{nodeAt, orFresh}
 use Rattle.demand3.proofs.Formed.{by-guard}
@@ -74,9 +75,9 @@ module _ (plan : Plan) (ready : Ready plan) (w : Net) (ok : Moment (plan .owner)
 
   -- ---- a write
 
-  module _ (x i : ℕ) (k : List ℕ) (c : Call) where
+  module _ (x i : ℕ) (k : List ℕ) (who : Party) (c : Call) where
     abbrev given : ℕ → List KeyValue
-    given j = pick (eqb j i) (givenAs (plan .profiles x) k c (nodeOf i (w .hubs x)) (w .given j)) (w .given j)
+    given j = pick (eqb j i) (givenAs (plan .profiles x) who k c (nodeOf i (w .hubs x)) (w .given j)) (w .given j)
 
     adds : own i ≡ x → (j : ℕ) → Longer (w .given j) (given j)
     adds mine j = go (eqb j i) refl
@@ -93,11 +94,11 @@ module _ (plan : Plan) (ready : Ready plan) (w : Net) (ok : Moment (plan .owner)
             by Leave = as-long
             by (Give a) = longer (givenBy k a p) (next-version (w .given i) p publishes k a)
 
-        in-profile : Longer (w .given i) (givenAs (plan .profiles x) k c (nodeOf i (w .hubs x)) (w .given i))
-        in-profile = by-guard (plan .profiles x) c i k (w .hubs x) (λ u g. Longer (w .given i) (g (w .given i))) as-long (in-it (nodeOf i (w .hubs x)) refl)
+        in-profile : Longer (w .given i) (givenAs (plan .profiles x) who k c (nodeOf i (w .hubs x)) (w .given i))
+        in-profile = by-guard (plan .profiles x) who c i k (w .hubs x) (λ u g. Longer (w .given i) (g (w .given i))) as-long (in-it (nodeOf i (w .hubs x)) refl)
 
-        go : (b : Bool) → eqb j i ≡ b → Longer (w .given j) (pick b (givenAs (plan .profiles x) k c (nodeOf i (w .hubs x)) (w .given j)) (w .given j))
-        go true q = subst (λ (l : ℕ). Longer (w .given l) (givenAs (plan .profiles x) k c (nodeOf i (w .hubs x)) (w .given l))) (sym (eqb-true _ _ q)) in-profile
+        go : (b : Bool) → eqb j i ≡ b → Longer (w .given j) (pick b (givenAs (plan .profiles x) who k c (nodeOf i (w .hubs x)) (w .given j)) (w .given j))
+        go true q = subst (λ (l : ℕ). Longer (w .given l) (givenAs (plan .profiles x) who k c (nodeOf i (w .hubs x)) (w .given l))) (sym (eqb-true _ _ q)) in-profile
         go false q = as-long
 
     -- the newest record stands
@@ -114,7 +115,7 @@ module _ (plan : Plan) (ready : Ready plan) (w : Net) (ok : Moment (plan .owner)
     abbrev S : ℕ → ℕ → Node → Node → Type 0
     S z j n m = (own j ≡ z → ⊥) → n ≡ m
 
-    exacts-writing : own i ≡ x → Moment own (calls plan (Writing x i k c) w) → Exacts (calls plan (Writing x i k c) w)
+    exacts-writing : own i ≡ x → Moment own (calls plan (Writing x i k who c) w) → Exacts (calls plan (Writing x i k who c) w)
     exacts-writing mine m =
         record {
           base = λ j. grown-longer [] (w .given j) (given j) (y .base j) (adds mine j);
@@ -124,13 +125,13 @@ module _ (plan : Plan) (ready : Ready plan) (w : Net) (ok : Moment (plan .owner)
         }
       where
         hubs : ℕ → Table
-        hubs = calls plan (Writing x i k c) w .hubs
+        hubs = calls plan (Writing x i k who c) w .hubs
 
         newest : (z j : ℕ) → Newest (nodeAt j (hubs z))
-        newest z j = each-hub w T (λ z j n t. t) x _ (each-call w T (λ z j n t. t) (plan .profiles x) c x i k (acts x)) z j (y .nodes z j .top)
+        newest z j = each-hub w T (λ z j n t. t) x _ (each-call w T (λ z j n t. t) (plan .profiles x) who c x i k (acts x)) z j (y .nodes z j .top)
 
         stays : (z j : ℕ) → (own j ≡ z → ⊥) → nodeAt j (w .hubs z) ≡ nodeAt j (hubs z)
-        stays z j f = each-hub w S (λ z j n e. refl) x _ (each-call w S (λ z j n e. refl) (plan .profiles x) c x i k (λ n e g. absurd (g mine))) z j f
+        stays z j f = each-hub w S (λ z j n e. refl) x _ (each-call w S (λ z j n e. refl) (plan .profiles x) who c x i k (λ n e g. absurd (g mine))) z j f
 
         node : (z j : ℕ) (b : Bool) → eqb (own j) z ≡ b → Exact (given j) (nodeAt j (hubs z))
         node z j true q =
@@ -180,7 +181,7 @@ module _ (plan : Plan) (ready : Ready plan) (w : Net) (ok : Moment (plan .owner)
   -- ---- every event
 
   exacts-calls : (e : Event) → UncutAt e w → possible own e w ≡ true → Moment own (calls plan e w) → Exacts (calls plan e w)
-  exacts-calls (Writing x i k c) u p m = exacts-writing x i k c (eqb-true _ _ (and-left _ _ p)) m
+  exacts-calls (Writing x i k who c) u p m = exacts-writing x i k who c (eqb-true _ _ (and-left _ _ p)) m
   exacts-calls (Beating x j) u p m = on-hub x _ (each-beat w R same x j (λ i n b z. exact-beat (w .given i) n z b))
   exacts-calls (Offering x j b) u p m = on-hub x _ (each-offer w R same x j b (λ i n b z. exact-beat (w .given i) n z b))
   exacts-calls (Removing x removal) u p m = on-hub x _ (each-remove w R same x removal (λ i due z. exact-remove (w .given i) (nodeAt i (w .hubs x)) z due))
@@ -224,7 +225,7 @@ module _ (plan : Plan) (ready : Ready plan) (w : Net) (ok : Moment (plan .owner)
     kept x j n e f a = a
 
     past-calls : (e : Event) → goesOn e ≡ true → possible own e w ≡ true → (z : ℕ) → Each w P kept z (calls plan e w .hubs z)
-    past-calls (Writing x j k c) g p = each-hub w P kept x _ (each-call w P kept (plan .profiles x) c x j k (λ n d e f. absurd (f (eqb-true _ _ (and-left _ _ p)))))
+    past-calls (Writing x j k who c) g p = each-hub w P kept x _ (each-call w P kept (plan .profiles x) who c x j k (λ n d e f. absurd (f (eqb-true _ _ (and-left _ _ p)))))
     past-calls (Beating x j) g p = each-hub w P kept x _ (each-beat w P kept x j (λ l n b e f a. past-beat s n a b))
     past-calls (Offering x j b) g p = each-hub w P kept x _ (each-offer w P kept x j b (λ l n b e f a. past-beat s n a b))
     past-calls (Removing x removal) g p = each-hub w P kept x _ (each-remove w P kept x removal (λ l due e f a. past-remove s (nodeAt l (w .hubs x)) a due))
@@ -253,7 +254,7 @@ module _ (plan : Plan) (ready : Ready plan) (w : Net) (ok : Moment (plan .owner)
 
     -- it was given, and stays so
     told-calls : (e : Event) → possible own e w ≡ true → s ∈ calls plan e w .given i
-    told-calls (Writing x j k c) p = at (adds x j k c (eqb-true _ _ (and-left _ _ p)) i)
+    told-calls (Writing x j k who c) p = at (adds x j k who c (eqb-true _ _ (and-left _ _ p)) i)
       where
         at : {h : List KeyValue} → Longer (w .given i) h → s ∈ h
         at as-long = told

@@ -39,7 +39,7 @@ NoKeyFalls before later =
 
 -- of a delta that is computed: of each node that it has all records above its from come over
 abbrev pub UncutAt : (event : Event) (net : Net) → Type 0
-UncutAt (Writing x i k c) w = Unit {0}
+UncutAt (Writing x i k who c) w = Unit {0}
 UncutAt (Beating x i) w = Unit {0}
 UncutAt (Offering x i h) w = Unit {0}
 UncutAt (Removing x removal) w = Unit {0}

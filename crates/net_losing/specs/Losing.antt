@@ -54,7 +54,7 @@ caughtUp o (some n) = leb (length o) (n .max)
 
 -- who writes has caught up with what it let out; who computes a delta has stored every version of its own nodes; tables are not restored whole
 abbrev pub allowed : (owner : ℕ → ℕ) (event : Event) (w : Losing) → Bool
-allowed owner (Writing x i k c) w = caughtUp (w .out i) (nodeOf i (w .net .hubs x))
+allowed owner (Writing x i k who c) w = caughtUp (w .out i) (nodeOf i (w .net .hubs x))
 allowed owner (Beating x i) w = true
 allowed owner (Offering x i h) w = true
 allowed owner (Removing x removal) w = true
@@ -76,7 +76,7 @@ ofHub x t ts y = pick (eqb y x) t (ts y)
 
 -- a hub that computes a delta lets out all that it gave
 abbrev pub outAfter : (owner : ℕ → ℕ) (event : Event) (w : Losing) → ℕ → List KeyValue
-outAfter owner (Writing x i k c) w = w .out
+outAfter owner (Writing x i k who c) w = w .out
 outAfter owner (Beating x i) w = w .out
 outAfter owner (Offering x i h) w = w .out
 outAfter owner (Removing x removal) w = w .out

@@ -277,7 +277,7 @@ module _ (c : Cast) where
       fine-not = fine-restoring v (λ y q. refl) (λ i p. ok .leaf x i p) refl refl (ok .moment)
 
     fine-calls : (e : Event) → allowed c e v ≡ true → Moment owner (calls (c .plan) e v) → Fine (record { net = calls (c .plan) e v; flights = flightsAfter e (w .flights) })
-    fine-calls (Writing x j k a) q moment = fine-moved (calls (c .plan) (Writing x j k a) v) moment (λ y. each-hub v Moved moved-same x _ (each-call v Moved moved-same (c .plan .profiles x) a x j k (acts x j k)) y) (λ b m. m) (λ y t m. inl m)
+    fine-calls (Writing x j k who a) q moment = fine-moved (calls (c .plan) (Writing x j k who a) v) moment (λ y. each-hub v Moved moved-same x _ (each-call v Moved moved-same (c .plan .profiles x) who a x j k (acts x j k)) y) (λ b m. m) (λ y t m. inl m)
     fine-calls (Beating x j) q moment = on-hub x _ (each-beat v Moved moved-same x j (beaten x)) moment
     fine-calls (Offering x j h) q moment = on-hub x _ (each-offer v Moved moved-same x j h (beaten x)) moment
     fine-calls (Removing x removal) q moment = on-hub x _ (each-remove v Moved moved-same x removal (λ i due. removes x i due)) moment
@@ -295,7 +295,7 @@ module _ (c : Cast) where
     fine-calls (Restoring x k) q moment = fine-restored x k q moment
 
     may-come : (e : Event) → allowed c e v ≡ true → MayCome (c .plan) e
-    may-come (Writing x i k a) q = tt
+    may-come (Writing x i k who a) q = tt
     may-come (Beating x i) q = tt
     may-come (Offering x i h) q = tt
     may-come (Removing x removal) q = tt
@@ -308,7 +308,7 @@ module _ (c : Cast) where
 
     -- an event that is not possible: only what is on its way may be lost
     fine-stays : (e : Event) → allowed c e v ≡ true → Fine (record { net = v; flights = flightsAfter e (w .flights) })
-    fine-stays (Writing x i k a) q = ok
+    fine-stays (Writing x i k who a) q = ok
     fine-stays (Beating x i) q = ok
     fine-stays (Offering x i h) q = ok
     fine-stays (Removing x removal) q = ok

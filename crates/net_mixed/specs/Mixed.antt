@@ -50,7 +50,7 @@ pub data Doing : Type 0 where
 
 -- no delta ever computed comes to a plain hub but one that it asked for; no hub removes a node of which it is steady, nor is it restored while it has one
 abbrev pub allowed : (cast : Cast) (event : Event) (net : Net) → Bool
-allowed c (Writing x i k call) w = true
+allowed c (Writing x i k who call) w = true
 allowed c (Beating x i) w = true
 allowed c (Offering x i h) w = true
 allowed c (Removing x removal) w = true
@@ -63,7 +63,7 @@ allowed c (Restoring x k) w = all (λ (e : Entry). not (c .steady x (e .number))
 
 -- what is on its way to a hub that is restored is lost
 abbrev pub flightsAfter : (event : Event) (flights : ℕ → Exchange) → ℕ → Exchange
-flightsAfter (Writing x i k c) f y = f y
+flightsAfter (Writing x i k who c) f y = f y
 flightsAfter (Beating x i) f y = f y
 flightsAfter (Offering x i h) f y = f y
 flightsAfter (Removing x removal) f y = f y

@@ -7,6 +7,7 @@ use Rattle.rules.specs.Apply.{Ways, plainWays}
 use Rattle.rules.specs.Digest.{NodeDigest, digestBytes}
 use Rattle.rules.specs.Node.{Deleting, KeyValue, Setting, SettingTtl, beats}
 use Rattle.rules.specs.Table.{versions}
+use Rattle.rules.specs.declared.Party.the-variants.{Nobody}
 use Rattle.rules.specs.declared.Profile.the-variants.{Free}
 use Rattle.rules.specs.declared.Status.the-variants.{Set}
 use Rattle.demand3.proofs.EachNode.{nodeAt}
@@ -35,7 +36,7 @@ abbrev pub dead : KeyValue
 dead = record { key = b; value = one; version = 2; status = Set }
 
 abbrev pub set : List ℕ → Event
-set k = Writing 0 7 k (Setting one)
+set k = Writing 0 7 k Nobody (Setting one)
 
 -- hub x, which is at (g, m), hears hub y: its digest, y's delta for it, applied at once
 abbrev pub told : ℕ → ℕ → List NodeDigest
@@ -53,7 +54,7 @@ began = Adding 0 7 ∷ Adding 1 7 ∷ Adding 2 7 ∷ Adding 3 7 ∷ set a ∷ se
 
 -- b is deleted, and its tombstone removed
 abbrev removes : List Event
-removes = Writing 0 7 b (Deleting 0) ∷ Removing 0 (ByClock 9 5) ∷ []
+removes = Writing 0 7 b Nobody (Deleting 0) ∷ Removing 0 (ByClock 9 5) ∷ []
 
 -- the pair of node 7 and the versions that stand in it
 abbrev pub pairAt : ℕ → Net → List ℕ
@@ -111,7 +112,7 @@ lost ways = after (alike ways) (set c ∷ []) (withTable 0 (after (alike ways) (
 
 -- The owner sets a, and b with a TTL; hub 1 hears it and is at (0,2). The owner removes b; hub 2 hears it and is at (2,1).
 abbrev pub inReset : List Event
-inReset = Adding 0 7 ∷ Adding 1 7 ∷ Adding 2 7 ∷ set a ∷ Writing 0 7 b (SettingTtl one 0) ∷ (hears 1 0 0 0 ++ ((Removing 0 (ByClock 9 5) ∷ []) ++ hears 2 0 0 0))
+inReset = Adding 0 7 ∷ Adding 1 7 ∷ Adding 2 7 ∷ set a ∷ Writing 0 7 b Nobody (SettingTtl one 0) ∷ (hears 1 0 0 0 ++ ((Removing 0 (ByClock 9 5) ∷ []) ++ hears 2 0 0 0))
 
 -- From then on hub 2 hears only hub 1, and hub 1 hears hub 0, which has nothing for it.
 abbrev pub roundOf : List Event
@@ -121,15 +122,15 @@ roundOf = hears 1 0 0 2 ++ hears 2 1 2 1
 
 -- Hub 0 sets a, and hub 2 hears it. Hub 0 deletes a, version 2, and hub 1 hears that.
 abbrev pub deadAtOne : List Event
-deadAtOne = Adding 0 7 ∷ Adding 1 7 ∷ Adding 2 7 ∷ set a ∷ (hears 2 0 0 0 ++ (Writing 0 7 a (Deleting 0) ∷ hears 1 0 0 0))
+deadAtOne = Adding 0 7 ∷ Adding 1 7 ∷ Adding 2 7 ∷ set a ∷ (hears 2 0 0 0 ++ (Writing 0 7 a Nobody (Deleting 0) ∷ hears 1 0 0 0))
 
 -- Hub 0 gives b a TTL, version 3, and sets a again, version 4. Hub 2 hears it under an MTU of 100, cut before a, and removes b: it is at (3,3) with a at version 1. Hub 1 hears
 -- hub 2 and is reset.
 abbrev pub backForAWhile : List Event
 backForAWhile =
     deadAtOne
-    ++ (Writing 0 7 b (SettingTtl (replicate 40 49) 0)
-    ∷ Writing 0 7 a (Setting (replicate 10 50))
+    ++ (Writing 0 7 b Nobody (SettingTtl (replicate 40 49) 0)
+    ∷ Writing 0 7 a Nobody (Setting (replicate 10 50))
     ∷ (hearsWithin 100 2 0 0 1
     ++ (Removing 2 (ByClock 60 5)
     ∷ hears 1 2 0 2)))
@@ -142,7 +143,7 @@ heardAgain = backForAWhile ++ hears 1 0 3 1
 
 -- Hub 1 hears hub 0 twice, before and after b is deleted; it removes the node and adds it, and the first delta comes again
 abbrev pub readded : List Event
-readded = began ++ (hears 1 0 0 0 ++ (Writing 0 7 b (Deleting 0) ∷ (hears 1 0 0 2 ++ (Dropping 1 7 ∷ Adding 1 7 ∷ Arriving 1 1 50 (0 ∷ []) ∷ []))))
+readded = began ++ (hears 1 0 0 0 ++ (Writing 0 7 b Nobody (Deleting 0) ∷ (hears 1 0 0 2 ++ (Dropping 1 7 ∷ Adding 1 7 ∷ Arriving 1 1 50 (0 ∷ []) ∷ []))))
 
 -- ---- a plain leaf whose one neighbour is not steady
 
@@ -186,7 +187,7 @@ abbrev long : List ℕ
 long = replicate 64 49
 
 abbrev writesOf : ℕ → List Event
-writesOf i = Writing 0 i a (Setting long) ∷ Writing 0 i b (Setting long) ∷ Writing 0 i c (SettingTtl long 0) ∷ []
+writesOf i = Writing 0 i a Nobody (Setting long) ∷ Writing 0 i b Nobody (Setting long) ∷ Writing 0 i c Nobody (SettingTtl long 0) ∷ []
 
 -- Hub 0 sets a and b and gives c a TTL, in both nodes. Hub 1 removes c of node 7, and hub 2 that of node 8; both have all else. Hub 3 hears node 7 from hub 1 and node 8 from hub 2,
 -- each cut behind the first record: both nodes are at (3,1).

@@ -127,7 +127,7 @@ module _ (owner : ℕ → ℕ) (kinds : ℕ → Kind) (peer : ℕ → ℕ → �
     -- ---- the events
 
     mild-event : (e : Event) → mild ms e ≡ true → CarefulEvent ms e v
-    mild-event (Writing x i k c) q = among-in x ms q
+    mild-event (Writing x i k who c) q = among-in x ms q
     mild-event (Beating x i) q = among-in x ms q
     mild-event (Offering x i h) q = among-in x ms q
     mild-event (Removing x removal) q = absurd (false≢true q)

@@ -66,7 +66,7 @@ pub data Act : Type 0 where
 
 -- a hub of the net does it, and it is none of those that an act of its own stands for
 abbrev pub mild : (members : List ℕ) (event : Event) → Bool
-mild ms (Writing x i k c) = among x ms
+mild ms (Writing x i k who c) = among x ms
 mild ms (Beating x i) = among x ms
 mild ms (Offering x i h) = among x ms
 mild ms (Removing x removal) = false

@@ -1,9 +1,10 @@
 -- A lookup over overrides and a node of a table, both lent (document 02, ticket 10): the override's value if its record is there and unhidden, else the node's.
--- Which of the two slices it stands in and where, so that the call can hand out those very bytes; and that these bytes are the rules' value.
+-- Which of the two slices it stands in and where, so that the call can hand out those very bytes; and that these bytes are the rules' value. By a party (ticket
+-- 9): what it finds in the table is what `lookup` finds, and 19 is the table's refusal, so that it stands before the overrides too.
 use Prim.Native.Nat.{ℕ, _+_, _≤_}
 use mathlib.Core.Bool.{Bool, true, false}
 use mathlib.Core.Option.{Option, none, some}
-use mathlib.Core.List.{List}
+use mathlib.Core.List.{List, []}
 use Rattle.fields.specs.Choice.{pick}
 use Rattle.fields.specs.Numbers.{Bytes}
 use Rattle.fields.specs.Parts.{part}
@@ -11,8 +12,12 @@ use Rattle.rules.specs.Node.{Node, find, shown}
 use Rattle.rules.specs.Table.{Table}
 use Rattle.rules.specs.Local as rule
 use Rattle.rules.specs.Local.{lookupOn}
+use Rattle.rules.specs.Whole.{decodeWhole}
+use Rattle.rules.specs.declared.Profile.{Profile}
+use Rattle.rules.specs.declared.Party.{Party}
 use Rattle.rules.specs.declared.Refusal.the-variants.{BadTable}
-use Rattle.lookup.specs.Lookup.{findOn, foundIn, handed, Hands}
+use Rattle.own_rows.specs.Sight.{frontIn}
+use Rattle.lookup.specs.Lookup.{findOn, findAs, handed, Hands}
 use Rattle.lookup.specs.declared.Found.{Found}
 use Rattle.lookup.specs.declared.Found.the-variants as one
 use Rattle.overrides.specs.Both.{fromBoth}
@@ -41,13 +46,9 @@ ruledOver (rule.Value v) rule.Nothing = rule.Value v
 ruledOver rule.Nothing rule.Nothing = rule.Nothing
 ruledOver (rule.NotFound r) rule.Nothing = rule.Nothing
 
--- 2, 1
-unfoldable pub lookupOver : (number : ℕ) (key : Bytes) (over : Node) (table : Table) → rule.Found
-lookupOver number k o t = ruledOver (lookupOn k (some o)) (rule.lookup number k t)
-
--- in lent bytes: 14 of the overrides, 14 of the table, 2, 1
-abbrev pub lentLookupOver : (number : ℕ) (key overrides table : Bytes) → rule.Found
-lentLookupOver number k o t = fromBoth (λ w. rule.NotFound BadTable) (lookupOver number k) o t
+-- 2, 1, 19
+unfoldable pub lookupOver : (profile : Profile) (party : Party) (number : ℕ) (key : Bytes) (over : Node) (table : Table) → rule.Found
+lookupOver p q number k o t = ruledOver (lookupOn k (some o)) (rule.lookupAs p q number k t)
 
 -- ---- where it is
 
@@ -67,13 +68,17 @@ overOf own (one.Refused r) = Refused which.Neither r
 abbrev pub plainly : (shared : Found) → FoundOver
 plainly f = overOf one.Nothing f
 
--- in good overrides, whose bytes begin with the node's, and a good table: 2, 1
-abbrev pub foundOver : (number : ℕ) (key : Bytes) (over : Node) (table : Table) → FoundOver
-foundOver number k o t = overOf (findOn k 0 (some o)) (foundIn number k t)
+-- in good overrides, whose bytes begin with the node's
+abbrev pub ownFound : (key : Bytes) (over : Node) → Found
+ownFound k o = findOn k 0 (some o)
 
--- in lent bytes: 14 of the overrides, 14 of the table, 2, 1
-abbrev pub lentFindOver : (number : ℕ) (key overrides table : Bytes) → FoundOver
-lentFindOver number k o t = fromBoth (λ w. Refused w BadTable) (foundOver number k) o t
+-- and a good table: 2, 1, 19
+abbrev pub foundOver : (profile : Profile) (party : Party) (number : ℕ) (key : Bytes) (over : Node) (table : Table) → FoundOver
+foundOver p q number k o t = overOf (ownFound k o) (findAs p q number k t)
+
+-- in lent bytes: 14 of the overrides, 14 of the table, 2, 1, 19
+abbrev pub lentFindOver : (party : Party) (number : ℕ) (key overrides table : Bytes) → FoundOver
+lentFindOver q number k o t = fromBoth (λ w. Refused w BadTable) (foundOver (decodeWhole t .kind .profile) q number k) o t
 
 -- ---- what is handed out: a part of the one slice or of the other
 
@@ -115,11 +120,26 @@ HandsOver of o t bytes pointer = Hands (record { bytes = of .bytes; start = of .
 abbrev pub partOver : (overrides table : Bytes) (found : FoundOver) → HandedOver
 partOver o t found = record { bytes = part (startOf found) (lenOf found) (pick (isOver found) o t); over = isOver found; start = startOf found }
 
--- the value of a key, in good overrides and a good table, and in lent bytes
-abbrev pub valueOver : (number : ℕ) (key : Bytes) (over : Node) (table : Table) → HandedOver
-valueOver number k o t =
-    record { bytes = handed (lookupOver number k o t); over = isOver (foundOver number k o t); start = startOf (foundOver number k o t) }
+-- a place in the table, so many bytes further back
+abbrev pub movedBy : (front : ℕ) (found : FoundOver) → FoundOver
+movedBy front (InOverrides start len) = InOverrides start len
+movedBy front (InTable start len) = InTable (start + front) len
+movedBy front Nothing = Nothing
+movedBy front (Refused w r) = Refused w r
 
-abbrev pub lentValueOver : (number : ℕ) (key overrides table : Bytes) → HandedOver
-lentValueOver number k o t =
-    record { bytes = handed (lentLookupOver number k o t); over = isOver (lentFindOver number k o t); start = startOf (lentFindOver number k o t) }
+-- the value of a key by a party, in good overrides and a good table
+abbrev pub valueOver : (profile : Profile) (party : Party) (number : ℕ) (key : Bytes) (over : Node) (table : Table) → HandedOver
+valueOver p q number k o t =
+    record {
+      bytes = handed (lookupOver p q number k o t);
+      over = isOver (foundOver p q number k o t);
+      start = startOf (movedBy (frontIn p q number t) (foundOver p q number k o t));
+    }
+
+-- the empty part at the table's front
+abbrev pub nothingHeld : HandedOver
+nothingHeld = record { bytes = []; over = false; start = 0 }
+
+-- and in lent bytes
+abbrev pub lentValueOver : (party : Party) (number : ℕ) (key overrides table : Bytes) → HandedOver
+lentValueOver q number k o t = fromBoth (λ w. nothingHeld) (valueOver (decodeWhole t .kind .profile) q number k) o t

@@ -1,6 +1,8 @@
 -- The merged prefix listing of overrides and a node (document 02, ticket 10): the overrides' hits laid over the node's, each key once, in key order. A hit is a
--- byte: the place of the record in the node, or 128 and its place in the overrides.
+-- byte: the place of the record in the node, or 128 and its place in the overrides. A party is listed the keys alone that it may name (ticket 9): places in the
+-- node are those among the records that it sees; the overrides are the site's own memory, and places there are those among all of them.
 use Prim.Native.Nat.{ℕ, suc}
+use mathlib.Core.Bool.{Bool, _&&_}
 use mathlib.Core.List.{List, [], _∷_}
 use mathlib.Core.Option.{Option, none, some}
 use lib.ListN.{length}
@@ -13,6 +15,10 @@ use Rattle.rules.specs.Sizes.{maxKey}
 use Rattle.rules.specs.Given.{Given, given}
 use Rattle.rules.specs.Node.{Rec, Node, hits}
 use Rattle.rules.specs.Table.{Table, nodeOf}
+use Rattle.rules.specs.Party.{sees, seenRecs, seen}
+use Rattle.rules.specs.Whole.{decodeWhole}
+use Rattle.rules.specs.declared.Profile.{Profile}
+use Rattle.rules.specs.declared.Party.{Party}
 use Rattle.rules.specs.declared.Refusal.the-variants.{TooLong, NoNode, NoPlace, BadTable}
 use Rattle.overrides.specs.Both.{fromBoth}
 use Rattle.overrides.specs.declared.Which.the-variants as which
@@ -34,10 +40,18 @@ hit i r = record { place = i; rec = r }
 abbrev pub keyOfHit : Hit → Bytes
 keyOfHit h = h .rec .kv .key
 
--- the hits among the records, the first record's place being i: those that document 01's listing gives
-unfoldable pub hitsIn : (prefix : Bytes) (i : ℕ) (recs : List Rec) → List Hit
-hitsIn p i [] = []
-hitsIn p i (r ∷ l) = pick (hits p r) (hit i r ∷ hitsIn p (suc i) l) (hitsIn p (suc i) l)
+-- the hits among the records that pass a test, the first record's place being i
+unfoldable pub hitsBy : (test : Rec → Bool) (i : ℕ) (recs : List Rec) → List Hit
+hitsBy f i [] = []
+hitsBy f i (r ∷ l) = pick (f r) (hit i r ∷ hitsBy f (suc i) l) (hitsBy f (suc i) l)
+
+-- those that document 01's listing gives
+abbrev pub hitsIn : (prefix : Bytes) (i : ℕ) (recs : List Rec) → List Hit
+hitsIn p i l = hitsBy (hits p) i l
+
+-- those of the keys that may be named
+abbrev pub ownHits : (mine : Bytes → Bool) (prefix : Bytes) (i : ℕ) (recs : List Rec) → List Hit
+ownHits mine p i l = hitsBy (λ (r : Rec). mine (r .kv .key) && hits p r) i l
 
 -- a hit takes the place of its key's, or its own in the order of the keys
 unfoldable pub layOver : (hit : Hit) (hits : List Hit) → List Hit
@@ -58,9 +72,16 @@ unfoldable pub recsOf : (hits : List Hit) → List Rec
 recsOf [] = []
 recsOf (h ∷ l) = h .rec ∷ recsOf l
 
--- the listing of the overrides' records and the node's
-unfoldable pub listing : (prefix : Bytes) (over node : List Rec) → List Hit
-listing p o n = overlaid (hitsIn p overPlace o) (hitsIn p 0 n)
+-- the listing of the overrides' records whose keys may be named, and the node's
+unfoldable pub listing : (mine : Bytes → Bool) (prefix : Bytes) (over node : List Rec) → List Hit
+listing mine p o n = overlaid (ownHits mine p overPlace o) (hitsIn p 0 n)
+
+-- by a party: what it sees of the node's records
+abbrev pub listingAs : (profile : Profile) (party : Party) (prefix : Bytes) (over node : List Rec) → List Hit
+listingAs pr q p o n = listing (sees pr q) p o (seenRecs pr q n)
+
+abbrev pub placesAs : (profile : Profile) (party : Party) (prefix : Bytes) (over node : List Rec) → Bytes
+placesAs pr q p o n = placesOf (listingAs pr q p o n)
 
 -- ---- the call
 
@@ -70,14 +91,15 @@ listInto found l =
     pick (leb (length found) (length l)) (given (listed.Hits (length found)) (put 0 found l)) (given (listed.Refused which.Neither NoPlace) l)
 
 -- 2, 1, 8
-abbrev pub listOn : (prefix : Bytes) (over : Node) (held : Option Node) (list : Bytes) → Given ListedOver Bytes
-listOn p o none l = given (listed.Refused which.Neither NoNode) l
-listOn p o (some n) l =
-    pick (leb (length p) maxKey) (listInto (placesOf (listing p (o .recs) (n .recs))) l) (given (listed.Refused which.Neither TooLong) l)
+abbrev pub listOn : (mine : Bytes → Bool) (prefix : Bytes) (over : Node) (held : Option Node) (list : Bytes) → Given ListedOver Bytes
+listOn mine p o none l = given (listed.Refused which.Neither NoNode) l
+listOn mine p o (some n) l =
+    pick (leb (length p) maxKey) (listInto (placesOf (listing mine p (o .recs) (n .recs))) l) (given (listed.Refused which.Neither TooLong) l)
 
-abbrev pub listOver : (number : ℕ) (prefix list : Bytes) (over : Node) (table : Table) → Given ListedOver Bytes
-listOver number p l o t = listOn p o (nodeOf number t) l
+-- by a party
+abbrev pub listOver : (profile : Profile) (party : Party) (number : ℕ) (prefix list : Bytes) (over : Node) (table : Table) → Given ListedOver Bytes
+listOver pr q number p l o t = listOn (sees pr q) p o (nodeOf number (seen pr q t)) l
 
 -- in lent bytes: 14 of the overrides, 14 of the table, 2, 1, 8
-abbrev pub lentListOver : (number : ℕ) (prefix list overrides table : Bytes) → Given ListedOver Bytes
-lentListOver number p l o t = fromBoth (λ w. given (listed.Refused w BadTable) l) (listOver number p l) o t
+abbrev pub lentListOver : (party : Party) (number : ℕ) (prefix list overrides table : Bytes) → Given ListedOver Bytes
+lentListOver q number p l o t = fromBoth (λ w. given (listed.Refused w BadTable) l) (listOver (decodeWhole t .kind .profile) q number p l) o t

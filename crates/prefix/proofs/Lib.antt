@@ -1,4 +1,5 @@
 mod Run
 mod Counted
 pub mod Hits
+pub mod Seen
 pub mod Rows

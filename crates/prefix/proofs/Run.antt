@@ -25,7 +25,7 @@ use Rattle.table.proofs.Places.{recs-at, length-recs}
 use Rattle.table_read.specs.Find.{further, seek, findBy, toKey, findKey}
 use Rattle.table_read.specs.declared.Place.{Place}
 use Rattle.table_read.specs.declared.Place.the-variants.{At, Free}
-use Rattle.prefix.specs.Run.{keyAt, FirstOf}
+use Rattle.prefix.specs.Run.{keyAt, FirstOf, RunOf, broughtIn, RunIn}
 
 -- ---- byte strings
 
@@ -174,3 +174,53 @@ module _ (k b : List ℕ) (s : keysRise (recsIn b) ≡ true) where
         go : (t : Bool) → startsWith k (keyAt j b) ≡ t → t ≡ false
         go true q = absurd (false≢true (sym e ∙ all-before q))
         go false q = refl
+
+-- ---- in a piece of a node's rows
+
+-- a place that was brought into the piece: what stands before it there stands before the place, and what does not, does not
+record Brought (x low top y : ℕ) : Type 0 where
+  pub from : low ≤ y
+  pub to : y ≤ top
+  pub less : (j : ℕ) → low ≤ j → j < y → j < x
+  pub more : (j : ℕ) → y ≤ j → j < top → x ≤ j
+
+brought : (x low top : ℕ) → low ≤ top → Brought x low top (broughtIn x low top)
+brought x low top h = go (ltb x low) refl (ltb top x) refl
+  where
+    go : (s : Bool) → ltb x low ≡ s → (t : Bool) → ltb top x ≡ t → Brought x low top (pick s low (pick t top x))
+    go true p t q =
+        let l : x < low = ltb-true x low p in
+        record { from = omega arith; to = h; less = λ j a c. omega arith; more = λ j a c. omega arith }
+    go false p true q =
+        let l : top < x = ltb-true top x q in
+        record { from = h; to = omega arith; less = λ j a c. omega arith; more = λ j a c. omega arith }
+    go false p false q =
+        let l : low ≤ x = ltb-false x low p in
+        let m : x ≤ top = ltb-false top x q in
+        record { from = l; to = m; less = λ j a c. c; more = λ j a c. a }
+
+-- the order of two places is kept
+order-kept : (x y low top u v : ℕ) → x ≤ y → Brought x low top u → Brought y low top v → u ≤ v
+order-kept x y low top u v h s t = go (ltb v u) refl
+  where
+    go : (c : Bool) → ltb v u ≡ c → u ≤ v
+    go true q =
+        let l : v < u = ltb-true v u q in
+        absurd (omega (arith, h, s .less v (t .from) l, t .more v (omega arith) (omega (arith, s .to))))
+    go false q = ltb-false v u q
+
+pub run-in : (k b : List ℕ) (first end low top : ℕ) → low ≤ top → top ≤ countOf b → FirstOf k b first → RunOf k b first end → (u v : ℕ) → u ≡ broughtIn first low top
+    → v ≡ broughtIn end low top → RunIn k b low top u v
+run-in k b first end low top o h f r u v p q =
+    let s = subst (Brought first low top) (sym p) (brought first low top o) in
+    let e = subst (Brought end low top) (sym q) (brought end low top o) in
+    record {
+      from = s .from;
+      order = order-kept first end low top u v (r .order) s e;
+      inside = e .to;
+      early = λ j a c. f .early j (s .less j a c);
+      late = λ j a c. f .late j (s .more j a c) (omega arith);
+      before = λ j a c. r .before j (s .less j a c);
+      within = λ j a c. r .within j (s .more j a (omega (arith, e .to))) (e .less j (omega (arith, s .from)) c);
+      behind = λ j a c. r .behind j (e .more j a c) (omega arith);
+    }

@@ -12,8 +12,12 @@ use Rattle.fields.specs.Order.{lessBytes, startsWith}
 use Rattle.rules.specs.Sizes.{maxKey}
 use Rattle.rules.specs.Node.{Rec, Node}
 use Rattle.rules.specs.Table.{Table, nodeOf}
+use Rattle.rules.specs.Party.{seen}
 use Rattle.rules.specs.Layout.{recPlace}
+use Rattle.rules.specs.Whole.{decodeWhole}
 use Rattle.rules.specs.Lent.{fromTable}
+use Rattle.rules.specs.declared.Profile.{Profile}
+use Rattle.rules.specs.declared.Party.{Party}
 use Rattle.rules.specs.declared.Refusal.the-variants.{TooLong, NoNode, BadTable}
 use Rattle.table_read.specs.Find.{nodeStart}
 use Rattle.inspect.specs.declared.Rows.{Rows}
@@ -37,5 +41,9 @@ prefixRowsOn k start (some n) = pick (leb (length k) maxKey) (runRows k start (n
 abbrev pub prefixRows : (number : ℕ) (prefix : Bytes) (table : Table) → Rows
 prefixRows number k table = prefixRowsOn k (nodeStart number table) (nodeOf number table)
 
-abbrev pub lentPrefixRows : (number : ℕ) (prefix table : Bytes) → Rows
-lentPrefixRows number k table = fromTable (Refused BadTable) (prefixRows number k) table
+-- by a party: of what it sees
+abbrev pub prefixRowsAs : (profile : Profile) (party : Party) (number : ℕ) (prefix : Bytes) (table : Table) → Rows
+prefixRowsAs p q number k table = prefixRows number k (seen p q table)
+
+abbrev pub lentPrefixRows : (party : Party) (number : ℕ) (prefix table : Bytes) → Rows
+lentPrefixRows q number k table = fromTable (Refused BadTable) (prefixRowsAs (decodeWhole table .kind .profile) q number k) table

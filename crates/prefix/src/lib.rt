@@ -1,9 +1,12 @@
-// Listing the records of a node whose keys begin with a prefix. A hit is a record that is not hidden; its place among all records of the node goes to
-// the caller's list, one byte each, in key order from the front. Keys ascend, so those that begin with the prefix stand together, and both ends of them are
-// sought by halves. Where the list may be too short the hits are counted before the first is written, so that a call without room for them writes nothing.
-// `list_prefix` takes any bytes, and `list_good` a table known to be good, without the check.
+// Listing the records of a node whose keys begin with a prefix, by a party. A hit is a record that is not hidden; its place among the records of the node
+// that the party sees goes to the caller's list, one byte each, in key order from the front. Keys ascend, so those that begin with the prefix stand together,
+// and both ends of them are sought by halves, then brought into the piece of rows that the party sees. A prefix of another's keys lists nothing. Where the
+// list may be too short the hits are counted before the first is written, so that a call without room for them writes nothing. A name with `known` in it is
+// for a table known to be good, without the check.
 use inspect::Rows;
 use rules::Listed;
+use rules::Party;
+use rules::Profile;
 use rules::Record;
 use rules::Refusal;
 use rules::Status;
@@ -13,7 +16,7 @@ use table_read::Span;
 ghost use mathlib.Core.Path.{_≡_};
 ghost use mathlib.Core.Bool.{true, not};
 ghost use mathlib.Core.Option.{some};
-ghost use Prim.Native.Nat.{_≤_, _<_};
+ghost use Prim.Native.Nat.{_+_, _≤_, _<_};
 ghost use lib.ListN.{length};
 ghost use Rattle.fields.specs.Order.{startsWith};
 ghost use Rattle.fields.specs.Parts.{part};
@@ -21,14 +24,22 @@ ghost use Rattle.rules.specs.Answers.{listedTold};
 ghost use Rattle.rules.specs.Given.{Gives, Says, Tells};
 ghost use Rattle.rules.specs.Node.{hidden};
 ghost use Rattle.rules.specs.Table.{keysRise};
-ghost use Rattle.rules.specs.Local.{prefixOn, prefixed};
-ghost use Rattle.rules.specs.Layout.{recPlace, recWidth, tableWidth, decodeRec, decodeNode, decode, valid};
+ghost use Rattle.rules.specs.Local.{prefixOn, prefixedAs};
+ghost use Rattle.rules.specs.Layout.{recPlace, recWidth, tableWidth, decodeRec, decode, valid};
+ghost use Rattle.rules.specs.Profile.{profileObeys};
+ghost use Rattle.rules.specs.Whole.{validWhole};
 ghost use Rattle.rules.specs.Lent.{lentPrefixed};
 ghost use Rattle.table.specs.Tests.{countOf, recsIn};
 ghost use Rattle.table.specs.Fits.{LaidNode};
 ghost use Rattle.inspect.specs.Told.{rowsTold};
-ghost use Rattle.prefix.specs.Run.{keyAt, FirstOf, RunOf, shownIn, shownInto};
-ghost use Rattle.prefix.specs.Rows.{prefixRowsOn, prefixRows, lentPrefixRows};
+ghost use Rattle.prefix.specs.Run.{keyAt, FirstOf, RunOf, broughtIn, RunIn, pieceNode, shownIn, shownInto};
+ghost use Rattle.prefix.specs.Rows.{prefixRowsOn, prefixRowsAs, lentPrefixRows};
+
+// The records of a piece of a node's rows whose keys begin with a prefix: those from `start` up to `end`.
+pub struct Stretch {
+    pub start: usize,
+    pub end: usize,
+}
 
 // Whether the key of record `j` of a node's bytes begins with the prefix.
 fn begins(node: &[u8], j: usize, prefix: &[u8]) -> bool
@@ -81,10 +92,38 @@ pub fn run_end(node: &[u8], prefix: &[u8], from: usize) -> usize
     low
 }
 
+// A place, or the end of the piece from `low` up to `top` that is next to it.
+fn brought_in(j: usize, low: usize, top: usize) -> usize
+    requires { ⌜ low ≤ top ⌝ }
+    ensures { λ r. ⌜ r ≡ broughtIn j low top ⌝ }
+{
+    if j < low {
+        return low;
+    }
+    if top < j {
+        return top;
+    }
+    j
+}
+
+// The run of the prefix in a piece of a node's rows: `count` of them behind `low`.
+pub fn run_in(node: &[u8], low: usize, count: usize, prefix: &[u8]) -> Stretch
+    requires { ⌜ LaidNode (now node) × (keysRise (recsIn (now node)) ≡ true) × (low + count ≤ countOf (now node)) ⌝ }
+    ensures { λ r. ⌜ RunIn (now (prefix .entry)) (now (node .entry)) low (low + count) (r .start) (r .end) ⌝ }
+{
+    let first = run_start(node, prefix);
+    let end = run_end(node, prefix, first);
+    let top = low + count;
+    Stretch {
+        start: brought_in(first, low, top),
+        end: brought_in(end, low, top),
+    }
+}
+
 // How many records from `low` up to `high` of a node's bytes are not hidden.
 fn count_shown(node: &[u8], low: usize, high: usize) -> usize
     requires { ⌜ LaidNode (now node) × (low ≤ high) × (high ≤ countOf (now node)) ⌝ }
-    ensures { λ r. ⌜ r ≡ length (shownIn low high (now (node .entry))) ⌝ }
+    ensures { λ r. ⌜ r ≡ length (shownIn 0 low high (now (node .entry))) ⌝ }
 {
     let mut found = 0;
     let mut j = low;
@@ -97,16 +136,18 @@ fn count_shown(node: &[u8], low: usize, high: usize) -> usize
     found
 }
 
-// The places of these records, to the front of a list that has room for them, and how many they are.
-fn write_shown(node: &[u8], low: usize, high: usize, out: &mut [u8]) -> usize
-    requires { ⌜ LaidNode (now node) × (low ≤ high) × (high ≤ countOf (now node)) × (length (shownIn low high (now node)) ≤ length (now out)) ⌝ }
-    ensures { λ r. ⌜ Gives (shownInto low high (now (node .entry)) (now (out .entry))) r (now (out .exit)) ⌝ }
+// The places of these records, `base` less, to the front of a list that has room for them, and how many they are.
+fn write_shown(node: &[u8], base: usize, low: usize, high: usize, out: &mut [u8]) -> usize
+    requires { ⌜ LaidNode (now node) × (base ≤ low) × (low ≤ high) × (high ≤ countOf (now node))
+        × (length (shownIn base low high (now node)) ≤ length (now out)) ⌝ }
+    ensures { λ r. ⌜ Gives (shownInto base low high (now (node .entry)) (now (out .entry))) r (now (out .exit)) ⌝ }
 {
     let mut next = 0;
     let mut j = low;
     while j < high {
         if is_shown(node, j) {
-            out[next] = j as u8;
+            let place = j - base;
+            out[next] = place as u8;
             next += 1;
         }
         j += 1;
@@ -114,79 +155,109 @@ fn write_shown(node: &[u8], low: usize, high: usize, out: &mut [u8]) -> usize
     next
 }
 
-// The listing of one node's bytes: 1, 8.
-fn in_node(node: &[u8], prefix: &[u8], out: &mut [u8]) -> Listed
-    requires { ⌜ LaidNode (now node) × (keysRise (recsIn (now node)) ≡ true) ⌝ }
-    ensures { λ r. ⌜ Gives (prefixOn (now (prefix .entry)) (some (decodeNode (now (node .entry)) .node)) (now (out .entry))) r (now (out .exit)) ⌝ }
+// The listing of a piece of one node's rows, `count` of them behind `low`: 1, 8.
+fn in_node(node: &[u8], low: usize, count: usize, prefix: &[u8], out: &mut [u8]) -> Listed
+    requires { ⌜ LaidNode (now node) × (keysRise (recsIn (now node)) ≡ true) × (low + count ≤ countOf (now node)) ⌝ }
+    ensures { λ r. ⌜ Gives (prefixOn (now (prefix .entry)) (some (pieceNode low count (now (node .entry)))) (now (out .entry))) r (now (out .exit)) ⌝ }
 {
     if Record::KEY < prefix.len() {
         return Listed::Refused(Refusal::TooLong);
     }
-    let low = run_start(node, prefix);
-    let high = run_end(node, prefix, low);
-    if out.len() < high - low {
-        if out.len() < count_shown(node, low, high) {
+    let run = run_in(node, low, count, prefix);
+    if out.len() < run.end - run.start {
+        if out.len() < count_shown(node, run.start, run.end) {
             return Listed::Refused(Refusal::NoPlace);
         }
     }
-    Listed::Hits(write_shown(node, low, high, out))
+    Listed::Hits(write_shown(node, low, run.start, run.end, out))
 }
 
-// The listing in a good table: 2, 1, 8.
-pub fn list_good(table: &[u8], number: u64, prefix: &[u8], out: &mut [u8]) -> Listed
-    requires { ⌜ valid (now table) ≡ true ⌝ }
-    ensures { λ r. ⌜ Gives (prefixed number (now (prefix .entry)) (decode (now (table .entry))) (now (out .entry))) r (now (out .exit)) ⌝ }
+// The listing by a party in the area of a good table of a profile: 2, 1, 8.
+fn list_seen(
+    area: &[u8],
+    profile: Profile,
+    party: Party,
+    number: u64,
+    prefix: &[u8],
+    out: &mut [u8],
+) -> Listed
+    requires { ⌜ (valid (now area) ≡ true) × (profileObeys profile (decode (now area)) ≡ true) ⌝ }
+    ensures { λ r. ⌜ Gives (prefixedAs profile party number (now (prefix .entry)) (decode (now (area .entry))) (now (out .entry))) r (now (out .exit)) ⌝ }
 {
-    match table_read::node_span(table, number) {
-        Span::Held { start, end } => in_node(&table[start..end], prefix, out),
+    match table_read::node_span(area, number) {
+        Span::Held { start, end } => {
+            let sight = own_rows::sight_of(&area[start..end], profile, party);
+            in_node(&area[start..end], sight.low, sight.count, prefix, out)
+        }
         Span::Missing => Listed::Refused(Refusal::NoNode),
     }
 }
 
-// The listing in lent bytes: 14, 2, 1, 8.
-pub fn list_prefix(table: &[u8], number: u64, prefix: &[u8], out: &mut [u8]) -> Listed
-    ensures { λ r. ⌜ Tells listedTold (lentPrefixed number (now (prefix .entry)) (now (out .entry)) (now (table .entry))) r (now (out .exit)) ⌝ }
+// The listing by a party in a good table: 2, 1, 8.
+pub fn list_known(table: &[u8], party: Party, number: u64, prefix: &[u8], out: &mut [u8]) -> Listed
+    requires { ⌜ validWhole (now table) ≡ true ⌝ }
+    ensures { λ r. ⌜ Gives (lentPrefixed party number (now (prefix .entry)) (now (out .entry)) (now (table .entry))) r (now (out .exit)) ⌝ }
+{
+    let profile = profile_check::profile_of(table);
+    list_seen(&table[..layout::AREA], profile, party, number, prefix, out)
+}
+
+// The listing by a party in lent bytes: 14, 2, 1, 8.
+pub fn list_prefix(table: &[u8], party: Party, number: u64, prefix: &[u8], out: &mut [u8]) -> Listed
+    ensures { λ r. ⌜ Tells listedTold (lentPrefixed party number (now (prefix .entry)) (now (out .entry)) (now (table .entry))) r (now (out .exit)) ⌝ }
 {
     if table_check::check_table(table) {
-        list_good(&table[..layout::AREA], number, prefix, out)
+        list_known(table, party, number, prefix, out)
     } else {
         Listed::Refused(Refusal::BadTable)
     }
 }
 
-// The records of one node's bytes, which begin at `start` in the table, whose keys begin with the prefix: 1.
-fn rows_in(node: &[u8], start: usize, prefix: &[u8]) -> Rows
-    requires { ⌜ LaidNode (now node) × (keysRise (recsIn (now node)) ≡ true) × (start ≤ tableWidth) ⌝ }
-    ensures { λ r. ⌜ r ≡ prefixRowsOn (now (prefix .entry)) start (some (decodeNode (now (node .entry)) .node)) ⌝ }
+// The records of a piece of one node's rows, `count` of them behind `low`, whose keys begin with the prefix, as if these were all rows of the node, whose bytes
+// begin at `start` in the table: 1.
+fn rows_in(node: &[u8], low: usize, count: usize, start: usize, prefix: &[u8]) -> Rows
+    requires { ⌜ LaidNode (now node) × (keysRise (recsIn (now node)) ≡ true) × (low + count ≤ countOf (now node)) × (start ≤ tableWidth) ⌝ }
+    ensures { λ r. ⌜ r ≡ prefixRowsOn (now (prefix .entry)) start (some (pieceNode low count (now (node .entry)))) ⌝ }
 {
     if Record::KEY < prefix.len() {
         return Rows::Refused(Refusal::TooLong);
     }
-    let low = run_start(node, prefix);
-    let high = run_end(node, prefix, low);
+    let run = run_in(node, low, count, prefix);
     Rows::Are {
-        at: start + table::record_place(low),
-        count: high - low,
+        at: start + table::record_place(run.start - low),
+        count: run.end - run.start,
     }
 }
 
-// The records of a node of a good table whose keys begin with the prefix, tombstones too: 2, 1.
-pub fn prefix_rows_good(table: &[u8], number: u64, prefix: &[u8]) -> Rows
-    requires { ⌜ valid (now table) ≡ true ⌝ }
-    ensures { λ r. ⌜ r ≡ prefixRows number (now (prefix .entry)) (decode (now (table .entry))) ⌝ }
+// The records of a node that a party sees and whose keys begin with the prefix, tombstones too, in the area of a good table of a profile: 2, 1.
+fn rows_seen(area: &[u8], profile: Profile, party: Party, number: u64, prefix: &[u8]) -> Rows
+    requires { ⌜ (valid (now area) ≡ true) × (profileObeys profile (decode (now area)) ≡ true) ⌝ }
+    ensures { λ r. ⌜ r ≡ prefixRowsAs profile party number (now (prefix .entry)) (decode (now (area .entry))) ⌝ }
 {
-    match table_read::node_span(table, number) {
-        Span::Held { start, end } => rows_in(&table[start..end], start, prefix),
+    match table_read::node_span(area, number) {
+        Span::Held { start, end } => {
+            let sight = own_rows::sight_of(&area[start..end], profile, party);
+            rows_in(&area[start..end], sight.low, sight.count, start, prefix)
+        }
         Span::Missing => Rows::Refused(Refusal::NoNode),
     }
 }
 
-// The records of a node whose keys begin with the prefix, tombstones too: 14, 2, 1.
-pub fn prefix_rows(table: &[u8], number: u64, prefix: &[u8]) -> Rows
-    ensures { λ r. ⌜ Says rowsTold (lentPrefixRows number (now (prefix .entry)) (now (table .entry))) r ⌝ }
+// The same in a good table: 2, 1.
+pub fn prefix_rows_known(table: &[u8], party: Party, number: u64, prefix: &[u8]) -> Rows
+    requires { ⌜ validWhole (now table) ≡ true ⌝ }
+    ensures { λ r. ⌜ r ≡ lentPrefixRows party number (now (prefix .entry)) (now (table .entry)) ⌝ }
+{
+    let profile = profile_check::profile_of(table);
+    rows_seen(&table[..layout::AREA], profile, party, number, prefix)
+}
+
+// The records of a node that a party sees and whose keys begin with the prefix, tombstones too: 14, 2, 1.
+pub fn prefix_rows(table: &[u8], party: Party, number: u64, prefix: &[u8]) -> Rows
+    ensures { λ r. ⌜ Says rowsTold (lentPrefixRows party number (now (prefix .entry)) (now (table .entry))) r ⌝ }
 {
     if table_check::check_table(table) {
-        prefix_rows_good(&table[..layout::AREA], number, prefix)
+        prefix_rows_known(table, party, number, prefix)
     } else {
         Rows::Refused(Refusal::BadTable)
     }

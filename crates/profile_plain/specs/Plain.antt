@@ -1,10 +1,11 @@
 -- Ticket 8's demand 2: equal to the plain table on every call not refused by it. `freed` is the same table in the free profile: the same bytes with 0 where the
--- profile stands. Of every call of `demand1` but the making of a table, whose tables are valid and which is answered neither 17 nor 18: on the freed tables it tells
--- the same and leaves the same lists, and the tables that it leaves are those freed. So other refusals are the same too. What else is lent may be anything. Two
--- stronger readings are false (proofs/Differs): without "valid", and that a call which is 17 here is accepted there.
+-- profile stands. Of every call of `demand1` but the making of a table, whose tables are valid and not shared and which is answered neither 17 nor 18: on the freed
+-- tables it tells the same and leaves the same lists, and the tables that it leaves are those freed. So other refusals are the same too. What else is lent may be
+-- anything. Three stronger readings are false (proofs/Differs): without "valid", that a call which is 17 here is accepted there, and of a shared table too, since
+-- freed it shows everyone all of it.
 use Prim.Native.Nat.{ℕ, zero, suc, _+_}
 use mathlib.Core.Path.{_≡_}
-use mathlib.Core.Bool.{true}
+use mathlib.Core.Bool.{Bool, true, false, _&&_}
 use mathlib.Core.List.{List, [], _∷_}
 use lib.ListN.{take}
 use Rattle.fields.specs.Choice.{all}
@@ -12,7 +13,9 @@ use Rattle.fields.specs.Numbers.{Bytes}
 use Rattle.fields.specs.Parts.{put}
 use Rattle.rules.specs.Given.{given}
 use Rattle.rules.specs.Layout.{tableWidth}
-use Rattle.rules.specs.Whole.{validWhole}
+use Rattle.rules.specs.Whole.{decodeWhole, validWhole}
+use Rattle.rules.specs.declared.Profile.{Profile}
+use Rattle.rules.specs.declared.Profile.the-variants.{Free, Meter, Shared}
 use Rattle.demand1.specs.Calls as calls
 use Rattle.demand1.specs.Calls.{Call, Kind, leaves, lentTo, tables}
 
@@ -31,21 +34,21 @@ freedCall (calls.new-table t m p) = calls.new-table t m p
 freedCall (calls.add-node t i) = calls.add-node (freed t) i
 freedCall (calls.remove-node t i) = calls.remove-node (freed t) i
 freedCall (calls.last-heartbeat t i) = calls.last-heartbeat (freed t) i
-freedCall (calls.write t k v i wanted now) = calls.write (freed t) k v i wanted now
-freedCall (calls.delete t k i now) = calls.delete (freed t) k i now
-freedCall (calls.delete-after-ttl t k i now) = calls.delete-after-ttl (freed t) k i now
+freedCall (calls.write t k v i wanted now who) = calls.write (freed t) k v i wanted now who
+freedCall (calls.delete t k i now who) = calls.delete (freed t) k i now who
+freedCall (calls.delete-after-ttl t k i now who) = calls.delete-after-ttl (freed t) k i now who
 freedCall (calls.remove-scheduled t now grace) = calls.remove-scheduled (freed t) now grace
 freedCall (calls.offer-heartbeat t i h) = calls.offer-heartbeat (freed t) i h
 freedCall (calls.local-beat t i) = calls.local-beat (freed t) i
-freedCall (calls.find t k i) = calls.find (freed t) k i
-freedCall (calls.list-prefix t k out i) = calls.list-prefix (freed t) k out i
+freedCall (calls.find t k i who) = calls.find (freed t) k i who
+freedCall (calls.list-prefix t k out i who) = calls.list-prefix (freed t) k out i who
 freedCall (calls.new-overrides o i) = calls.new-overrides o i
 freedCall (calls.write-override o k v wanted now) = calls.write-override o k v wanted now
 freedCall (calls.delete-override o k now) = calls.delete-override o k now
 freedCall (calls.delete-override-after-ttl o k now) = calls.delete-override-after-ttl o k now
 freedCall (calls.remove-overrides o now grace) = calls.remove-overrides o now grace
-freedCall (calls.find-over t o k i) = calls.find-over (freed t) o k i
-freedCall (calls.list-over t o k out i) = calls.list-over (freed t) o k out i
+freedCall (calls.find-over t o k i who) = calls.find-over (freed t) o k i who
+freedCall (calls.list-over t o k out i who) = calls.list-over (freed t) o k out i who
 freedCall (calls.new-grid t g) = calls.new-grid (freed t) g
 freedCall (calls.grid-add-node t g i) = calls.grid-add-node (freed t) g i
 freedCall (calls.grid-remove-node t g i) = calls.grid-remove-node (freed t) g i
@@ -57,13 +60,14 @@ freedCall (calls.remove-carefully t g now grace) = calls.remove-carefully (freed
 freedCall (calls.node-count t) = calls.node-count (freed t)
 freedCall (calls.node-number t i) = calls.node-number (freed t) i
 freedCall (calls.node-header t i) = calls.node-header (freed t) i
-freedCall (calls.record-count t i) = calls.record-count (freed t) i
-freedCall (calls.record-at t i j) = calls.record-at (freed t) i j
-freedCall (calls.record-of t i j) = calls.record-of (freed t) i j
-freedCall (calls.record-by-key t k i) = calls.record-by-key (freed t) k i
-freedCall (calls.node-rows t i) = calls.node-rows (freed t) i
-freedCall (calls.prefix-rows t k i) = calls.prefix-rows (freed t) k i
-freedCall (calls.find-text t i j x) = calls.find-text (freed t) i j x
+freedCall (calls.record-count t i who) = calls.record-count (freed t) i who
+freedCall (calls.record-at t i j who) = calls.record-at (freed t) i j who
+freedCall (calls.record-of t i j who) = calls.record-of (freed t) i j who
+freedCall (calls.record-by-key t k i who) = calls.record-by-key (freed t) k i who
+freedCall (calls.node-rows t i who) = calls.node-rows (freed t) i who
+freedCall (calls.front t i who) = calls.front (freed t) i who
+freedCall (calls.prefix-rows t k i who) = calls.prefix-rows (freed t) k i who
+freedCall (calls.find-text t i j x who) = calls.find-text (freed t) i j x who
 freedCall (calls.write-digest t edition excluded datagram place) = calls.write-digest (freed t) edition excluded datagram place
 freedCall (calls.read-digest edition digest) = calls.read-digest edition digest
 freedCall (calls.digest-entry digest edition i) = calls.digest-entry digest edition i
@@ -77,11 +81,20 @@ freedCall (calls.make-delta text out) = calls.make-delta text out
 freedCall (calls.exchange publisher follower edition unasked unsent ties digest delta answers mtu now) =
     calls.exchange (freed publisher) (freed follower) edition unasked unsent ties digest delta answers mtu now
 
+-- a profile that asks for no party, and a valid table of one
+abbrev pub unshared : (profile : Profile) → Bool
+unshared Free = true
+unshared Meter = true
+unshared Shared = false
+
+abbrev pub validUnshared : (table : Bytes) → Bool
+validUnshared l = validWhole l && unshared (decodeWhole l .kind .profile)
+
 -- what is claimed of a call
 abbrev pub AsPlain : {k : Kind} (call : Call k) → Type 0
 AsPlain {k} c = leaves (freedCall c) ≡ given (leaves c .answer) (freedFirst (tables k) (leaves c .lent))
 
 -- and of all of them
 abbrev pub Demand2 : Type 0
-Demand2 = (k : Kind) (c : Call k) → (k ≡ calls.NewTable → ⊥) → all validWhole (take (tables k) (lentTo c)) ≡ true
+Demand2 = (k : Kind) (c : Call k) → (k ≡ calls.NewTable → ⊥) → all validUnshared (take (tables k) (lentTo c)) ≡ true
     → (leaves c .answer .number ≡ 17 → ⊥) → (leaves c .answer .number ≡ 18 → ⊥) → AsPlain c

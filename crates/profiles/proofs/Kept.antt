@@ -11,29 +11,35 @@ use lib.ListN.{length}
 use Rattle.fields.specs.Choice.{pick, all, _∈_, here, later}
 use Rattle.fields.specs.Order.{sameBytes}
 use Rattle.fields.proofs.Choice.{all-from, and-intro, and-left, and-right, in-cons, in-none}
-use Rattle.rules.specs.Sizes.{top}
+use Rattle.rules.specs.Sizes.{maxRecords, top}
 use Rattle.rules.specs.Node.{KeyValue, Rec, Node, Call, Setting, SettingTtl, Deleting, DeletingAfterTtl, Change, Decision, Refuse, Leave, Give, act, allowed, beats, decide, due, find, fullFor, offerOf, sameStatus, scheduled, store, unlessSame, ifThere, wish, withHeartbeat, write}
-use Rattle.rules.specs.Table.{Table, nodeOf, setNode}
+use Rattle.rules.specs.Table.{Table, nodeOf, obeys, setNode}
 use Rattle.rules.specs.Local.{Outcome, beatOn, call, callAs, callOn, gc, gives, localBeat, offer, offerOn, unlessGuarded}
 use Rattle.rules.specs.Local as local
 use Rattle.rules.specs.Delta.{Op, NodeOp, KeyValueOp, SetMaxVersionOp, NodeDelta, Part, partsOf, recsOf, maxOf}
 use Rattle.rules.specs.Apply.{apply, applyEach, applyNode, onNode, outcome, takeAll, takes, stamp, waysIn}
-use Rattle.rules.specs.Profile.{Kind, brings, guardAt, guardIn, inForm, isDigit, maxDigits, meterGuard, meterKey, meterValue, opInForm, profileObeys, recsFormed, sizesFit, smaller}
+use Rattle.rules.specs.Profile.{Kind, kind, brings, guardAt, guardIn, guardOf, inForm, isDigit, maxDigits, meterGuard, meterKey, meterValue, opInForm, profileObeys, recsFit, recsFormed, recsObey, roomyIn, sizesFit, smaller}
 use Rattle.rules.specs.declared.Heartbeat.{Heartbeat}
 use Rattle.rules.specs.declared.Profile.{Profile}
-use Rattle.rules.specs.declared.Profile.the-variants.{Free, Meter}
+use Rattle.rules.specs.declared.Mode.{Mode}
+use Rattle.rules.specs.declared.Party.{Party}
+use Rattle.rules.specs.declared.Profile.the-variants.{Free, Meter, Shared}
 use Rattle.rules.specs.declared.Refusal.{Refusal}
 use Rattle.rules.specs.declared.Refusal.the-variants.{BadForm, Exhausted, NodeFull, SmallerTotal, TooLong}
 use Rattle.rules.specs.declared.Answer.{Answer}
 use Rattle.rules.specs.declared.Answer.the-variants.{Done, Refused}
 use Rattle.rules.specs.declared.Status.{Status}
 use Rattle.rules.specs.declared.Status.the-variants.{Set, Delete, Ttl}
+use Rattle.rules.proofs.Calls.{node-ok-in}
 use Rattle.rules.proofs.Keeps.{find-in}
-use Rattle.rules.proofs.Formed.{free-formed, node-formed, none-formed, removed-formed, set-formed, store-formed}
+use Rattle.rules.proofs.Obeys.{table-facts}
+use Rattle.rules.proofs.Records.{Sorted}
+use Rattle.rules.proofs.Formed.{formed-fit, node-obeys, none-formed, obey-fit, obey-formed, removed-formed, set-formed, store-formed}
 use Rattle.rules.proofs.Tables.{applied-table}
 use Rattle.rules.proofs.Taking.{Came, left, reset, took, came}
 use Rattle.rules.proofs.Writing.{write-as}
 use Rattle.profiles.proofs.Reading.{delta-plain}
+use Rattle.profiles.proofs.Shared.{own-formed, passes, stored-few}
 
 -- ---- applying
 
@@ -52,14 +58,19 @@ module _ (p : Profile) where
 
   -- ---- a node delta
 
-  node-taken : (k : Kind) (now : ℕ) (d : NodeDelta) (n : Node) → all (inForm p) (d .recs) ≡ true → recsFormed p (n .recs) ≡ true → recsFormed p (applyNode (waysIn k) now d n .node .recs) ≡ true
+  fit : (l : List Rec) → roomyIn p l ≡ true → recsFit p l ≡ true
+  fit l e = and-left (recsFit p l) (leb (length l) maxRecords) e
+
+  node-taken : (m : Mode) (now : ℕ) (d : NodeDelta) (n : Node) → all (inForm p) (d .recs) ≡ true → recsObey p (n .recs) ≡ true → recsObey p (applyNode (waysIn (kind m p)) now d n .node .recs) ≡ true
   unfolding outcome
-  node-taken k now d n f h = go _ (came (waysIn k) now d n)
+  node-taken m now d n f h = go _ (came (waysIn (kind m p)) now d n)
     where
-      go : (x : Node) → Came (waysIn k) now d n x → recsFormed p (x .recs) ≡ true
+      go : (x : Node) → Came (waysIn (kind m p)) now d n x → recsObey p (x .recs) ≡ true
       go x left = h
-      go x (reset r) = take-good 0 (d .last-gc) now (d .recs) [] f (none-formed p)
-      go x (took r) = take-good (n .max) (n .last-gc) now (d .recs) (n .recs) f h
+      go x (reset r) = formed-fit p (takeAll 0 (d .last-gc) now (d .recs) []) (take-good 0 (d .last-gc) now (d .recs) [] f (none-formed p)) (fit (takeAll 0 (d .last-gc) now (d .recs) []) (r .roomy))
+      go x (took r) =
+          formed-fit p (takeAll (n .max) (n .last-gc) now (d .recs) (n .recs)) (take-good (n .max) (n .last-gc) now (d .recs) (n .recs) f (obey-formed p (n .recs) h))
+          (fit (takeAll (n .max) (n .last-gc) now (d .recs) (n .recs)) (r .roomy))
 
   -- ---- the node deltas of a delta that was read
 
@@ -83,21 +94,21 @@ module _ (p : Profile) where
 
   -- ---- the table
 
-  each-taken : (k : Kind) (now : ℕ) (xs : List Part) (t : Table) → ((x : Part) → x ∈ xs → all (inForm p) (x .delta .recs) ≡ true) → profileObeys p t ≡ true → profileObeys p (applyEach (applyNode (waysIn k) now) xs t .table) ≡ true
+  each-taken : (m : Mode) (now : ℕ) (xs : List Part) (t : Table) → ((x : Part) → x ∈ xs → all (inForm p) (x .delta .recs) ≡ true) → profileObeys p t ≡ true → profileObeys p (applyEach (applyNode (waysIn (kind m p)) now) xs t .table) ≡ true
   unfolding applyEach
-  each-taken k now [] t f h = h
-  each-taken k now (x ∷ xs) t f h = go (nodeOf (x .number) t) refl (λ u g. each-taken k now xs u (λ y m. f y (later m)) g)
+  each-taken m now [] t f h = h
+  each-taken m now (x ∷ xs) t f h = go (nodeOf (x .number) t) refl (λ u g. each-taken m now xs u (λ y mem. f y (later mem)) g)
     where
-      go : (o : Option Node) → nodeOf (x .number) t ≡ o → ((u : Table) → profileObeys p u ≡ true → profileObeys p (applyEach (applyNode (waysIn k) now) xs u .table) ≡ true)
-          → profileObeys p (onNode (applyNode (waysIn k) now) x o t (applyEach (applyNode (waysIn k) now) xs) .table) ≡ true
+      go : (o : Option Node) → nodeOf (x .number) t ≡ o → ((u : Table) → profileObeys p u ≡ true → profileObeys p (applyEach (applyNode (waysIn (kind m p)) now) xs u .table) ≡ true)
+          → profileObeys p (onNode (applyNode (waysIn (kind m p)) now) x o t (applyEach (applyNode (waysIn (kind m p)) now) xs) .table) ≡ true
       go none q ih = ih t h
-      go (some n) q ih = ih _ (set-formed p (x .number) (applyNode (waysIn k) now (x .delta) n .node) t h (node-taken k now (x .delta) n (f x (here refl)) (node-formed p (x .number) t h q)))
+      go (some n) q ih = ih _ (set-formed p (x .number) (applyNode (waysIn (kind m p)) now (x .delta) n .node) t h (node-taken m now (x .delta) n (f x (here refl)) (node-obeys p (x .number) t h q)))
 
 -- applying keeps the profile's rules, whatever the bytes
 pub apply-formed : (k : Kind) (bytes : List ℕ) (now : ℕ) (t : Table) (l : List ℕ) → profileObeys (k .profile) t ≡ true → profileObeys (k .profile) (apply (waysIn k) bytes now t l .table) ≡ true
 apply-formed k bytes now t l h =
     applied-table (waysIn k) bytes now t l (λ u. profileObeys (k .profile) u ≡ true) h
-    (λ ops q. each-taken (k .profile) k now (partsOf ops) t (parts-form (k .profile) ops (delta-plain (k .profile) bytes ops q .1)) h)
+    (λ ops q. each-taken (k .profile) (k .mode) now (partsOf ops) t (parts-form (k .profile) ops (delta-plain (k .profile) bytes ops q .1)) h)
 
 -- ---- heartbeats and removal
 
@@ -107,14 +118,14 @@ offer-formed p i h t o = go (nodeOf i t) refl
   where
     go : (x : Option Node) → nodeOf i t ≡ x → profileObeys p (offerOn i h x t .table) ≡ true
     go none q = o
-    go (some n) q = set-formed p i (withHeartbeat (offerOf (n .heartbeat) h .heartbeat) n) t o (node-formed p i t o q)
+    go (some n) q = set-formed p i (withHeartbeat (offerOf (n .heartbeat) h .heartbeat) n) t o (node-obeys p i t o q)
 
 pub beat-formed : (p : Profile) (i : ℕ) (t : Table) → profileObeys p t ≡ true → profileObeys p (localBeat i t .table) ≡ true
 unfolding localBeat
 beat-formed p i t o = go (nodeOf i t) refl
   where
     at : (n : Node) → nodeOf i t ≡ some n → (b : Bool) → profileObeys p (pick b (gives Done (setNode i (withHeartbeat (beats (n .heartbeat .0 + 1)) n) t)) (gives (Refused Exhausted) t) .table) ≡ true
-    at n q true = set-formed p i (withHeartbeat (beats (n .heartbeat .0 + 1)) n) t o (node-formed p i t o q)
+    at n q true = set-formed p i (withHeartbeat (beats (n .heartbeat .0 + 1)) n) t o (node-obeys p i t o q)
     at n q false = o
 
     go : (x : Option Node) → nodeOf i t ≡ x → profileObeys p (beatOn i x t .table) ≡ true
@@ -128,9 +139,9 @@ gc-formed p now grace t h = removed-formed p (λ i. due now grace) t h
 -- ---- the local calls
 
 -- by the node's rules
-is-call : (c : Call) (i : ℕ) (k : List ℕ) (t : Table) (P : Outcome Answer → Type 0) → P (unlessGuarded (guardIn Meter c k (nodeOf i t)) (callOn c i k (nodeOf i t) t) t) → P (callAs Meter c i k t)
+is-call : (p : Profile) (q : Party) (c : Call) (i : ℕ) (k : List ℕ) (t : Table) (P : Outcome Answer → Type 0) → P (unlessGuarded (guardIn p q c k (nodeOf i t)) (callOn c i k (nodeOf i t) t) t) → P (callAs p q c i k t)
 unfolding callAs call
-is-call c i k t P x = x
+is-call p q c i k t P x = x
 
 some-none : {A X : Type 0} (x : A) → some x ≡ none → X
 some-none {A} x e = let z : _≡_ {A = ℕ} 0 1 = cc in absurd (omega arith)
@@ -206,37 +217,59 @@ module _ (k : List ℕ) (n : Node) (v : ℕ) (ch : Change) (forms : recsFormed M
           subst (λ (y : Change). inForm Meter (made k v y) ≡ true) (give-is _ ch w)
           (and-intro (meterKey k) (meterValue Ttl (x .kv .value)) (held-form x e .0) (ttl-form (x .kv .status) (x .kv .value) (held-form x e .1)))
 
+-- the record that a change makes is in form, and there is room for it
+module _ (q : Party) (c : Call) (k : List ℕ) (n : Node) (ch : Change) (w : wish c (find k (n .recs)) ≡ Give ch) where
+  abbrev new : Rec
+  new = record { kv = made k (n .max + 1) ch; start = ch .start }
+
+  given-obeys : (p : Profile) → Sorted (n .recs) → recsObey p (n .recs) ≡ true → guardOf p q c k (n .recs) ≡ none → recsObey p (store new (n .recs)) ≡ true
+  given-obeys Free s h g = store-formed Free new (n .recs) refl h
+  given-obeys Meter s h g = store-formed Meter new (n .recs) (meter-form k n (n .max + 1) ch h c w g) h
+  given-obeys Shared s h g =
+      let x = passes k (n .recs) ch q c w g in
+      formed-fit Shared (store new (n .recs)) (store-formed Shared new (n .recs) (own-formed q (made k (n .max + 1) ch) (x .0)) (obey-formed Shared (n .recs) h))
+      (stored-few new (n .recs) s q (x .0) (obey-fit Shared (n .recs) h) (x .1))
+
 -- the records of a node after a call that the guard lets through
-acted : (c : Call) (k : List ℕ) (n : Node) → recsFormed Meter (n .recs) ≡ true → guardAt Meter c k (n .recs) ≡ none → recsFormed Meter (act k (decide c k n) n .recs) ≡ true
+acted : (p : Profile) (q : Party) (c : Call) (k : List ℕ) (n : Node) → Sorted (n .recs) → recsObey p (n .recs) ≡ true → guardAt p q c k (n .recs) ≡ none → recsObey p (act k (decide c k n) n .recs) ≡ true
 unfolding decide act write
-acted c k n h = go (sizesFit c k)
+acted p q c k n s h = go (sizesFit c k)
   where
-    wanted : (d : Decision) → wish c (find k (n .recs)) ≡ d → meterGuard (brings c k) (find k (n .recs)) ≡ none → recsFormed Meter (act k (allowed k n d) n .recs) ≡ true
+    wanted : (d : Decision) → wish c (find k (n .recs)) ≡ d → guardOf p q c k (n .recs) ≡ none → recsObey p (act k (allowed k n d) n .recs) ≡ true
     wanted (Refuse r) w g = h
     wanted Leave w g = h
     wanted (Give ch) w g = at (fullFor (find k (n .recs)) n) (ltb (n .max) top)
       where
-        at : (a b : Bool) → recsFormed Meter (act k (pick a (Refuse NodeFull) (pick b (Give ch) (Refuse Exhausted))) n .recs) ≡ true
+        at : (a b : Bool) → recsObey p (act k (pick a (Refuse NodeFull) (pick b (Give ch) (Refuse Exhausted))) n .recs) ≡ true
         at true b = h
-        at false true = store-formed Meter (record { kv = made k (n .max + 1) ch; start = ch .start }) (n .recs) (meter-form k n (n .max + 1) ch h c w g) h
+        at false true = given-obeys q c k n ch w p s h g
         at false false = h
 
-    go : (a : Bool) → pick a (meterGuard (brings c k) (find k (n .recs))) none ≡ none → recsFormed Meter (act k (pick a (allowed k n (wish c (find k (n .recs)))) (Refuse TooLong)) n .recs) ≡ true
+    go : (a : Bool) → pick a (guardOf p q c k (n .recs)) none ≡ none → recsObey p (act k (pick a (allowed k n (wish c (find k (n .recs)))) (Refuse TooLong)) n .recs) ≡ true
     go true g = wanted (wish c (find k (n .recs))) refl g
     go false g = h
 
-pub call-formed : (p : Profile) (c : Call) (i : ℕ) (k : List ℕ) (t : Table) → profileObeys p t ≡ true → profileObeys p (callAs p c i k t .table) ≡ true
-call-formed Free c i k t h = free-formed (callAs Free c i k t .table)
-call-formed Meter c i k t h = meter-call
+-- the keys of a table that obeys document 01's rules rise
+sorted-in : (i : ℕ) (t : Table) {n : Node} → obeys t ≡ true → nodeOf i t ≡ some n → Sorted (n .recs)
+sorted-in i t o e = node-ok-in i t (table-facts t o) e .sorted
+
+at-guard : (p : Profile) (q : Party) (c : Call) (k : List ℕ) (n : Node) → guardIn p q c k (some n) ≡ none → guardAt p q c k (n .recs) ≡ none
+at-guard Free q c k n e = free-guard (sizesFit c k)
   where
-    on : (o : Option Node) → nodeOf i t ≡ o → (g : Option Refusal) → guardIn Meter c k o ≡ g → profileObeys Meter (unlessGuarded g (callOn c i k o t) t .table) ≡ true
-    on o q (some r) e = h
-    on none q none e = h
-    on (some n) q none e = set-formed Meter i (act k (decide c k n) n) t h (acted c k n (node-formed Meter i t h q) e)
+    free-guard : (b : Bool) → _≡_ {A = Option Refusal} (pick b none none) none
+    free-guard true = refl
+    free-guard false = refl
+at-guard Meter q c k n e = e
+at-guard Shared q c k n e = e
 
-    meter-call : profileObeys Meter (callAs Meter c i k t .table) ≡ true
-    meter-call = is-call c i k t (λ o. profileObeys Meter (o .table) ≡ true) (on (nodeOf i t) refl (guardIn Meter c k (nodeOf i t)) refl)
+pub call-formed : (p : Profile) (q : Party) (c : Call) (i : ℕ) (k : List ℕ) (t : Table) → obeys t ≡ true → profileObeys p t ≡ true → profileObeys p (callAs p q c i k t .table) ≡ true
+call-formed p q c i k t ok h = is-call p q c i k t (λ o. profileObeys p (o .table) ≡ true) (on (nodeOf i t) refl (guardIn p q c k (nodeOf i t)) refl)
+  where
+    on : (o : Option Node) → nodeOf i t ≡ o → (g : Option Refusal) → guardIn p q c k o ≡ g → profileObeys p (unlessGuarded g (callOn c i k o t) t .table) ≡ true
+    on o e (some r) f = h
+    on none e none f = h
+    on (some n) e none f = set-formed p i (act k (decide c k n) n) t h (acted p q c k n (sorted-in i t ok e) (node-obeys p i t h e) (at-guard p q c k n f))
 
-pub write-formed : (p : Profile) (wanted : ℕ) (v : List ℕ) (now i : ℕ) (k : List ℕ) (t : Table) → profileObeys p t ≡ true → profileObeys p (local.writeAs p wanted v now i k t .table) ≡ true
-write-formed p wanted v now i k t h =
-    write-as p wanted v now i k t (λ o. profileObeys p (o .table) ≡ true) (call-formed p (Setting v) i k t h) (call-formed p (SettingTtl v now) i k t h) h
+pub write-formed : (p : Profile) (q : Party) (wanted : ℕ) (v : List ℕ) (now i : ℕ) (k : List ℕ) (t : Table) → obeys t ≡ true → profileObeys p t ≡ true → profileObeys p (local.writeAs p q wanted v now i k t .table) ≡ true
+write-formed p q wanted v now i k t ok h =
+    write-as p q wanted v now i k t (λ o. profileObeys p (o .table) ≡ true) (call-formed p q (Setting v) i k t ok h) (call-formed p q (SettingTtl v now) i k t ok h) h

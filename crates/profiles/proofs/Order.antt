@@ -17,6 +17,7 @@ use Rattle.rules.specs.Node.{KeyValue, Rec, Node, Change, Call, Setting, Settin
 use Rattle.rules.specs.Table.{Table, nodeOf, setNode}
 use Rattle.rules.specs.Local.{answerOf, call, callAs, callOn, gives, unlessGuarded}
 use Rattle.rules.specs.Profile.{brings, guardAt, guardIn, inForm, meterGuard, numeral, smaller, totalKey}
+use Rattle.rules.specs.declared.Party.{Party}
 use Rattle.rules.specs.declared.Profile.the-variants.{Meter}
 use Rattle.rules.specs.declared.Refusal.{Refusal}
 use Rattle.rules.specs.declared.Refusal.the-variants.{TooLong, BadForm, SmallerTotal}
@@ -74,9 +75,9 @@ unfolding wish
 ttl-wish v now o = refl
 
 -- of a node
-decided : (c : Call) (k : List ℕ) (n : Node) → onGuard (guardAt Meter c k (n .recs)) (decide c k n) ≡ decideMeter c k n
+decided : (q : Party) (c : Call) (k : List ℕ) (n : Node) → onGuard (guardAt Meter q c k (n .recs)) (decide c k n) ≡ decideMeter c k n
 unfolding decideMeter decide
-decided c k n = go (leb (length k) maxKey && leb (length (brought c)) maxValue)
+decided q c k n = go (leb (length k) maxKey && leb (length (brought c)) maxValue)
   where
     written : (c : Call) (r : KeyValue) (ch : Change) → brings c k ≡ some r → ch .value ≡ r .value → ((o : Option Rec) → wish c o ≡ unlessSame o ch)
         → onGuard (meterGuard (brings c k) (find k (n .recs))) (allowed k n (wish c (find k (n .recs))))
@@ -105,13 +106,13 @@ decided c k n = go (leb (length k) maxKey && leb (length (brought c)) maxValue)
     go false = refl
 
 -- and of the table
-pub meter-order : (c : Call) (i : ℕ) (k : List ℕ) (t : Table) (n : Node) → nodeOf i t ≡ some n
-    → callAs Meter c i k t ≡ gives (answerOf (decideMeter c k n)) (setNode i (act k (decideMeter c k n) n) t)
+pub meter-order : (q : Party) (c : Call) (i : ℕ) (k : List ℕ) (t : Table) (n : Node) → nodeOf i t ≡ some n
+    → callAs Meter q c i k t ≡ gives (answerOf (decideMeter c k n)) (setNode i (act k (decideMeter c k n) n) t)
 unfolding callAs call act
-meter-order c i k t n q =
-    ap (λ (o : Option Node). unlessGuarded (guardIn Meter c k o) (callOn c i k o t) t) q
-    ∙ go (guardAt Meter c k (n .recs)) (decide c k n)
-    ∙ ap (λ (d : Decision). gives (answerOf d) (setNode i (act k d n) t)) (decided c k n)
+meter-order p c i k t n q =
+    ap (λ (o : Option Node). unlessGuarded (guardIn Meter p c k o) (callOn c i k o t) t) q
+    ∙ go (guardAt Meter p c k (n .recs)) (decide c k n)
+    ∙ ap (λ (d : Decision). gives (answerOf d) (setNode i (act k d n) t)) (decided p c k n)
   where
     go : (g : Option Refusal) (d : Decision) → unlessGuarded g (gives (answerOf d) (setNode i (act k d n) t)) t ≡ gives (answerOf (onGuard g d)) (setNode i (act k (onGuard g d) n) t)
     go none d = refl

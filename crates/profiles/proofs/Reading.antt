@@ -11,8 +11,8 @@ use Rattle.fields.proofs.Choice.{and-intro, and-left, and-right}
 use Rattle.rules.specs.Sizes.{maxDelta}
 use Rattle.rules.specs.Delta.{Op, NodeOp, KeyValueOp, SetMaxVersionOp, OpRead, Got, Bad, Reading, nothingRead, Followed, Next, Fault, follow, Ops, Good, Faulty, andThen, onFollowed, onRead, readOp, readOps, readDelta}
 use Rattle.rules.specs.declared.Refusal.{Refusal}
-use Rattle.rules.specs.declared.Refusal.the-variants.{BadForm, TooMany}
-use Rattle.rules.specs.Profile.{opInForm, andForm, onReadAs, readOpsAs, readDeltaAs}
+use Rattle.rules.specs.declared.Refusal.the-variants.{TooMany}
+use Rattle.rules.specs.Profile.{opInForm, oddNumber, andForm, onReadAs, readOpsAs, readDeltaAs}
 use Rattle.rules.specs.declared.Profile.{Profile}
 use Rattle.rules.specs.declared.Profile.the-variants.{Free}
 
@@ -45,11 +45,11 @@ module _ (p : Profile) where
       Next-one = (s′ : Reading) (rest : List ℕ) (os : List Op) → readOpsAs p n (at + (length (b ∷ l) - length rest)) s′ rest ≡ Good os → Both (readOps n (at + (length (b ∷ l) - length rest)) s′ rest) os
 
       on : (o : Op) (rest : List ℕ) (f : Followed) (x : Bool) → opInForm p o ≡ x
-          → onFollowed at o (λ s′. readOpsAs p n (at + (length (b ∷ l) - length rest)) s′ rest) (andForm x f) ≡ Good ops → Next-one
+          → onFollowed at o (λ s′. readOpsAs p n (at + (length (b ∷ l) - length rest)) s′ rest) (andForm p x f) ≡ Good ops → Next-one
           → Both (onFollowed at o (λ s′. readOps n (at + (length (b ∷ l) - length rest)) s′ rest) f) ops
       on o rest (Fault r) x q e ih = bad-good r at ops e
       on o rest (Next s′) true q e ih = and-then o _ _ ops q (ih s′ rest) e
-      on o rest (Next s′) false q e ih = bad-good BadForm at ops e
+      on o rest (Next s′) false q e ih = bad-good (oddNumber p) at ops e
 
       go : (r : OpRead) → onReadAs p at s (λ s′ rest. readOpsAs p n (at + (length (b ∷ l) - length rest)) s′ rest) r ≡ Good ops → Next-one
           → Both (onRead at s (λ s′ rest. readOps n (at + (length (b ∷ l) - length rest)) s′ rest) r) ops
@@ -79,7 +79,7 @@ module _ (p : Profile) where
 
       on : (o : Op) (rest : List ℕ) (g : Followed)
           → onFollowed at o (λ s′. readOps n (at + (length (b ∷ l) - length rest)) s′ rest) g ≡ Good ops → Next-one
-          → onFollowed at o (λ s′. readOpsAs p n (at + (length (b ∷ l) - length rest)) s′ rest) (andForm (opInForm p o) g) ≡ Good ops
+          → onFollowed at o (λ s′. readOpsAs p n (at + (length (b ∷ l) - length rest)) s′ rest) (andForm p (opInForm p o) g) ≡ Good ops
       on o rest (Fault r) e ih = bad-good r at ops e
       on o rest (Next s′) e ih = let z = and-back o (readOps n (at + (length (b ∷ l) - length rest)) s′ rest) (readOpsAs p n (at + (length (b ∷ l) - length rest)) s′ rest) ops f (ih s′ rest) e in rw (z .0) (z .1)
 
@@ -117,7 +117,7 @@ module _ (p : Profile) where
 
 -- ---- the free profile
 
-free-follows : (f : Followed) → andForm true f ≡ f
+free-follows : (f : Followed) → andForm Free true f ≡ f
 free-follows (Next s) = refl
 free-follows (Fault r) = refl
 
@@ -142,7 +142,7 @@ read-free (suc n) at s (b ∷ l) = go (readOp (b ∷ l)) (λ s′ rest. read-fre
         → onReadAs Free at s (λ s′ rest. readOpsAs Free n (at + (length (b ∷ l) - length rest)) s′ rest) r ≡ onRead at s (λ s′ rest. readOps n (at + (length (b ∷ l) - length rest)) s′ rest) r
     go (Bad r) ih = refl
     go (Got o rest) ih =
-        ap (λ (x : Bool). onFollowed at o (λ s′. readOpsAs Free n (at + (length (b ∷ l) - length rest)) s′ rest) (andForm x (follow s o))) (free-op o)
+        ap (λ (x : Bool). onFollowed at o (λ s′. readOpsAs Free n (at + (length (b ∷ l) - length rest)) s′ rest) (andForm Free x (follow s o))) (free-op o)
         ∙ ap (onFollowed at o (λ s′. readOpsAs Free n (at + (length (b ∷ l) - length rest)) s′ rest)) (free-follows (follow s o))
         ∙ on o rest (follow s o) ih
 

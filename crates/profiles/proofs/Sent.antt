@@ -1,4 +1,4 @@
--- What computing makes of a table whose records are in a form is in that form: so a table of the same profile never refuses it with 17. Assumes nothing.
+-- What computing makes of a table whose records are in a form is in that form: so a table of the same profile never refuses it with 17 or 19. Assumes nothing.
 use Prim.Native.Nat.{ℕ, _-_, _≤_}
 use mathlib.Core.Bool.{Bool, true, false}
 use mathlib.Core.List.{List, [], _∷_, _++_}
@@ -12,9 +12,10 @@ use Rattle.rules.specs.Table.{Entry, Table, obeys}
 use Rattle.rules.specs.Delta.{Good, KeyValueOp, NodeOp, Op, SetMaxVersionOp, deltaBytes, sizeOf}
 use Rattle.rules.specs.Digest.{NodeDigest}
 use Rattle.rules.specs.Compute.{StaleNode, allOps, bodyOps, cut, deltaFor, fromFor, keyValueOps, ordered, staleNodes, staleOf, unlessMax}
-use Rattle.rules.specs.Profile.{inForm, opInForm, profileObeys, readDeltaAs, recsFormed}
+use Rattle.rules.specs.Profile.{inForm, opInForm, profileObeys, readDeltaAs, recsFormed, tableFormed}
 use Rattle.rules.specs.declared.Profile.{Profile}
 use Rattle.rules.proofs.Accepted.{read-computed}
+use Rattle.rules.proofs.Formed.{table-formed}
 use Rattle.rules.proofs.Stale.{stale-from}
 use Rattle.rules.proofs.Tables.{behind-from, ordered-from}
 use Rattle.profiles.proofs.Reading.{delta-formed}
@@ -64,16 +65,20 @@ module _ (p : Profile) where
   all-formed (s ∷ ss) f =
       append-formed (bodyOps (s .node .max) (staleOf s)) (allOps ss) (body-formed (s .node .max) (staleOf s) (stale-formed s (f s (here refl)))) (all-formed ss (λ x m. f x (later m)))
 
-  module _ (excluded ties : List ℕ) (ds : List NodeDigest) (t : Table) (h : profileObeys p t ≡ true) where
-    pub delta-in-form : (mtu : ℕ) → all (opInForm p) (deltaFor excluded ties mtu ds t) ≡ true
-    unfolding deltaFor profileObeys
-    delta-in-form mtu = cut-formed mtu (allOps (ordered (staleNodes excluded ds ties t))) (all-formed (ordered (staleNodes excluded ds ties t)) each)
+  module _ (excluded ties : List ℕ) (ds : List NodeDigest) (t : Table) where
+    -- its forms are enough, however many the records are
+    pub sent-in-form : tableFormed p t ≡ true → (mtu : ℕ) → all (opInForm p) (deltaFor excluded ties mtu ds t) ≡ true
+    unfolding deltaFor tableFormed
+    sent-in-form h mtu = cut-formed mtu (allOps (ordered (staleNodes excluded ds ties t))) (all-formed (ordered (staleNodes excluded ds ties t)) each)
       where
         each : (s : StaleNode) → s ∈ ordered (staleNodes excluded ds ties t) → recsFormed p (s .node .recs) ≡ true
         each s m =
             let x = behind-from excluded ds ties t (ordered-from (staleNodes excluded ds ties t) m) in
             subst (λ (n : Node). recsFormed p (n .recs) ≡ true) (sym (x .node-is)) (all-from (λ (e : Entry). recsFormed p (e .node .recs)) t h (x .entry) (x .held))
 
+    pub delta-in-form : profileObeys p t ≡ true → (mtu : ℕ) → all (opInForm p) (deltaFor excluded ties mtu ds t) ≡ true
+    delta-in-form h mtu = sent-in-form (table-formed p t h) mtu
+
     -- so a table of the profile reads it
-    pub computed-as : obeys t ≡ true → (mtu : ℕ) → mtu ≤ maxDelta → readDeltaAs p (deltaBytes (deltaFor excluded ties mtu ds t)) ≡ Good (deltaFor excluded ties mtu ds t)
-    computed-as o mtu m = delta-formed p (deltaBytes (deltaFor excluded ties mtu ds t)) (deltaFor excluded ties mtu ds t) (delta-in-form mtu) (read-computed excluded ties ds t o mtu m)
+    pub computed-as : profileObeys p t ≡ true → obeys t ≡ true → (mtu : ℕ) → mtu ≤ maxDelta → readDeltaAs p (deltaBytes (deltaFor excluded ties mtu ds t)) ≡ Good (deltaFor excluded ties mtu ds t)
+    computed-as h o mtu m = delta-formed p (deltaBytes (deltaFor excluded ties mtu ds t)) (deltaFor excluded ties mtu ds t) (delta-in-form h mtu) (read-computed excluded ties ds t o mtu m)

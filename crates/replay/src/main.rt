@@ -10,6 +10,7 @@ use replay_words::print;
 use replay_words::read;
 use replay_words::read::Count;
 use replay_words::verbs;
+use rules::Party;
 
 // Room for output. It is written once it holds ENOUGH; the longest answer, a digest in the longest datagram, has 65,555 bytes and fits behind.
 const OUT: usize = 131072;
@@ -130,7 +131,14 @@ fn call(
     match verb {
         verbs::WRITE..=verbs::LIST => {
             let table = read::front_mut(room, desk.lent());
-            desk.with_out(replay_local::key_call(table, verb, line, out, at))
+            desk.with_out(replay_local::key_call(
+                table,
+                Party::of_number(desk.party),
+                verb,
+                line,
+                out,
+                at,
+            ))
         }
         verbs::ADD..=verbs::GC => {
             let table = read::front_mut(room, desk.lent());
@@ -142,6 +150,7 @@ fn call(
         }
         verbs::OVERRIDES => replay_desk::new_overrides(desk, room, read::word(line, 1), out),
         verbs::KIND => replay_desk::make_kind(desk, room, line, out),
+        verbs::PARTY => replay_desk::party(desk, read::word(line, 1), out),
         verbs::LABEL..=verbs::GC_LABELS => {
             let table = read::front_mut(room, desk.lent());
             desk.with_out(replay_over::label_call(table, verb, line, out, at))
@@ -170,6 +179,7 @@ fn over_call(desk: Desk, verb: usize, tables: &[u8], line: &[u8], out: &mut [u8]
                 return desk.with_out(replay_over::over_call(
                     overrides,
                     table,
+                    Party::of_number(desk.party),
                     verb,
                     line,
                     out,

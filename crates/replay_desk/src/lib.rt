@@ -25,10 +25,11 @@ pub const GRID: usize = grid_layout::GRID + 1;
 
 pub const GRIDS: usize = 4 * GRID;
 
-// The current hub, how many bytes of each hub's rooms are its lent table and its lent grid, the lengths of the last digest and the last delta, and the output
-// so far.
+// The current hub and party, how many bytes of each hub's rooms are its lent table and its lent grid, the lengths of the last digest and the last delta, and
+// the output so far.
 pub struct Desk {
     pub hub: u64,
+    pub party: u64,
     pub first: usize,
     pub second: usize,
     pub third: usize,
@@ -43,10 +44,11 @@ pub struct Desk {
 }
 
 impl Desk {
-    // All tables are empty, and all grids are of empty tables: without a column, and nobody is present.
+    // All tables are empty, and all grids are of empty tables: without a column, and nobody is present. Nobody calls.
     pub fn new() -> Self {
         Desk {
             hub: 0,
+            party: 0,
             first: layout::TABLE,
             second: layout::TABLE,
             third: layout::TABLE,
@@ -205,6 +207,16 @@ fn hub(desk: Desk, line: &[u8], out: &mut [u8]) -> Desk {
     desk
 }
 
+// From now on this party calls, by its number; any number is a party's or nobody's.
+pub fn party(before: Desk, word: &[u8], out: &mut [u8]) -> Desk {
+    let Numeral::Is(n) = read::number(word) else {
+        return before;
+    };
+    let mut desk = before;
+    desk.party = n;
+    done(desk, out)
+}
+
 // An empty table in this mode, of this profile, in the first bytes of the room.
 fn new_table(desk: Desk, mode: Mode, profile: Profile, room: &mut [u8], out: &mut [u8]) -> Desk {
     let answer = nodes::new_table(read::front_mut(room, layout::TABLE), mode, profile);
@@ -248,6 +260,9 @@ pub fn make_kind(desk: Desk, room: &mut [u8], line: &[u8], out: &mut [u8]) -> De
     }
     if n == 1 {
         return make_table(desk, mode, Profile::Meter, room, out);
+    }
+    if n == 2 {
+        return make_table(desk, mode, Profile::Shared, room, out);
     }
     let next = replay_tell::answer(out, desk.out, Answer::Refused(Refusal::BadTable));
     desk.with_out(next)

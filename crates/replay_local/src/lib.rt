@@ -8,6 +8,7 @@ use replay_words::read::Numeral;
 use replay_words::verbs;
 use rules::Heartbeat;
 use rules::Listed;
+use rules::Party;
 
 // The longest key or value of a script.
 const TEXT: usize = 256;
@@ -50,10 +51,22 @@ pub fn plain_call(table: &mut [u8], verb: usize, line: &[u8], out: &mut [u8], at
 
 // ---- calls at a key
 
-fn look_up(table: &[u8], number: u64, key: &[u8], out: &mut [u8], at: usize) -> usize {
-    match lookup::find(table, number, key) {
+fn look_up(
+    table: &[u8],
+    party: Party,
+    number: u64,
+    key: &[u8],
+    out: &mut [u8],
+    at: usize,
+) -> usize {
+    match lookup::find(table, party, number, key) {
         Found::At { start: _, len: _ } => {
-            replay_tell::named(out, at, b"value ", lookup::lookup(table, number, key))
+            replay_tell::named(
+                out,
+                at,
+                b"value ",
+                lookup::lookup(table, party, number, key),
+            )
         }
         Found::Nothing => print::text(out, at, b"none"),
         Found::Refused(refusal) => replay_tell::refused(out, at, refusal),
@@ -80,19 +93,28 @@ fn tell_hits(listed: Listed, hits: &[u8], out: &mut [u8], at: usize) -> usize {
 }
 
 // A listing into as many of the lent places as the word says.
-fn list(table: &[u8], number: u64, prefix: &[u8], word: &[u8], out: &mut [u8], at: usize) -> usize {
+fn list(
+    table: &[u8],
+    party: Party,
+    number: u64,
+    prefix: &[u8],
+    word: &[u8],
+    out: &mut [u8],
+    at: usize,
+) -> usize {
     let Numeral::Is(places) = read::number(word) else {
         return at;
     };
     let mut hits = [marks::MARK; PLACES];
     let lent = read::front_mut(&mut hits, places as usize);
-    let listed = prefix::list_prefix(table, number, prefix, lent);
+    let listed = prefix::list_prefix(table, party, number, prefix, lent);
     tell_hits(listed, &hits, out, at)
 }
 
 // The write: behind the key come the value, the wanted status as any number, and the time.
 fn write(
     table: &mut [u8],
+    party: Party,
     number: u64,
     key: &[u8],
     line: &[u8],
@@ -110,13 +132,22 @@ fn write(
         return at;
     };
     let wanted = local::wanted(status);
-    let answer = local::write(table, number, key, read::front(&value, n), wanted, clock);
+    let answer = local::write(
+        table,
+        party,
+        number,
+        key,
+        read::front(&value, n),
+        wanted,
+        clock,
+    );
     replay_tell::answer(out, at, answer)
 }
 
 // The deletes.
 fn delete(
     table: &mut [u8],
+    party: Party,
     verb: usize,
     number: u64,
     key: &[u8],
@@ -128,13 +159,18 @@ fn delete(
         return at;
     };
     if verb == verbs::DELETE {
-        return replay_tell::answer(out, at, local::delete(table, number, key, clock));
+        return replay_tell::answer(out, at, local::delete(table, party, number, key, clock));
     }
-    replay_tell::answer(out, at, local::delete_after_ttl(table, number, key, clock))
+    replay_tell::answer(
+        out,
+        at,
+        local::delete_after_ttl(table, party, number, key, clock),
+    )
 }
 
 fn at_key(
     table: &mut [u8],
+    party: Party,
     verb: usize,
     number: u64,
     key: &[u8],
@@ -144,14 +180,21 @@ fn at_key(
 ) -> usize {
     let word = read::word(line, 3);
     match verb {
-        verbs::GET => look_up(table, number, key, out, at),
-        verbs::LIST => list(table, number, key, word, out, at),
-        verbs::WRITE => write(table, number, key, line, out, at),
-        _ => delete(table, verb, number, key, word, out, at),
+        verbs::GET => look_up(table, party, number, key, out, at),
+        verbs::LIST => list(table, party, number, key, word, out, at),
+        verbs::WRITE => write(table, party, number, key, line, out, at),
+        _ => delete(table, party, verb, number, key, word, out, at),
     }
 }
 
-pub fn key_call(table: &mut [u8], verb: usize, line: &[u8], out: &mut [u8], at: usize) -> usize {
+pub fn key_call(
+    table: &mut [u8],
+    party: Party,
+    verb: usize,
+    line: &[u8],
+    out: &mut [u8],
+    at: usize,
+) -> usize {
     let Numeral::Is(number) = read::number(read::word(line, 1)) else {
         return at;
     };
@@ -159,5 +202,14 @@ pub fn key_call(table: &mut [u8], verb: usize, line: &[u8], out: &mut [u8], at: 
     let Count::Is(n) = read::bytes(read::word(line, 2), &mut key) else {
         return at;
     };
-    at_key(table, verb, number, read::front(&key, n), line, out, at)
+    at_key(
+        table,
+        party,
+        verb,
+        number,
+        read::front(&key, n),
+        line,
+        out,
+        at,
+    )
 }

@@ -8,6 +8,7 @@ use replay_words::read;
 use replay_words::read::Count;
 use replay_words::read::Numeral;
 use replay_words::verbs;
+use rules::Party;
 use rules::Refusal;
 
 // The longest key or value of a script.
@@ -114,23 +115,24 @@ fn refused(out: &mut [u8], at: usize, which: Which, why: Refusal) -> usize {
 fn look_up<'a>(
     overrides: &'a [u8],
     table: &'a [u8],
+    party: Party,
     number: u64,
     key: &[u8],
     out: &mut [u8],
     at: usize,
 ) -> usize {
-    match over_find::find_over(overrides, table, number, key) {
+    match over_find::find_over(overrides, table, party, number, key) {
         FoundOver::InOverrides { start: _, len: _ } => replay_tell::named(
             out,
             at,
             b"label ",
-            over_find::lookup_over(overrides, table, number, key),
+            over_find::lookup_over(overrides, table, party, number, key),
         ),
         FoundOver::InTable { start: _, len: _ } => replay_tell::named(
             out,
             at,
             b"value ",
-            over_find::lookup_over(overrides, table, number, key),
+            over_find::lookup_over(overrides, table, party, number, key),
         ),
         FoundOver::Nothing => print::text(out, at, b"none"),
         FoundOver::Refused { which, why } => refused(out, at, which, why),
@@ -160,6 +162,7 @@ fn tell_hits(listed: ListedOver, hits: &[u8], out: &mut [u8], at: usize) -> usiz
 fn list(
     overrides: &[u8],
     table: &[u8],
+    party: Party,
     number: u64,
     prefix: &[u8],
     word: &[u8],
@@ -171,7 +174,7 @@ fn list(
     };
     let mut hits = [marks::MARK; PLACES];
     let lent = read::front_mut(&mut hits, places as usize);
-    let listed = over_list::list_over(overrides, table, number, prefix, lent);
+    let listed = over_list::list_over(overrides, table, party, number, prefix, lent);
     tell_hits(listed, &hits, out, at)
 }
 
@@ -179,6 +182,7 @@ fn list(
 pub fn over_call<'a>(
     overrides: &'a [u8],
     table: &'a [u8],
+    party: Party,
     verb: usize,
     line: &[u8],
     out: &mut [u8],
@@ -192,11 +196,20 @@ pub fn over_call<'a>(
         return at;
     };
     if verb == verbs::GET_OVER {
-        return look_up(overrides, table, number, read::front(&key, n), out, at);
+        return look_up(
+            overrides,
+            table,
+            party,
+            number,
+            read::front(&key, n),
+            out,
+            at,
+        );
     }
     list(
         overrides,
         table,
+        party,
         number,
         read::front(&key, n),
         read::word(line, 4),

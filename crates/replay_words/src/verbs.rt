@@ -84,10 +84,12 @@ pub const TELL: usize = 39;
 
 pub const KIND: usize = 40;
 
-pub const NOTHING: usize = 41;
+pub const PARTY: usize = 41;
+
+pub const NOTHING: usize = 42;
 
 // How many words a line of each call has.
-const WORDS: [usize; 41] = [
+const WORDS: [usize; 42] = [
     6,
     4,
     4,
@@ -129,6 +131,7 @@ const WORDS: [usize; 41] = [
     3,
     4,
     3,
+    2,
 ];
 
 // The call of the line. One with another count of words than its call has asks for none.
@@ -136,7 +139,7 @@ pub fn asked(line: &[u8]) -> usize {
     let names =
         b"write delete deletettl get list add remove removed beat offer gc new make hub table dump digest readdigest readdelta compute plan planfault apply \
         overrides label unlabel unlabelttl gclabels getover listover newgrid grid dumpgrid \
-        gridadd gridremove takeout least told careful tell kind";
+        gridadd gridremove takeout least told careful tell kind party";
     let verb = read::place_of(names, read::word(line, 0));
     if NOTHING <= verb {
         return NOTHING;

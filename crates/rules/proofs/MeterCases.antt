@@ -20,6 +20,7 @@ use Rattle.rules.specs.Profile.{kind, meterKey, meterValue, numeral, rea
 use Rattle.rules.specs.Sizes.{top}
 use Rattle.rules.specs.Table.{Table, among, nodeOf, setNode}
 use Rattle.rules.specs.declared.Mode.the-variants.{Plain}
+use Rattle.rules.specs.declared.Party.the-variants.{Nobody}
 use Rattle.rules.specs.declared.Profile.the-variants.{Meter}
 use Rattle.rules.specs.declared.Status.{Status}
 use Rattle.rules.specs.declared.Status.the-variants.{Set, Delete, Ttl}
@@ -45,7 +46,7 @@ holding m l = record { number = 7; node = record { heartbeat = beats 0; max = m;
 
 -- the answer's number
 abbrev said : Call → List ℕ → Table → List ℕ
-said c k t = answerTold (callAs Meter c 7 k t .answer) .number ∷ []
+said c k t = answerTold (callAs Meter Nobody c 7 k t .answer) .number ∷ []
 
 -- at `total`, which holds this value under this status
 abbrev overTotal : Call → List ℕ → Status → List ℕ

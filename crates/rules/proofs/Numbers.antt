@@ -24,6 +24,7 @@ use Rattle.rules.specs.Node.{Deleting, Node, Rec, Setting, act, beats, d
 use Rattle.rules.specs.Sizes.{top}
 use Rattle.rules.specs.Table.{Table, addNode, among, differ, dropNode, nodeOf, numbersOf, obeys, rising, setNode}
 use Rattle.rules.specs.declared.NodeAnswer.the-variants as node
+use Rattle.rules.specs.declared.Party.the-variants.{Nobody}
 use Rattle.rules.specs.declared.Profile.the-variants.{Meter}
 use Rattle.rules.specs.declared.Status.the-variants.{Set}
 
@@ -122,8 +123,8 @@ rows =
     -- 15: tie list not one a node
     ∷ row (computedTold (compute 0 [] (0 ∷ []) 100 0 [] [] (zeros 100) .answer)) 15 []
     -- 17: a write out of form, 18: a smaller total
-    ∷ row (answerTold (callAs Meter (Setting []) 7 totalKey (holding fresh) .answer)) 17 []
-    ∷ row (answerTold (callAs Meter (Setting (54 ∷ [])) 7 totalKey (holding (at 0 1 (record { kv = record { key = totalKey; value = 55 ∷ []; version = 1; status = Set }; start = 0 } ∷ []))) .answer)) 18 []
+    ∷ row (answerTold (callAs Meter Nobody (Setting []) 7 totalKey (holding fresh) .answer)) 17 []
+    ∷ row (answerTold (callAs Meter Nobody (Setting (54 ∷ [])) 7 totalKey (holding (at 0 1 (record { kv = record { key = totalKey; value = 55 ∷ []; version = 1; status = Set }; start = 0 } ∷ []))) .answer)) 18 []
     -- 20: no such edition, before all that is asked of the datagram and the MTU
     ∷ row (writtenTold (writeDigest 2 [] 0 [] [] .answer)) 20 []
     ∷ row (computedTold (compute 2 [] [] 99 0 [] [] [] .answer)) 20 []

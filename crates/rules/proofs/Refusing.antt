@@ -28,6 +28,7 @@ use Rattle.rules.specs.declared.Answer.{Answer}
 use Rattle.rules.specs.declared.Computed.{Computed}
 use Rattle.rules.specs.declared.Heartbeat.{Heartbeat}
 use Rattle.rules.specs.declared.Listed.{Listed}
+use Rattle.rules.specs.declared.Party.{Party}
 use Rattle.rules.specs.declared.Profile.{Profile}
 use Rattle.rules.specs.declared.Refusal.{Refusal}
 use Rattle.rules.specs.declared.Refusal.the-variants.{BadEdition, BadMtu, BadTable, BadTies, Exhausted, NinthNode, NoNode, NoPlace, TooLong}
@@ -96,12 +97,12 @@ write-refused wanted v now i k t r =
     write-is wanted v now i k t (λ o. o .answer ≡ plain.Refused r → o .table ≡ t) (call-refused (Setting v) i k t r) (call-refused (SettingTtl v now) i k t r) (λ e. refl)
 
 -- and in a profile
-pub call-as-refused : (p : Profile) (c : Call) (i : ℕ) (k : List ℕ) (t : Table) (r : Refusal) → callAs p c i k t .answer ≡ plain.Refused r → callAs p c i k t .table ≡ t
-call-as-refused p c i k t r = call-as p c i k t (λ o. o .answer ≡ plain.Refused r → o .table ≡ t) (call-refused c i k t r) (λ e. refl) (λ e. refl)
+pub call-as-refused : (p : Profile) (q : Party) (c : Call) (i : ℕ) (k : List ℕ) (t : Table) (r : Refusal) → callAs p q c i k t .answer ≡ plain.Refused r → callAs p q c i k t .table ≡ t
+call-as-refused p q c i k t r = call-as p q c i k t (λ o. o .answer ≡ plain.Refused r → o .table ≡ t) (call-refused c i k t r) (λ x y e. refl)
 
-pub write-as-refused : (p : Profile) (wanted : ℕ) (v : List ℕ) (now i : ℕ) (k : List ℕ) (t : Table) (r : Refusal) → writeAs p wanted v now i k t .answer ≡ plain.Refused r → writeAs p wanted v now i k t .table ≡ t
-write-as-refused p wanted v now i k t r =
-    write-as p wanted v now i k t (λ o. o .answer ≡ plain.Refused r → o .table ≡ t) (call-as-refused p (Setting v) i k t r) (call-as-refused p (SettingTtl v now) i k t r) (λ e. refl)
+pub write-as-refused : (p : Profile) (q : Party) (wanted : ℕ) (v : List ℕ) (now i : ℕ) (k : List ℕ) (t : Table) (r : Refusal) → writeAs p q wanted v now i k t .answer ≡ plain.Refused r → writeAs p q wanted v now i k t .table ≡ t
+write-as-refused p q wanted v now i k t r =
+    write-as p q wanted v now i k t (λ o. o .answer ≡ plain.Refused r → o .table ≡ t) (call-as-refused p q (Setting v) i k t r) (call-as-refused p q (SettingTtl v now) i k t r) (λ e. refl)
 
 pub beat-refused : (i : ℕ) (t : Table) (r : Refusal) → localBeat i t .answer ≡ plain.Refused r → localBeat i t .table ≡ t
 unfolding localBeat

@@ -2,12 +2,16 @@
 -- answer in a lent list, the number of a table's mode, and for each answer of a call its number (0 where it was accepted) and its values.
 use Prim.Native.Nat.{ℕ}
 use mathlib.Core.List.{List, [], _∷_}
+use lib.Dec.{eqb}
+use Rattle.fields.specs.Choice.{pick}
 use Rattle.rules.specs.declared.Refusal.{Refusal}
 use Rattle.rules.specs.declared.Refusal.the-variants.{TooLong, NoNode, NoKey, NinthNode, NodeFull, Exhausted, BadMtu, NoPlace, Cut, BadTag, OutOfOrder, NodeTwice, TooMany, BadTable, BadTies, BadForm, SmallerTotal, OtherParty, BadEdition, BadPeer, NobodyPresent, BadPlan}
 use Rattle.rules.specs.declared.NodeAnswer.{NodeAnswer}
 use Rattle.rules.specs.declared.NodeAnswer.the-variants as node
 use Rattle.rules.specs.declared.Mode.{Mode}
 use Rattle.rules.specs.declared.Profile.{Profile}
+use Rattle.rules.specs.declared.Party.{Party}
+use Rattle.rules.specs.declared.Party.the-variants.{Metering, Building, Nobody}
 use Rattle.rules.specs.declared.Profile.the-variants as profile
 use Rattle.rules.specs.declared.Mode.the-variants as mode
 use Rattle.rules.specs.declared.Answer.{Answer}
@@ -96,6 +100,11 @@ modeOf mode.Guarded = 2
 abbrev pub profileOf : Profile → ℕ
 profileOf profile.Free = 0
 profileOf profile.Meter = 1
+profileOf profile.Shared = 2
+
+-- the party that a number names
+abbrev pub partyOf : ℕ → Party
+partyOf n = pick (eqb n 1) Metering (pick (eqb n 2) Building Nobody)
 
 -- the number and the values of an answer, and with 9 the bytes that are lacking
 pub record Told : Type 0 where

@@ -15,7 +15,7 @@ use Rattle.rules.specs.Answers.{codeOf}
 use Rattle.rules.specs.Node.{KeyValue, Rec, Node, scheduled, store, beats}
 use Rattle.rules.specs.Table.{Table, nodeOf, setNode}
 use Rattle.rules.specs.Delta.{NodeDelta, Part, Op, Ops, Good, Faulty, partsOf, readDelta}
-use Rattle.rules.specs.Profile.{Kind, readDeltaAs}
+use Rattle.rules.specs.Profile.{Kind, readDeltaAs, roomyIn}
 use Rattle.rules.specs.declared.DeltaStatus.{DeltaStatus}
 use Rattle.rules.specs.declared.DeltaStatus.the-variants.{Reject, Apply, ApplyAfterReset, Fenced}
 use Rattle.rules.specs.declared.Mode.{Mode}
@@ -63,9 +63,9 @@ waysOf mode.Plain = plainWays
 waysOf mode.Fenced = fencedWays
 waysOf mode.Guarded = guardedWays
 
--- of a table: the mode's, and the profile says how bytes are read as a delta
+-- of a table: the mode's, and the profile says how bytes are read as a delta, and what has room
 abbrev pub waysIn : (kind : Kind) → Ways
-waysIn k = record { reads = readDeltaAs (k .profile); roomy = waysOf (k .mode) .roomy; fence = waysOf (k .mode) .fence; late = waysOf (k .mode) .late }
+waysIn k = record { reads = readDeltaAs (k .profile); roomy = roomyIn (k .profile); fence = waysOf (k .mode) .fence; late = waysOf (k .mode) .late }
 
 -- What any ways keep to. A delta is refused, or read as document 01 reads it; and what has room has room by document 01. So a table keeps the
 -- rules that it obeys (number 14). No delta is fenced off whose last_gc, or the node's own max, is as high as the node's own last_gc; so the closing count

@@ -9,7 +9,7 @@ use Rattle.rules.specs.Given.{Given, given}
 use Rattle.rules.specs.Node.{Node, Call}
 use Rattle.rules.specs.Table.{Table, nodeOf}
 use Rattle.rules.specs.Memory.{Memory, heartbeatOf, forget, remember}
-use Rattle.rules.specs.Local.{Outcome, Found, NotFound, add, removeNode, callAs, writeAs, gc, offer, localBeat, lookup, prefixed}
+use Rattle.rules.specs.Local.{Outcome, Found, NotFound, add, removeNode, callAs, writeAs, gc, offer, localBeat, lookupAs, prefixedAs}
 use Rattle.rules.specs.Digest.{writeDigest}
 use Rattle.rules.specs.Compute.{compute}
 use Rattle.rules.specs.Profile.{Kind}
@@ -17,6 +17,7 @@ use Rattle.rules.specs.Apply.{Ways, waysIn, ApplyOutcome, apply}
 use Rattle.rules.specs.Layout.{encode}
 use Rattle.rules.specs.Whole.{Whole, withTable, encodeWhole, decodeWhole, validWhole}
 use Rattle.rules.specs.declared.Heartbeat.{Heartbeat}
+use Rattle.rules.specs.declared.Party.{Party}
 use Rattle.rules.specs.declared.Refusal.the-variants.{BadTable}
 use Rattle.rules.specs.declared.Answer.{Answer}
 use Rattle.rules.specs.declared.Answer.the-variants as plain
@@ -91,12 +92,12 @@ lentRemoved number table = pick (validWhole table) (rememberedAs (heartbeatOf nu
 
 -- ---- calls that change the table
 
--- in the profile of the table
-abbrev pub lentCall : (call : Call) (number : ℕ) (key table : Bytes) → Given Answer Bytes
-lentCall c number k table = onTable (plain.Refused BadTable) (callAs (decodeWhole table .kind .profile) c number k) table
+-- in the profile of the table, by a party
+abbrev pub lentCall : (party : Party) (call : Call) (number : ℕ) (key table : Bytes) → Given Answer Bytes
+lentCall q c number k table = onTable (plain.Refused BadTable) (callAs (decodeWhole table .kind .profile) q c number k) table
 
-abbrev pub lentWrite : (wanted : ℕ) (value : Bytes) (now number : ℕ) (key table : Bytes) → Given Answer Bytes
-lentWrite wanted v now number k table = onTable (plain.Refused BadTable) (writeAs (decodeWhole table .kind .profile) wanted v now number k) table
+abbrev pub lentWrite : (party : Party) (wanted : ℕ) (value : Bytes) (now number : ℕ) (key table : Bytes) → Given Answer Bytes
+lentWrite q wanted v now number k table = onTable (plain.Refused BadTable) (writeAs (decodeWhole table .kind .profile) q wanted v now number k) table
 
 abbrev pub lentGc : (now grace : ℕ) (table : Bytes) → Given Answer Bytes
 lentGc now grace table = onTable (plain.Refused BadTable) (gc now grace) table
@@ -109,11 +110,12 @@ lentBeat number table = onTable (plain.Refused BadTable) (localBeat number) tabl
 
 -- ---- calls that read the table
 
-abbrev pub lentLookup : (number : ℕ) (key table : Bytes) → Found
-lentLookup number k table = fromTable (NotFound BadTable) (lookup number k) table
+abbrev pub lentLookup : (party : Party) (number : ℕ) (key table : Bytes) → Found
+lentLookup q number k table = fromTable (NotFound BadTable) (lookupAs (decodeWhole table .kind .profile) q number k) table
 
-abbrev pub lentPrefixed : (number : ℕ) (key list table : Bytes) → Given Listed Bytes
-lentPrefixed number k list table = fromTable (given (listed.Refused BadTable) list) (λ t. prefixed number k t list) table
+abbrev pub lentPrefixed : (party : Party) (number : ℕ) (key list table : Bytes) → Given Listed Bytes
+lentPrefixed q number k list table =
+    fromTable (given (listed.Refused BadTable) list) (λ t. prefixedAs (decodeWhole table .kind .profile) q number k t list) table
 
 abbrev pub lentDigest : (edition : ℕ) (excluded : List ℕ) (place : ℕ) (datagram table : Bytes) → Given Written Bytes
 lentDigest edition excluded place datagram table =

@@ -7,6 +7,7 @@ pub mod Table
 pub mod Memory
 pub mod Digest
 pub mod Delta
+pub mod Party
 pub mod Profile
 pub mod Local
 pub mod Apply

@@ -15,12 +15,14 @@ use Rattle.rules.specs.Given.{Given, given}
 use Rattle.rules.specs.Node.{Node, Call, Setting, SettingTtl, Decision, Refuse, Leave, Give, decide, act, find, shown, hitsFrom, due, offerOf, beats, withHeartbeat}
 use Rattle.rules.specs.Table.{Table, nodeOf, setNode, addNode, dropNode, removeAll, numbersOf, among}
 use Rattle.rules.specs.Delta.{statusByte}
+use Rattle.rules.specs.Party.{sees, seen}
 use Rattle.rules.specs.Profile.{guardIn}
 use Rattle.rules.specs.declared.Status.the-variants.{Set, Ttl}
 use Rattle.rules.specs.declared.Heartbeat.{Heartbeat}
 use Rattle.rules.specs.declared.Profile.{Profile}
+use Rattle.rules.specs.declared.Party.{Party}
 use Rattle.rules.specs.declared.Refusal.{Refusal}
-use Rattle.rules.specs.declared.Refusal.the-variants.{TooLong, NoNode, NinthNode, Exhausted, NoPlace, BadTag}
+use Rattle.rules.specs.declared.Refusal.the-variants.{TooLong, NoNode, NinthNode, Exhausted, NoPlace, BadTag, OtherParty}
 use Rattle.rules.specs.declared.Answer.{Answer}
 use Rattle.rules.specs.declared.Answer.the-variants.{Done, Refused}
 use Rattle.rules.specs.declared.Offered.{Offered}
@@ -70,18 +72,18 @@ write wanted v now i k t =
     pick (eqb wanted (statusByte Set)) (call (Setting v) i k t)
     (pick (eqb wanted (statusByte Ttl)) (call (SettingTtl v now) i k t) (gives (Refused BadTag) t))
 
--- In a profile: what it refuses (behind 2 and 1) leaves the table, and what it lets through is document 01's call.
+-- In a profile, by a party: what the profile refuses (behind 2 and 1) leaves the table, and what it lets through is document 01's call.
 abbrev pub unlessGuarded : (refused : Option Refusal) (outcome : Outcome Answer) (table : Table) → Outcome Answer
 unlessGuarded none o t = o
 unlessGuarded (some r) o t = gives (Refused r) t
 
-unfoldable pub callAs : (profile : Profile) (call : Call) (number : ℕ) (key : Bytes) (table : Table) → Outcome Answer
-callAs p c i k t = unlessGuarded (guardIn p c k (nodeOf i t)) (call c i k t) t
+unfoldable pub callAs : (profile : Profile) (party : Party) (call : Call) (number : ℕ) (key : Bytes) (table : Table) → Outcome Answer
+callAs p q c i k t = unlessGuarded (guardIn p q c k (nodeOf i t)) (call c i k t) t
 
-unfoldable pub writeAs : (profile : Profile) (wanted : ℕ) (value : Bytes) (now number : ℕ) (key : Bytes) (table : Table) → Outcome Answer
-writeAs p wanted v now i k t =
-    pick (eqb wanted (statusByte Set)) (callAs p (Setting v) i k t)
-    (pick (eqb wanted (statusByte Ttl)) (callAs p (SettingTtl v now) i k t) (gives (Refused BadTag) t))
+unfoldable pub writeAs : (profile : Profile) (party : Party) (wanted : ℕ) (value : Bytes) (now number : ℕ) (key : Bytes) (table : Table) → Outcome Answer
+writeAs p q wanted v now i k t =
+    pick (eqb wanted (statusByte Set)) (callAs p q (Setting v) i k t)
+    (pick (eqb wanted (statusByte Ttl)) (callAs p q (SettingTtl v now) i k t) (gives (Refused BadTag) t))
 
 -- removal over all nodes by the clock
 unfoldable pub gc : (now grace : ℕ) (table : Table) → Outcome Answer
@@ -140,3 +142,20 @@ prefixOn k (some n) l = pick (leb (length k) maxKey) (listInto (hitsFrom k 0 (n 
 -- a prefix listing: 2, 1, 8
 unfoldable pub prefixed : (number : ℕ) (key : Bytes) (table : Table) (list : Bytes) → Given Listed Bytes
 prefixed i k t l = prefixOn k (nodeOf i t) l
+
+-- ---- reading by a party: in what it sees of the table
+
+-- 19 behind the others
+abbrev pub unlessOther : (sees : Bool) (found : Found) → Found
+unlessOther true f = f
+unlessOther false (Value v) = NotFound OtherParty
+unlessOther false Nothing = NotFound OtherParty
+unlessOther false (NotFound r) = NotFound r
+
+-- 2, 1, 19
+unfoldable pub lookupAs : (profile : Profile) (party : Party) (number : ℕ) (key : Bytes) (table : Table) → Found
+lookupAs p q i k t = unlessOther (sees p q k) (lookup i k (seen p q t))
+
+-- 2, 1, 8: places are counted among what it sees
+unfoldable pub prefixedAs : (profile : Profile) (party : Party) (number : ℕ) (prefix : Bytes) (table : Table) (list : Bytes) → Given Listed Bytes
+prefixedAs p q i k t l = prefixed i k (seen p q t) l

@@ -13,6 +13,10 @@ maxRemoved = 16
 abbrev pub maxRecords : ℕ
 maxRecords = 32
 
+-- of these a party's, in a node of a shared table
+abbrev pub maxEach : ℕ
+maxEach = 16
+
 -- bytes of a key and of a value
 abbrev pub maxKey : ℕ
 maxKey = 32

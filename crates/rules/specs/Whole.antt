@@ -19,7 +19,7 @@ use Rattle.rules.specs.Layout.{tableWidth, encode, decode}
 use Rattle.rules.specs.declared.Mode.{Mode}
 use Rattle.rules.specs.declared.Mode.the-variants.{Plain, Fenced, Guarded}
 use Rattle.rules.specs.declared.Profile.{Profile}
-use Rattle.rules.specs.declared.Profile.the-variants.{Free, Meter}
+use Rattle.rules.specs.declared.Profile.the-variants.{Free, Meter, Shared}
 
 -- a table with its kind (a mode and a profile) and its memory
 pub record Whole : Type 0 where
@@ -50,7 +50,8 @@ modeOfByte (suc (suc n)) = Guarded
 -- the profile that a number stands for
 abbrev pub profileOfByte : ℕ → Profile
 profileOfByte zero = Free
-profileOfByte (suc n) = Meter
+profileOfByte (suc zero) = Meter
+profileOfByte (suc (suc n)) = Shared
 
 -- a removed node: number, heartbeat
 abbrev pub removedWidths : List ℕ

@@ -1,6 +1,6 @@
 // The types of document 01 that code and definitions share. What they mean stands in specs/.
 ghost use mathlib.Core.Path.{_≡_};
-ghost use Rattle.rules.specs.Answers.{numberOf, needOf, codeOf, modeOf, profileOf};
+ghost use Rattle.rules.specs.Answers.{numberOf, needOf, codeOf, modeOf, profileOf, partyOf};
 ghost use Rattle.rules.specs.Node.{freshHeader, offerOf};
 ghost use Rattle.rules.specs.Delta.{statusByte};
 ghost use Rattle.rules.specs.Layout.{statusOfByte};
@@ -158,11 +158,13 @@ pub enum Profile {
     Free,
     // Readings alone: keys of small letters, digits and dots, values of decimal digits.
     Meter,
+    // Two firms: keys that begin `m/` or `b/`, at most 16 records a node of each.
+    Shared,
 }
 
 impl Profile {
     // The largest byte that stands for one.
-    pub const LAST: usize = 1;
+    pub const LAST: usize = 2;
 
     // The byte that stands for it in a table.
     pub fn byte(self) -> usize
@@ -171,18 +173,48 @@ impl Profile {
         match self {
             Profile::Free => 0,
             Profile::Meter => 1,
+            Profile::Shared => 2,
         }
     }
 
-    // The profile that a byte stands for; one above 1 is read as meter, and who can meet it looks at it first.
+    // The profile that a byte stands for; one above 2 is read as shared, and who can meet it looks at it first.
     pub fn of_byte(n: usize) -> Self
         ensures { λ r. ⌜ r ≡ profileOfByte n ⌝ }
     {
         match n {
             0 => Profile::Free,
             1 => Profile::Meter,
-            _ => Profile::Meter,
+            2 => Profile::Shared,
+            _ => Profile::Shared,
         }
+    }
+}
+
+// Who calls, where the call looks at keys. Only a shared table looks at it.
+pub enum Party {
+    // The metering firm: its keys begin `m/`.
+    Metering,
+    // The building manager: its keys begin `b/`.
+    Building,
+    // Neither of the two: in a shared table no key is its own.
+    Nobody,
+}
+
+impl Party {
+    // The records of a node that one of the two may have.
+    pub const RECORDS: usize = 16;
+
+    // The party that a number from outside names: 1 the metering firm, 2 the building manager, any other nobody.
+    pub fn of_number(n: u64) -> Self
+        ensures { λ r. ⌜ r ≡ partyOf n ⌝ }
+    {
+        if n == 1 {
+            return Party::Metering;
+        }
+        if n == 2 {
+            return Party::Building;
+        }
+        Party::Nobody
     }
 }
 
@@ -203,7 +235,7 @@ pub enum NodeAnswer {
     Reject,
     Apply,
     ApplyAfterReset,
-    // The outcome would have over 32 keys: the node stays as it is.
+    // The outcome would have over 32 keys, or in a shared table over 16 of a party: the node stays as it is.
     Room,
     // The table has no such node.
     Unknown,
@@ -238,7 +270,7 @@ pub enum Refusal {
     NoKey,
     // A ninth node.
     NinthNode,
-    // A 33rd key in a local write.
+    // A 33rd key in a local write, or a party's 17th in a shared table.
     NodeFull,
     // A version or heartbeat is 2^64-1 and must rise.
     Exhausted,

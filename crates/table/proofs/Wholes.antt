@@ -34,7 +34,7 @@ use Rattle.rules.specs.Whole.{Whole, withTable, withMemory, obeysWhole, modeOfB
 use Rattle.rules.specs.declared.Mode.{Mode}
 use Rattle.rules.specs.declared.Mode.the-variants.{Plain, Fenced, Guarded}
 use Rattle.rules.specs.declared.Profile.{Profile}
-use Rattle.rules.specs.declared.Profile.the-variants.{Free, Meter}
+use Rattle.rules.specs.declared.Profile.the-variants.{Free, Meter, Shared}
 use Rattle.rules.proofs.Refusing.{whole-bytes}
 use Rattle.rules.proofs.Memories.{OkMemory, facts-memory, no-memory, whole-memory, whole-profile, whole-table}
 use Rattle.table.specs.Tests.{modeIn, profileIn, removedIn, tailTests, tailGood, wholeGood}
@@ -113,6 +113,7 @@ module _ (m : Kind) (mem : Memory) where
       small : (p : Profile) → profileOf p < 256
       small Free = omega arith
       small Meter = omega arith
+      small Shared = omega arith
 
   pub tail-kind : decodeTail (encodeTail m mem) ≡ m
   tail-kind = ap₂ kind (ap modeOfByte mode-in ∙ back (m .mode)) (ap profileOfByte profile-in ∙ again (m .profile))
@@ -125,6 +126,7 @@ module _ (m : Kind) (mem : Memory) where
       again : (p : Profile) → profileOfByte (profileOf p) ≡ p
       again Free = refl
       again Meter = refl
+      again Shared = refl
 
   module _ (few : length mem ≤ maxRemoved) where
     pub removed-in : removedIn (encodeTail m mem) ≡ length mem
@@ -160,9 +162,10 @@ module _ (m : Kind) (mem : Memory) where
       modes Fenced = refl
       modes Guarded = refl
 
-      profiles : (p : Profile) → leb (profileOf p) 1 ≡ true
+      profiles : (p : Profile) → leb (profileOf p) 2 ≡ true
       profiles Free = refl
       profiles Meter = refl
+      profiles Shared = refl
 
 -- a number that stands for a mode
 mode-back : (n : ℕ) → n ≤ 2 → modeOf (modeOfByte n) ≡ n
@@ -172,10 +175,11 @@ mode-back (suc (suc zero)) h = refl
 mode-back (suc (suc (suc n))) h = absurd (omega arith)
 
 -- and one that stands for a profile
-profile-back : (n : ℕ) → n ≤ 1 → profileOf (profileOfByte n) ≡ n
+profile-back : (n : ℕ) → n ≤ 2 → profileOf (profileOfByte n) ≡ n
 profile-back zero h = refl
 profile-back (suc zero) h = refl
-profile-back (suc (suc n)) h = absurd (omega arith)
+profile-back (suc (suc zero)) h = refl
+profile-back (suc (suc (suc n))) h = absurd (omega arith)
 
 -- ---- the whole
 

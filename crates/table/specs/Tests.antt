@@ -102,11 +102,11 @@ profileIn b = natOf (part (offset tailWidths 1) 1 b)
 abbrev pub removedIn : (tail : Bytes) → ℕ
 removedIn b = natOf (part (offset tailWidths 2) 1 b)
 
--- a mode of the three, a profile of the two, at most 16 removed nodes, zeros behind them, no node twice, none that is held
+-- a mode of the three, a profile of the three, at most 16 removed nodes, zeros behind them, no node twice, none that is held
 abbrev pub tailTests : (held : List ℕ) (tail : Bytes) → List Bool
 tailTests held b =
     leb (modeIn b) 2
-    ∷ leb (profileIn b) 1
+    ∷ leb (profileIn b) 2
     ∷ leb (removedIn b) maxRemoved
     ∷ allZero (part (removedPlace (removedIn b)) ((maxRemoved - removedIn b) * removedWidth) b)
     ∷ differ (removedNumbers (decodeMemory b))

@@ -45,7 +45,7 @@ pub const NODES: usize = NODE_COUNT + 1;
 
 pub const AREA: usize = NODES + sizes::NODES * NODE;
 
-// The tail behind the area, from its own first byte: mode, profile, count of removed nodes, room for 16 of them. The profile is zero.
+// The tail behind the area, from its own first byte: mode, profile, count of removed nodes, room for 16 of them.
 pub const MODE: usize = 0;
 
 pub const PROFILE: usize = MODE + 1;

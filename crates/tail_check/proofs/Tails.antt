@@ -24,8 +24,8 @@ module _ (held b : List ℕ) where
   pub no-mode : (n : ℕ) → n ≡ modeIn b → 2 < n → false ≡ tailGood held b
   no-mode n e h = tail-stop 0 (rw (← e) (lt-leb n 2 h))
 
-  pub no-profile : (n : ℕ) → n ≡ profileIn b → 1 < n → false ≡ tailGood held b
-  no-profile n e h = tail-stop 1 (rw (← e) (lt-leb n 1 h))
+  pub no-profile : (n : ℕ) → n ≡ profileIn b → 2 < n → false ≡ tailGood held b
+  no-profile n e h = tail-stop 1 (rw (← e) (lt-leb n 2 h))
 
   pub too-many : (n : ℕ) → n ≡ removedIn b → maxRemoved < n → false ≡ tailGood held b
   too-many n e h = tail-stop 2 (rw (← e) (lt-leb n maxRemoved h))
@@ -43,14 +43,14 @@ module _ (held b : List ℕ) where
       → false ≡ tailGood held b
   not-free a n t e h p z q = tail-stop 3 (sym (z ∙ free-is a n e h p) ∙ q)
 
-  pub numbers-decide : (m p n a : ℕ) (t u : Bool) → m ≡ modeIn b → m ≤ 2 → p ≡ profileIn b → p ≤ 1 → n ≡ removedIn b → n ≤ maxRemoved
+  pub numbers-decide : (m p n a : ℕ) (t u : Bool) → m ≡ modeIn b → m ≤ 2 → p ≡ profileIn b → p ≤ 2 → n ≡ removedIn b → n ≤ maxRemoved
       → a ≡ removedPlace n → t ≡ allZero (take (tailWidth - a) (drop a b)) → t ≡ true
       → u ≡ (differ (removedNumbers (decodeMemory b)) && apart held (removedNumbers (decodeMemory b)))
       → u ≡ tailGood held b
   unfolding tailGood part
   numbers-decide m p n a t u em hm ep hp en hn ea ez hz eu =
       let p0 : getD (tailTests held b) 0 true ≡ true = rw (← em) (le-leb m 2 hm) in
-      let p1 : getD (tailTests held b) 1 true ≡ true = rw (← ep) (le-leb p 1 hp) in
+      let p1 : getD (tailTests held b) 1 true ≡ true = rw (← ep) (le-leb p 2 hp) in
       let p2 : getD (tailTests held b) 2 true ≡ true = rw (← en) (le-leb n maxRemoved hn) in
       let p3 : getD (tailTests held b) 3 true ≡ true = sym (ez ∙ free-is a n en hn ea) ∙ hz in
       let d : Bool = differ (removedNumbers (decodeMemory b)) in

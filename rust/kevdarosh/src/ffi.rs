@@ -446,54 +446,56 @@ unsafe extern "C" {
     fn kev_good_remove_node(table: *mut u8, table_len: Size, node: u64) -> u64;
     fn kev_last_heartbeat(table: *const u8, table_len: Size, node: u64) -> Heartbeat;
     fn kev_good_last_heartbeat(table: *const u8, table_len: Size, node: u64) -> Heartbeat;
-    fn kev_write(table: *mut u8, table_len: Size, node: u64, key: *const u8, key_len: Size, value: *const u8, value_len: Size, wanted: u64, clock: u64) -> u64;
-    fn kev_good_write(table: *mut u8, table_len: Size, node: u64, key: *const u8, key_len: Size, value: *const u8, value_len: Size, wanted: u64, clock: u64) -> u64;
-    fn kev_delete(table: *mut u8, table_len: Size, node: u64, key: *const u8, key_len: Size, clock: u64) -> u64;
-    fn kev_good_delete(table: *mut u8, table_len: Size, node: u64, key: *const u8, key_len: Size, clock: u64) -> u64;
-    fn kev_delete_after_ttl(table: *mut u8, table_len: Size, node: u64, key: *const u8, key_len: Size, clock: u64) -> u64;
-    fn kev_good_delete_after_ttl(table: *mut u8, table_len: Size, node: u64, key: *const u8, key_len: Size, clock: u64) -> u64;
+    fn kev_write(table: *mut u8, table_len: Size, party: u64, node: u64, key: *const u8, key_len: Size, value: *const u8, value_len: Size, wanted: u64, clock: u64) -> u64;
+    fn kev_good_write(table: *mut u8, table_len: Size, party: u64, node: u64, key: *const u8, key_len: Size, value: *const u8, value_len: Size, wanted: u64, clock: u64) -> u64;
+    fn kev_delete(table: *mut u8, table_len: Size, party: u64, node: u64, key: *const u8, key_len: Size, clock: u64) -> u64;
+    fn kev_good_delete(table: *mut u8, table_len: Size, party: u64, node: u64, key: *const u8, key_len: Size, clock: u64) -> u64;
+    fn kev_delete_after_ttl(table: *mut u8, table_len: Size, party: u64, node: u64, key: *const u8, key_len: Size, clock: u64) -> u64;
+    fn kev_good_delete_after_ttl(table: *mut u8, table_len: Size, party: u64, node: u64, key: *const u8, key_len: Size, clock: u64) -> u64;
     fn kev_remove_scheduled(table: *mut u8, table_len: Size, clock: u64, grace: u64) -> u64;
     fn kev_good_remove_scheduled(table: *mut u8, table_len: Size, clock: u64, grace: u64) -> u64;
     fn kev_offer_heartbeat(table: *mut u8, table_len: Size, node: u64, heartbeat: u64) -> Count;
     fn kev_good_offer_heartbeat(table: *mut u8, table_len: Size, node: u64, heartbeat: u64) -> Count;
     fn kev_local_beat(table: *mut u8, table_len: Size, node: u64) -> u64;
     fn kev_good_local_beat(table: *mut u8, table_len: Size, node: u64) -> u64;
-    fn kev_find(table: *const u8, table_len: Size, node: u64, key: *const u8, key_len: Size) -> Found;
-    fn kev_good_find(table: *const u8, table_len: Size, node: u64, key: *const u8, key_len: Size) -> Found;
-    fn kev_list_prefix(table: *const u8, table_len: Size, node: u64, prefix: *const u8, prefix_len: Size, out: *mut u8, out_len: Size) -> Count;
-    fn kev_good_list_prefix(table: *const u8, table_len: Size, node: u64, prefix: *const u8, prefix_len: Size, out: *mut u8, out_len: Size) -> Count;
+    fn kev_find(table: *const u8, table_len: Size, party: u64, node: u64, key: *const u8, key_len: Size) -> Found;
+    fn kev_good_find(table: *const u8, table_len: Size, party: u64, node: u64, key: *const u8, key_len: Size) -> Found;
+    fn kev_list_prefix(table: *const u8, table_len: Size, party: u64, node: u64, prefix: *const u8, prefix_len: Size, out: *mut u8, out_len: Size) -> Count;
+    fn kev_good_list_prefix(table: *const u8, table_len: Size, party: u64, node: u64, prefix: *const u8, prefix_len: Size, out: *mut u8, out_len: Size) -> Count;
     fn kev_check_overrides(overrides: *const u8, overrides_len: Size) -> u64;
     fn kev_new_overrides(overrides: *mut u8, overrides_len: Size, node: u64) -> u64;
     fn kev_write_override(overrides: *mut u8, overrides_len: Size, key: *const u8, key_len: Size, value: *const u8, value_len: Size, wanted: u64, clock: u64) -> u64;
     fn kev_delete_override(overrides: *mut u8, overrides_len: Size, key: *const u8, key_len: Size, clock: u64) -> u64;
     fn kev_delete_override_after_ttl(overrides: *mut u8, overrides_len: Size, key: *const u8, key_len: Size, clock: u64) -> u64;
     fn kev_remove_overrides(overrides: *mut u8, overrides_len: Size, clock: u64, grace: u64) -> u64;
-    fn kev_find_over(overrides: *const u8, overrides_len: Size, table: *const u8, table_len: Size, node: u64, key: *const u8, key_len: Size) -> FoundOver;
-    fn kev_good_find_over(overrides: *const u8, overrides_len: Size, table: *const u8, table_len: Size, node: u64, key: *const u8, key_len: Size) -> FoundOver;
-    fn kev_list_over(overrides: *const u8, overrides_len: Size, table: *const u8, table_len: Size, node: u64, prefix: *const u8, prefix_len: Size, out: *mut u8, out_len: Size) -> ListedOver;
-    fn kev_good_list_over(overrides: *const u8, overrides_len: Size, table: *const u8, table_len: Size, node: u64, prefix: *const u8, prefix_len: Size, out: *mut u8, out_len: Size) -> ListedOver;
+    fn kev_find_over(overrides: *const u8, overrides_len: Size, table: *const u8, table_len: Size, party: u64, node: u64, key: *const u8, key_len: Size) -> FoundOver;
+    fn kev_good_find_over(overrides: *const u8, overrides_len: Size, table: *const u8, table_len: Size, party: u64, node: u64, key: *const u8, key_len: Size) -> FoundOver;
+    fn kev_list_over(overrides: *const u8, overrides_len: Size, table: *const u8, table_len: Size, party: u64, node: u64, prefix: *const u8, prefix_len: Size, out: *mut u8, out_len: Size) -> ListedOver;
+    fn kev_good_list_over(overrides: *const u8, overrides_len: Size, table: *const u8, table_len: Size, party: u64, node: u64, prefix: *const u8, prefix_len: Size, out: *mut u8, out_len: Size) -> ListedOver;
     fn kev_node_count(table: *const u8, table_len: Size) -> Count;
     fn kev_good_node_count(table: *const u8, table_len: Size) -> Count;
     fn kev_node_number(table: *const u8, table_len: Size, i: Size) -> NodeNumber;
     fn kev_good_node_number(table: *const u8, table_len: Size, i: Size) -> NodeNumber;
     fn kev_node_header(table: *const u8, table_len: Size, node: u64) -> Header;
     fn kev_good_node_header(table: *const u8, table_len: Size, node: u64) -> Header;
-    fn kev_record_count(table: *const u8, table_len: Size, node: u64) -> Count;
-    fn kev_good_record_count(table: *const u8, table_len: Size, node: u64) -> Count;
-    fn kev_record_at(table: *const u8, table_len: Size, node: u64, j: Size) -> Record;
-    fn kev_good_record_at(table: *const u8, table_len: Size, node: u64, j: Size) -> Record;
-    fn kev_record_of(table: *const u8, table_len: Size, i: Size, j: Size) -> Record;
-    fn kev_good_record_of(table: *const u8, table_len: Size, i: Size, j: Size) -> Record;
-    fn kev_record_by_key(table: *const u8, table_len: Size, node: u64, key: *const u8, key_len: Size) -> Record;
-    fn kev_good_record_by_key(table: *const u8, table_len: Size, node: u64, key: *const u8, key_len: Size) -> Record;
-    fn kev_node_rows(table: *const u8, table_len: Size, node: u64) -> Rows;
-    fn kev_good_node_rows(table: *const u8, table_len: Size, node: u64) -> Rows;
-    fn kev_prefix_rows(table: *const u8, table_len: Size, node: u64, prefix: *const u8, prefix_len: Size) -> Rows;
-    fn kev_good_prefix_rows(table: *const u8, table_len: Size, node: u64, prefix: *const u8, prefix_len: Size) -> Rows;
-    fn kev_key_at(table: *const u8, table_len: Size, node: u64, j: Size) -> Found;
-    fn kev_good_key_at(table: *const u8, table_len: Size, node: u64, j: Size) -> Found;
-    fn kev_value_at(table: *const u8, table_len: Size, node: u64, j: Size) -> Found;
-    fn kev_good_value_at(table: *const u8, table_len: Size, node: u64, j: Size) -> Found;
+    fn kev_record_count(table: *const u8, table_len: Size, party: u64, node: u64) -> Count;
+    fn kev_good_record_count(table: *const u8, table_len: Size, party: u64, node: u64) -> Count;
+    fn kev_record_at(table: *const u8, table_len: Size, party: u64, node: u64, j: Size) -> Record;
+    fn kev_good_record_at(table: *const u8, table_len: Size, party: u64, node: u64, j: Size) -> Record;
+    fn kev_record_of(table: *const u8, table_len: Size, party: u64, i: Size, j: Size) -> Record;
+    fn kev_good_record_of(table: *const u8, table_len: Size, party: u64, i: Size, j: Size) -> Record;
+    fn kev_record_by_key(table: *const u8, table_len: Size, party: u64, node: u64, key: *const u8, key_len: Size) -> Record;
+    fn kev_good_record_by_key(table: *const u8, table_len: Size, party: u64, node: u64, key: *const u8, key_len: Size) -> Record;
+    fn kev_node_rows(table: *const u8, table_len: Size, party: u64, node: u64) -> Rows;
+    fn kev_good_node_rows(table: *const u8, table_len: Size, party: u64, node: u64) -> Rows;
+    fn kev_front(table: *const u8, table_len: Size, party: u64, node: u64) -> Count;
+    fn kev_good_front(table: *const u8, table_len: Size, party: u64, node: u64) -> Count;
+    fn kev_prefix_rows(table: *const u8, table_len: Size, party: u64, node: u64, prefix: *const u8, prefix_len: Size) -> Rows;
+    fn kev_good_prefix_rows(table: *const u8, table_len: Size, party: u64, node: u64, prefix: *const u8, prefix_len: Size) -> Rows;
+    fn kev_key_at(table: *const u8, table_len: Size, party: u64, node: u64, j: Size) -> Found;
+    fn kev_good_key_at(table: *const u8, table_len: Size, party: u64, node: u64, j: Size) -> Found;
+    fn kev_value_at(table: *const u8, table_len: Size, party: u64, node: u64, j: Size) -> Found;
+    fn kev_good_value_at(table: *const u8, table_len: Size, party: u64, node: u64, j: Size) -> Found;
     fn kev_write_digest(table: *const u8, table_len: Size, edition: u64, excluded: *const u64, excluded_len: Size, datagram: *mut u8, datagram_len: Size, place: Size) -> Count;
     fn kev_good_write_digest(table: *const u8, table_len: Size, edition: u64, excluded: *const u64, excluded_len: Size, datagram: *mut u8, datagram_len: Size, place: Size) -> Count;
     fn kev_read_digest(edition: u64, digest: *const u8, digest_len: Size) -> Digest;
@@ -548,22 +550,22 @@ pub fn last_heartbeat<S: Bytes>(store: &S, node: u64) -> Heartbeat {
     unsafe { call(table.as_ptr(), len(table), node) }
 }
 
-pub fn write<S: BytesMut>(store: &mut S, node: u64, key: &[u8], value: &[u8], wanted: u64, clock: u64) -> u64 {
+pub fn write<S: BytesMut>(store: &mut S, party: u64, node: u64, key: &[u8], value: &[u8], wanted: u64, clock: u64) -> u64 {
     let call = if S::GOOD { kev_good_write } else { kev_write };
     let table = store.lend(Call(()));
-    unsafe { call(table.as_mut_ptr(), len(table), node, key.as_ptr(), len(key), value.as_ptr(), len(value), wanted, clock) }
+    unsafe { call(table.as_mut_ptr(), len(table), party, node, key.as_ptr(), len(key), value.as_ptr(), len(value), wanted, clock) }
 }
 
-pub fn delete<S: BytesMut>(store: &mut S, node: u64, key: &[u8], clock: u64) -> u64 {
+pub fn delete<S: BytesMut>(store: &mut S, party: u64, node: u64, key: &[u8], clock: u64) -> u64 {
     let call = if S::GOOD { kev_good_delete } else { kev_delete };
     let table = store.lend(Call(()));
-    unsafe { call(table.as_mut_ptr(), len(table), node, key.as_ptr(), len(key), clock) }
+    unsafe { call(table.as_mut_ptr(), len(table), party, node, key.as_ptr(), len(key), clock) }
 }
 
-pub fn delete_after_ttl<S: BytesMut>(store: &mut S, node: u64, key: &[u8], clock: u64) -> u64 {
+pub fn delete_after_ttl<S: BytesMut>(store: &mut S, party: u64, node: u64, key: &[u8], clock: u64) -> u64 {
     let call = if S::GOOD { kev_good_delete_after_ttl } else { kev_delete_after_ttl };
     let table = store.lend(Call(()));
-    unsafe { call(table.as_mut_ptr(), len(table), node, key.as_ptr(), len(key), clock) }
+    unsafe { call(table.as_mut_ptr(), len(table), party, node, key.as_ptr(), len(key), clock) }
 }
 
 pub fn remove_scheduled<S: BytesMut>(store: &mut S, clock: u64, grace: u64) -> u64 {
@@ -584,16 +586,16 @@ pub fn local_beat<S: BytesMut>(store: &mut S, node: u64) -> u64 {
     unsafe { call(table.as_mut_ptr(), len(table), node) }
 }
 
-pub fn find<S: Bytes>(store: &S, node: u64, key: &[u8]) -> Found {
+pub fn find<S: Bytes>(store: &S, party: u64, node: u64, key: &[u8]) -> Found {
     let call = if S::GOOD { kev_good_find } else { kev_find };
     let table = store.bytes();
-    unsafe { call(table.as_ptr(), len(table), node, key.as_ptr(), len(key)) }
+    unsafe { call(table.as_ptr(), len(table), party, node, key.as_ptr(), len(key)) }
 }
 
-pub fn list_prefix<S: Bytes>(store: &S, node: u64, prefix: &[u8], out: &mut [u8]) -> Count {
+pub fn list_prefix<S: Bytes>(store: &S, party: u64, node: u64, prefix: &[u8], out: &mut [u8]) -> Count {
     let call = if S::GOOD { kev_good_list_prefix } else { kev_list_prefix };
     let table = store.bytes();
-    unsafe { call(table.as_ptr(), len(table), node, prefix.as_ptr(), len(prefix), out.as_mut_ptr(), len(out)) }
+    unsafe { call(table.as_ptr(), len(table), party, node, prefix.as_ptr(), len(prefix), out.as_mut_ptr(), len(out)) }
 }
 
 pub fn check_overrides(overrides: &[u8]) -> u64 {
@@ -621,25 +623,25 @@ pub fn remove_overrides(overrides: &mut [u8], clock: u64, grace: u64) -> u64 {
 }
 
 /// Without the checks where both are known to be good.
-pub fn find_over<S: Bytes>(overrides: &Labels, store: &S, node: u64, key: &[u8]) -> FoundOver {
+pub fn find_over<S: Bytes>(overrides: &Labels, store: &S, party: u64, node: u64, key: &[u8]) -> FoundOver {
     let call = if S::GOOD { kev_good_find_over } else { kev_find_over };
     let (overrides, table) = (overrides.bytes(), store.bytes());
-    unsafe { call(overrides.as_ptr(), len(overrides), table.as_ptr(), len(table), node, key.as_ptr(), len(key)) }
+    unsafe { call(overrides.as_ptr(), len(overrides), table.as_ptr(), len(table), party, node, key.as_ptr(), len(key)) }
 }
 
-pub fn list_over<S: Bytes>(overrides: &Labels, store: &S, node: u64, prefix: &[u8], out: &mut [u8]) -> ListedOver {
+pub fn list_over<S: Bytes>(overrides: &Labels, store: &S, party: u64, node: u64, prefix: &[u8], out: &mut [u8]) -> ListedOver {
     let call = if S::GOOD { kev_good_list_over } else { kev_list_over };
     let (overrides, table) = (overrides.bytes(), store.bytes());
-    unsafe { call(overrides.as_ptr(), len(overrides), table.as_ptr(), len(table), node, prefix.as_ptr(), len(prefix), out.as_mut_ptr(), len(out)) }
+    unsafe { call(overrides.as_ptr(), len(overrides), table.as_ptr(), len(table), party, node, prefix.as_ptr(), len(prefix), out.as_mut_ptr(), len(out)) }
 }
 
 /// The same over bytes that may be no overrides.
-pub fn find_over_any(overrides: &[u8], table: &[u8], node: u64, key: &[u8]) -> FoundOver {
-    unsafe { kev_find_over(overrides.as_ptr(), len(overrides), table.as_ptr(), len(table), node, key.as_ptr(), len(key)) }
+pub fn find_over_any(overrides: &[u8], table: &[u8], party: u64, node: u64, key: &[u8]) -> FoundOver {
+    unsafe { kev_find_over(overrides.as_ptr(), len(overrides), table.as_ptr(), len(table), party, node, key.as_ptr(), len(key)) }
 }
 
-pub fn list_over_any(overrides: &[u8], table: &[u8], node: u64, prefix: &[u8], out: &mut [u8]) -> ListedOver {
-    unsafe { kev_list_over(overrides.as_ptr(), len(overrides), table.as_ptr(), len(table), node, prefix.as_ptr(), len(prefix), out.as_mut_ptr(), len(out)) }
+pub fn list_over_any(overrides: &[u8], table: &[u8], party: u64, node: u64, prefix: &[u8], out: &mut [u8]) -> ListedOver {
+    unsafe { kev_list_over(overrides.as_ptr(), len(overrides), table.as_ptr(), len(table), party, node, prefix.as_ptr(), len(prefix), out.as_mut_ptr(), len(out)) }
 }
 
 pub fn node_count<S: Bytes>(store: &S) -> Count {
@@ -660,52 +662,58 @@ pub fn node_header<S: Bytes>(store: &S, node: u64) -> Header {
     unsafe { call(table.as_ptr(), len(table), node) }
 }
 
-pub fn record_count<S: Bytes>(store: &S, node: u64) -> Count {
+pub fn record_count<S: Bytes>(store: &S, party: u64, node: u64) -> Count {
     let call = if S::GOOD { kev_good_record_count } else { kev_record_count };
     let table = store.bytes();
-    unsafe { call(table.as_ptr(), len(table), node) }
+    unsafe { call(table.as_ptr(), len(table), party, node) }
 }
 
-pub fn record_at<S: Bytes>(store: &S, node: u64, j: usize) -> Record {
+pub fn record_at<S: Bytes>(store: &S, party: u64, node: u64, j: usize) -> Record {
     let call = if S::GOOD { kev_good_record_at } else { kev_record_at };
     let table = store.bytes();
-    unsafe { call(table.as_ptr(), len(table), node, Size::of(j)) }
+    unsafe { call(table.as_ptr(), len(table), party, node, Size::of(j)) }
 }
 
-pub fn record_of<S: Bytes>(store: &S, i: usize, j: usize) -> Record {
+pub fn record_of<S: Bytes>(store: &S, party: u64, i: usize, j: usize) -> Record {
     let call = if S::GOOD { kev_good_record_of } else { kev_record_of };
     let table = store.bytes();
-    unsafe { call(table.as_ptr(), len(table), Size::of(i), Size::of(j)) }
+    unsafe { call(table.as_ptr(), len(table), party, Size::of(i), Size::of(j)) }
 }
 
-pub fn record_by_key<S: Bytes>(store: &S, node: u64, key: &[u8]) -> Record {
+pub fn record_by_key<S: Bytes>(store: &S, party: u64, node: u64, key: &[u8]) -> Record {
     let call = if S::GOOD { kev_good_record_by_key } else { kev_record_by_key };
     let table = store.bytes();
-    unsafe { call(table.as_ptr(), len(table), node, key.as_ptr(), len(key)) }
+    unsafe { call(table.as_ptr(), len(table), party, node, key.as_ptr(), len(key)) }
 }
 
-pub fn node_rows<S: Bytes>(store: &S, node: u64) -> Rows {
+pub fn node_rows<S: Bytes>(store: &S, party: u64, node: u64) -> Rows {
     let call = if S::GOOD { kev_good_node_rows } else { kev_node_rows };
     let table = store.bytes();
-    unsafe { call(table.as_ptr(), len(table), node) }
+    unsafe { call(table.as_ptr(), len(table), party, node) }
 }
 
-pub fn prefix_rows<S: Bytes>(store: &S, node: u64, prefix: &[u8]) -> Rows {
+pub fn front<S: Bytes>(store: &S, party: u64, node: u64) -> Count {
+    let call = if S::GOOD { kev_good_front } else { kev_front };
+    let table = store.bytes();
+    unsafe { call(table.as_ptr(), len(table), party, node) }
+}
+
+pub fn prefix_rows<S: Bytes>(store: &S, party: u64, node: u64, prefix: &[u8]) -> Rows {
     let call = if S::GOOD { kev_good_prefix_rows } else { kev_prefix_rows };
     let table = store.bytes();
-    unsafe { call(table.as_ptr(), len(table), node, prefix.as_ptr(), len(prefix)) }
+    unsafe { call(table.as_ptr(), len(table), party, node, prefix.as_ptr(), len(prefix)) }
 }
 
-pub fn key_at<S: Bytes>(store: &S, node: u64, j: usize) -> Found {
+pub fn key_at<S: Bytes>(store: &S, party: u64, node: u64, j: usize) -> Found {
     let call = if S::GOOD { kev_good_key_at } else { kev_key_at };
     let table = store.bytes();
-    unsafe { call(table.as_ptr(), len(table), node, Size::of(j)) }
+    unsafe { call(table.as_ptr(), len(table), party, node, Size::of(j)) }
 }
 
-pub fn value_at<S: Bytes>(store: &S, node: u64, j: usize) -> Found {
+pub fn value_at<S: Bytes>(store: &S, party: u64, node: u64, j: usize) -> Found {
     let call = if S::GOOD { kev_good_value_at } else { kev_value_at };
     let table = store.bytes();
-    unsafe { call(table.as_ptr(), len(table), node, Size::of(j)) }
+    unsafe { call(table.as_ptr(), len(table), party, node, Size::of(j)) }
 }
 
 pub fn write_digest<S: Bytes>(store: &S, edition: u64, excluded: &[u64], datagram: &mut [u8], place: usize) -> Count {

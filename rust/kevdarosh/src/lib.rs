@@ -116,6 +116,24 @@
 //! # }
 //! ```
 //!
+//! A table that two firms share, each with its own keys and its own sixteen records a node ([`Table::party`]):
+//!
+//! ```
+//! # use kevdarosh::{Mode, OwnedTable, Party, Profile, Refusal, Wanted};
+//! # fn main() -> Result<(), kevdarosh::Refusal> {
+//! let mut table = OwnedTable::with_profile(Mode::Guarded, Profile::Shared);
+//! table.add_node(7)?;
+//! table.party_mut(Party::Metering).write(7, b"m/total", b"41823", Wanted::Set)?;
+//! table.party_mut(Party::Building).write(7, b"b/name", b"Stair B", Wanted::Set)?;
+//!
+//! let firm = table.party(Party::Metering);
+//! assert_eq!(firm.get(7, b"m/total")?, Some(&b"41823"[..]));
+//! assert_eq!(firm.get(7, b"b/name"), Err(Refusal::OtherParty));
+//! assert_eq!(firm.node_state(7)?.num_key_values(), 1);
+//! # Ok(())
+//! # }
+//! ```
+//!
 //! docs/MOVING.md of the repository takes an engineer from each call of chitchat's `NodeState` and `ClusterState` to its own here.
 
 #![no_std]
@@ -143,7 +161,7 @@ pub use ffi::{Bytes, BytesMut, Kept};
 pub use over::{Merged, Overrides};
 pub use refusal::{ExchangeRefused, Fault, LineFault, ListingRefused, PlanFault, Refusal, Step};
 pub use row::Records;
-pub use table::{Answer, Answers, Computed, Header, LentTable, Mode, NodeState, OwnedNode, OwnedTable, Profile, Record, Status, Table, TableView, Wanted};
+pub use table::{Answer, Answers, Computed, Header, LentTable, Mode, NodeState, OwnedNode, OwnedTable, Party, PartyTable, PartyTableMut, Profile, Record, Status, Table, TableView, Wanted};
 pub use watch::{Pair, Watched};
 pub use wire::{Datagrams, DeltaRead, Digest, Edition, Exchanged, NodeDigest, exchange, list_delta, make_delta, read_delta};
 
@@ -153,6 +171,8 @@ pub const TABLE: usize = 29_964;
 pub const NODES: usize = 8;
 /// Records of a node, at most, tombstones counted.
 pub const RECORDS: usize = 32;
+/// Records of a node that a party of a shared table may have, at most, tombstones counted.
+pub const EACH: usize = 16;
 /// Bytes of a key, at most.
 pub const KEY: usize = 32;
 /// Bytes of a value, at most.

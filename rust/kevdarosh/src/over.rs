@@ -9,7 +9,7 @@ use crate::OVERRIDES;
 use crate::ffi::{self, Bytes, Labels, Lent};
 use crate::refusal::{Refusal, accepted, refusal};
 use crate::row::Records;
-use crate::table::{NodeState, Record, Table, Wanted};
+use crate::table::{NodeState, Party, PartyTable, Record, Table, Wanted, front};
 
 /// Overrides that keep their own bytes: one node in form, 32 records, 3,713 bytes.
 ///
@@ -169,7 +169,7 @@ impl<S: Bytes> Table<S> {
     ///
     /// # Errors
     ///
-    /// [`Refusal::BadTable`], [`Refusal::NoNode`], [`Refusal::TooLong`].
+    /// [`Refusal::BadTable`], [`Refusal::NoNode`], [`Refusal::TooLong`], in a shared table [`Refusal::OtherParty`].
     ///
     /// ```
     /// # use kevdarosh::{Mode, Overrides, OwnedTable, Wanted};
@@ -182,17 +182,41 @@ impl<S: Bytes> Table<S> {
     /// ```
     #[inline]
     pub fn get_over<'a>(&'a self, overrides: &'a Overrides, node: u64, key: &[u8]) -> Result<Option<&'a [u8]>, Refusal> {
-        found_over(Lent::of(self.store()), overrides, node, key)
+        self.party(Party::Nobody).get_over(overrides, node, key)
+    }
+}
+
+impl<'a, S: Bytes> PartyTable<'a, S> {
+    /// The value of a key, as [`Table::get_over`] has it, for this party.
+    ///
+    /// # Errors
+    ///
+    /// [`Refusal::BadTable`], [`Refusal::NoNode`], [`Refusal::TooLong`], in a shared table [`Refusal::OtherParty`].
+    ///
+    /// ```
+    /// # use kevdarosh::{Mode, Overrides, OwnedTable, Party, Profile, Refusal, Wanted};
+    /// let mut table = OwnedTable::with_profile(Mode::Guarded, Profile::Shared);
+    /// table.add_node(7).unwrap();
+    /// let mut labels = Overrides::new(7);
+    /// labels.write(b"b/name", b"Bicycle cellar", Wanted::Set).unwrap();
+    /// assert_eq!(table.party(Party::Building).get_over(&labels, 7, b"b/name"), Ok(Some(&b"Bicycle cellar"[..])));
+    /// assert_eq!(table.party(Party::Metering).get_over(&labels, 7, b"b/name"), Err(Refusal::OtherParty));
+    /// ```
+    #[inline]
+    pub fn get_over(&self, overrides: &'a Overrides, node: u64, key: &[u8]) -> Result<Option<&'a [u8]>, Refusal> {
+        found_over(self.lent(), self.party(), overrides, node, key)
     }
 }
 
 /// The value of a key in overrides and a table.
 #[inline]
-fn found_over<'a, S: Bytes>(table: Lent<'a, S>, overrides: &'a Overrides, node: u64, key: &[u8]) -> Result<Option<&'a [u8]>, Refusal> {
-    let answer = ffi::find_over(&overrides.labels, &table, node, key);
+fn found_over<'a, S: Bytes>(table: Lent<'a, S>, party: Party, overrides: &'a Overrides, node: u64, key: &[u8]) -> Result<Option<&'a [u8]>, Refusal> {
+    let answer = ffi::find_over(&overrides.labels, &table, party.number(), node, key);
     accepted(answer.number)?;
-    let bytes = if answer.over.0 != 0 { overrides.labels.bytes() } else { table.all() };
-    Ok((answer.found.0 != 0).then(|| &bytes[answer.start.get()..answer.start.get() + answer.len.get()]))
+    Ok((answer.found.0 != 0).then(|| {
+        let bytes = if answer.over.0 != 0 { overrides.labels.bytes() } else { &table.all()[front(table, party, node)..] };
+        &bytes[answer.start.get()..answer.start.get() + answer.len.get()]
+    }))
 }
 
 impl<'a, S: Bytes> NodeState<'a, S> {
@@ -200,7 +224,7 @@ impl<'a, S: Bytes> NodeState<'a, S> {
     ///
     /// # Errors
     ///
-    /// [`Refusal::TooLong`].
+    /// [`Refusal::TooLong`], in a shared table [`Refusal::OtherParty`].
     ///
     /// ```
     /// # use kevdarosh::{Mode, Overrides, OwnedTable, Wanted};
@@ -212,7 +236,7 @@ impl<'a, S: Bytes> NodeState<'a, S> {
     /// assert_eq!(table.node_state(7).unwrap().get_over(&labels, b"name"), Ok(Some(&b"Bicycle cellar"[..])));
     /// ```
     pub fn get_over(&self, overrides: &'a Overrides, key: &[u8]) -> Result<Option<&'a [u8]>, Refusal> {
-        found_over(self.table(), overrides, self.number(), key)
+        found_over(self.table(), self.party(), overrides, self.number(), key)
     }
 
     /// The records of the overrides and of the node that are not deleted and whose keys begin with the prefix, each key once, in key order: the override's where both have
@@ -233,10 +257,11 @@ impl<'a, S: Bytes> NodeState<'a, S> {
     /// assert_eq!(values, [b"Bicycle cellar"]);
     /// ```
     pub fn iter_prefix_over(&self, overrides: &'a Overrides, prefix: &[u8]) -> Result<Merged<'a>, Refusal> {
-        let rows = ffi::prefix_rows(&self.table(), self.number(), prefix);
+        let rows = ffi::prefix_rows(&self.table(), self.party().number(), self.number(), prefix);
         accepted(rows.number)?;
         let over = overrides.key_values_including_deleted().beginning(prefix);
-        Ok(Merged { over, node: Records::of(self.table().all(), rows) })
+        let over = if self.is_shared() { over.of_party(self.party()) } else { over };
+        Ok(Merged { over, node: self.records(rows) })
     }
 }
 
@@ -316,7 +341,7 @@ mod tests {
                 labels.gc_keys_marked_for_deletion(turn, 50).unwrap();
             }
             let (prefix, mut places) = (key(&mut random), [0; 64]);
-            let listed = ffi::list_over(&labels.labels, table.store(), 7, &prefix, &mut places);
+            let listed = ffi::list_over(&labels.labels, table.store(), 0, 7, &prefix, &mut places);
             assert_eq!(listed.number, 0);
             let node = table.node_state(7).unwrap();
             let record = |place: u8| match place.checked_sub(128) {

@@ -58,7 +58,7 @@ refusals! {
     2 NoNode "no such node";
     3 NoKey "no such key to delete";
     4 NinthNode "the table holds eight nodes already";
-    5 NodeFull "the node holds 32 keys already";
+    5 NodeFull "the node holds 32 keys already, or 16 of the party";
     6 Exhausted "a version or a heartbeat is 2^64-1 and cannot rise";
     7 BadMtu "an MTU below 100 or above 16,384";
     8 NoPlace "a place past the end, or too little room";
@@ -71,6 +71,7 @@ refusals! {
     15 BadTies "not one tie for each node of the table";
     17 BadForm "a key or a value that a meter table does not take";
     18 SmallerTotal "a smaller total than the one there";
+    19 OtherParty "a key of neither party, or of the other one";
     20 BadEdition "no such edition of a digest";
     21 BadPeer "a peer's number above 7";
     22 NobodyPresent "no peer is present";

@@ -8,7 +8,7 @@
 use core::iter::FusedIterator;
 
 use crate::ffi::Rows;
-use crate::table::{Record, Status};
+use crate::table::{Party, Record, Status};
 use crate::{KEY, RECORDS, VALUE};
 
 // A row, field behind field (docs/FORMAT.md, "A record slot").
@@ -65,6 +65,15 @@ impl<'a> Records<'a> {
         let rows = &self.rows[before * ROW..];
         let count = Records { rows }.take_while(|record| record.key.starts_with(prefix)).count();
         Records { rows: &rows[..count * ROW] }
+    }
+
+    /// Those of the party's keys, which stand together too.
+    pub(crate) fn of_party(self, party: Party) -> Records<'a> {
+        match party {
+            Party::Metering => self.beginning(b"m/"),
+            Party::Building => self.beginning(b"b/"),
+            Party::Nobody => Records { rows: &[] },
+        }
     }
 
     /// The next record, which stays.

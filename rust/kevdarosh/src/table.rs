@@ -43,6 +43,9 @@ pub enum Profile {
     /// Readings alone. A key is 1 to 32 of `a` to `z`, `0` to `9` and `.`; a value is 1 to 10 decimal digits, or empty where the record is deleted or has a TTL. What is not
     /// so is [`Refusal::BadForm`], and a write to the key `total` that states a smaller number than the record there, unless that is deleted, [`Refusal::SmallerTotal`].
     Meter,
+    /// Two firms. Every key begins `m/` or `b/`, and each firm has at most [`EACH`](crate::EACH) records a node. Its calls go through [`Table::party`] and
+    /// [`Table::party_mut`]; a call on the table itself is nobody's, which sees nothing and may write nothing ([`Refusal::OtherParty`]).
+    Shared,
 }
 
 impl Profile {
@@ -50,6 +53,29 @@ impl Profile {
         match self {
             Profile::Free => 0,
             Profile::Meter => 1,
+            Profile::Shared => 2,
+        }
+    }
+}
+
+/// Who calls, where a table is shared by two firms ([`Profile::Shared`]). Other tables do not look at it.
+#[derive(Clone, Copy, Debug, Default, PartialEq, Eq, Hash)]
+pub enum Party {
+    /// The metering firm: its keys begin `m/`.
+    Metering,
+    /// The building manager: its keys begin `b/`.
+    Building,
+    /// Neither of the two: no key of a shared table is its own.
+    #[default]
+    Nobody,
+}
+
+impl Party {
+    pub(crate) const fn number(self) -> u64 {
+        match self {
+            Party::Metering => 1,
+            Party::Building => 2,
+            Party::Nobody => 0,
         }
     }
 }
@@ -444,7 +470,7 @@ impl<'a> TableView<'a> {
     /// ```
     #[inline]
     pub fn into_node_state(self, node: u64) -> Result<NodeState<'a, &'a [u8]>, Refusal> {
-        NodeState::of(Lent::over(self.store), node)
+        NodeState::of(Lent::over(self.store), Party::Nobody, node)
     }
 }
 
@@ -493,7 +519,8 @@ impl<S: Bytes> Table<S> {
         accepted(if S::GOOD { 0 } else { ffi::check(self.store.bytes()) })?;
         Ok(match self.store.bytes()[crate::PROFILE_AT] {
             0 => Profile::Free,
-            _ => Profile::Meter,
+            1 => Profile::Meter,
+            _ => Profile::Shared,
         })
     }
 
@@ -532,14 +559,14 @@ impl<S: Bytes> Table<S> {
     /// ```
     #[inline]
     pub fn node_state(&self, node: u64) -> Result<NodeState<'_, S>, Refusal> {
-        NodeState::of(Lent::of(&self.store), node)
+        self.party(Party::Nobody).node_state(node)
     }
 
     /// The value of a key, as those very bytes of the table; none where there is no such key, or its record is deleted.
     ///
     /// # Errors
     ///
-    /// [`Refusal::BadTable`], [`Refusal::NoNode`], [`Refusal::TooLong`].
+    /// [`Refusal::BadTable`], [`Refusal::NoNode`], [`Refusal::TooLong`], in a shared table [`Refusal::OtherParty`].
     ///
     /// ```
     /// # use kevdarosh::{Mode, OwnedTable, Refusal, Wanted};
@@ -552,7 +579,25 @@ impl<S: Bytes> Table<S> {
     /// ```
     #[inline]
     pub fn get(&self, node: u64, key: &[u8]) -> Result<Option<&[u8]>, Refusal> {
-        found(Lent::of(&self.store), node, key)
+        self.party(Party::Nobody).get(node, key)
+    }
+
+    /// The table as this party sees it, for reading: with its own records alone where the table is shared, else all of it.
+    ///
+    /// ```
+    /// # use kevdarosh::{Mode, OwnedTable, Party, Profile, Refusal, Wanted};
+    /// let mut table = OwnedTable::with_profile(Mode::Guarded, Profile::Shared);
+    /// table.add_node(7).unwrap();
+    /// table.party_mut(Party::Building).write(7, b"b/name", b"Stair B", Wanted::Set).unwrap();
+    /// table.party_mut(Party::Metering).write(7, b"m/total", b"41", Wanted::Set).unwrap();
+    /// let firm = table.party(Party::Metering);
+    /// assert_eq!(firm.get(7, b"m/total"), Ok(Some(&b"41"[..])));
+    /// assert_eq!(firm.get(7, b"b/name"), Err(Refusal::OtherParty));
+    /// assert_eq!(firm.node_state(7).unwrap().key_values().count(), 1);
+    /// ```
+    #[inline]
+    pub fn party(&self, party: Party) -> PartyTable<'_, S> {
+        PartyTable { table: Lent::of(&self.store), party }
     }
 
     /// The last heartbeat of a node that was removed; none where the table does not remember it. It remembers the last sixteen.
@@ -765,8 +810,8 @@ impl<S: BytesMut> Table<S> {
     ///
     /// # Errors
     ///
-    /// [`Refusal::BadTable`], [`Refusal::NoNode`], [`Refusal::TooLong`], in a meter table [`Refusal::BadForm`] and [`Refusal::SmallerTotal`], then [`Refusal::NodeFull`],
-    /// [`Refusal::Exhausted`].
+    /// [`Refusal::BadTable`], [`Refusal::NoNode`], [`Refusal::TooLong`], in a meter table [`Refusal::BadForm`], in a shared one [`Refusal::OtherParty`], in a meter table
+    /// [`Refusal::SmallerTotal`], then [`Refusal::NodeFull`], [`Refusal::Exhausted`].
     ///
     /// ```
     /// # use kevdarosh::{Mode, OwnedTable, Refusal, Wanted};
@@ -779,15 +824,14 @@ impl<S: BytesMut> Table<S> {
     /// assert_eq!(table.write(7, &[b'k'; 33], b"", Wanted::Set), Err(Refusal::TooLong));
     /// ```
     pub fn write(&mut self, node: u64, key: &[u8], value: &[u8], wanted: Wanted) -> Result<(), Refusal> {
-        let (status, clock) = wanted.numbers();
-        accepted(ffi::write(&mut self.store, node, key, value, status, clock))
+        self.party_mut(Party::Nobody).write(node, key, value, wanted)
     }
 
     /// The key's record becomes a tombstone, which is removed after the grace.
     ///
     /// # Errors
     ///
-    /// [`Refusal::BadTable`], [`Refusal::NoNode`], [`Refusal::TooLong`], [`Refusal::NoKey`], [`Refusal::Exhausted`].
+    /// [`Refusal::BadTable`], [`Refusal::NoNode`], [`Refusal::TooLong`], in a shared table [`Refusal::OtherParty`], [`Refusal::NoKey`], [`Refusal::Exhausted`].
     ///
     /// ```
     /// # use kevdarosh::{Mode, OwnedTable, Refusal, Wanted};
@@ -799,14 +843,14 @@ impl<S: BytesMut> Table<S> {
     /// assert_eq!(table.delete(7, b"door", 1_000), Err(Refusal::NoKey));
     /// ```
     pub fn delete(&mut self, node: u64, key: &[u8], clock: u64) -> Result<(), Refusal> {
-        accepted(ffi::delete(&mut self.store, node, key, clock))
+        self.party_mut(Party::Nobody).delete(node, key, clock)
     }
 
     /// The key's record keeps its value and is removed after the grace.
     ///
     /// # Errors
     ///
-    /// [`Refusal::BadTable`], [`Refusal::NoNode`], [`Refusal::TooLong`], [`Refusal::NoKey`], [`Refusal::Exhausted`].
+    /// [`Refusal::BadTable`], [`Refusal::NoNode`], [`Refusal::TooLong`], in a shared table [`Refusal::OtherParty`], [`Refusal::NoKey`], [`Refusal::Exhausted`].
     ///
     /// ```
     /// # use kevdarosh::{Mode, OwnedTable, Wanted};
@@ -819,7 +863,23 @@ impl<S: BytesMut> Table<S> {
     /// assert_eq!(table.get(7, b"lamp"), Ok(None));
     /// ```
     pub fn delete_after_ttl(&mut self, node: u64, key: &[u8], clock: u64) -> Result<(), Refusal> {
-        accepted(ffi::delete_after_ttl(&mut self.store, node, key, clock))
+        self.party_mut(Party::Nobody).delete_after_ttl(node, key, clock)
+    }
+
+    /// The table as this party sees it, for its writes and deletes. There is one at a time: it borrows the table alone.
+    ///
+    /// ```
+    /// # use kevdarosh::{Mode, OwnedTable, Party, Profile, Refusal, Wanted};
+    /// let mut table = OwnedTable::with_profile(Mode::Guarded, Profile::Shared);
+    /// table.add_node(7).unwrap();
+    /// let mut firm = table.party_mut(Party::Metering);
+    /// firm.write(7, b"m/total", b"41", Wanted::Set).unwrap();
+    /// assert_eq!(firm.write(7, b"b/name", b"Stair B", Wanted::Set), Err(Refusal::OtherParty));
+    /// assert_eq!(firm.view().get(7, b"m/total"), Ok(Some(&b"41"[..])));
+    /// ```
+    #[inline]
+    pub fn party_mut(&mut self, party: Party) -> PartyTableMut<'_, S> {
+        PartyTableMut { store: &mut self.store, party }
     }
 
     /// Removes what was scheduled a grace ago, of all nodes.
@@ -887,8 +947,8 @@ impl<S: BytesMut> Table<S> {
     ///
     /// # Errors
     ///
-    /// [`Refusal::BadTable`], [`Refusal::TooMany`], [`Refusal::Cut`], [`Refusal::TooLong`], [`Refusal::BadTag`], [`Refusal::OutOfOrder`], in a meter table [`Refusal::BadForm`], [`Refusal::NodeTwice`]: of the delta's the first that is
-    /// met in its order, with its place.
+    /// [`Refusal::BadTable`], [`Refusal::TooMany`], [`Refusal::Cut`], [`Refusal::TooLong`], [`Refusal::BadTag`], [`Refusal::OutOfOrder`], in a meter table [`Refusal::BadForm`], in a shared one
+    /// [`Refusal::OtherParty`], [`Refusal::NodeTwice`]: of the delta's the first that is met in its order, with its place.
     ///
     /// ```
     /// # use kevdarosh::{Answer, Fault, Mode, OwnedTable, Refusal, make_delta};
@@ -909,18 +969,198 @@ impl<S: BytesMut> Table<S> {
     }
 }
 
-/// The value of a key, which lives as long as the bytes.
-#[inline]
-fn found<'a, S: Bytes>(table: Lent<'a, S>, node: u64, key: &[u8]) -> Result<Option<&'a [u8]>, Refusal> {
-    let answer = ffi::find(&table, node, key);
-    accepted(answer.number)?;
-    Ok((answer.found.0 != 0).then(|| text(table, answer.start, answer.len)))
+/// A table as a party sees it, for reading. In a shared table ([`Profile::Shared`]) that is the table with its own records alone: what it tells does not depend on the other's,
+/// but for versions and for the max and last_gc of a node. Any other table shows all of it.
+pub struct PartyTable<'a, S> {
+    table: Lent<'a, S>,
+    party: Party,
 }
 
-/// The bytes of the table that an answer names.
+impl<S> Clone for PartyTable<'_, S> {
+    #[inline]
+    fn clone(&self) -> Self {
+        *self
+    }
+}
+impl<S> Copy for PartyTable<'_, S> {}
+
+impl<S: Bytes> fmt::Debug for PartyTable<'_, S> {
+    fn fmt(&self, f: &mut fmt::Formatter<'_>) -> fmt::Result {
+        let mut shown = f.debug_struct("PartyTable");
+        shown.field("party", &self.party);
+        let nodes = ffi::node_count(&self.table);
+        for number in row::numbers(self.table.all(), if nodes.number == 0 { nodes.count.get() } else { 0 }) {
+            if let Ok(node) = self.node_state(number) {
+                shown.field("node", &node);
+            }
+        }
+        shown.finish()
+    }
+}
+
+impl<'a, S: Bytes> PartyTable<'a, S> {
+    /// Who it is.
+    ///
+    /// ```
+    /// # use kevdarosh::{Mode, OwnedTable, Party};
+    /// assert_eq!(OwnedTable::new(Mode::Plain).party(Party::Building).party(), Party::Building);
+    /// ```
+    pub fn party(&self) -> Party {
+        self.party
+    }
+
+    /// A node, to read of it what the party sees.
+    ///
+    /// # Errors
+    ///
+    /// [`Refusal::BadTable`], [`Refusal::NoNode`].
+    ///
+    /// ```
+    /// # use kevdarosh::{Mode, OwnedTable, Party, Profile, Wanted};
+    /// let mut table = OwnedTable::with_profile(Mode::Guarded, Profile::Shared);
+    /// table.add_node(7).unwrap();
+    /// table.party_mut(Party::Building).write(7, b"b/name", b"Stair B", Wanted::Set).unwrap();
+    /// assert_eq!(table.party(Party::Building).node_state(7).unwrap().num_key_values(), 1);
+    /// assert_eq!(table.party(Party::Metering).node_state(7).unwrap().num_key_values(), 0);
+    /// ```
+    #[inline]
+    pub fn node_state(&self, node: u64) -> Result<NodeState<'a, S>, Refusal> {
+        NodeState::of(self.table, self.party, node)
+    }
+
+    /// The value of a key, as those very bytes of the table; none where there is no such key, or its record is deleted.
+    ///
+    /// # Errors
+    ///
+    /// [`Refusal::BadTable`], [`Refusal::NoNode`], [`Refusal::TooLong`], in a shared table [`Refusal::OtherParty`].
+    ///
+    /// ```
+    /// # use kevdarosh::{Mode, OwnedTable, Party, Profile, Refusal};
+    /// let mut table = OwnedTable::with_profile(Mode::Guarded, Profile::Shared);
+    /// table.add_node(7).unwrap();
+    /// assert_eq!(table.party(Party::Metering).get(7, b"m/total"), Ok(None));
+    /// assert_eq!(table.party(Party::Metering).get(7, b"b/name"), Err(Refusal::OtherParty));
+    /// assert_eq!(table.party(Party::Nobody).get(7, b"m/total"), Err(Refusal::OtherParty));
+    /// ```
+    #[inline]
+    pub fn get(&self, node: u64, key: &[u8]) -> Result<Option<&'a [u8]>, Refusal> {
+        found(self.table, self.party, node, key)
+    }
+
+    /// Where its bytes are, for a call.
+    #[inline]
+    pub(crate) fn lent(&self) -> Lent<'a, S> {
+        self.table
+    }
+}
+
+/// A table as a party sees it, for its writes and deletes.
+pub struct PartyTableMut<'a, S> {
+    store: &'a mut S,
+    party: Party,
+}
+
+impl<S: Bytes> fmt::Debug for PartyTableMut<'_, S> {
+    fn fmt(&self, f: &mut fmt::Formatter<'_>) -> fmt::Result {
+        f.debug_tuple("PartyTableMut").field(&self.view()).finish()
+    }
+}
+
+impl<S: Bytes> PartyTableMut<'_, S> {
+    /// The same for reading.
+    ///
+    /// ```
+    /// # use kevdarosh::{Mode, OwnedTable, Party};
+    /// assert_eq!(OwnedTable::new(Mode::Plain).party_mut(Party::Building).view().party(), Party::Building);
+    /// ```
+    #[inline]
+    pub fn view(&self) -> PartyTable<'_, S> {
+        PartyTable { table: Lent::of(self.store), party: self.party }
+    }
+}
+
+impl<S: BytesMut> PartyTableMut<'_, S> {
+    /// As [`Table::write`], by this party.
+    ///
+    /// # Errors
+    ///
+    /// [`Refusal::BadTable`], [`Refusal::NoNode`], [`Refusal::TooLong`], in a meter table [`Refusal::BadForm`], in a shared one [`Refusal::OtherParty`], in a meter table
+    /// [`Refusal::SmallerTotal`], then [`Refusal::NodeFull`], in a shared table for the party's 17th key of the node, [`Refusal::Exhausted`].
+    ///
+    /// ```
+    /// # use kevdarosh::{EACH, Mode, OwnedTable, Party, Profile, Refusal, Wanted};
+    /// let mut table = OwnedTable::with_profile(Mode::Guarded, Profile::Shared);
+    /// table.add_node(7).unwrap();
+    /// for flat in 0..EACH as u8 {
+    ///     table.party_mut(Party::Building).write(7, &[b'b', b'/', flat], b"", Wanted::Set).unwrap();
+    /// }
+    /// assert_eq!(table.party_mut(Party::Building).write(7, b"b/one more", b"", Wanted::Set), Err(Refusal::NodeFull));
+    /// assert_eq!(table.party_mut(Party::Metering).write(7, b"m/total", b"41", Wanted::Set), Ok(()));
+    /// ```
+    #[inline]
+    pub fn write(&mut self, node: u64, key: &[u8], value: &[u8], wanted: Wanted) -> Result<(), Refusal> {
+        let (status, clock) = wanted.numbers();
+        accepted(ffi::write(self.store, self.party.number(), node, key, value, status, clock))
+    }
+
+    /// As [`Table::delete`], by this party.
+    ///
+    /// # Errors
+    ///
+    /// [`Refusal::BadTable`], [`Refusal::NoNode`], [`Refusal::TooLong`], in a shared table [`Refusal::OtherParty`], [`Refusal::NoKey`], [`Refusal::Exhausted`].
+    ///
+    /// ```
+    /// # use kevdarosh::{Mode, OwnedTable, Party, Profile, Refusal};
+    /// let mut table = OwnedTable::with_profile(Mode::Guarded, Profile::Shared);
+    /// table.add_node(7).unwrap();
+    /// let mut firm = table.party_mut(Party::Metering);
+    /// assert_eq!(firm.delete(7, b"m/total", 1_000), Err(Refusal::NoKey));
+    /// assert_eq!(firm.delete(7, b"b/name", 1_000), Err(Refusal::OtherParty));
+    /// ```
+    #[inline]
+    pub fn delete(&mut self, node: u64, key: &[u8], clock: u64) -> Result<(), Refusal> {
+        accepted(ffi::delete(self.store, self.party.number(), node, key, clock))
+    }
+
+    /// As [`Table::delete_after_ttl`], by this party.
+    ///
+    /// # Errors
+    ///
+    /// [`Refusal::BadTable`], [`Refusal::NoNode`], [`Refusal::TooLong`], in a shared table [`Refusal::OtherParty`], [`Refusal::NoKey`], [`Refusal::Exhausted`].
+    ///
+    /// ```
+    /// # use kevdarosh::{Mode, OwnedTable, Party, Profile, Refusal};
+    /// let mut table = OwnedTable::with_profile(Mode::Guarded, Profile::Shared);
+    /// table.add_node(7).unwrap();
+    /// assert_eq!(table.party_mut(Party::Building).delete_after_ttl(7, b"m/total", 1_000), Err(Refusal::OtherParty));
+    /// ```
+    #[inline]
+    pub fn delete_after_ttl(&mut self, node: u64, key: &[u8], clock: u64) -> Result<(), Refusal> {
+        accepted(ffi::delete_after_ttl(self.store, self.party.number(), node, key, clock))
+    }
+}
+
+/// How many bytes further back than it is told a party's texts of a node stand in the table: only the metering firm's records have others before them.
 #[inline]
-fn text<S: Bytes>(table: Lent<'_, S>, start: Size, len: Size) -> &[u8] {
-    let (start, len) = (start.get(), len.get());
+pub(crate) fn front<S: Bytes>(table: Lent<'_, S>, party: Party, node: u64) -> usize {
+    match party {
+        Party::Metering => ffi::front(&table, party.number(), node).count.get(),
+        Party::Building | Party::Nobody => 0,
+    }
+}
+
+/// The value of a key, which lives as long as the bytes.
+#[inline]
+fn found<'a, S: Bytes>(table: Lent<'a, S>, party: Party, node: u64, key: &[u8]) -> Result<Option<&'a [u8]>, Refusal> {
+    let answer = ffi::find(&table, party.number(), node, key);
+    accepted(answer.number)?;
+    Ok((answer.found.0 != 0).then(|| text(table, front(table, party, node), answer.start, answer.len)))
+}
+
+/// The bytes of the table that an answer names, from the party's front on.
+#[inline]
+fn text<S: Bytes>(table: Lent<'_, S>, front: usize, start: Size, len: Size) -> &[u8] {
+    let (start, len) = (front + start.get(), len.get());
     &table.all()[start..start + len]
 }
 
@@ -946,6 +1186,7 @@ fn text<S: Bytes>(table: Lent<'_, S>, start: Size, len: Size) -> &[u8] {
 /// ```
 pub struct NodeState<'a, S> {
     table: Lent<'a, S>,
+    party: Party,
     node: u64,
     /// What was read of its header. The table is borrowed, so it cannot change meanwhile.
     header: OnceCell<ffi::Header>,
@@ -953,7 +1194,7 @@ pub struct NodeState<'a, S> {
 
 impl<S> Clone for NodeState<'_, S> {
     fn clone(&self) -> Self {
-        NodeState { table: self.table, node: self.node, header: self.header.clone() }
+        NodeState { table: self.table, party: self.party, node: self.node, header: self.header.clone() }
     }
 }
 
@@ -974,12 +1215,11 @@ impl<S: Bytes> fmt::Debug for NodeState<'_, S> {
 
 impl<'a, S: Bytes> NodeState<'a, S> {
     #[inline]
-    fn of(table: Lent<'a, S>, node: u64) -> Result<NodeState<'a, S>, Refusal> {
-        // An owned table's header is read when it is asked for, once. A lent one's is read here, since each reading of it checks the table.
-        let header = OnceCell::new();
-        let number = if S::GOOD { ffi::record_count(&table, node).number } else { header.get_or_init(|| ffi::node_header(&table, node)).number };
-        accepted(number)?;
-        Ok(NodeState { table, node, header })
+    fn of(table: Lent<'a, S>, party: Party, node: u64) -> Result<NodeState<'a, S>, Refusal> {
+        // The header is read here, once: it tells whether the node is there, and looks at no party.
+        let read = ffi::node_header(&table, node);
+        accepted(read.number)?;
+        Ok(NodeState { table, party, node, header: OnceCell::from(read) })
     }
 
     /// Its number.
@@ -998,6 +1238,24 @@ impl<'a, S: Bytes> NodeState<'a, S> {
     #[inline]
     pub(crate) fn table(&self) -> Lent<'a, S> {
         self.table
+    }
+
+    /// Whether two firms share the table.
+    #[inline]
+    pub(crate) fn is_shared(&self) -> bool {
+        self.table.all()[crate::PROFILE_AT] == 2
+    }
+
+    /// Who reads it: nobody, or the party of a [`PartyTable`].
+    ///
+    /// ```
+    /// # use kevdarosh::{Mode, OwnedTable, Party};
+    /// let mut table = OwnedTable::new(Mode::Plain);
+    /// table.add_node(7).unwrap();
+    /// assert_eq!(table.node_state(7).unwrap().party(), Party::Nobody);
+    /// ```
+    pub fn party(&self) -> Party {
+        self.party
     }
 
     /// Heartbeat, max and last_gc.
@@ -1077,7 +1335,7 @@ impl<'a, S: Bytes> NodeState<'a, S> {
     ///
     /// # Errors
     ///
-    /// [`Refusal::TooLong`].
+    /// [`Refusal::TooLong`], in a shared table [`Refusal::OtherParty`].
     ///
     /// ```
     /// # use kevdarosh::{Mode, OwnedTable, Refusal, Wanted};
@@ -1093,14 +1351,14 @@ impl<'a, S: Bytes> NodeState<'a, S> {
     /// assert_eq!(node.get(&[b'k'; 33]), Err(Refusal::TooLong));
     /// ```
     pub fn get(&self, key: &[u8]) -> Result<Option<&'a [u8]>, Refusal> {
-        found(self.table, self.node, key)
+        found(self.table, self.party, self.node, key)
     }
 
     /// Whether [`NodeState::get`] finds the key.
     ///
     /// # Errors
     ///
-    /// [`Refusal::TooLong`].
+    /// [`Refusal::TooLong`], in a shared table [`Refusal::OtherParty`].
     ///
     /// ```
     /// # use kevdarosh::{Mode, OwnedTable, Wanted};
@@ -1121,7 +1379,7 @@ impl<'a, S: Bytes> NodeState<'a, S> {
     ///
     /// # Errors
     ///
-    /// [`Refusal::TooLong`].
+    /// [`Refusal::TooLong`], in a shared table [`Refusal::OtherParty`].
     ///
     /// ```
     /// # use kevdarosh::{Mode, OwnedTable, Status, Wanted};
@@ -1137,14 +1395,17 @@ impl<'a, S: Bytes> NodeState<'a, S> {
     /// ```
     #[inline]
     pub fn get_versioned(&self, key: &[u8]) -> Result<Option<Record<'a>>, Refusal> {
-        let found = ffi::record_by_key(&self.table, self.node, key);
+        let found = ffi::record_by_key(&self.table, self.party.number(), self.node, key);
         accepted(found.number)?;
-        Ok((found.found.0 != 0).then(|| Record {
-            key: text(self.table, found.key_at, found.key_len),
-            value: text(self.table, found.value_at, found.value_len),
-            version: found.version,
-            status: Status::of(found.status.0),
-            start: found.start,
+        Ok((found.found.0 != 0).then(|| {
+            let front = front(self.table, self.party, self.node);
+            Record {
+                key: text(self.table, front, found.key_at, found.key_len),
+                value: text(self.table, front, found.value_at, found.value_len),
+                version: found.version,
+                status: Status::of(found.status.0),
+                start: found.start,
+            }
         }))
     }
 
@@ -1163,7 +1424,7 @@ impl<'a, S: Bytes> NodeState<'a, S> {
     /// ```
     #[inline]
     pub fn key_values_including_deleted(&self) -> Records<'a> {
-        Records::of(self.table.all(), ffi::node_rows(&self.table, self.node))
+        self.records(ffi::node_rows(&self.table, self.party.number(), self.node))
     }
 
     /// The keys and values that are not deleted, in key order.
@@ -1218,9 +1479,15 @@ impl<'a, S: Bytes> NodeState<'a, S> {
     /// assert_eq!(node.iter_prefix(b"flow.").unwrap().map(|record| record.key).collect::<Vec<_>>(), [b"flow.day"]);
     /// ```
     pub fn iter_prefix(&self, prefix: &[u8]) -> Result<impl DoubleEndedIterator<Item = Record<'a>> + use<'a, S>, Refusal> {
-        let rows = ffi::prefix_rows(&self.table, self.node, prefix);
+        let rows = ffi::prefix_rows(&self.table, self.party.number(), self.node, prefix);
         accepted(rows.number)?;
-        Ok(Records::of(self.table.all(), rows).filter(|record| !record.is_hidden()))
+        Ok(self.records(rows).filter(|record| !record.is_hidden()))
+    }
+
+    /// The records of these rows, which are counted from the party's front on.
+    #[inline]
+    pub(crate) fn records(&self, rows: ffi::Rows) -> Records<'a> {
+        Records::of(&self.table.all()[front(self.table, self.party, self.node)..], rows)
     }
 }
 

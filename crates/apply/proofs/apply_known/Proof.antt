@@ -104,7 +104,7 @@ returns-3 c =
     let st = entry ra in
     let a = st .args in
     applied-all (a .delta .now) (a .clock) (a .answers .now) (a .table .now) (st .pre) _ _ (sym (said ra) ∙ places .before .before .read2 .given .1)
-    (places .if1 .left) _ (moded .mode-of .ensures) _ _ (call .apply-each .ensures)
+    (places .if1 .left) _ (moded .mode-of .ensures) _ (profiled ra .profile-of .ensures) _ _ (call .apply-each .ensures)
 
 pub apply-known-spec : {M : Type 1} → statement M
 apply-known-spec =

@@ -39,7 +39,7 @@ returns c =
     let took = room .before .before .before in
     let h = read took in
     let st = entry h in
-    is-grown _ _ _ _ _ _ (begun-is _ (st .pre .0) (st .args .last-gc) (st .fits .last-gc .fits) (st .args .afresh) _ (begun h .begin .ensures)) _ (h .read-header .ensures) _ _ (took .take-records .ensures) (room .if1 .taken) _ (set .set-max .ensures)
+    is-grown _ _ _ _ (st .fits .max .fits) _ _ (begun-is _ (st .pre .0) (st .args .last-gc) (st .fits .last-gc .fits) (st .args .afresh) _ (begun h .begin .ensures)) _ (h .read-header .ensures) _ _ (took .take-records .ensures) (room .if1 .taken) _ (set .set-max .ensures)
 
 same-length-2 : tie.Need-same-length-2
 same-length-2 c = search needs
@@ -49,7 +49,7 @@ returns-2 c =
     let took = c .before .before .before in
     let h = read took in
     let st = entry h in
-    not-grown _ _ _ _ _ _ (begun-is _ (st .pre .0) (st .args .last-gc) (st .fits .last-gc .fits) (st .args .afresh) _ (begun h .begin .ensures)) _ (h .read-header .ensures) _ _ (took .take-records .ensures) (c .if1 .left) _
+    not-grown _ _ _ _ (st .fits .max .fits) _ _ (begun-is _ (st .pre .0) (st .args .last-gc) (st .fits .last-gc .fits) (st .args .afresh) _ (begun h .begin .ensures)) _ (h .read-header .ensures) _ _ (took .take-records .ensures) (c .if1 .left) _
 
 pub grow-spec : {M : Type 1} → statement M
 grow-spec =

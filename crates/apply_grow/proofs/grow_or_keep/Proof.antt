@@ -8,13 +8,13 @@ use Rattle.apply_grow.proofs.grow_or_keep.Statement.{statement}
 use Rattle.apply_grow.proofs.grow_or_keep.Tie as tie
 
 -- where the function is entered, and the node is saved
-abbrev copied : tie.After-grow → tie.After-copy-to
+abbrev copied : tie.After-grow-as → tie.After-copy-to
 copied c = c .before .before .before
 
-abbrev entry : tie.After-grow → tie.Start
+abbrev entry : tie.After-grow-as → tie.Start
 entry c = copied c .before .before .before .before .before
 
-saved : (c : tie.After-grow) → copied c .copy-to .last .0 ≡ entry c .args .node .now
+saved : (c : tie.After-grow-as) → copied c .copy-to .last .0 ≡ entry c .args .node .now
 saved c = copied c .copy-to .ensures ∙ put-all _ _ (omega (arith, entry c .pre .0 .laid .long))
 
 slice-aggregate-copy-to : tie.Need-slice-aggregate-copy-to
@@ -23,8 +23,8 @@ slice-aggregate-copy-to c = search needs
 copy-to-requires : tie.Need-copy-to-requires
 copy-to-requires c κs = omega (arith, c .before .before .before .before .pre .0 .laid .long)
 
-grow-requires : tie.Need-grow-requires
-grow-requires c κs = search needs
+grow-as-requires : tie.Need-grow-as-requires
+grow-as-requires c κs = search needs
 
 same-length : tie.Need-same-length
 same-length c = search needs
@@ -32,7 +32,7 @@ same-length c = search needs
 returns : tie.Need-returns
 returns c =
     let call = c .before .before .before in
-    has-stored _ _ _ _ (call .grow .ensures) (c .if1 .taken)
+    has-stored _ _ _ _ _ (call .grow-as .ensures) (c .if1 .taken)
 
 slice-aggregate-copy-to-2 : tie.Need-slice-aggregate-copy-to-2
 slice-aggregate-copy-to-2 c = search needs
@@ -48,8 +48,8 @@ returns-2 c =
     let back = c .before .before in
     let full = back .before .before .before in
     let call = full .before .before .before in
-    kept _ _ _ _ (call .grow .ensures) (full .if1 .left) _ _ (saved call) (back .copy-to2 .ensures)
-    (omega (arith, call .grow .kept .0, entry call .pre .0 .laid .long, ap length (saved call)))
+    kept _ _ _ _ _ (call .grow-as .ensures) (full .if1 .left) _ _ (saved call) (back .copy-to2 .ensures)
+    (omega (arith, call .grow-as .kept .0, entry call .pre .0 .laid .long, ap length (saved call)))
 
 pub grow-or-keep-spec : {M : Type 1} → statement M
 grow-or-keep-spec =
@@ -57,7 +57,7 @@ grow-or-keep-spec =
     (tie.spec
     slice-aggregate-copy-to
     copy-to-requires
-    grow-requires
+    grow-as-requires
     same-length
     returns
     slice-aggregate-copy-to-2

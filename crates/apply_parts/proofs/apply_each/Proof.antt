@@ -5,6 +5,7 @@ use mathlib.Core.Path.{ap, sym, subst}
 use native.Mathlib.Omega.{arith}
 use lib.ListN.{length, getD, set}
 use Rattle.rules.specs.Delta.{Part}
+use Rattle.rules.specs.Profile.{kind}
 use Rattle.rules.specs.Layout.{decode}
 use Rattle.delta_read.specs.NodeDeltas.{partsFrom, noPart, Head}
 use Rattle.rules.specs.Given.{Gives}
@@ -16,10 +17,10 @@ use Rattle.apply_parts.proofs.apply_each.Statement.{statement}
 use Rattle.apply_parts.proofs.apply_each.Tie as tie
 
 abbrev Inv-loop : tie.InvT-loop
-Inv-loop t₀ mode s nodes clock answers₀ places counts maxes i₀ t answers i = Stands mode clock s t₀ answers₀ i t answers × (i ≤ nodes)
+Inv-loop t₀ mode profile s nodes clock answers₀ places counts maxes i₀ t answers i = Stands (kind mode profile) clock s t₀ answers₀ i t answers × (i ≤ nodes)
 
 abbrev μ-loop : tie.MeasureT-loop
-μ-loop t₀ mode s nodes clock answers₀ places counts maxes i₀ t answers i = nodes - i
+μ-loop t₀ mode profile s nodes clock answers₀ places counts maxes i₀ t answers i = nodes - i
 
 -- the turn, and where the function is entered
 abbrev entry : tie.In-loop Inv-loop μ-loop → tie.Start Inv-loop μ-loop
@@ -92,7 +93,7 @@ loop-again c =
     let st = entry q in (
       stands-next _ _ _ _ _ _ _ _ (q .before .loop .inv .0) (one-left q) (place-left q) (st .fits .clock .fits) (st .pre .1)
           (at-in (λ (b : ℕ). b < 256) (st .args .delta .now) 0 (λ i h. q .before .before .before .before .before .before .shared-slice-known .given i .fits)) _ _ _
-          (subst (λ (x : Part). Gives (stored (partApplied (st .args .mode) (st .args .clock) x (decode (q .before .loop .table)))) (call .apply-part .result) (call .apply-part .last .0)) (sym (here q .is)) (call .apply-part .ensures))
+          (subst (λ (x : Part). Gives (stored (partApplied (kind (st .args .mode) (st .args .profile)) (st .args .clock) x (decode (q .before .loop .table)))) (call .apply-part .result) (call .apply-part .last .0)) (sym (here q .is)) (call .apply-part .ensures))
           (ap (λ (x : ℕ). set (q .before .loop .answers) (q .before .loop .i) x) (c .code .ensures)),
       omega (arith, q .loop-test .taken),
     )

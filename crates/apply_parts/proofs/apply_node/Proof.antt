@@ -1,6 +1,7 @@
 -- `apply_parts::apply_node` meets its contract: by the status. Assumes nothing.
 use mathlib.Core.Path.{_≡_, sym, _∙_}
-use Rattle.rules.specs.Apply.{deltaStatus, waysOf}
+use Rattle.rules.specs.Apply.{deltaStatus, waysIn}
+use Rattle.rules.specs.Profile.{kind}
 use Rattle.rules.specs.Layout.{decodeNode}
 use Rattle.delta_read.specs.NodeDeltas.{deltaOf}
 use Rattle.apply_grow.proofs.Growing.{stored-gives}
@@ -15,10 +16,10 @@ entry c = c .before .before .before .before .before
 -- the status is the rules' of the node that is read in the bytes
 is : (c : tie.After-check-delta-status)
     → let a = entry c .args in
-    c .check-delta-status .result ≡ deltaStatus (waysOf (a .mode) .fence) (decodeNode (a .node .now) .node) (deltaOf (a .delta .now) (a .last-gc) (a .from) (a .max) (a .at))
+    c .check-delta-status .result ≡ deltaStatus (waysIn (kind (a .mode) (a .profile)) .fence) (decodeNode (a .node .now) .node) (deltaOf (a .delta .now) (a .last-gc) (a .from) (a .max) (a .at))
 is c =
     let a = entry c .args in
-    status-is (a .mode) (a .clock) (a .delta .now) (a .last-gc) (a .from) (a .max) (a .at) (a .node .now) (entry c .pre .0 .laid) _ _ (c .before .read-header .ensures) (c .check-delta-status .ensures)
+    status-is (kind (a .mode) (a .profile)) (a .clock) (a .delta .now) (a .last-gc) (a .from) (a .max) (a .at) (a .node .now) (entry c .pre .0 .laid) _ _ (c .before .read-header .ensures) (c .check-delta-status .ensures)
 
 read-header-requires : tie.Need-read-header-requires
 read-header-requires c κs = search needs
@@ -40,7 +41,7 @@ returns c =
     let asked = c .before in
     let judged = asked .before .before in
     let a = entry judged .args in
-    untouched (a .mode) (a .clock) (a .delta .now) (a .last-gc) (a .from) (a .max) (a .at) (a .node .now) (entry judged .pre .0 .laid) _ (is judged)
+    untouched (kind (a .mode) (a .profile)) (a .clock) (a .delta .now) (a .last-gc) (a .from) (a .max) (a .at) (a .node .now) (entry judged .pre .0 .laid) _ (is judged)
     (sym (asked .before .is-left .ensures) ∙ asked .if1 .taken) _ _ (c .answer-as .ensures)
 
 is-reset-requires : tie.Need-is-reset-requires
@@ -62,8 +63,8 @@ returns-2 c =
     let asked = reset .before .before in
     let judged = asked .before .before in
     let a = entry judged .args in
-    concluded (a .mode) (a .clock) (a .delta .now) (a .last-gc) (a .from) (a .max) (a .at) (a .node .now) (entry judged .pre .0 .laid) _ (is judged) (sym (asked .before .is-left .ensures) ∙ asked .if1 .left)
-    _ (reset .is-reset .ensures) _ _ (stored-gives _ _ _ _ (grown .grow-in-place .ensures)) _ (c .answer-as2 .ensures)
+    concluded (kind (a .mode) (a .profile)) (a .clock) (a .delta .now) (a .last-gc) (a .from) (a .max) (a .at) (a .node .now) (entry judged .pre .0 .laid) _ (is judged) (sym (asked .before .is-left .ensures) ∙ asked .if1 .left)
+    _ (reset .is-reset .ensures) _ _ (stored-gives _ _ _ _ _ (grown .grow-in-place .ensures)) _ (c .answer-as2 .ensures)
 
 pub apply-node-spec : {M : Type 1} → statement M
 apply-node-spec =

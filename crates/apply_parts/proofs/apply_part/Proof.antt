@@ -3,6 +3,7 @@ use Prim.Native.Nat.{ℕ}
 use mathlib.Core.Path.{_≡_, ap, sym, _∙_}
 use native.Mathlib.Omega.{arith}
 use Rattle.rules.specs.Delta.{Part}
+use Rattle.rules.specs.Profile.{kind}
 use Rattle.table_read.specs.Find.{spanIn}
 use Rattle.table_read.specs.declared.Span.the-variants.{Held}
 use Rattle.table_read.proofs.Held.{node-end, node-fits}
@@ -72,7 +73,7 @@ apply-node-requires : tie.Need-apply-node-requires
 apply-node-requires c κs =
     let h = c .before .before in
     let st = entry (sought h) in
-    (lent-rising (st .args .mode) _ (st .pre .0) (st .args .clock) (part (sought h)) (held h), st .pre .1, st .pre .2)
+    (lent-rising (kind (st .args .mode) (st .args .profile)) _ (st .pre .0) (st .args .clock) (part (sought h)) (held h), st .pre .1, st .pre .2)
 
 enum-told : tie.Need-enum-told
 enum-told c = search needs
@@ -87,8 +88,8 @@ returns c =
     let f = sought h in
     let st = entry f in
     let a = st .args in
-    part-held (a .mode) _ (st .pre .0) (a .clock) (part f) (held h) _ _
-    (numbers-read (a .mode) (a .clock) (a .delta .now) _ _ _ _ (a .max) _ (read f .before .read-u642 .ensures) (read f .read-u643 .ensures) _ _ _ (call .apply-node .ensures))
+    part-held (kind (a .mode) (a .profile)) _ (st .pre .0) (a .clock) (part f) (held h) _ _
+    (numbers-read (kind (a .mode) (a .profile)) (a .clock) (a .delta .now) _ _ _ _ (a .max) _ (read f .before .read-u642 .ensures) (read f .read-u643 .ensures) _ _ _ (call .apply-node .ensures))
 
 same-length-2 : tie.Need-same-length-2
 same-length-2 c = search needs
@@ -96,7 +97,7 @@ same-length-2 c = search needs
 returns-2 : tie.Need-returns-2
 returns-2 c =
     let f = c .before .before in
-    part-missing (entry f .args .mode) _ (entry f .pre .0) (entry f .args .clock) (part f) (found f ∙ c .enum-told .given .1)
+    part-missing (kind (entry f .args .mode) (entry f .args .profile)) _ (entry f .pre .0) (entry f .args .clock) (part f) (found f ∙ c .enum-told .given .1)
 
 pub apply-part-spec : {M : Type 1} → statement M
 apply-part-spec =

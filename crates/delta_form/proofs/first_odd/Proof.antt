@@ -10,13 +10,13 @@ use Rattle.delta_form.proofs.first_odd.Statement.{statement}
 use Rattle.delta_form.proofs.first_odd.Tie as tie
 
 abbrev Inv-loop : tie.InvT-loop
-Inv-loop delta end at₀ at = So-far delta end at
+Inv-loop profile delta end at₀ at = So-far profile delta end at
 
 abbrev μ-loop : tie.MeasureT-loop
-μ-loop delta end at₀ at = length delta - at
+μ-loop profile delta end at₀ at = length delta - at
 
 loop-holds : tie.Need-loop-holds Inv-loop μ-loop
-loop-holds c = begin (c .before .args .delta .now) (c .before .args .end)
+loop-holds c = begin (c .before .args .profile) (c .before .args .delta .now) (c .before .args .end)
 
 read-op-requires : tie.Need-read-op-requires Inv-loop μ-loop
 read-op-requires c κs = c .before .loop .inv .0
@@ -32,7 +32,7 @@ returns c =
     let t = c .before .before .before in
     let q = t .before in
     let st = q .before .before in
-    bad (st .args .delta .now) (st .args .end) (q .loop .at) (q .loop .inv) (t .loop-test .taken) (st .pre) _ (sym (c .before .before .read-op .ensures) ∙ c .enum-told .given .1)
+    bad (st .args .profile) (st .args .delta .now) (st .args .end) (q .loop .at) (q .loop .inv) (t .loop-test .taken) (st .pre) _ (sym (c .before .before .read-op .ensures) ∙ c .enum-told .given .1)
 
 op-formed-requires : tie.Need-op-formed-requires Inv-loop μ-loop
 op-formed-requires c κs =
@@ -55,7 +55,7 @@ loop-again c =
     let t = r .before .before .before in
     let q = t .before in
     let st = q .before .before in
-    goes-on (st .args .delta .now) (st .args .end) (q .loop .at) (q .loop .inv) (t .loop-test .taken) (st .pre) _ _ (sym (r .before .before .read-op .ensures) ∙ r .read .given .1)
+    goes-on (st .args .profile) (st .args .delta .now) (st .args .end) (q .loop .at) (q .loop .inv) (t .loop-test .taken) (st .pre) _ _ (sym (r .before .before .read-op .ensures) ∙ r .read .given .1)
     (c .before .op-formed .ensures) (c .if1 .taken)
 
 returns-2 : tie.Need-returns-2 Inv-loop μ-loop
@@ -64,14 +64,14 @@ returns-2 c =
     let t = r .before .before .before in
     let q = t .before in
     let st = q .before .before in
-    is-odd (st .args .delta .now) (st .args .end) (q .loop .at) (q .loop .inv) (t .loop-test .taken) (st .pre) _ _ (sym (r .before .before .read-op .ensures) ∙ r .read .given .1)
+    is-odd (st .args .profile) (st .args .delta .now) (st .args .end) (q .loop .at) (q .loop .inv) (t .loop-test .taken) (st .pre) _ _ (sym (r .before .before .read-op .ensures) ∙ r .read .given .1)
     (c .before .op-formed .ensures) (c .if1 .left)
 
 returns-3 : tie.Need-returns-3 Inv-loop μ-loop
 returns-3 c =
     let q = c .before in
     let st = q .before .before in
-    over (st .args .delta .now) (st .args .end) (q .loop .at) (q .loop .inv) (c .loop-test .left)
+    over (st .args .profile) (st .args .delta .now) (st .args .end) (q .loop .at) (q .loop .inv) (c .loop-test .left)
 
 pub first-odd-spec : {M : Type 1} → statement M
 first-odd-spec =

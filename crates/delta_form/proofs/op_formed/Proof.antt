@@ -19,16 +19,16 @@ enum-told-2 : tie.Need-enum-told-2
 enum-told-2 c = search needs
 
 returns : tie.Need-returns
-returns c = let st = c .before .before .before in of-node (st .args .delta .now) _ _ _ _ (c .enum-told .given .1)
+returns c = let st = c .before .before .before in of-node (st .args .profile) (st .args .delta .now) _ _ _ _ (c .enum-told .given .1)
 
 returns-2 : tie.Need-returns-2
 returns-2 c =
     let k = c .before .before in
     let st = k .before .before .before in
-    of-record (st .args .delta .now) _ _ _ _ _ _ _ (k .op .given .1) (c .record-formed .ensures)
+    of-record (st .args .profile) (st .args .delta .now) _ _ _ _ _ _ _ (k .op .given .1) (c .record-formed .ensures)
 
 returns-3 : tie.Need-returns-3
-returns-3 c = let st = c .before .before .before in of-max (st .args .delta .now) _ _ (c .enum-told2 .given .1)
+returns-3 c = let st = c .before .before .before in of-max (st .args .profile) (st .args .delta .now) _ _ (c .enum-told2 .given .1)
 
 pub op-formed-spec : {M : Type 1} → statement M
 op-formed-spec =

@@ -8,29 +8,30 @@ use lib.ListN.{length}
 use borrow.Author.Tests.{lt-ltb, le-ltb}
 use Rattle.fields.proofs.Choice.{pick-true, pick-false}
 use Rattle.rules.specs.Delta.{deltaRead}
+use Rattle.rules.specs.Profile.{oddNumber}
 use Rattle.rules.specs.declared.DeltaRead.{DeltaRead}
 use Rattle.rules.specs.declared.DeltaRead.the-variants as read
-use Rattle.rules.specs.declared.Profile.the-variants.{Meter}
-use Rattle.rules.specs.declared.Refusal.the-variants.{BadForm}
+use Rattle.rules.specs.declared.Profile.{Profile}
+use Rattle.rules.specs.declared.Refusal.{Refusal}
 use Rattle.delta_form.specs.Forming.{deltaReadAs, endOf, oddPlace, unlessOdd}
-use Rattle.delta_form.proofs.Formed.{end-within, meter-read}
+use Rattle.delta_form.proofs.Formed.{end-within, formed-read}
 use borrow.Author.Needs.{needs}
 use Rattle.delta_form.proofs.read_formed.Statement.{statement}
 use Rattle.delta_form.proofs.read_formed.Tie as tie
 
-module _ (l : List ℕ) (r : DeltaRead) (is : r ≡ deltaRead l) (end odd : ℕ) (e : end ≡ endOf (length l) r) (o : odd ≡ oddPlace l end) where
-  whole : deltaReadAs Meter l ≡ unlessOdd odd end r
+module _ (p : Profile) (l : List ℕ) (r : DeltaRead) (is : r ≡ deltaRead l) (end odd : ℕ) (e : end ≡ endOf (length l) r) (o : odd ≡ oddPlace p l end) where
+  whole : deltaReadAs p l ≡ unlessOdd p odd end r
   whole =
-      meter-read l
-      ∙ ap (λ (x : DeltaRead). unlessOdd (oddPlace l (endOf (length l) x)) (endOf (length l) x) x) (sym is)
-      ∙ ap (λ (k : ℕ). unlessOdd (oddPlace l k) k r) (sym e)
-      ∙ ap (λ (k : ℕ). unlessOdd k end r) (sym o)
+      formed-read p l
+      ∙ ap (λ (x : DeltaRead). unlessOdd p (oddPlace p l (endOf (length l) x)) (endOf (length l) x) x) (sym is)
+      ∙ ap (λ (k : ℕ). unlessOdd p (oddPlace p l k) k r) (sym e)
+      ∙ ap (λ (k : ℕ). unlessOdd p k end r) (sym o)
 
-  is-odd : odd < end → read.Refused BadForm odd ≡ deltaReadAs Meter l
-  is-odd h = sym (whole ∙ pick-true (ltb odd end) (read.Refused BadForm odd) r (lt-ltb odd end h))
+  is-odd : odd < end → (why : Refusal) → why ≡ oddNumber p → read.Refused why odd ≡ deltaReadAs p l
+  is-odd h why n = ap (λ (x : Refusal). read.Refused x odd) n ∙ sym (whole ∙ pick-true (ltb odd end) (read.Refused (oddNumber p) odd) r (lt-ltb odd end h))
 
-  is-formed : end ≤ odd → r ≡ deltaReadAs Meter l
-  is-formed h = sym (whole ∙ pick-false (ltb odd end) (read.Refused BadForm odd) r (le-ltb odd end h))
+  is-formed : end ≤ odd → r ≡ deltaReadAs p l
+  is-formed h = sym (whole ∙ pick-false (ltb odd end) (read.Refused (oddNumber p) odd) r (le-ltb odd end h))
 
   within : end ≤ length l
   within = let z : endOf (length l) r ≤ length l = subst (λ (x : DeltaRead). endOf (length l) x ≤ length l) (sym is) (end-within l) in omega (arith, e, z)
@@ -41,21 +42,25 @@ end-of-requires c κs = search needs
 first-odd-requires : tie.Need-first-odd-requires
 first-odd-requires c κs =
     let st = c .before .before in
-    within (st .args .delta .now) (st .args .read) (st .pre) _ _ (c .end-of .ensures) refl
+    within (st .args .profile) (st .args .delta .now) (st .args .read) (st .pre) _ _ (c .end-of .ensures) refl
+
+odd-number-requires : tie.Need-odd-number-requires
+odd-number-requires c κs = search needs
 
 returns : tie.Need-returns
 returns c =
-    let o = c .before in
+    let i = c .before in
+    let o = i .before in
     let e = o .before in
     let st = e .before .before in
-    is-odd (st .args .delta .now) (st .args .read) (st .pre) _ _ (e .end-of .ensures) (o .first-odd .ensures) (c .if1 .taken)
+    is-odd (st .args .profile) (st .args .delta .now) (st .args .read) (st .pre) _ _ (e .end-of .ensures) (o .first-odd .ensures) (i .if1 .taken) _ (c .odd-number .ensures)
 
 returns-2 : tie.Need-returns-2
 returns-2 c =
     let o = c .before in
     let e = o .before in
     let st = e .before .before in
-    is-formed (st .args .delta .now) (st .args .read) (st .pre) _ _ (e .end-of .ensures) (o .first-odd .ensures) (c .if1 .left)
+    is-formed (st .args .profile) (st .args .delta .now) (st .args .read) (st .pre) _ _ (e .end-of .ensures) (o .first-odd .ensures) (c .if1 .left)
 
 pub read-formed-spec : {M : Type 1} → statement M
-read-formed-spec = tie.close (tie.spec end-of-requires first-odd-requires returns returns-2)
+read-formed-spec = tie.close (tie.spec end-of-requires first-odd-requires odd-number-requires returns returns-2)

@@ -25,14 +25,14 @@ returns c =
     let s = entry asked in
     let a = s .args in
     c .ask-rooms .ensures
-    ∙ in-edition (a .edition) (a .unasked .now) (room s) (a .formed) (decode (a .publisher .now)) (decode (a .follower .now)) (sym (asked .is-edition .ensures) ∙ c .before .if1 .taken)
+    ∙ in-edition (a .edition) (a .unasked .now) (room s) (a .profile) (a .formed) (decode (a .publisher .now)) (decode (a .follower .now)) (sym (asked .is-edition .ensures) ∙ c .before .if1 .taken)
 
 returns-2 : tie.Need-returns-2
 returns-2 c =
     let asked = c .before in
     let s = entry asked in
     let a = s .args in
-    no-edition (a .edition) (a .unasked .now) (room s) (a .formed) (decode (a .publisher .now)) (decode (a .follower .now)) (sym (asked .is-edition .ensures) ∙ c .if1 .left)
+    no-edition (a .edition) (a .unasked .now) (room s) (a .profile) (a .formed) (decode (a .publisher .now)) (decode (a .follower .now)) (sym (asked .is-edition .ensures) ∙ c .if1 .left)
 
 pub ask-good-spec : {M : Type 1} → statement M
 ask-good-spec = tie.close (tie.spec is-edition-requires ask-rooms-requires returns returns-2)

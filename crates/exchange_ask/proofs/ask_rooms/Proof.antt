@@ -24,7 +24,7 @@ returns : tie.Need-returns
 returns c =
     let sized = c .before in
     let a = entry sized .args in
-    no-digest-room (a .edition) (a .unasked .now) (room (entry sized)) (a .formed) (decode (a .publisher .now)) (decode (a .follower .now)) _ (sized .digest-size .ensures) (c .if1 .taken)
+    no-digest-room (a .edition) (a .unasked .now) (room (entry sized)) (a .profile) (a .formed) (decode (a .publisher .now)) (decode (a .follower .now)) _ (sized .digest-size .ensures) (c .if1 .taken)
 
 -- once the digest fits and the numbers of the delta are asked
 abbrev sized : tie.After-ask → tie.After-digest-size
@@ -49,7 +49,7 @@ returns-2 : tie.Need-returns-2
 returns-2 c =
     let call = c .before .before .before in
     let s = entry (sized call) in
-    no-delta (s .args .edition) (s .args .unasked .now) (room s) (s .args .formed) (decode (s .args .publisher .now)) (decode (s .args .follower .now)) _ (sized call .digest-size .ensures) (fits call) _ (nodes-are call) _
+    no-delta (s .args .edition) (s .args .unasked .now) (room s) (s .args .profile) (s .args .formed) (decode (s .args .publisher .now)) (decode (s .args .follower .now)) _ (sized call .digest-size .ensures) (fits call) _ (nodes-are call) _
     (sym (call .ask .ensures) ∙ c .before .asked .given .1)
 
 enum-told : tie.Need-enum-told
@@ -63,7 +63,7 @@ returns-3 c =
     let good = c .before in
     let call = good .before .before in
     let s = entry (sized call) in
-    asked-all (s .args .edition) (s .args .unasked .now) (room s) (s .args .formed) (decode (s .args .publisher .now)) (decode (s .args .follower .now)) _ (sized call .digest-size .ensures) (fits call) _ (nodes-are call)
+    asked-all (s .args .edition) (s .args .unasked .now) (room s) (s .args .profile) (s .args .formed) (decode (s .args .publisher .now)) (decode (s .args .follower .now)) _ (sized call .digest-size .ensures) (fits call) _ (nodes-are call)
     (sym (call .ask .ensures) ∙ good .enum-told .given .1) _ (c .ask-taking .ensures)
 
 pub ask-rooms-spec : {M : Type 1} → statement M

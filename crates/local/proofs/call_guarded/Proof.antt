@@ -26,14 +26,14 @@ asked st = callOf (st .args .kind) (st .args .value .now) (st .args .clock)
 
 -- what the guard answered
 guarded : (c : tie.After-guard) → let st = entry (c .before .before) in
-    c .guard .result ≡ guardedBy (guardIn (decodeWhole (st .args .table .now) .kind .profile) (asked st) (st .args .key .now) (nodeOf (st .args .number) (decode (areaOf (st .args .table .now)))))
+    c .guard .result ≡ guardedBy (guardIn (decodeWhole (st .args .table .now) .kind .profile) (st .args .party) (asked st) (st .args .key .now) (nodeOf (st .args .number) (decode (areaOf (st .args .table .now)))))
 guarded c =
     let q = c .before .before in
     let st = entry q in
     let a = st .args in
     c .guard .ensures
-    ∙ ap (λ (p : Profile). guardedBy (guardIn p (callOf (a .kind) (a .value .now) 0) (a .key .now) (nodeOf (a .number) (decode (areaOf (a .table .now)))))) (q .profile-of .ensures)
-    ∙ ap guardedBy (any-time (decodeWhole (a .table .now) .kind .profile) (a .kind) (a .value .now) (a .key .now) (nodeOf (a .number) (decode (areaOf (a .table .now)))) (a .clock))
+    ∙ ap (λ (p : Profile). guardedBy (guardIn p (a .party) (callOf (a .kind) (a .value .now) 0) (a .key .now) (nodeOf (a .number) (decode (areaOf (a .table .now)))))) (q .profile-of .ensures)
+    ∙ ap guardedBy (any-time (decodeWhole (a .table .now) .kind .profile) (a .party) (a .kind) (a .value .now) (a .key .now) (nodeOf (a .number) (decode (areaOf (a .table .now)))) (a .clock))
 
 profile-of-requires : tie.Need-profile-of-requires
 profile-of-requires c κs = let st = c .before .before .before .before in whole-long (st .args .table .now) (st .pre)
@@ -78,7 +78,7 @@ returns c =
     let g = t .before .before in
     let st = entry (g .before .before) in
     let a = st .args in
-    passed (asked st) (a .number) (a .key .now) (a .table .now) (st .pre) (guard-passed _ (sym (t .enum-told .given .1) ∙ guarded g)) (w .result) (w .last .0) (w .ensures)
+    passed (asked st) (a .number) (a .key .now) (a .table .now) (st .pre) (a .party) (guard-passed _ (sym (t .enum-told .given .1) ∙ guarded g)) (w .result) (w .last .0) (w .ensures)
 
 same-length-2 : tie.Need-same-length-2
 same-length-2 c = search needs
@@ -89,7 +89,7 @@ returns-2 c =
     let g = y .before .before in
     let st = entry (g .before .before) in
     let a = st .args in
-    refused (asked st) (a .number) (a .key .now) (a .table .now) (st .pre) _ (guard-refused _ _ (sym (y .why .given .1) ∙ guarded g))
+    refused (asked st) (a .number) (a .key .now) (a .table .now) (st .pre) (a .party) _ (guard-refused _ _ (sym (y .why .given .1) ∙ guarded g))
 
 pub call-guarded-spec : {M : Type 1} → statement M
 call-guarded-spec =

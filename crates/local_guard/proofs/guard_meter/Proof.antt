@@ -10,6 +10,7 @@ use Rattle.rules.specs.Layout.{decode}
 use Rattle.rules.specs.Node.{Node}
 use Rattle.rules.specs.Profile.{guardAt, guardIn, recsFormed}
 use Rattle.rules.specs.Table.{keysRise}
+use Rattle.rules.specs.declared.Party.the-variants.{Nobody}
 use Rattle.rules.specs.declared.Profile.the-variants.{Meter}
 use Rattle.rules.proofs.Formed.{node-formed}
 use Rattle.table.specs.Fits.{LaidNode}
@@ -62,15 +63,15 @@ returns c =
     let a = st .args in
     let v = st .pre .0 in
     c .guard-node .ensures
-    ∙ ap (λ (b : List ℕ). guardedBy (guardAt Meter (callOf (a .kind) (a .value .now) 0) (a .key .now) (recsIn b))) (node-seen _ _ v (held f))
-    ∙ sym (ap (λ (o : Option Node). guardedBy (guardIn Meter (callOf (a .kind) (a .value .now) 0) (a .key .now) o)) (held-node _ _ v (held f)))
+    ∙ ap (λ (b : List ℕ). guardedBy (guardAt Meter Nobody (callOf (a .kind) (a .value .now) 0) (a .key .now) (recsIn b))) (node-seen _ _ v (held f))
+    ∙ sym (ap (λ (o : Option Node). guardedBy (guardIn Meter Nobody (callOf (a .kind) (a .value .now) 0) (a .key .now) o)) (held-node _ _ v (held f)))
 
 returns-2 : tie.Need-returns-2
 returns-2 c =
     let n = c .before .before in
     let st = n .before .before .before .before in
     let a = st .args in
-    sym (ap (λ (o : Option Node). guardedBy (guardIn Meter (callOf (a .kind) (a .value .now) 0) (a .key .now) o)) (missing-node _ _ (st .pre .0) (sym (n .node-span .ensures) ∙ c .enum-told .given .1)))
+    sym (ap (λ (o : Option Node). guardedBy (guardIn Meter Nobody (callOf (a .kind) (a .value .now) 0) (a .key .now) o)) (missing-node _ _ (st .pre .0) (sym (n .node-span .ensures) ∙ c .enum-told .given .1)))
 
 pub guard-meter-spec : {M : Type 1} → statement M
 guard-meter-spec =

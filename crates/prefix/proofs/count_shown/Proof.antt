@@ -1,5 +1,5 @@
 -- `prefix::count_shown` meets its contract: what was counted and what is left are the whole. Assumes nothing.
-use Prim.Native.Nat.{ℕ, _+_, _-_, _≤_, _<_}
+use Prim.Native.Nat.{ℕ, _+_, _-_, _≤_, _<_, zero-le}
 use mathlib.Core.Path.{_≡_, sym, ap, _∙_}
 use mathlib.Core.List.{List}
 use mathlib.Core.Logic.{⊎-elim}
@@ -13,7 +13,7 @@ use Rattle.prefix.proofs.count_shown.Statement.{statement}
 use Rattle.prefix.proofs.count_shown.Tie as tie
 
 abbrev Inv-loop : tie.InvT-loop
-Inv-loop b low high found₀ j₀ found j = (j ≤ high) × (found ≤ j) × (found + length (shownIn j high b) ≡ length (shownIn low high b))
+Inv-loop b low high found₀ j₀ found j = (j ≤ high) × (found ≤ j) × (found + length (shownIn 0 j high b) ≡ length (shownIn 0 low high b))
 
 abbrev μ-loop : tie.MeasureT-loop
 μ-loop b low high found₀ j₀ found j = high - j
@@ -24,7 +24,7 @@ within c = omega (arith, c .loop-test .taken, c .before .before .before .pre .2)
 loop-holds : tie.Need-loop-holds Inv-loop μ-loop
 loop-holds c =
     let s = c .before in
-    (s .pre .1, omega arith, zero-add (length (shownIn (s .args .low) (s .args .high) (s .args .node .now))))
+    (s .pre .1, omega arith, zero-add (length (shownIn 0 (s .args .low) (s .args .high) (s .args .node .now))))
 
 is-shown-requires : tie.Need-is-shown-requires Inv-loop μ-loop
 is-shown-requires c κs = (c .before .before .before .pre .0, within c)
@@ -52,8 +52,8 @@ loop-again c =
     let b : List ℕ = s .args .node .now in
     let j : ℕ = q .loop .j in
     let top : ℕ = s .args .high in
-    let left : ℕ = length (shownIn (j + 1) top b) in
-    let n : ℕ = length (shownIn (s .args .low) top b) in
+    let left : ℕ = length (shownIn 0 (j + 1) top b) in
+    let n : ℕ = length (shownIn 0 (s .args .low) top b) in
     let h : j < top = i .before .loop-test .taken in
     let more : j + 1 ≤ top = omega arith in
     let few = q .loop .inv .1 in
@@ -61,19 +61,19 @@ loop-again c =
     (λ w. (
       more,
       omega (arith, w .1, few),
-      ap (λ (m : ℕ). m + left) (w .1) ∙ count-shown b j top h (s .pre .2) (q .loop .found) n (sym (i .is-shown .ensures) ∙ w .0 .taken) (q .loop .inv .2),
+      ap (λ (m : ℕ). m + left) (w .1) ∙ count-shown b 0 j top zero-le h (s .pre .2) (q .loop .found) n (sym (i .is-shown .ensures) ∙ w .0 .taken) (q .loop .inv .2),
     ))
     (λ w. (
       more,
       omega (arith, w .1, few),
-      ap (λ (m : ℕ). m + left) (w .1) ∙ count-hidden b j top h (s .pre .2) (q .loop .found) n (sym (i .is-shown .ensures) ∙ w .0 .left) (q .loop .inv .2),
+      ap (λ (m : ℕ). m + left) (w .1) ∙ count-hidden b 0 j top zero-le h (s .pre .2) (q .loop .found) n (sym (i .is-shown .ensures) ∙ w .0 .left) (q .loop .inv .2),
     )) (c .if1 .came)
 
 returns : tie.Need-returns Inv-loop μ-loop
 returns c =
     let q = c .before in
     let a = q .before .before .args in
-    omega (arith, q .loop .inv .2, ap length (none-left (a .node .now) (q .loop .j) (a .high) (omega arith)))
+    omega (arith, q .loop .inv .2, ap length (none-left (a .node .now) 0 (q .loop .j) (a .high) (omega arith)))
 
 pub count-shown-spec : {M : Type 1} → statement M
 count-shown-spec =

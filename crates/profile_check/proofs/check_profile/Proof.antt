@@ -20,11 +20,20 @@ enum-told c = search needs
 enum-told-2 : tie.Need-enum-told-2
 enum-told-2 c = search needs
 
-slice-aggregate-check-forms : tie.Need-slice-aggregate-check-forms
-slice-aggregate-check-forms c = let st = c .before .before .before .before .before in sym (length-take-le tableWidth (st .args .table .now) (omega (arith, st .pre .0)))
+slice-aggregate-check-nodes : tie.Need-slice-aggregate-check-nodes
+slice-aggregate-check-nodes c = let st = c .before .before .before .before .before in sym (length-take-le tableWidth (st .args .table .now) (omega (arith, st .pre .0)))
 
-check-forms-requires : tie.Need-check-forms-requires
-check-forms-requires c κs = c .before .before .before .before .before .pre .1
+check-nodes-requires : tie.Need-check-nodes-requires
+check-nodes-requires c κs = c .before .before .before .before .before .pre .1
+
+enum-told-3 : tie.Need-enum-told-3
+enum-told-3 c = search needs
+
+slice-aggregate-check-nodes-2 : tie.Need-slice-aggregate-check-nodes-2
+slice-aggregate-check-nodes-2 c = let st = c .before .before .before .before .before in sym (length-take-le tableWidth (st .args .table .now) (omega (arith, st .pre .0)))
+
+check-nodes-requires-2 : tie.Need-check-nodes-requires-2
+check-nodes-requires-2 c κs = c .before .before .before .before .before .pre .1
 
 returns : tie.Need-returns
 returns c =
@@ -37,7 +46,14 @@ returns-2 c =
     let m = c .before .before in
     let st = m .before .before .before .before in
     let l = st .args .table .now in
-    c .check-forms .ensures ∙ sym (ap (λ (p : Profile). profileObeys p (decode (areaOf l))) (sym (m .before .before .profile-of .ensures) ∙ m .enum-told2 .given .1))
+    c .check-nodes .ensures ∙ sym (ap (λ (p : Profile). profileObeys p (decode (areaOf l))) (sym (m .before .before .profile-of .ensures) ∙ m .enum-told2 .given .1))
+
+returns-3 : tie.Need-returns-3
+returns-3 c =
+    let m = c .before .before in
+    let st = m .before .before .before .before in
+    let l = st .args .table .now in
+    c .check-nodes2 .ensures ∙ sym (ap (λ (p : Profile). profileObeys p (decode (areaOf l))) (sym (m .before .before .profile-of .ensures) ∙ m .enum-told3 .given .1))
 
 pub check-profile-spec : {M : Type 1} → statement M
 check-profile-spec =
@@ -46,7 +62,11 @@ check-profile-spec =
     profile-of-requires
     enum-told
     enum-told-2
-    slice-aggregate-check-forms
-    check-forms-requires
+    slice-aggregate-check-nodes
+    check-nodes-requires
+    enum-told-3
+    slice-aggregate-check-nodes-2
+    check-nodes-requires-2
     returns
-    returns-2)
+    returns-2
+    returns-3)

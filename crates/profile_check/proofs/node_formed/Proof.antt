@@ -7,7 +7,6 @@ use lib.ListN.{drop, length}
 use borrow.Author.Needs.{needs}
 use Rattle.rules.specs.Profile.{recsFormed}
 use Rattle.rules.specs.Sizes.{maxKey, maxValue}
-use Rattle.rules.specs.declared.Profile.the-variants.{Meter}
 use Rattle.table.specs.Tests.{keyLength, valueLength, recsIn}
 use Rattle.table.proofs.Laid.{laid-key, laid-value, rec-long}
 use Rattle.profile_check.proofs.Formed.{no-record, record-on, record-stop}
@@ -15,10 +14,10 @@ use Rattle.profile_check.proofs.node_formed.Statement.{statement}
 use Rattle.profile_check.proofs.node_formed.Tie as tie
 
 abbrev Inv-loop : tie.InvT-loop
-Inv-loop node n i₀ i = (i ≤ n) × (recsFormed Meter (drop i (recsIn node)) ≡ recsFormed Meter (recsIn node))
+Inv-loop profile node n i₀ i = (i ≤ n) × (recsFormed profile (drop i (recsIn node)) ≡ recsFormed profile (recsIn node))
 
 abbrev μ-loop : tie.MeasureT-loop
-μ-loop node n i₀ i = n - i
+μ-loop profile node n i₀ i = n - i
 
 byte-at-requires : tie.Need-byte-at-requires Inv-loop μ-loop
 byte-at-requires c κs = search needs
@@ -49,19 +48,20 @@ loop-less c = search needs
 loop-again : tie.Need-loop-again Inv-loop μ-loop
 loop-again c =
     let q = c .before .before .before .before in
-    let b = q .before .before .before .args .node .now in
-    (omega arith, record-on b (q .loop .i) (omega arith) _ (c .before .before .record-of .ensures) (c .before .record-formed .ensures) (c .if1 .taken) ∙ q .loop .inv .1)
+    let a = q .before .before .before .args in
+    (omega arith, record-on (a .profile) (a .node .now) (q .loop .i) (omega arith) _ (c .before .before .record-of .ensures) (c .before .record-formed .ensures) (c .if1 .taken) ∙ q .loop .inv .1)
 
 returns : tie.Need-returns Inv-loop μ-loop
 returns c =
     let q = c .before .before .before .before in
-    let b = q .before .before .before .args .node .now in
-    sym (record-stop b (q .loop .i) (omega arith) _ (c .before .before .record-of .ensures) (c .before .record-formed .ensures) (c .if1 .left)) ∙ q .loop .inv .1
+    let a = q .before .before .before .args in
+    sym (record-stop (a .profile) (a .node .now) (q .loop .i) (omega arith) _ (c .before .before .record-of .ensures) (c .before .record-formed .ensures) (c .if1 .left)) ∙ q .loop .inv .1
 
 returns-2 : tie.Need-returns-2 Inv-loop μ-loop
 returns-2 c =
     let q = c .before in
-    sym (no-record (q .before .before .before .args .node .now) (q .loop .i) (omega arith)) ∙ q .loop .inv .1
+    let a = q .before .before .before .args in
+    sym (no-record (a .profile) (a .node .now) (q .loop .i) (omega arith)) ∙ q .loop .inv .1
 
 pub node-formed-spec : {M : Type 1} → statement M
 node-formed-spec =

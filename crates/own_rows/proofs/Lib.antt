@@ -1,0 +1,5 @@
+pub mod Parted
+pub mod First
+pub mod Laws
+pub mod Keys
+pub mod Tables

@@ -1,0 +1,13 @@
+pub mod Views
+pub mod Tables
+pub mod Apart
+pub mod Order
+pub mod Kept
+pub mod Steps
+pub mod Calls
+pub mod Readings
+pub mod Common
+pub mod Runs
+pub mod LentRuns
+pub mod Ticket9
+pub mod Unpromised

@@ -1,0 +1,4 @@
+pub mod Order
+pub mod TwoRuns
+pub mod Readings
+pub mod LentRuns
