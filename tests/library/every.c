@@ -164,7 +164,7 @@ static void local_calls(void) {
     CHECK(same(brief));
     GIVES(KEV_BAD_TABLE, kev_new_table(T(table), 3, KEV_PROFILE_FREE));
     GIVES(KEV_BAD_TABLE, kev_new_table(T(table), (kev_size)-1, KEV_PROFILE_FREE));
-    GIVES(KEV_BAD_TABLE, kev_new_table(T(table), KEV_PLAIN, 2));
+    GIVES(KEV_BAD_TABLE, kev_new_table(T(table), KEV_PLAIN, 3));
     GIVES(KEV_BAD_TABLE, kev_new_table(T(table), KEV_PLAIN, (kev_size)-1));
     GIVES(KEV_BAD_TABLE, kev_new_table(T(table), 3, KEV_PROFILE_METER));
     CHECK(same(table));

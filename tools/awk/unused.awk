@@ -11,7 +11,7 @@ FNR == 1 {
 
 kind == "page" { read_page($0); next }
 
-# a must-fail edit: what it puts in is a use, and a use line that it looks for stays as it is
+# an edit of must-fail/ or wrong/: what it puts in is a use, and a use line that it looks for stays as it is
 kind == "edit" {
     if ($0 ~ /^file: /) module = module_of_file("crates/" crate "/" substr($0, 7))
     else if ($0 ~ /^old: .*use /) { looked_for++; looked_module[looked_for] = module; looked_text[looked_for] = substr($0, 6) }

@@ -22,7 +22,7 @@ use Rattle.table.specs.Fits.{LaidNode}
 use Rattle.table.specs.Tests.{countOf, recsIn}
 use Rattle.table.proofs.Places.{length-recs}
 use Rattle.apply_node.proofs.Taken.{takes-few}
-use Rattle.apply_grow.specs.Growing.{fitFor, roomyEachFor, roomyFor}
+use Rattle.apply_grow.specs.Growing.{fitFor, roomyFor}
 
 -- ---- two tests
 

@@ -83,7 +83,8 @@ fn apply_node(
     clock: u64,
 ) -> NodeAnswer
     requires { ⌜ Rising (now node) × (at ≤ length (now delta)) × (length (recsFrom (now delta) at) ≤ count) ⌝ }
-    ensures { λ r. ⌜ Gives (nodeApplied (kind mode profile) clock (deltaOf (now (delta .entry)) «last_gc» from max at) (now (node .entry))) r (now (node .exit)) ⌝ }
+    ensures { λ r. ⌜ Gives (nodeApplied (kind mode profile) clock (deltaOf (now (delta .entry)) «last_gc» from max at) (now (node .entry)))
+        r (now (node .exit)) ⌝ }
 {
     let own = table_read::read_header(node);
     let status = delta_status::check_delta_status(mode, own.last_gc, own.max, from, last_gc, max);

@@ -9,7 +9,7 @@ use lib.Dec.{eqb, ltb}
 use lib.ListN.{length}
 use borrow.Author.Tests.{eq-eqb, eqb-true, ltb-true}
 use Rattle.fields.specs.Blocks.{fit, flat, unblock, zeros}
-use Rattle.fields.specs.Choice.{all, pick}
+use Rattle.fields.specs.Choice.{all, keep, pick}
 use Rattle.fields.specs.Numbers.{Bytes, bytesOf, natOf}
 use Rattle.fields.specs.Order.{lessBytes, sameBytes, startsWith}
 use Rattle.fields.specs.Parts.{part}
@@ -29,9 +29,10 @@ use Rattle.rules.specs.Whole.{Whole, decodeMemory, decodeWhole, encodeWhole, ob
 use Rattle.rules.specs.declared.Mode.the-variants as mode
 use Rattle.rules.specs.Lent.{TableAndList, addWhole, both, fromTable, lentApply, lentApplyAs, lentNew, lentRemoved, onTable, onWhole, rememberedAs, removeWhole, storedIn, storedApply}
 use Rattle.rules.specs.Listing.{decimal, digits, listing, listingOf, opLine}
-use Rattle.rules.specs.Local.{Outcome, add, call, callAs, gc, localBeat, offer, prefixed, removeNode, writeAs}
+use Rattle.rules.specs.Local.{Outcome, add, call, callAs, gc, localBeat, offer, prefixed, prefixedAs, removeNode, writeAs}
 use Rattle.rules.specs.Node.{Deleting, DeletingAfterTtl, Node, Rec, act, beats, decide, find, fresh, hitsFrom, offerOf, wish}
-use Rattle.rules.specs.Profile.{kind, meterKey, meterValue, numeral, profileObeys, readDeltaAs, readOpsAs, smaller, totalKey}
+use Rattle.rules.specs.Party.{alone}
+use Rattle.rules.specs.Profile.{kind, meterKey, meterValue, numeral, profileObeys, readDeltaAs, readOpsAs, smaller, tableFormed, totalKey}
 use Rattle.rules.specs.Table.{Entry, Table, among, differ, entryObeys, keysRise, nodeObeys, nodeOf, numbersOf, obeys, recObeys, rising, setNode, versions}
 use Rattle.rules.specs.declared.Answer.{Answer}
 use Rattle.rules.specs.declared.Answer.the-variants as plain
@@ -44,7 +45,8 @@ use Rattle.rules.specs.declared.Listed.{Listed}
 use Rattle.rules.specs.declared.Listed.the-variants as listed
 use Rattle.rules.specs.declared.Offered.the-variants as offered
 use Rattle.rules.specs.declared.Profile.{Profile}
-use Rattle.rules.specs.declared.Profile.the-variants.{Free, Meter}
+use Rattle.rules.specs.declared.Party.the-variants.{Nobody}
+use Rattle.rules.specs.declared.Profile.the-variants.{Free, Meter, Shared}
 use Rattle.rules.specs.declared.Refusal.the-variants.{BadPeer, BadTable, NobodyPresent}
 use Rattle.rules.specs.declared.Status.the-variants as status
 use Rattle.rules.specs.declared.Written.{Written}
@@ -81,18 +83,18 @@ use Rattle.grid_kept.proofs.Keeps.{tell-sound}
 use Rattle.grid_kept.proofs.LentKept.{table-columns, table-sound, together}
 use Rattle.grid_kept.proofs.Sound.{Sound, sound-valid}
 use Rattle.nodes.specs.New.{lentMade}
-use Rattle.lookup.specs.Lookup.{findRec, foundIn}
+use Rattle.lookup.specs.Lookup.{findAs, findRec}
 use Rattle.lookup.specs.Told.{foundTold}
 use Rattle.lookup.specs.declared.Found.the-variants as found
-use Rattle.inspect.specs.Look.{elementAt, nodeCount, nodeHeader, nodeNumber, readKey, readRecord, recordByKey, recordCount, recordOfPlaces, nodeRows}
+use Rattle.inspect.specs.Look.{elementAt, frontAs, nodeCount, nodeHeader, nodeNumber, nodeRowsAs, readKey, readRecordAs, recordByKeyAs, recordCountAs, recordOfAs}
 use Rattle.inspect.specs.Told.{countTold, nodeHeaderTold, nodeNumberTold, recordReadTold, rowsTold}
 use Rattle.inspect.specs.declared.Count.the-variants as count
 use Rattle.inspect.specs.declared.NodeHeader.the-variants as header
 use Rattle.inspect.specs.declared.NodeNumber.the-variants as number
 use Rattle.inspect.specs.declared.RecordRead.the-variants as rec
 use Rattle.inspect.specs.declared.Rows.the-variants as rows
-use Rattle.prefix.specs.Rows.{prefixRows}
-use Rattle.inspect_text.specs.Texts.{textFound}
+use Rattle.prefix.specs.Rows.{prefixRowsAs}
+use Rattle.inspect_text.specs.Texts.{textFoundAs}
 use Rattle.inspect_text.specs.declared.Text.the-variants as text
 use Rattle.digest_read.specs.Held.{digestIn}
 use Rattle.digest_read.specs.Told.{digestTold}
@@ -234,6 +236,14 @@ metered-obeys : obeysWhole metered ≡ true
 unfolding obeys rising numbersOf all entryObeys nodeObeys recObeys differ keysRise versions among profileObeys meterKey meterValue
 metered-obeys = without-memory (kind mode.Plain Meter) counting refl refl
 
+-- a shared one
+abbrev shared : Table → Whole
+shared t = record { kind = kind mode.Plain Shared; memory = []; table = t }
+
+shared-newly-obeys : obeysWhole (shared newly) ≡ true
+unfolding profileObeys all keep
+shared-newly-obeys = without-memory (kind mode.Plain Shared) newly newly-obeys refl
+
 -- no bytes are no table
 none-valid : validWhole [] ≡ false
 unfolding validWhole obeysWhole profileObeys memoryObeys apart removedNumbers differ decodeMemory obeys decode part rising numbersOf all encodeWhole encode joined natOf bytesOf sameBytes unblock
@@ -269,6 +279,12 @@ whole-bad told bad rule n e =
 from-good : {A : Type 0} (number : A → ℕ) (bad : A) (rule : Table → A) (t : Table) → obeys t ≡ true → (n : ℕ) → number (rule t) ≡ n
     → number (fromTable bad rule (lent t)) ≡ n
 from-good number bad rule t o n e = ap number (from-whole (whole t) (whole-obeys t o) bad rule) ∙ e
+
+-- by a rule of the table's profile
+seen-good : {A : Type 0} (number : A → ℕ) (bad : A) (rule : Profile → Table → A) (w : Whole) → obeysWhole w ≡ true → (n : ℕ) → number (rule (w .kind .profile) (w .table)) ≡ n
+    → number (fromTable bad (rule (decodeWhole (encodeWhole w) .kind .profile)) (encodeWhole w)) ≡ n
+seen-good number bad rule w o n e =
+    ap (λ (u : Whole). number (fromTable bad (rule (u .kind .profile)) (encodeWhole w))) (decode-encode-whole w o) ∙ ap number (from-whole w o bad (rule (w .kind .profile))) ∙ e
 
 from-bad : {A : Type 0} (number : A → ℕ) (bad : A) (rule : Table → A) (n : ℕ) → number bad ≡ n → number (fromTable bad rule []) ≡ n
 unfolding fromTable
@@ -320,40 +336,43 @@ asked = (
 
 -- ---- records
 
-writes : AllShown calls.Write (0 ∷ 14 ∷ 10 ∷ 2 ∷ 1 ∷ 17 ∷ 18 ∷ 5 ∷ 6 ∷ [])
+writes : AllShown calls.Write (0 ∷ 14 ∷ 10 ∷ 2 ∷ 1 ∷ 17 ∷ 19 ∷ 18 ∷ 5 ∷ 6 ∷ [])
 unfolding calls.leaves answerTold writeAs callAs call nodeOf setNode decide wish act find sameBytes zeros records meterKey meterValue smaller numeral all
 writes =
-    (calls.write (lent newly) [] [] seven under-set seven Nobody, as-good answerTold (plain.Refused BadTable) (λ p. writeAs p 0 [] 7 7 []) (whole newly) (whole-obeys newly newly-obeys) 0 refl)
-    and (calls.write [] [] [] seven under-set seven Nobody, on-bad answerTold (plain.Refused BadTable) (writeAs (decodeWhole [] .kind .profile) 0 [] 7 7 []) 14 refl)
-    and (calls.write (lent []) [] [] seven seven seven Nobody, as-good answerTold (plain.Refused BadTable) (λ p. writeAs p 7 [] 7 7 []) (whole []) (whole-obeys [] none-obeys) 10 refl)
-    and (calls.write (lent []) [] [] seven under-ttl seven Nobody, as-good answerTold (plain.Refused BadTable) (λ p. writeAs p 2 [] 7 7 []) (whole []) (whole-obeys [] none-obeys) 2 refl)
-    and (calls.write (lent newly) (zeros 33) [] seven under-ttl seven Nobody, as-good answerTold (plain.Refused BadTable) (λ p. writeAs p 2 [] 7 7 (zeros 33)) (whole newly) (whole-obeys newly newly-obeys) 1 refl)
-    and (calls.write (encodeWhole metered) [] [] seven under-ttl seven Nobody, as-good answerTold (plain.Refused BadTable) (λ p. writeAs p 2 [] 7 7 []) metered metered-obeys 17 refl)
-    and (calls.write (encodeWhole metered) totalKey (52 ∷ []) seven under-set seven Nobody, as-good answerTold (plain.Refused BadTable) (λ p. writeAs p 0 (52 ∷ []) 7 7 totalKey) metered metered-obeys 18 refl)
-    and (calls.write (lent packed) [] [] seven under-set seven Nobody, as-good answerTold (plain.Refused BadTable) (λ p. writeAs p 0 [] 7 7 []) (whole packed) (whole-obeys packed packed-obeys) 5 refl)
-    and (calls.write (lent ended) [] [] seven under-ttl seven Nobody, as-good answerTold (plain.Refused BadTable) (λ p. writeAs p 2 [] 7 7 []) (whole ended) (whole-obeys ended ended-obeys) 6 refl)
+    (calls.write (lent newly) [] [] seven under-set seven Nobody, as-good answerTold (plain.Refused BadTable) (λ p. writeAs p Nobody 0 [] 7 7 []) (whole newly) (whole-obeys newly newly-obeys) 0 refl)
+    and (calls.write [] [] [] seven under-set seven Nobody, on-bad answerTold (plain.Refused BadTable) (writeAs (decodeWhole [] .kind .profile) Nobody 0 [] 7 7 []) 14 refl)
+    and (calls.write (lent []) [] [] seven seven seven Nobody, as-good answerTold (plain.Refused BadTable) (λ p. writeAs p Nobody 7 [] 7 7 []) (whole []) (whole-obeys [] none-obeys) 10 refl)
+    and (calls.write (lent []) [] [] seven under-ttl seven Nobody, as-good answerTold (plain.Refused BadTable) (λ p. writeAs p Nobody 2 [] 7 7 []) (whole []) (whole-obeys [] none-obeys) 2 refl)
+    and (calls.write (lent newly) (zeros 33) [] seven under-ttl seven Nobody, as-good answerTold (plain.Refused BadTable) (λ p. writeAs p Nobody 2 [] 7 7 (zeros 33)) (whole newly) (whole-obeys newly newly-obeys) 1 refl)
+    and (calls.write (encodeWhole metered) [] [] seven under-ttl seven Nobody, as-good answerTold (plain.Refused BadTable) (λ p. writeAs p Nobody 2 [] 7 7 []) metered metered-obeys 17 refl)
+    and (calls.write (encodeWhole (shared newly)) [] [] seven under-ttl seven Nobody, as-good answerTold (plain.Refused BadTable) (λ p. writeAs p Nobody 2 [] 7 7 []) (shared newly) shared-newly-obeys 19 refl)
+    and (calls.write (encodeWhole metered) totalKey (52 ∷ []) seven under-set seven Nobody, as-good answerTold (plain.Refused BadTable) (λ p. writeAs p Nobody 0 (52 ∷ []) 7 7 totalKey) metered metered-obeys 18 refl)
+    and (calls.write (lent packed) [] [] seven under-set seven Nobody, as-good answerTold (plain.Refused BadTable) (λ p. writeAs p Nobody 0 [] 7 7 []) (whole packed) (whole-obeys packed packed-obeys) 5 refl)
+    and (calls.write (lent ended) [] [] seven under-ttl seven Nobody, as-good answerTold (plain.Refused BadTable) (λ p. writeAs p Nobody 2 [] 7 7 []) (whole ended) (whole-obeys ended ended-obeys) 6 refl)
     and no-more
 
-deletes : AllShown calls.Delete (0 ∷ 14 ∷ 2 ∷ 1 ∷ 3 ∷ 6 ∷ [])
+deletes : AllShown calls.Delete (0 ∷ 14 ∷ 2 ∷ 1 ∷ 19 ∷ 3 ∷ 6 ∷ [])
 unfolding calls.leaves answerTold callAs call nodeOf setNode decide wish act find sameBytes zeros records
 deletes =
-    (calls.delete (lent usual) (1 ∷ []) seven seven Nobody, as-good answerTold (plain.Refused BadTable) (λ p. callAs p (Deleting 7) 7 (1 ∷ [])) (whole usual) (whole-obeys usual usual-obeys) 0 refl)
-    and (calls.delete [] [] seven seven Nobody, on-bad answerTold (plain.Refused BadTable) (callAs (decodeWhole [] .kind .profile) (Deleting 7) 7 []) 14 refl)
-    and (calls.delete (lent []) [] seven seven Nobody, as-good answerTold (plain.Refused BadTable) (λ p. callAs p (Deleting 7) 7 []) (whole []) (whole-obeys [] none-obeys) 2 refl)
-    and (calls.delete (lent newly) (zeros 33) seven seven Nobody, as-good answerTold (plain.Refused BadTable) (λ p. callAs p (Deleting 7) 7 (zeros 33)) (whole newly) (whole-obeys newly newly-obeys) 1 refl)
-    and (calls.delete (lent newly) [] seven seven Nobody, as-good answerTold (plain.Refused BadTable) (λ p. callAs p (Deleting 7) 7 []) (whole newly) (whole-obeys newly newly-obeys) 3 refl)
-    and (calls.delete (lent ended) (1 ∷ []) seven seven Nobody, as-good answerTold (plain.Refused BadTable) (λ p. callAs p (Deleting 7) 7 (1 ∷ [])) (whole ended) (whole-obeys ended ended-obeys) 6 refl)
+    (calls.delete (lent usual) (1 ∷ []) seven seven Nobody, as-good answerTold (plain.Refused BadTable) (λ p. callAs p Nobody (Deleting 7) 7 (1 ∷ [])) (whole usual) (whole-obeys usual usual-obeys) 0 refl)
+    and (calls.delete [] [] seven seven Nobody, on-bad answerTold (plain.Refused BadTable) (callAs (decodeWhole [] .kind .profile) Nobody (Deleting 7) 7 []) 14 refl)
+    and (calls.delete (lent []) [] seven seven Nobody, as-good answerTold (plain.Refused BadTable) (λ p. callAs p Nobody (Deleting 7) 7 []) (whole []) (whole-obeys [] none-obeys) 2 refl)
+    and (calls.delete (lent newly) (zeros 33) seven seven Nobody, as-good answerTold (plain.Refused BadTable) (λ p. callAs p Nobody (Deleting 7) 7 (zeros 33)) (whole newly) (whole-obeys newly newly-obeys) 1 refl)
+    and (calls.delete (encodeWhole (shared newly)) [] seven seven Nobody, as-good answerTold (plain.Refused BadTable) (λ p. callAs p Nobody (Deleting 7) 7 []) (shared newly) shared-newly-obeys 19 refl)
+    and (calls.delete (lent newly) [] seven seven Nobody, as-good answerTold (plain.Refused BadTable) (λ p. callAs p Nobody (Deleting 7) 7 []) (whole newly) (whole-obeys newly newly-obeys) 3 refl)
+    and (calls.delete (lent ended) (1 ∷ []) seven seven Nobody, as-good answerTold (plain.Refused BadTable) (λ p. callAs p Nobody (Deleting 7) 7 (1 ∷ [])) (whole ended) (whole-obeys ended ended-obeys) 6 refl)
     and no-more
 
-deletes-ttl : AllShown calls.DeleteAfterTtl (0 ∷ 14 ∷ 2 ∷ 1 ∷ 3 ∷ 6 ∷ [])
+deletes-ttl : AllShown calls.DeleteAfterTtl (0 ∷ 14 ∷ 2 ∷ 1 ∷ 19 ∷ 3 ∷ 6 ∷ [])
 unfolding calls.leaves answerTold callAs call nodeOf setNode decide wish act find sameBytes zeros records
 deletes-ttl =
-    (calls.delete-after-ttl (lent usual) (1 ∷ []) seven seven Nobody, as-good answerTold (plain.Refused BadTable) (λ p. callAs p (DeletingAfterTtl 7) 7 (1 ∷ [])) (whole usual) (whole-obeys usual usual-obeys) 0 refl)
-    and (calls.delete-after-ttl [] [] seven seven Nobody, on-bad answerTold (plain.Refused BadTable) (callAs (decodeWhole [] .kind .profile) (DeletingAfterTtl 7) 7 []) 14 refl)
-    and (calls.delete-after-ttl (lent []) [] seven seven Nobody, as-good answerTold (plain.Refused BadTable) (λ p. callAs p (DeletingAfterTtl 7) 7 []) (whole []) (whole-obeys [] none-obeys) 2 refl)
-    and (calls.delete-after-ttl (lent newly) (zeros 33) seven seven Nobody, as-good answerTold (plain.Refused BadTable) (λ p. callAs p (DeletingAfterTtl 7) 7 (zeros 33)) (whole newly) (whole-obeys newly newly-obeys) 1 refl)
-    and (calls.delete-after-ttl (lent newly) [] seven seven Nobody, as-good answerTold (plain.Refused BadTable) (λ p. callAs p (DeletingAfterTtl 7) 7 []) (whole newly) (whole-obeys newly newly-obeys) 3 refl)
-    and (calls.delete-after-ttl (lent ended) (1 ∷ []) seven seven Nobody, as-good answerTold (plain.Refused BadTable) (λ p. callAs p (DeletingAfterTtl 7) 7 (1 ∷ [])) (whole ended) (whole-obeys ended ended-obeys) 6 refl)
+    (calls.delete-after-ttl (lent usual) (1 ∷ []) seven seven Nobody, as-good answerTold (plain.Refused BadTable) (λ p. callAs p Nobody (DeletingAfterTtl 7) 7 (1 ∷ [])) (whole usual) (whole-obeys usual usual-obeys) 0 refl)
+    and (calls.delete-after-ttl [] [] seven seven Nobody, on-bad answerTold (plain.Refused BadTable) (callAs (decodeWhole [] .kind .profile) Nobody (DeletingAfterTtl 7) 7 []) 14 refl)
+    and (calls.delete-after-ttl (lent []) [] seven seven Nobody, as-good answerTold (plain.Refused BadTable) (λ p. callAs p Nobody (DeletingAfterTtl 7) 7 []) (whole []) (whole-obeys [] none-obeys) 2 refl)
+    and (calls.delete-after-ttl (lent newly) (zeros 33) seven seven Nobody, as-good answerTold (plain.Refused BadTable) (λ p. callAs p Nobody (DeletingAfterTtl 7) 7 (zeros 33)) (whole newly) (whole-obeys newly newly-obeys) 1 refl)
+    and (calls.delete-after-ttl (encodeWhole (shared newly)) [] seven seven Nobody, as-good answerTold (plain.Refused BadTable) (λ p. callAs p Nobody (DeletingAfterTtl 7) 7 []) (shared newly) shared-newly-obeys 19 refl)
+    and (calls.delete-after-ttl (lent newly) [] seven seven Nobody, as-good answerTold (plain.Refused BadTable) (λ p. callAs p Nobody (DeletingAfterTtl 7) 7 []) (whole newly) (whole-obeys newly newly-obeys) 3 refl)
+    and (calls.delete-after-ttl (lent ended) (1 ∷ []) seven seven Nobody, as-good answerTold (plain.Refused BadTable) (λ p. callAs p Nobody (DeletingAfterTtl 7) 7 (1 ∷ [])) (whole ended) (whole-obeys ended ended-obeys) 6 refl)
     and no-more
 
 collected : AllShown calls.RemoveScheduled (0 ∷ 14 ∷ [])
@@ -384,23 +403,24 @@ beaten =
 
 -- ---- readings
 
-finds : AllShown calls.Find (0 ∷ 14 ∷ 2 ∷ 1 ∷ [])
-unfolding calls.leaves foundTold nodeOf findRec zeros
+finds : AllShown calls.Find (0 ∷ 14 ∷ 2 ∷ 1 ∷ 19 ∷ [])
+unfolding calls.leaves foundTold nodeOf findRec zeros alone keep
 finds =
-    (calls.find (lent newly) [] seven Nobody, from-good (λ a. foundTold a .number) (found.Refused BadTable) (foundIn 7 []) newly newly-obeys 0 refl)
-    and (calls.find [] [] seven Nobody, from-bad (λ a. foundTold a .number) (found.Refused BadTable) (foundIn 7 []) 14 refl)
-    and (calls.find (lent []) [] seven Nobody, from-good (λ a. foundTold a .number) (found.Refused BadTable) (foundIn 7 []) [] none-obeys 2 refl)
-    and (calls.find (lent newly) (zeros 33) seven Nobody, from-good (λ a. foundTold a .number) (found.Refused BadTable) (foundIn 7 (zeros 33)) newly newly-obeys 1 refl)
+    (calls.find (lent newly) [] seven Nobody, seen-good (λ a. foundTold a .number) (found.Refused BadTable) (λ p. findAs p Nobody 7 []) (whole newly) (whole-obeys newly newly-obeys) 0 refl)
+    and (calls.find [] [] seven Nobody, from-bad (λ a. foundTold a .number) (found.Refused BadTable) (findAs (decodeWhole [] .kind .profile) Nobody 7 []) 14 refl)
+    and (calls.find (lent []) [] seven Nobody, seen-good (λ a. foundTold a .number) (found.Refused BadTable) (λ p. findAs p Nobody 7 []) (whole []) (whole-obeys [] none-obeys) 2 refl)
+    and (calls.find (lent newly) (zeros 33) seven Nobody, seen-good (λ a. foundTold a .number) (found.Refused BadTable) (λ p. findAs p Nobody 7 (zeros 33)) (whole newly) (whole-obeys newly newly-obeys) 1 refl)
+    and (calls.find (encodeWhole (shared newly)) [] seven Nobody, seen-good (λ a. foundTold a .number) (found.Refused BadTable) (λ p. findAs p Nobody 7 []) (shared newly) shared-newly-obeys 19 refl)
     and no-more
 
 lists : AllShown calls.ListPrefix (0 ∷ 14 ∷ 2 ∷ 1 ∷ 8 ∷ [])
-unfolding calls.leaves listedTold prefixed nodeOf hitsFrom startsWith zeros
+unfolding calls.leaves listedTold prefixed prefixedAs nodeOf hitsFrom startsWith zeros
 lists =
-    (calls.list-prefix (lent newly) [] [] seven Nobody, from-good (λ (a : Given Listed Bytes). listedTold (a .answer) .number) (given (listed.Refused BadTable) []) (λ t. prefixed 7 [] t []) newly newly-obeys 0 refl)
-    and (calls.list-prefix [] [] [] seven Nobody, from-bad (λ (a : Given Listed Bytes). listedTold (a .answer) .number) (given (listed.Refused BadTable) []) (λ t. prefixed 7 [] t []) 14 refl)
-    and (calls.list-prefix (lent []) [] [] seven Nobody, from-good (λ (a : Given Listed Bytes). listedTold (a .answer) .number) (given (listed.Refused BadTable) []) (λ t. prefixed 7 [] t []) [] none-obeys 2 refl)
-    and (calls.list-prefix (lent newly) (zeros 33) [] seven Nobody, from-good (λ (a : Given Listed Bytes). listedTold (a .answer) .number) (given (listed.Refused BadTable) []) (λ t. prefixed 7 (zeros 33) t []) newly newly-obeys 1 refl)
-    and (calls.list-prefix (lent usual) [] [] seven Nobody, from-good (λ (a : Given Listed Bytes). listedTold (a .answer) .number) (given (listed.Refused BadTable) []) (λ t. prefixed 7 [] t []) usual usual-obeys 8 refl)
+    (calls.list-prefix (lent newly) [] [] seven Nobody, seen-good (λ (a : Given Listed Bytes). listedTold (a .answer) .number) (given (listed.Refused BadTable) []) (λ p t. prefixedAs p Nobody 7 [] t []) (whole newly) (whole-obeys newly newly-obeys) 0 refl)
+    and (calls.list-prefix [] [] [] seven Nobody, from-bad (λ (a : Given Listed Bytes). listedTold (a .answer) .number) (given (listed.Refused BadTable) []) (λ t. prefixedAs (decodeWhole [] .kind .profile) Nobody 7 [] t []) 14 refl)
+    and (calls.list-prefix (lent []) [] [] seven Nobody, seen-good (λ (a : Given Listed Bytes). listedTold (a .answer) .number) (given (listed.Refused BadTable) []) (λ p t. prefixedAs p Nobody 7 [] t []) (whole []) (whole-obeys [] none-obeys) 2 refl)
+    and (calls.list-prefix (lent newly) (zeros 33) [] seven Nobody, seen-good (λ (a : Given Listed Bytes). listedTold (a .answer) .number) (given (listed.Refused BadTable) []) (λ p t. prefixedAs p Nobody 7 (zeros 33) t []) (whole newly) (whole-obeys newly newly-obeys) 1 refl)
+    and (calls.list-prefix (lent usual) [] [] seven Nobody, seen-good (λ (a : Given Listed Bytes). listedTold (a .answer) .number) (given (listed.Refused BadTable) []) (λ p t. prefixedAs p Nobody 7 [] t []) (whole usual) (whole-obeys usual usual-obeys) 8 refl)
     and no-more
 
 -- ---- overrides: the node of a table, in its own bytes
@@ -492,35 +512,40 @@ cleans-over =
 abbrev none-laid : Bytes
 none-laid = encodeNode (entry fresh)
 
-both-good : {A : Type 0} (number : A → ℕ) (bad : Which → A) (rule : Node → Table → A) (t : Table) → obeys t ≡ true → (n : ℕ) → number (rule fresh t) ≡ n
-    → number (fromBoth bad rule none-laid (lent t)) ≡ n
+both-good : {A : Type 0} (number : A → ℕ) (bad : Which → A) (rule : Profile → Node → Table → A) (w : Whole) → obeysWhole w ≡ true → (n : ℕ)
+    → number (rule (w .kind .profile) fresh (w .table)) ≡ n
+    → number (fromBoth bad (rule (decodeWhole (encodeWhole w) .kind .profile)) none-laid (encodeWhole w)) ≡ n
 unfolding fromBoth
-both-good number bad rule t o n e =
-    ap (λ (b : Bool). number (pick b (fromTable (bad which.Table) (rule (decodeNode none-laid .node)) (lent t)) (bad which.Overrides))) (valid-by-node (entry fresh) newly-entry)
-    ∙ ap (λ (x : Entry). number (fromTable (bad which.Table) (rule (x .node)) (lent t))) (decode-encode-node (entry fresh) (fits-entry (entry fresh) (entry-obeys (entry fresh) newly-entry)))
-    ∙ from-good number (bad which.Table) (rule fresh) t o n e
+both-good {A} number bad rule w o n e =
+    ap (λ (b : Bool). number (pick b (fromTable (bad which.Table) (at (decodeNode none-laid .node)) (encodeWhole w)) (bad which.Overrides))) (valid-by-node (entry fresh) newly-entry)
+    ∙ ap (λ (x : Entry). number (fromTable (bad which.Table) (at (x .node)) (encodeWhole w))) (decode-encode-node (entry fresh) (fits-entry (entry fresh) (entry-obeys (entry fresh) newly-entry)))
+    ∙ seen-good number (bad which.Table) (λ p. rule p fresh) w o n e
+  where
+    at : Node → Table → A
+    at x = rule (decodeWhole (encodeWhole w) .kind .profile) x
 
 both-bad : {A : Type 0} (number : A → ℕ) (bad : Which → A) (rule : Node → Table → A) (t : Bytes) (n : ℕ) → number (bad which.Overrides) ≡ n → number (fromBoth bad rule [] t) ≡ n
 unfolding fromBoth
 both-bad number bad rule t n e = ap (λ (b : Bool). number (pick b (fromTable (bad which.Table) (rule (decodeNode [] .node)) t) (bad which.Overrides))) none-over ∙ e
 
-finds-over : AllShown calls.FindOver (0 ∷ 14 ∷ 2 ∷ 1 ∷ [])
-unfolding calls.leaves foundOverTold nodeOf findRec zeros
+finds-over : AllShown calls.FindOver (0 ∷ 14 ∷ 2 ∷ 1 ∷ 19 ∷ [])
+unfolding calls.leaves foundOverTold nodeOf findRec zeros alone keep
 finds-over =
-    (calls.find-over (lent newly) none-laid [] seven Nobody, both-good (λ a. foundOverTold a .number) (λ w. over.Refused w BadTable) (foundOver 7 []) newly newly-obeys 0 refl)
-    and (calls.find-over [] [] [] seven Nobody, both-bad (λ a. foundOverTold a .number) (λ w. over.Refused w BadTable) (foundOver 7 []) [] 14 refl)
-    and (calls.find-over (lent []) none-laid [] seven Nobody, both-good (λ a. foundOverTold a .number) (λ w. over.Refused w BadTable) (foundOver 7 []) [] none-obeys 2 refl)
-    and (calls.find-over (lent newly) none-laid (zeros 33) seven Nobody, both-good (λ a. foundOverTold a .number) (λ w. over.Refused w BadTable) (foundOver 7 (zeros 33)) newly newly-obeys 1 refl)
+    (calls.find-over (lent newly) none-laid [] seven Nobody, both-good (λ a. foundOverTold a .number) (λ w. over.Refused w BadTable) (λ p. foundOver p Nobody 7 []) (whole newly) (whole-obeys newly newly-obeys) 0 refl)
+    and (calls.find-over [] [] [] seven Nobody, both-bad (λ a. foundOverTold a .number) (λ w. over.Refused w BadTable) (foundOver (decodeWhole [] .kind .profile) Nobody 7 []) [] 14 refl)
+    and (calls.find-over (lent []) none-laid [] seven Nobody, both-good (λ a. foundOverTold a .number) (λ w. over.Refused w BadTable) (λ p. foundOver p Nobody 7 []) (whole []) (whole-obeys [] none-obeys) 2 refl)
+    and (calls.find-over (lent newly) none-laid (zeros 33) seven Nobody, both-good (λ a. foundOverTold a .number) (λ w. over.Refused w BadTable) (λ p. foundOver p Nobody 7 (zeros 33)) (whole newly) (whole-obeys newly newly-obeys) 1 refl)
+    and (calls.find-over (encodeWhole (shared newly)) none-laid [] seven Nobody, both-good (λ a. foundOverTold a .number) (λ w. over.Refused w BadTable) (λ p. foundOver p Nobody 7 []) (shared newly) shared-newly-obeys 19 refl)
     and no-more
 
 lists-over : AllShown calls.ListOver (0 ∷ 14 ∷ 2 ∷ 1 ∷ 8 ∷ [])
-unfolding calls.leaves listedOverTold nodeOf merging.listing merging.hitsIn merging.overlaid merging.placesOf startsWith zeros
+unfolding calls.leaves listedOverTold nodeOf merging.listing merging.hitsBy merging.overlaid merging.placesOf startsWith zeros
 lists-over =
-    (calls.list-over (lent newly) none-laid [] [] seven Nobody, both-good (λ (a : Given ListedOver Bytes). listedOverTold (a .answer) .number) (λ w. given (merged.Refused w BadTable) []) (listOver 7 [] []) newly newly-obeys 0 refl)
-    and (calls.list-over [] [] [] [] seven Nobody, both-bad (λ (a : Given ListedOver Bytes). listedOverTold (a .answer) .number) (λ w. given (merged.Refused w BadTable) []) (listOver 7 [] []) [] 14 refl)
-    and (calls.list-over (lent []) none-laid [] [] seven Nobody, both-good (λ (a : Given ListedOver Bytes). listedOverTold (a .answer) .number) (λ w. given (merged.Refused w BadTable) []) (listOver 7 [] []) [] none-obeys 2 refl)
-    and (calls.list-over (lent newly) none-laid (zeros 33) [] seven Nobody, both-good (λ (a : Given ListedOver Bytes). listedOverTold (a .answer) .number) (λ w. given (merged.Refused w BadTable) []) (listOver 7 (zeros 33) []) newly newly-obeys 1 refl)
-    and (calls.list-over (lent usual) none-laid [] [] seven Nobody, both-good (λ (a : Given ListedOver Bytes). listedOverTold (a .answer) .number) (λ w. given (merged.Refused w BadTable) []) (listOver 7 [] []) usual usual-obeys 8 refl)
+    (calls.list-over (lent newly) none-laid [] [] seven Nobody, both-good (λ (a : Given ListedOver Bytes). listedOverTold (a .answer) .number) (λ w. given (merged.Refused w BadTable) []) (λ p. listOver p Nobody 7 [] []) (whole newly) (whole-obeys newly newly-obeys) 0 refl)
+    and (calls.list-over [] [] [] [] seven Nobody, both-bad (λ (a : Given ListedOver Bytes). listedOverTold (a .answer) .number) (λ w. given (merged.Refused w BadTable) []) (listOver (decodeWhole [] .kind .profile) Nobody 7 [] []) [] 14 refl)
+    and (calls.list-over (lent []) none-laid [] [] seven Nobody, both-good (λ (a : Given ListedOver Bytes). listedOverTold (a .answer) .number) (λ w. given (merged.Refused w BadTable) []) (λ p. listOver p Nobody 7 [] []) (whole []) (whole-obeys [] none-obeys) 2 refl)
+    and (calls.list-over (lent newly) none-laid (zeros 33) [] seven Nobody, both-good (λ (a : Given ListedOver Bytes). listedOverTold (a .answer) .number) (λ w. given (merged.Refused w BadTable) []) (λ p. listOver p Nobody 7 (zeros 33) []) (whole newly) (whole-obeys newly newly-obeys) 1 refl)
+    and (calls.list-over (lent usual) none-laid [] [] seven Nobody, both-good (λ (a : Given ListedOver Bytes). listedOverTold (a .answer) .number) (λ w. given (merged.Refused w BadTable) []) (λ p. listOver p Nobody 7 [] []) (whole usual) (whole-obeys usual usual-obeys) 8 refl)
     and no-more
 
 -- ---- grids: those of small tables, in their bytes
@@ -689,61 +714,70 @@ headed =
 record-counts : AllShown calls.RecordCount (0 ∷ 14 ∷ 2 ∷ [])
 unfolding calls.leaves countTold nodeOf
 record-counts =
-    (calls.record-count (lent newly) seven Nobody, from-good (λ a. countTold a .number) (count.Refused BadTable) (recordCount 7) newly newly-obeys 0 refl)
-    and (calls.record-count [] seven Nobody, from-bad (λ a. countTold a .number) (count.Refused BadTable) (recordCount 7) 14 refl)
-    and (calls.record-count (lent []) seven Nobody, from-good (λ a. countTold a .number) (count.Refused BadTable) (recordCount 7) [] none-obeys 2 refl)
+    (calls.record-count (lent newly) seven Nobody, seen-good (λ a. countTold a .number) (count.Refused BadTable) (λ p. recordCountAs p Nobody 7) (whole newly) (whole-obeys newly newly-obeys) 0 refl)
+    and (calls.record-count [] seven Nobody, from-bad (λ a. countTold a .number) (count.Refused BadTable) (recordCountAs (decodeWhole [] .kind .profile) Nobody 7) 14 refl)
+    and (calls.record-count (lent []) seven Nobody, seen-good (λ a. countTold a .number) (count.Refused BadTable) (λ p. recordCountAs p Nobody 7) (whole []) (whole-obeys [] none-obeys) 2 refl)
     and no-more
 
 records-at : AllShown calls.RecordAt (0 ∷ 14 ∷ 2 ∷ 8 ∷ [])
 unfolding calls.leaves recordReadTold nodeOf elementAt
 records-at =
-    (calls.record-at (lent usual) seven 0 Nobody, from-good (λ a. recordReadTold a .number) (rec.Refused BadTable) (readRecord 7 0) usual usual-obeys 0 refl)
-    and (calls.record-at [] seven 0 Nobody, from-bad (λ a. recordReadTold a .number) (rec.Refused BadTable) (readRecord 7 0) 14 refl)
-    and (calls.record-at (lent []) seven 0 Nobody, from-good (λ a. recordReadTold a .number) (rec.Refused BadTable) (readRecord 7 0) [] none-obeys 2 refl)
-    and (calls.record-at (lent newly) seven 0 Nobody, from-good (λ a. recordReadTold a .number) (rec.Refused BadTable) (readRecord 7 0) newly newly-obeys 8 refl)
+    (calls.record-at (lent usual) seven 0 Nobody, seen-good (λ a. recordReadTold a .number) (rec.Refused BadTable) (λ p. readRecordAs p Nobody 7 0) (whole usual) (whole-obeys usual usual-obeys) 0 refl)
+    and (calls.record-at [] seven 0 Nobody, from-bad (λ a. recordReadTold a .number) (rec.Refused BadTable) (readRecordAs (decodeWhole [] .kind .profile) Nobody 7 0) 14 refl)
+    and (calls.record-at (lent []) seven 0 Nobody, seen-good (λ a. recordReadTold a .number) (rec.Refused BadTable) (λ p. readRecordAs p Nobody 7 0) (whole []) (whole-obeys [] none-obeys) 2 refl)
+    and (calls.record-at (lent newly) seven 0 Nobody, seen-good (λ a. recordReadTold a .number) (rec.Refused BadTable) (λ p. readRecordAs p Nobody 7 0) (whole newly) (whole-obeys newly newly-obeys) 8 refl)
     and no-more
 
 records-of : AllShown calls.RecordOf (0 ∷ 14 ∷ 8 ∷ [])
 unfolding calls.leaves recordReadTold elementAt
 records-of =
-    (calls.record-of (lent usual) 0 0 Nobody, from-good (λ a. recordReadTold a .number) (rec.Refused BadTable) (recordOfPlaces 0 0) usual usual-obeys 0 refl)
-    and (calls.record-of [] 0 0 Nobody, from-bad (λ a. recordReadTold a .number) (rec.Refused BadTable) (recordOfPlaces 0 0) 14 refl)
-    and (calls.record-of (lent newly) 0 0 Nobody, from-good (λ a. recordReadTold a .number) (rec.Refused BadTable) (recordOfPlaces 0 0) newly newly-obeys 8 refl)
+    (calls.record-of (lent usual) 0 0 Nobody, seen-good (λ a. recordReadTold a .number) (rec.Refused BadTable) (λ p. recordOfAs p Nobody 0 0) (whole usual) (whole-obeys usual usual-obeys) 0 refl)
+    and (calls.record-of [] 0 0 Nobody, from-bad (λ a. recordReadTold a .number) (rec.Refused BadTable) (recordOfAs (decodeWhole [] .kind .profile) Nobody 0 0) 14 refl)
+    and (calls.record-of (lent newly) 0 0 Nobody, seen-good (λ a. recordReadTold a .number) (rec.Refused BadTable) (λ p. recordOfAs p Nobody 0 0) (whole newly) (whole-obeys newly newly-obeys) 8 refl)
     and no-more
 
-keyed : AllShown calls.RecordByKey (0 ∷ 14 ∷ 2 ∷ 1 ∷ [])
-unfolding calls.leaves recordReadTold nodeOf readKey zeros
+keyed : AllShown calls.RecordByKey (0 ∷ 14 ∷ 2 ∷ 1 ∷ 19 ∷ [])
+unfolding calls.leaves recordReadTold nodeOf readKey zeros alone keep
 keyed =
-    (calls.record-by-key (lent newly) [] seven Nobody, from-good (λ a. recordReadTold a .number) (rec.Refused BadTable) (recordByKey 7 []) newly newly-obeys 0 refl)
-    and (calls.record-by-key [] [] seven Nobody, from-bad (λ a. recordReadTold a .number) (rec.Refused BadTable) (recordByKey 7 []) 14 refl)
-    and (calls.record-by-key (lent []) [] seven Nobody, from-good (λ a. recordReadTold a .number) (rec.Refused BadTable) (recordByKey 7 []) [] none-obeys 2 refl)
-    and (calls.record-by-key (lent newly) (zeros 33) seven Nobody, from-good (λ a. recordReadTold a .number) (rec.Refused BadTable) (recordByKey 7 (zeros 33)) newly newly-obeys 1 refl)
+    (calls.record-by-key (lent newly) [] seven Nobody, seen-good (λ a. recordReadTold a .number) (rec.Refused BadTable) (λ p. recordByKeyAs p Nobody 7 []) (whole newly) (whole-obeys newly newly-obeys) 0 refl)
+    and (calls.record-by-key [] [] seven Nobody, from-bad (λ a. recordReadTold a .number) (rec.Refused BadTable) (recordByKeyAs (decodeWhole [] .kind .profile) Nobody 7 []) 14 refl)
+    and (calls.record-by-key (lent []) [] seven Nobody, seen-good (λ a. recordReadTold a .number) (rec.Refused BadTable) (λ p. recordByKeyAs p Nobody 7 []) (whole []) (whole-obeys [] none-obeys) 2 refl)
+    and (calls.record-by-key (lent newly) (zeros 33) seven Nobody, seen-good (λ a. recordReadTold a .number) (rec.Refused BadTable) (λ p. recordByKeyAs p Nobody 7 (zeros 33)) (whole newly) (whole-obeys newly newly-obeys) 1 refl)
+    and (calls.record-by-key (encodeWhole (shared newly)) [] seven Nobody, seen-good (λ a. recordReadTold a .number) (rec.Refused BadTable) (λ p. recordByKeyAs p Nobody 7 []) (shared newly) shared-newly-obeys 19 refl)
     and no-more
 
 all-rows : AllShown calls.NodeRows (0 ∷ 14 ∷ 2 ∷ [])
 unfolding calls.leaves rowsTold nodeOf
 all-rows =
-    (calls.node-rows (lent newly) seven Nobody, from-good (λ a. rowsTold a .number) (rows.Refused BadTable) (nodeRows 7) newly newly-obeys 0 refl)
-    and (calls.node-rows [] seven Nobody, from-bad (λ a. rowsTold a .number) (rows.Refused BadTable) (nodeRows 7) 14 refl)
-    and (calls.node-rows (lent []) seven Nobody, from-good (λ a. rowsTold a .number) (rows.Refused BadTable) (nodeRows 7) [] none-obeys 2 refl)
+    (calls.node-rows (lent newly) seven Nobody, seen-good (λ a. rowsTold a .number) (rows.Refused BadTable) (λ p. nodeRowsAs p Nobody 7) (whole newly) (whole-obeys newly newly-obeys) 0 refl)
+    and (calls.node-rows [] seven Nobody, from-bad (λ a. rowsTold a .number) (rows.Refused BadTable) (nodeRowsAs (decodeWhole [] .kind .profile) Nobody 7) 14 refl)
+    and (calls.node-rows (lent []) seven Nobody, seen-good (λ a. rowsTold a .number) (rows.Refused BadTable) (λ p. nodeRowsAs p Nobody 7) (whole []) (whole-obeys [] none-obeys) 2 refl)
+    and no-more
+
+fronts : AllShown calls.Front (0 ∷ 14 ∷ 2 ∷ [])
+unfolding calls.leaves countTold nodeOf
+fronts =
+    (calls.front (lent newly) seven Nobody, seen-good (λ a. countTold a .number) (count.Refused BadTable) (λ p. frontAs p Nobody 7) (whole newly) (whole-obeys newly newly-obeys) 0 refl)
+    and (calls.front [] seven Nobody, from-bad (λ a. countTold a .number) (count.Refused BadTable) (frontAs (decodeWhole [] .kind .profile) Nobody 7) 14 refl)
+    and (calls.front (lent []) seven Nobody, seen-good (λ a. countTold a .number) (count.Refused BadTable) (λ p. frontAs p Nobody 7) (whole []) (whole-obeys [] none-obeys) 2 refl)
     and no-more
 
 some-rows : AllShown calls.PrefixRows (0 ∷ 14 ∷ 2 ∷ 1 ∷ [])
 unfolding calls.leaves rowsTold nodeOf zeros
 some-rows =
-    (calls.prefix-rows (lent newly) [] seven Nobody, from-good (λ a. rowsTold a .number) (rows.Refused BadTable) (prefixRows 7 []) newly newly-obeys 0 refl)
-    and (calls.prefix-rows [] [] seven Nobody, from-bad (λ a. rowsTold a .number) (rows.Refused BadTable) (prefixRows 7 []) 14 refl)
-    and (calls.prefix-rows (lent []) [] seven Nobody, from-good (λ a. rowsTold a .number) (rows.Refused BadTable) (prefixRows 7 []) [] none-obeys 2 refl)
-    and (calls.prefix-rows (lent newly) (zeros 33) seven Nobody, from-good (λ a. rowsTold a .number) (rows.Refused BadTable) (prefixRows 7 (zeros 33)) newly newly-obeys 1 refl)
+    (calls.prefix-rows (lent newly) [] seven Nobody, seen-good (λ a. rowsTold a .number) (rows.Refused BadTable) (λ p. prefixRowsAs p Nobody 7 []) (whole newly) (whole-obeys newly newly-obeys) 0 refl)
+    and (calls.prefix-rows [] [] seven Nobody, from-bad (λ a. rowsTold a .number) (rows.Refused BadTable) (prefixRowsAs (decodeWhole [] .kind .profile) Nobody 7 []) 14 refl)
+    and (calls.prefix-rows (lent []) [] seven Nobody, seen-good (λ a. rowsTold a .number) (rows.Refused BadTable) (λ p. prefixRowsAs p Nobody 7 []) (whole []) (whole-obeys [] none-obeys) 2 refl)
+    and (calls.prefix-rows (lent newly) (zeros 33) seven Nobody, seen-good (λ a. rowsTold a .number) (rows.Refused BadTable) (λ p. prefixRowsAs p Nobody 7 (zeros 33)) (whole newly) (whole-obeys newly newly-obeys) 1 refl)
     and no-more
 
 texts : AllShown calls.FindText (0 ∷ 14 ∷ 2 ∷ 8 ∷ [])
 unfolding calls.leaves foundTold nodeOf elementAt
 texts =
-    (calls.find-text (lent usual) seven 0 text.Key Nobody, from-good (λ a. foundTold a .number) (found.Refused BadTable) (textFound text.Key 7 0) usual usual-obeys 0 refl)
-    and (calls.find-text [] seven 0 text.Key Nobody, from-bad (λ a. foundTold a .number) (found.Refused BadTable) (textFound text.Key 7 0) 14 refl)
-    and (calls.find-text (lent []) seven 0 text.Key Nobody, from-good (λ a. foundTold a .number) (found.Refused BadTable) (textFound text.Key 7 0) [] none-obeys 2 refl)
-    and (calls.find-text (lent newly) seven 0 text.Key Nobody, from-good (λ a. foundTold a .number) (found.Refused BadTable) (textFound text.Key 7 0) newly newly-obeys 8 refl)
+    (calls.find-text (lent usual) seven 0 text.Key Nobody, seen-good (λ a. foundTold a .number) (found.Refused BadTable) (λ p. textFoundAs p Nobody text.Key 7 0) (whole usual) (whole-obeys usual usual-obeys) 0 refl)
+    and (calls.find-text [] seven 0 text.Key Nobody, from-bad (λ a. foundTold a .number) (found.Refused BadTable) (textFoundAs (decodeWhole [] .kind .profile) Nobody text.Key 7 0) 14 refl)
+    and (calls.find-text (lent []) seven 0 text.Key Nobody, seen-good (λ a. foundTold a .number) (found.Refused BadTable) (λ p. textFoundAs p Nobody text.Key 7 0) (whole []) (whole-obeys [] none-obeys) 2 refl)
+    and (calls.find-text (lent newly) seven 0 text.Key Nobody, seen-good (λ a. foundTold a .number) (found.Refused BadTable) (λ p. textFoundAs p Nobody text.Key 7 0) (whole newly) (whole-obeys newly newly-obeys) 8 refl)
     and no-more
 
 -- ---- digests
@@ -849,8 +883,8 @@ not-applied : appliedTold (lentApply [] 7 [] [] .answer) .number ≡ 14
 unfolding lentApplyAs appliedTold
 not-applied = ap (λ (b : Bool). appliedTold (pick b (storedApply (decodeWhole []) (apply (waysIn (decodeWhole [] .kind)) [] 7 (decodeWhole [] .table) [])) (given (applied.Refused BadTable 0) (both [] [])) .answer) .number) none-valid
 
-applies : AllShown calls.Apply (0 ∷ 14 ∷ 13 ∷ 9 ∷ 1 ∷ 10 ∷ 11 ∷ 17 ∷ 12 ∷ 8 ∷ [])
-unfolding calls.leaves received appliedTold apply all readDeltaAs readOpsAs meterKey readOp readNode readKeyValue readSetMaxVersion follow natOf among zeros deltaBytes opBytes textBytes flat bytesOf ninth partsOf
+applies : AllShown calls.Apply (0 ∷ 14 ∷ 13 ∷ 9 ∷ 1 ∷ 10 ∷ 11 ∷ 17 ∷ 19 ∷ 12 ∷ 8 ∷ [])
+unfolding calls.leaves received appliedTold apply all readDeltaAs readOpsAs meterKey readOp readNode readKeyValue readSetMaxVersion follow natOf among zeros deltaBytes opBytes textBytes flat bytesOf ninth partsOf startsWith
 applies =
     (calls.apply (lent []) (received [] refl) [] seven, applying (received [] refl) [] 0 refl)
     and (calls.apply [] (received [] refl) [] seven, not-applied)
@@ -860,6 +894,7 @@ applies =
     and (calls.apply (lent []) (received (3 ∷ []) refl) [] seven, applying (received (3 ∷ []) refl) [] 10 refl)
     and (calls.apply (lent []) (received (2 ∷ zeros 8) refl) [] seven, applying (received (2 ∷ zeros 8) refl) [] 11 refl)
     and (calls.apply (encodeWhole metered) (received (deltaBytes odd) refl) [] seven, applying-as metered metered-obeys (received (deltaBytes odd) refl) [] 17 refl)
+    and (calls.apply (encodeWhole (shared newly)) (received (deltaBytes odd) refl) [] seven, applying-as (shared newly) shared-newly-obeys (received (deltaBytes odd) refl) [] 19 refl)
     and (calls.apply (lent []) (received (deltaBytes (NodeOp 7 0 0 ∷ NodeOp 7 0 0 ∷ [])) refl) [] seven, applying (received (deltaBytes (NodeOp 7 0 0 ∷ NodeOp 7 0 0 ∷ [])) refl) [] 12 refl)
     and (calls.apply (lent []) (received (deltaBytes (NodeOp 7 0 0 ∷ [])) refl) [] seven, applying (received (deltaBytes (NodeOp 7 0 0 ∷ [])) refl) [] 8 refl)
     and no-more
@@ -894,29 +929,29 @@ asking edition mtu ties digest delta = lending edition [] [] ties mtu 7 digest d
 
 -- the publisher's table and the follower's
 asked-as : (g : Lending) (p f : Whole) → obeysWhole p ≡ true → obeysWhole f ≡ true
-    → readyFor (g .edition) (g .unasked) (roomsOf g) (encodeWhole p) (encodeWhole f) ≡ readyOn (g .edition) (g .unasked) (roomsOf g) (profileObeys (f .kind .profile) (p .table)) (p .table) (f .table)
+    → readyFor (g .edition) (g .unasked) (roomsOf g) (encodeWhole p) (encodeWhole f) ≡ readyOn (g .edition) (g .unasked) (roomsOf g) (f .kind .profile) (tableFormed (f .kind .profile) (p .table)) (p .table) (f .table)
 unfolding readyFor
 asked-as g p f op of =
     ap₂ (λ (b c : Bool). pick b (pick c (on (decodeWhole (encodeWhole p)) (decodeWhole (encodeWhole f))) (ready.No Delta BadTable)) (ready.No Digest BadTable)) (valid-encode-whole f of) (valid-encode-whole p op)
     ∙ ap₂ on (decode-encode-whole p op) (decode-encode-whole f of)
   where
     on : Whole → Whole → Ready
-    on u v = readyOn (g .edition) (g .unasked) (roomsOf g) (profileObeys (v .kind .profile) (u .table)) (u .table) (v .table)
+    on u v = readyOn (g .edition) (g .unasked) (roomsOf g) (v .kind .profile) (tableFormed (v .kind .profile) (u .table)) (u .table) (v .table)
 
 refused-by : (g : Lending) (p f : Whole) → obeysWhole p ≡ true → obeysWhole f ≡ true → (n : ℕ)
-    → exchangedTold (afterAsking g (encodeWhole p) (encodeWhole f) (readyOn (g .edition) (g .unasked) (roomsOf g) (profileObeys (f .kind .profile) (p .table)) (p .table) (f .table)) .answer) .number ≡ n
+    → exchangedTold (afterAsking g (encodeWhole p) (encodeWhole f) (readyOn (g .edition) (g .unasked) (roomsOf g) (f .kind .profile) (tableFormed (f .kind .profile) (p .table)) (p .table) (f .table)) .answer) .number ≡ n
     → exchangedTold (lentExchange g (encodeWhole p) (encodeWhole f) .answer) .number ≡ n
 unfolding lentExchange
 refused-by g p f op of n e = ap (λ (x : Ready). exchangedTold (afterAsking g (encodeWhole p) (encodeWhole f) x .answer) .number) (asked-as g p f op of) ∙ e
 
 abbrev formed : Bool
-formed = profileObeys Free []
+formed = tableFormed Free []
 
-refused-as : (g : Lending) (n : ℕ) → exchangedTold (afterAsking g (lent []) (lent []) (readyOn (g .edition) (g .unasked) (roomsOf g) formed [] []) .answer) .number ≡ n
+refused-as : (g : Lending) (n : ℕ) → exchangedTold (afterAsking g (lent []) (lent []) (readyOn (g .edition) (g .unasked) (roomsOf g) Free formed [] []) .answer) .number ≡ n
     → exchangedTold (lentExchange g (lent []) (lent []) .answer) .number ≡ n
 refused-as g = refused-by g (whole []) (whole []) (whole-obeys [] none-obeys) (whole-obeys [] none-obeys)
 
-done-as : (g : Lending) → readyOn (g .edition) (g .unasked) (roomsOf g) formed [] [] ≡ ready.Yes → exchangedTold (lentExchange g (lent []) (lent []) .answer) .number ≡ 0
+done-as : (g : Lending) → readyOn (g .edition) (g .unasked) (roomsOf g) Free formed [] [] ≡ ready.Yes → exchangedTold (lentExchange g (lent []) (lent []) .answer) .number ≡ 0
 unfolding lentExchange exchangedTold
 done-as g e =
     let yes = asked-as g (whole []) (whole []) (whole-obeys [] none-obeys) (whole-obeys [] none-obeys) ∙ e in
@@ -926,7 +961,7 @@ done-as g e =
 not-asked : (g : Lending) → exchangedTold (lentExchange g [] [] .answer) .number ≡ 14
 unfolding lentExchange readyFor exchangedTold
 not-asked g =
-    ap (λ (b : Bool). exchangedTold (afterAsking g [] [] (pick b (pick (validWhole []) (readyOn (g .edition) (g .unasked) (roomsOf g) (formsFit [] []) (decodeWhole [] .table) (decodeWhole [] .table)) (ready.No Delta BadTable)) (ready.No Digest BadTable)) .answer) .number) none-valid
+    ap (λ (b : Bool). exchangedTold (afterAsking g [] [] (pick b (pick (validWhole []) (readyOn (g .edition) (g .unasked) (roomsOf g) (decodeWhole [] .kind .profile) (formsFit [] []) (decodeWhole [] .table) (decodeWhole [] .table)) (ready.No Delta BadTable)) (ready.No Digest BadTable)) .answer) .number) none-valid
 
 -- a follower that takes readings alone
 abbrev empty-metered : Whole
@@ -935,8 +970,15 @@ empty-metered = record { kind = kind mode.Plain Meter; memory = []; table = [] }
 empty-metered-obeys : obeysWhole empty-metered ≡ true
 empty-metered-obeys = without-memory (kind mode.Plain Meter) [] none-obeys (empty-formed Meter)
 
-exchanges : AllShown calls.Exchange (0 ∷ 14 ∷ 20 ∷ 8 ∷ 7 ∷ 15 ∷ 17 ∷ [])
-unfolding calls.leaves exchangedTold readyOn roomsFor takingFor askedOf digestOf digestBytes headWidth bytesOf flat zeros profileObeys all meterKey meterValue numbersOf differ among
+-- and one of two firms
+abbrev empty-shared : Whole
+empty-shared = record { kind = kind mode.Plain Shared; memory = []; table = [] }
+
+empty-shared-obeys : obeysWhole empty-shared ≡ true
+empty-shared-obeys = without-memory (kind mode.Plain Shared) [] none-obeys (empty-formed Shared)
+
+exchanges : AllShown calls.Exchange (0 ∷ 14 ∷ 20 ∷ 8 ∷ 7 ∷ 15 ∷ 17 ∷ 19 ∷ [])
+unfolding calls.leaves exchangedTold readyOn roomsFor takingFor askedOf digestOf digestBytes headWidth bytesOf flat zeros profileObeys tableFormed all meterKey meterValue startsWith numbersOf differ among
 exchanges =
     (calls.exchange (lent []) (lent []) 0 [] [] [] (zeros 2) (zeros 100) [] 100 seven, done-as (asking 0 100 [] (zeros 2) (zeros 100)) refl)
     and (calls.exchange [] [] 0 [] [] [] [] [] [] 100 seven, not-asked (asking 0 100 [] [] []))
@@ -945,6 +987,7 @@ exchanges =
     and (calls.exchange (lent []) (lent []) 0 [] [] [] (zeros 2) [] [] 99 seven, refused-as (asking 0 99 [] (zeros 2) []) 7 refl)
     and (calls.exchange (lent []) (lent []) 0 [] [] (0 ∷ []) (zeros 2) (zeros 100) [] 100 seven, refused-as (asking 0 100 (0 ∷ []) (zeros 2) (zeros 100)) 15 refl)
     and (calls.exchange (lent usual) (encodeWhole empty-metered) 0 [] [] (0 ∷ []) (zeros 2) (zeros 100) [] 100 seven, refused-by (asking 0 100 (0 ∷ []) (zeros 2) (zeros 100)) (whole usual) empty-metered (whole-obeys usual usual-obeys) empty-metered-obeys 17 refl)
+    and (calls.exchange (lent usual) (encodeWhole empty-shared) 0 [] [] (0 ∷ []) (zeros 2) (zeros 100) [] 100 seven, refused-by (asking 0 100 (0 ∷ []) (zeros 2) (zeros 100)) (whole usual) empty-shared (whole-obeys usual usual-obeys) empty-shared-obeys 19 refl)
     and no-more
 
 -- ---- all kinds
@@ -986,6 +1029,7 @@ all-shown calls.RecordAt = (_, records-at, refl)
 all-shown calls.RecordOf = (_, records-of, refl)
 all-shown calls.RecordByKey = (_, keyed, refl)
 all-shown calls.NodeRows = (_, all-rows, refl)
+all-shown calls.Front = (_, fronts, refl)
 all-shown calls.PrefixRows = (_, some-rows, refl)
 all-shown calls.FindText = (_, texts, refl)
 all-shown calls.WriteDigest = (_, digests, refl)

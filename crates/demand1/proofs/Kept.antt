@@ -22,6 +22,7 @@ use Rattle.rules.specs.declared.Answer.the-variants as plain
 use Rattle.rules.specs.declared.Applied.the-variants as applied
 use Rattle.rules.specs.declared.Computed.{Computed}
 use Rattle.rules.specs.declared.Offered.the-variants as offered
+use Rattle.rules.specs.declared.Party.{Party}
 use Rattle.rules.specs.declared.Profile.{Profile}
 use Rattle.rules.specs.declared.Refusal.the-variants.{BadTable}
 use Rattle.rules.specs.declared.Written.{Written}
@@ -71,13 +72,13 @@ stays l v t o f e = valid-encode-whole (withTable t (decodeWhole l)) (same-nodes
 
 kept : {A : Type 0} (bad : A) (rule : Table → Outcome A) → ((t : Table) → obeys t ≡ true → obeys (rule t .table) ≡ true)
     → ((t : Table) → numbersOf (rule t .table) ≡ numbersOf t)
-    → (l : Bytes) → ((t : Table) → profileObeys (profileIn l) t ≡ true → profileObeys (profileIn l) (rule t .table) ≡ true)
+    → (l : Bytes) → ((t : Table) → obeys t ≡ true → profileObeys (profileIn l) t ≡ true → profileObeys (profileIn l) (rule t .table) ≡ true)
     → validWhole l ≡ true → validWhole (onTable bad rule l .lent) ≡ true
 unfolding onTable
 kept {A} bad rule f same l formed v =
     ap (λ (b : Bool). validWhole (pick b (storedIn (decodeWhole l) (rule (decodeWhole l .table))) (given bad l) .lent)) v
     ∙ stays l v (rule (decodeWhole l .table) .table) (f (decodeWhole l .table) (whole-obeys l v))
-    (formed (decodeWhole l .table) (whole-profile (decodeWhole l) (valid.whole-obeys l v))) (same (decodeWhole l .table))
+    (formed (decodeWhole l .table) (whole-obeys l v) (whole-profile (decodeWhole l) (valid.whole-obeys l v))) (same (decodeWhole l .table))
 
 -- with the memory too
 kept-whole : {A : Type 0} (bad : A) (rule : Whole → Given A Whole) → ((w : Whole) → obeysWhole w ≡ true → obeysWhole (rule w .lent) ≡ true)
@@ -234,20 +235,20 @@ obeying (calls.last-heartbeat t i) = λ e. e
 obeying (calls.write t k v i wanted now who) =
     let p = profileIn t in
     one t _ (kept (plain.Refused BadTable) (writeAs p who (wanted .value) v (now .value) (i .value) k) (λ t. write-keeps-as p who (wanted .value) v (now .value) (i .value) k t (now .fits)) (numbers-write p who (wanted .value) v (now .value) (i .value) k) t
-    (write-formed p (wanted .value) v (now .value) (i .value) k))
+    (write-formed p who (wanted .value) v (now .value) (i .value) k))
 obeying (calls.delete t k i now who) =
     let p = profileIn t in
     let c = Deleting (now .value) in
-    one t _ (kept (plain.Refused BadTable) (callAs p who c (i .value) k) (λ t. call-keeps-as p who c (i .value) k t (now .fits)) (numbers-call-as p who c (i .value) k) t (call-formed p c (i .value) k))
+    one t _ (kept (plain.Refused BadTable) (callAs p who c (i .value) k) (λ t. call-keeps-as p who c (i .value) k t (now .fits)) (numbers-call-as p who c (i .value) k) t (call-formed p who c (i .value) k))
 obeying (calls.delete-after-ttl t k i now who) =
     let p = profileIn t in
     let c = DeletingAfterTtl (now .value) in
-    one t _ (kept (plain.Refused BadTable) (callAs p who c (i .value) k) (λ t. call-keeps-as p who c (i .value) k t (now .fits)) (numbers-call-as p who c (i .value) k) t (call-formed p c (i .value) k))
+    one t _ (kept (plain.Refused BadTable) (callAs p who c (i .value) k) (λ t. call-keeps-as p who c (i .value) k t (now .fits)) (numbers-call-as p who c (i .value) k) t (call-formed p who c (i .value) k))
 obeying (calls.remove-scheduled t now grace) =
-    one t _ (kept (plain.Refused BadTable) (gc (now .value) (grace .value)) (gc-keeps (now .value) (grace .value)) (numbers-gc (now .value) (grace .value)) t (gc-formed (profileIn t) (now .value) (grace .value)))
+    one t _ (kept (plain.Refused BadTable) (gc (now .value) (grace .value)) (gc-keeps (now .value) (grace .value)) (numbers-gc (now .value) (grace .value)) t (λ u ok. gc-formed (profileIn t) (now .value) (grace .value) u))
 obeying (calls.offer-heartbeat t i h) =
-    one t _ (kept (offered.Refused BadTable) (offer (i .value) (beats (h .value))) (λ t. offer-keeps (i .value) (beats (h .value)) t (h .fits)) (numbers-offer (i .value) (beats (h .value))) t (offer-formed (profileIn t) (i .value) (beats (h .value))))
-obeying (calls.local-beat t i) = one t _ (kept (plain.Refused BadTable) (localBeat (i .value)) (beat-keeps (i .value)) (numbers-beat (i .value)) t (beat-formed (profileIn t) (i .value)))
+    one t _ (kept (offered.Refused BadTable) (offer (i .value) (beats (h .value))) (λ t. offer-keeps (i .value) (beats (h .value)) t (h .fits)) (numbers-offer (i .value) (beats (h .value))) t (λ u ok. offer-formed (profileIn t) (i .value) (beats (h .value)) u))
+obeying (calls.local-beat t i) = one t _ (kept (plain.Refused BadTable) (localBeat (i .value)) (beat-keeps (i .value)) (numbers-beat (i .value)) t (λ u ok. beat-formed (profileIn t) (i .value) u))
 obeying (calls.find t k i who) = λ e. e
 obeying (calls.list-prefix t k out i who) = λ e. e
 obeying (calls.new-overrides o i) = over o _ (λ v. over-new-keeps (i .value) o (i .fits) (over-long o v))

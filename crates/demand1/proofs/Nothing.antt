@@ -20,8 +20,9 @@ use Rattle.rules.specs.Listing.{listing}
 use Rattle.rules.specs.Delta.{statusByte}
 use Rattle.rules.specs.Layout.{nodeWidth, encodeNode, decodeNode}
 use Rattle.rules.specs.Sizes.{maxKey}
-use Rattle.rules.specs.Local.{Outcome, answerOf, callAs, gc, localBeat, offer, prefixed, writeAs}
+use Rattle.rules.specs.Local.{Outcome, answerOf, callAs, gc, localBeat, offer, prefixedAs, writeAs}
 use Rattle.rules.specs.Node.{Call, Decision, Deleting, DeletingAfterTtl, Give, Leave, Node, Refuse, Setting, SettingTtl, act, beats, decide}
+use Rattle.rules.specs.Party.{seen, sees}
 use Rattle.rules.specs.Profile.{Kind, kind}
 use Rattle.rules.specs.Table.{Entry, Table, nodeOf, numbersOf}
 use Rattle.rules.specs.declared.Answer.{Answer}
@@ -34,6 +35,8 @@ use Rattle.rules.specs.declared.Listed.{Listed}
 use Rattle.rules.specs.declared.Listed.the-variants as listed
 use Rattle.rules.specs.declared.Offered.{Offered}
 use Rattle.rules.specs.declared.Offered.the-variants as offered
+use Rattle.rules.specs.declared.Party.{Party}
+use Rattle.rules.specs.declared.Profile.{Profile}
 use Rattle.rules.specs.declared.Refusal.{Refusal}
 use Rattle.rules.specs.declared.Refusal.the-variants.{BadPeer, BadTable, BadTag, NoPlace, NobodyPresent, TooLong}
 use Rattle.rules.specs.declared.Status.the-variants.{Set, Ttl}
@@ -225,10 +228,13 @@ over-made i o = go (eqb (length o) nodeWidth)
     go false h = refl
 
 -- one that fills a lent list
-over-listed : (i : ℕ) (k out o t : Bytes) → Refuses (listedOverTold (lentListOver i k out o t .answer)) → lentListOver i k out o t .lent ≡ out
+over-listed : (q : Party) (i : ℕ) (k out o t : Bytes) → Refuses (listedOverTold (lentListOver q i k out o t .answer)) → lentListOver q i k out o t .lent ≡ out
 unfolding fromBoth fromTable listedOverTold
-over-listed i k out o t = go (validNode o) (validWhole t)
+over-listed q i k out o t = go (validNode o) (validWhole t)
   where
+    p : Profile
+    p = decodeWhole t .kind .profile
+
     n : Node
     n = decodeNode o .node
 
@@ -245,16 +251,16 @@ over-listed i k out o t = go (validNode o) (validWhole t)
     limit found true h = into found (leb (length found) (length out)) h
     limit found false h = refl
 
-    held : (m : Option Node) → Refuses (listedOverTold (listOn k n m out .answer)) → listOn k n m out .lent ≡ out
+    held : (m : Option Node) → Refuses (listedOverTold (listOn (sees p q) k n m out .answer)) → listOn (sees p q) k n m out .lent ≡ out
     held none h = refl
-    held (some m) h = limit (placesOf (merged k (n .recs) (m .recs))) (leb (length k) maxKey) h
+    held (some m) h = limit (placesOf (merged (sees p q) k (n .recs) (m .recs))) (leb (length k) maxKey) h
 
     bad : Which → Given ListedOver Bytes
     bad w = given (over.Refused w BadTable) out
 
-    go : (a b : Bool) → Refuses (listedOverTold (pick a (pick b (listOver i k out n u) (bad which.Table)) (bad which.Overrides) .answer))
-        → pick a (pick b (listOver i k out n u) (bad which.Table)) (bad which.Overrides) .lent ≡ out
-    go true true h = held (nodeOf i u) h
+    go : (a b : Bool) → Refuses (listedOverTold (pick a (pick b (listOver p q i k out n u) (bad which.Table)) (bad which.Overrides) .answer))
+        → pick a (pick b (listOver p q i k out n u) (bad which.Table)) (bad which.Overrides) .lent ≡ out
+    go true true h = held (nodeOf i (seen p q u)) h
     go true false h = refl
     go false b h = refl
 
@@ -349,6 +355,12 @@ exchanged g publisher follower = go (readyFor (g .edition) (g .unasked) (roomsOf
     go ready.Yes e h = absurd (h (ap (λ (a : Exchanged). exchangedTold a .number) (ready-done g publisher follower (is-ready g publisher follower e))))
     go (ready.No s r) e h = refl
 
+-- a listing by a party: that of what it sees
+listed-refused : (p : Profile) (q : Party) (i : ℕ) (k : Bytes) (t : Table) (l : Bytes) (r : Refusal) → prefixedAs p q i k t l .answer ≡ listed.Refused r
+    → prefixedAs p q i k t l .lent ≡ l
+unfolding prefixedAs
+listed-refused p q i k t = prefixed-refused i k (seen p q t)
+
 -- ---- all calls
 
 pub nothing : {k : calls.Kind} (c : calls.Call k) → Refuses (calls.leaves c .answer) → calls.leaves c .lent ≡ calls.lentTo c
@@ -387,9 +399,10 @@ nothing (calls.local-beat t i) h =
     (on-table answerTold (plain.Refused BadTable) (localBeat (i .value)) (λ t g. let x = by-answer _ g in beat-refused (i .value) t (x .0) (x .1)) t h)
 nothing (calls.find t k i who) h = refl
 nothing (calls.list-prefix t k out i who) h =
+    let p = decodeWhole t .kind .profile in
     ap (λ (u : Bytes). t ∷ k ∷ u ∷ [])
-    (into-list listedTold (listed.Refused BadTable) (λ t. prefixed (i .value) k t out) out
-    (λ t g. let x = by-listed _ g in prefixed-refused (i .value) k t out (x .0) (x .1)) t h)
+    (into-list listedTold (listed.Refused BadTable) (λ t. prefixedAs p who (i .value) k t out) out
+    (λ t g. let x = by-listed _ g in listed-refused p who (i .value) k t out (x .0) (x .1)) t h)
 nothing (calls.new-overrides o i) h = ap (λ (u : Bytes). u ∷ []) (over-made (i .value) o h)
 nothing (calls.write-override o k v wanted now) h =
     ap (λ (u : Bytes). u ∷ k ∷ v ∷ []) (on-over (overrides.written (wanted .value) v (now .value) k) (over-written (wanted .value) v (now .value) k) o h)
@@ -400,7 +413,7 @@ nothing (calls.delete-override-after-ttl o k now) h =
 nothing (calls.remove-overrides o now grace) h =
     ap (λ (u : Bytes). u ∷ []) (on-over (cleaned (now .value) (grace .value)) (over-cleaned (now .value) (grace .value)) o h)
 nothing (calls.find-over t o k i who) h = refl
-nothing (calls.list-over t o k out i who) h = ap (λ (u : Bytes). t ∷ o ∷ k ∷ u ∷ []) (over-listed (i .value) k out o t h)
+nothing (calls.list-over t o k out i who) h = ap (λ (u : Bytes). t ∷ o ∷ k ∷ u ∷ []) (over-listed who (i .value) k out o t h)
 nothing (calls.new-grid t g) h = ap (λ (u : Bytes). t ∷ u ∷ []) (grid-made t g h)
 nothing (calls.grid-add-node t g i) h = ap (λ (u : GridAndTable). u .table ∷ u .grid ∷ []) (came (i .value) g t h)
 nothing (calls.grid-remove-node t g i) h = ap (λ (u : GridAndTable). u .table ∷ u .grid ∷ []) (went (i .value) g t h)

@@ -22,9 +22,10 @@ use Rattle.rules.specs.Memory.{heartbeatOf}
 use Rattle.rules.specs.Whole.{Whole, decodeWhole, encodeWhole, validWhole, wholeWidth, withTable}
 use Rattle.rules.specs.Lent.{addWhole, both, fromTable, lentApply, lentApplyAs, lentNew, lentRemoved, onTable, onWhole, rememberedAs, removeWhole, storedIn, storedApply}
 use Rattle.rules.specs.Listing.{listing}
-use Rattle.rules.specs.Local.{Outcome, add, answerOf, beatOn, call, callAs, callOn, gc, gives, listInto, localBeat, offer, offerOn, prefixOn, prefixed, removeNode, unlessGuarded, writeAs, yesNo}
+use Rattle.rules.specs.Local.{Outcome, add, answerOf, beatOn, call, callAs, callOn, gc, gives, listInto, localBeat, offer, offerOn, prefixOn, prefixed, prefixedAs, removeNode, unlessGuarded, writeAs, yesNo}
 use Rattle.rules.specs.Node.{Call, Change, Deleting, DeletingAfterTtl, Give, KeyValue, Leave, Node, Rec, Refuse, Setting, SettingTtl, allowed, beats, brought, decide, find, fullFor, hidden, hitsFrom, offerOf, sameStatus, unlessSame, wish}
-use Rattle.rules.specs.Profile.{Kind, brings, guardIn, kind, meterGuard, sizesFit}
+use Rattle.rules.specs.Party.{own, seen, sees}
+use Rattle.rules.specs.Profile.{Kind, brings, guardIn, kind, meterGuard, oddNumber, partyGuard, sizesFit}
 use Rattle.rules.specs.Table.{Entry, Table, addNode, among, dropNode, nodeOf, numbersOf}
 use Rattle.rules.specs.Layout.{nodePlace, nodeWidth, encodeNode, decodeNode}
 use Rattle.rules.specs.Delta.{statusByte}
@@ -38,16 +39,18 @@ use Rattle.rules.specs.declared.Computed.the-variants as computed
 use Rattle.rules.specs.declared.Listed.{Listed}
 use Rattle.rules.specs.declared.Listed.the-variants as listed
 use Rattle.rules.specs.declared.Offered.the-variants as offered
+use Rattle.rules.specs.declared.Party.{Party}
 use Rattle.rules.specs.declared.Profile.{Profile}
-use Rattle.rules.specs.declared.Profile.the-variants.{Free, Meter}
+use Rattle.rules.specs.declared.Profile.the-variants.{Free, Meter, Shared}
 use Rattle.rules.specs.declared.Refusal.{Refusal}
-use Rattle.rules.specs.declared.Refusal.the-variants.{BadForm, BadMtu, BadPeer, BadPlan, BadTable, BadTag, BadTies, Exhausted, NinthNode, NoNode, NobodyPresent, NodeFull, NoPlace, TooLong, BadEdition}
+use Rattle.rules.specs.declared.Refusal.the-variants.{BadMtu, BadPeer, BadPlan, BadTable, BadTag, BadTies, Exhausted, NinthNode, NoNode, NobodyPresent, NodeFull, NoPlace, OtherParty, TooLong, BadEdition}
 use Rattle.rules.specs.declared.Status.the-variants.{Set, Ttl}
 use Rattle.rules.specs.declared.Written.{Written}
 use Rattle.rules.specs.declared.Written.the-variants as written
 use Rattle.table_read.specs.Find.{nodeStart}
 use Rattle.nodes.specs.New.{lentMade}
-use Rattle.lookup.specs.Lookup.{findOn, findRec, foundIn, valuePlace}
+use Rattle.lookup.specs.Lookup as placed
+use Rattle.lookup.specs.Lookup.{findAs, findOn, findRec, foundIn, valuePlace}
 use Rattle.lookup.specs.Told.{foundTold}
 use Rattle.lookup.specs.declared.Found.{Found}
 use Rattle.lookup.specs.declared.Found.the-variants as found
@@ -71,16 +74,18 @@ use Rattle.grid.specs.Grid.{Grid, addColumn, columns, dropColumn, leastOf, maxP
 use Rattle.grid.specs.GridLayout.{decodeGrid, encodeGrid, gridWidth, validGrid}
 use Rattle.grid.specs.LentGrid.{both as beside, carefullyRemoved, gridOn, leastTold, lentCareful, lentColumnIn, lentColumnOut, lentLeast, lentNewGrid, lentSeen, lentTakeOut, lentTell, seenTold, tellOn, validBoth}
 use Rattle.grid.specs.declared.Least.the-variants as least
-use Rattle.grid.specs.declared.Seen.the-variants as seen
-use Rattle.inspect.specs.Look.{elementAt, headerOn, nodeCount, nodeHeader, nodeNumber, numberOn, readAt, readKey, readRec, readRecord, recordByKey, recordByKeyOn, recordCount, recordIn, recordOfPlaces, recordOn, recordsOn, rowsOn, nodeRows}
+use Rattle.grid.specs.declared.Seen.the-variants as told
+use Rattle.inspect.specs.Look as looking
+use Rattle.inspect.specs.Look.{elementAt, frontAs, frontTold, headerOn, nodeCount, nodeHeader, nodeNumber, nodeRowsAs, numberOn, readAt, readKey, readRec, readRecordAs, recordByKey, recordByKeyAs, recordByKeyOn, recordCountAs, recordIn, recordOfAs, recordOn, recordsOn, rowsOn}
 use Rattle.inspect.specs.Told.{countTold, nodeHeaderTold, nodeNumberTold, recordReadTold, rowsTold}
 use Rattle.inspect.specs.declared.Count.the-variants as count
 use Rattle.inspect.specs.declared.NodeHeader.the-variants as header
 use Rattle.inspect.specs.declared.NodeNumber.the-variants as number
+use Rattle.inspect.specs.declared.RecordRead.{RecordRead}
 use Rattle.inspect.specs.declared.RecordRead.the-variants as rec
 use Rattle.inspect.specs.declared.Rows.the-variants as rows
-use Rattle.prefix.specs.Rows.{runRows, prefixRowsOn, prefixRows}
-use Rattle.inspect_text.specs.Texts.{placeOn, textFound, textOn}
+use Rattle.prefix.specs.Rows.{runRows, prefixRowsAs, prefixRowsOn}
+use Rattle.inspect_text.specs.Texts.{placeOn, textFoundAs, textOn}
 use Rattle.inspect_text.specs.declared.Text.{Text}
 use Rattle.digest_read.specs.Held.{digestIn, heldOf, inPlaces, unused}
 use Rattle.digest_read.specs.declared.NodeDigest.{NodeDigest as Place}
@@ -94,7 +99,7 @@ use Rattle.exchange_ask.specs.declared.Ready.{Ready}
 use Rattle.exchange_ask.specs.declared.Ready.the-variants as ready
 use Rattle.exchange_ask.specs.declared.Step.the-variants.{Applying, Delta, Digest}
 use Rattle.rules.proofs.Obeys.{in-among}
-use Rattle.rules.proofs.Writing.{call-as, write-as}
+use Rattle.rules.proofs.Writing.{ByProfile, call-as, form, full, party, total, write-as}
 use Rattle.exchange.proofs.Refusing.{is-ready, ready-done}
 use Rattle.listing_make.specs.Make.{lentMake, madeTold}
 use Rattle.listing_make.proofs.Numbers.{made-numbers}
@@ -261,10 +266,10 @@ called kind p q c none-brought bad other missing long f i k =
 
 -- a set: nothing to change, 5, 6
 sets : (kind : calls.Kind) → Of kind (answerTold plain.Done) → Of kind (answerTold (plain.Refused NodeFull)) → Of kind (answerTold (plain.Refused Exhausted)) → (c : Change) (k : Bytes) (n : Node) (o : Option Rec) → Of kind (answerTold (answerOf (allowed k n (unlessSame o c))))
-sets kind done full over c k n o = go o
+sets kind done no-room over c k n o = go o
   where
     grant : (f b : Bool) → Of kind (answerTold (answerOf (pick f (Refuse NodeFull) (pick b (Give c) (Refuse Exhausted)))))
-    grant true b = full
+    grant true b = no-room
     grant false true = done
     grant false false = over
 
@@ -334,11 +339,17 @@ looked k start j (r ∷ l) = go (sameBytes k (r .kv .key)) (hidden (r .kv .statu
     go true false e = refl
     go false h e = e
 
-finds : (i : ℕ) (k l : Bytes) → Of calls.Find (foundTold (fromTable (found.Refused BadTable) (foundIn i k) l))
+finds : (p : Profile) (q : Party) (i : ℕ) (k l : Bytes) → Of calls.Find (foundTold (fromTable (found.Refused BadTable) (findAs p q i k) l))
 unfolding foundTold among calls.refusals
-finds i k l =
-    from-table (λ a. Of calls.Find (foundTold a)) (found.Refused BadTable) (foundIn i k) refl (λ t. go (nodeStart i t) (nodeOf i t)) l
+finds p q i k l =
+    from-table (λ a. Of calls.Find (foundTold a)) (found.Refused BadTable) (findAs p q i k) refl (λ t. named (sees p q k) (foundIn i k (seen p q t)) (go (nodeStart i (seen p q t)) (nodeOf i (seen p q t)))) l
   where
+    named : (b : Bool) (f : Found) → Of calls.Find (foundTold f) → Of calls.Find (foundTold (placed.unlessOther b f))
+    named true f h = h
+    named false (found.At start len) h = refl
+    named false found.Nothing h = refl
+    named false (found.Refused r) h = h
+
     limit : (start : ℕ) (n : Node) (b : Bool) → Of calls.Find (foundTold (pick b (findRec k start 0 (n .recs)) (found.Refused TooLong)))
     limit start n true = looked k start 0 (n .recs)
     limit start n false = refl
@@ -347,11 +358,11 @@ finds i k l =
     go start none = refl
     go start (some n) = limit start n (leb (length k) maxKey)
 
-lists : (i : ℕ) (k out l : Bytes) → Of calls.ListPrefix (listedTold (fromTable (given (listed.Refused BadTable) out) (λ t. prefixed i k t out) l .answer))
-unfolding prefixed listedTold among calls.refusals
-lists i k out l =
-    from-table (λ (a : Given Listed Bytes). Of calls.ListPrefix (listedTold (a .answer))) (given (listed.Refused BadTable) out) (λ t. prefixed i k t out) refl
-    (λ t. go (nodeOf i t)) l
+lists : (p : Profile) (q : Party) (i : ℕ) (k out l : Bytes) → Of calls.ListPrefix (listedTold (fromTable (given (listed.Refused BadTable) out) (λ t. prefixedAs p q i k t out) l .answer))
+unfolding prefixed prefixedAs listedTold among calls.refusals
+lists p q i k out l =
+    from-table (λ (a : Given Listed Bytes). Of calls.ListPrefix (listedTold (a .answer))) (given (listed.Refused BadTable) out) (λ t. prefixedAs p q i k t out) refl
+    (λ t. go (nodeOf i (seen p q t))) l
   where
     into : (hits : Bytes) (b : Bool) → Of calls.ListPrefix (listedTold (pick b (given (listed.Hits (length hits)) (put 0 hits out)) (given (listed.Refused NoPlace) out) .answer))
     into hits true = refl
@@ -437,12 +448,21 @@ from-both P bad rule b f o t = go (validNode o)
     go true = from-table P (bad which.Table) (rule (decodeNode o .node)) (b which.Table) (f (decodeNode o .node)) t
     go false = b which.Overrides
 
-found-over : (i : ℕ) (k o t : Bytes) → Of calls.FindOver (foundOverTold (lentFindOver i k o t))
+found-over : (q : Party) (i : ℕ) (k o t : Bytes) → Of calls.FindOver (foundOverTold (lentFindOver q i k o t))
 unfolding foundOverTold among calls.refusals
-found-over i k o t =
-    from-both (λ a. Of calls.FindOver (foundOverTold a)) (λ w. over.Refused w BadTable) (foundOver i k) (λ w. refl)
-    (λ n u. go (findOn k 0 (some n)) (nodeStart i u) (nodeOf i u)) o t
+found-over q i k o t =
+    from-both (λ a. Of calls.FindOver (foundOverTold a)) (λ w. over.Refused w BadTable) (foundOver (p t) q i k) (λ w. refl)
+    (λ n u. named (sees (p t) q k) (findOn k 0 (some n)) (foundIn i k (seen (p t) q u)) (go (findOn k 0 (some n)) (nodeStart i (seen (p t) q u)) (nodeOf i (seen (p t) q u)))) o t
   where
+    p : Bytes → Profile
+    p t = decodeWhole t .kind .profile
+
+    named : (b : Bool) (own f : Found) → Of calls.FindOver (foundOverTold (overOf own f)) → Of calls.FindOver (foundOverTold (overOf own (placed.unlessOther b f)))
+    named true own f h = h
+    named false own (found.At start len) h = refl
+    named false own found.Nothing h = refl
+    named false own (found.Refused r) h = h
+
     first : (own : Found) (x : FoundOver) → Of calls.FindOver (foundOverTold x) → Of calls.FindOver (foundOverTold (firstOf own x))
     first (found.At s n) x h = refl
     first found.Nothing x h = h
@@ -460,12 +480,15 @@ found-over i k o t =
     go own start none = refl
     go own start (some n) = limit own start n (leb (length k) maxKey)
 
-listed-over : (i : ℕ) (k out o t : Bytes) → Of calls.ListOver (listedOverTold (lentListOver i k out o t .answer))
+listed-over : (q : Party) (i : ℕ) (k out o t : Bytes) → Of calls.ListOver (listedOverTold (lentListOver q i k out o t .answer))
 unfolding listedOverTold among calls.refusals
-listed-over i k out o t =
-    from-both (λ (a : Given ListedOver Bytes). Of calls.ListOver (listedOverTold (a .answer))) (λ w. given (merged.Refused w BadTable) out) (listOver i k out) (λ w. refl)
-    (λ n u. go n (nodeOf i u)) o t
+listed-over q i k out o t =
+    from-both (λ (a : Given ListedOver Bytes). Of calls.ListOver (listedOverTold (a .answer))) (λ w. given (merged.Refused w BadTable) out) (listOver (p t) q i k out) (λ w. refl)
+    (λ n u. go (sees (p t) q) n (nodeOf i (seen (p t) q u))) o t
   where
+    p : Bytes → Profile
+    p t = decodeWhole t .kind .profile
+
     into : (hits : Bytes) (b : Bool)
         → Of calls.ListOver (listedOverTold (pick b (given (merged.Hits (length hits)) (put 0 hits out)) (given (merged.Refused which.Neither NoPlace) out) .answer))
     into hits true = refl
@@ -475,9 +498,9 @@ listed-over i k out o t =
     limit hits true = into hits (leb (length hits) (length out))
     limit hits false = refl
 
-    go : (n : Node) (m : Option Node) → Of calls.ListOver (listedOverTold (listOn k n m out .answer))
-    go n none = refl
-    go n (some m) = limit (merging.placesOf (merging.listing k (n .recs) (m .recs))) (leb (length k) maxKey)
+    go : (mine : Bytes → Bool) (n : Node) (m : Option Node) → Of calls.ListOver (listedOverTold (listOn mine k n m out .answer))
+    go mine n none = refl
+    go mine n (some m) = limit (merging.placesOf (merging.listing mine k (n .recs) (m .recs))) (leb (length k) maxKey)
 
 -- ---- grids
 
@@ -560,7 +583,7 @@ seen-is p i g = go (validGrid g) (ltb p maxPeers) (among i (columns (decodeGrid 
     j = placeOf i (columns x)
 
     go : (b c d e : Bool)
-        → Of calls.SeenBy (seenTold (pick b (pick c (pick d (pick e (seen.Pair (getD (getD (x .gcs) p []) j 0) (getD (getD (x .maxes) p []) j 0)) seen.Absent) (seen.Refused NoNode)) (seen.Refused BadPeer)) (seen.Refused BadTable)))
+        → Of calls.SeenBy (seenTold (pick b (pick c (pick d (pick e (told.Pair (getD (getD (x .gcs) p []) j 0) (getD (getD (x .maxes) p []) j 0)) told.Absent) (told.Refused NoNode)) (told.Refused BadPeer)) (told.Refused BadTable)))
     go true true true true = refl
     go true true true false = refl
     go true true false e = refl
@@ -599,18 +622,18 @@ headed i l = from-table (λ a. Of calls.NodeHeader (nodeHeaderTold a)) (header.R
     go none = refl
     go (some n) = refl
 
-record-counts : (i : ℕ) (l : Bytes) → Of calls.RecordCount (countTold (fromTable (count.Refused BadTable) (recordCount i) l))
+record-counts : (p : Profile) (q : Party) (i : ℕ) (l : Bytes) → Of calls.RecordCount (countTold (fromTable (count.Refused BadTable) (recordCountAs p q i) l))
 unfolding countTold among calls.refusals
-record-counts i l = from-table (λ a. Of calls.RecordCount (countTold a)) (count.Refused BadTable) (recordCount i) refl (λ t. go (nodeOf i t)) l
+record-counts p q i l = from-table (λ a. Of calls.RecordCount (countTold a)) (count.Refused BadTable) (recordCountAs p q i) refl (λ t. go (nodeOf i (seen p q t))) l
   where
     go : (o : Option Node) → Of calls.RecordCount (countTold (recordsOn o))
     go none = refl
     go (some n) = refl
 
-records : (i j : ℕ) (l : Bytes) → Of calls.RecordAt (recordReadTold (fromTable (rec.Refused BadTable) (readRecord i j) l))
+records : (p : Profile) (q : Party) (i j : ℕ) (l : Bytes) → Of calls.RecordAt (recordReadTold (fromTable (rec.Refused BadTable) (readRecordAs p q i j) l))
 unfolding recordReadTold among calls.refusals
-records i j l =
-    from-table (λ a. Of calls.RecordAt (recordReadTold a)) (rec.Refused BadTable) (readRecord i j) refl (λ t. go (nodeStart i t) (nodeOf i t)) l
+records p q i j l =
+    from-table (λ a. Of calls.RecordAt (recordReadTold a)) (rec.Refused BadTable) (readRecordAs p q i j) refl (λ t. go (nodeStart i (seen p q t)) (nodeOf i (seen p q t))) l
   where
     at : (start : ℕ) (o : Option Rec) → Of calls.RecordAt (recordReadTold (readAt start j o))
     at start none = refl
@@ -620,10 +643,10 @@ records i j l =
     go start none = refl
     go start (some n) = at start (elementAt j (n .recs))
 
-record-places : (i j : ℕ) (l : Bytes) → Of calls.RecordOf (recordReadTold (fromTable (rec.Refused BadTable) (recordOfPlaces i j) l))
+record-places : (p : Profile) (q : Party) (i j : ℕ) (l : Bytes) → Of calls.RecordOf (recordReadTold (fromTable (rec.Refused BadTable) (recordOfAs p q i j) l))
 unfolding recordReadTold among calls.refusals
-record-places i j l =
-    from-table (λ a. Of calls.RecordOf (recordReadTold a)) (rec.Refused BadTable) (recordOfPlaces i j) refl (λ t. go (nodePlace i) (elementAt i t)) l
+record-places p q i j l =
+    from-table (λ a. Of calls.RecordOf (recordReadTold a)) (rec.Refused BadTable) (recordOfAs p q i j) refl (λ t. go (nodePlace i) (elementAt i (seen p q t))) l
   where
     at : (start : ℕ) (o : Option Rec) → Of calls.RecordOf (recordReadTold (readAt start j o))
     at start none = refl
@@ -644,11 +667,18 @@ sought k start j (r ∷ l) = go (sameBytes k (r .kv .key)) (sought k start (suc 
     go true e = refl
     go false e = e
 
-keyed : (i : ℕ) (k l : Bytes) → Of calls.RecordByKey (recordReadTold (fromTable (rec.Refused BadTable) (recordByKey i k) l))
+keyed : (p : Profile) (q : Party) (i : ℕ) (k l : Bytes) → Of calls.RecordByKey (recordReadTold (fromTable (rec.Refused BadTable) (recordByKeyAs p q i k) l))
 unfolding recordReadTold among calls.refusals
-keyed i k l =
-    from-table (λ a. Of calls.RecordByKey (recordReadTold a)) (rec.Refused BadTable) (recordByKey i k) refl (λ t. go (nodeStart i t) (nodeOf i t)) l
+keyed p q i k l =
+    from-table (λ a. Of calls.RecordByKey (recordReadTold a)) (rec.Refused BadTable) (recordByKeyAs p q i k) refl
+    (λ t. named (sees p q k) (recordByKey i k (seen p q t)) (go (nodeStart i (seen p q t)) (nodeOf i (seen p q t)))) l
   where
+    named : (b : Bool) (r : RecordRead) → Of calls.RecordByKey (recordReadTold r) → Of calls.RecordByKey (recordReadTold (looking.unlessOther b r))
+    named true r h = h
+    named false (rec.Is k v r) h = refl
+    named false rec.Nothing h = refl
+    named false (rec.Refused r) h = h
+
     limit : (start : ℕ) (n : Node) (b : Bool) → Of calls.RecordByKey (recordReadTold (pick b (readKey k start 0 (n .recs)) (rec.Refused TooLong)))
     limit start n true = sought k start 0 (n .recs)
     limit start n false = refl
@@ -657,17 +687,26 @@ keyed i k l =
     go start none = refl
     go start (some n) = limit start n (leb (length k) maxKey)
 
-all-rows : (i : ℕ) (l : Bytes) → Of calls.NodeRows (rowsTold (fromTable (rows.Refused BadTable) (nodeRows i) l))
+-- where a party's rows begin
+fronts : (p : Profile) (q : Party) (i : ℕ) (l : Bytes) → Of calls.Front (countTold (fromTable (count.Refused BadTable) (frontAs p q i) l))
+unfolding countTold among calls.refusals
+fronts p q i l = from-table (λ a. Of calls.Front (countTold a)) (count.Refused BadTable) (frontAs p q i) refl (λ t. go (nodeOf i t)) l
+  where
+    go : (o : Option Node) → Of calls.Front (countTold (frontTold p q o))
+    go none = refl
+    go (some n) = refl
+
+all-rows : (p : Profile) (q : Party) (i : ℕ) (l : Bytes) → Of calls.NodeRows (rowsTold (fromTable (rows.Refused BadTable) (nodeRowsAs p q i) l))
 unfolding rowsTold among calls.refusals
-all-rows i l = from-table (λ a. Of calls.NodeRows (rowsTold a)) (rows.Refused BadTable) (nodeRows i) refl (λ t. go (nodeStart i t) (nodeOf i t)) l
+all-rows p q i l = from-table (λ a. Of calls.NodeRows (rowsTold a)) (rows.Refused BadTable) (nodeRowsAs p q i) refl (λ t. go (nodeStart i (seen p q t)) (nodeOf i (seen p q t))) l
   where
     go : (start : ℕ) (o : Option Node) → Of calls.NodeRows (rowsTold (rowsOn start o))
     go start none = refl
     go start (some n) = refl
 
-some-rows : (i : ℕ) (k l : Bytes) → Of calls.PrefixRows (rowsTold (fromTable (rows.Refused BadTable) (prefixRows i k) l))
+some-rows : (p : Profile) (q : Party) (i : ℕ) (k l : Bytes) → Of calls.PrefixRows (rowsTold (fromTable (rows.Refused BadTable) (prefixRowsAs p q i k) l))
 unfolding rowsTold among calls.refusals
-some-rows i k l = from-table (λ a. Of calls.PrefixRows (rowsTold a)) (rows.Refused BadTable) (prefixRows i k) refl (λ t. go (nodeStart i t) (nodeOf i t)) l
+some-rows p q i k l = from-table (λ a. Of calls.PrefixRows (rowsTold a)) (rows.Refused BadTable) (prefixRowsAs p q i k) refl (λ t. go (nodeStart i (seen p q t)) (nodeOf i (seen p q t))) l
   where
     limit : (start : ℕ) (n : Node) (b : Bool) → Of calls.PrefixRows (rowsTold (pick b (runRows k start (n .recs)) (rows.Refused TooLong)))
     limit start n true = refl
@@ -677,10 +716,10 @@ some-rows i k l = from-table (λ a. Of calls.PrefixRows (rowsTold a)) (rows.Refu
     go start none = refl
     go start (some n) = limit start n (leb (length k) maxKey)
 
-texts : (x : Text) (i j : ℕ) (l : Bytes) → Of calls.FindText (foundTold (fromTable (found.Refused BadTable) (textFound x i j) l))
+texts : (p : Profile) (q : Party) (x : Text) (i j : ℕ) (l : Bytes) → Of calls.FindText (foundTold (fromTable (found.Refused BadTable) (textFoundAs p q x i j) l))
 unfolding foundTold among calls.refusals
-texts x i j l =
-    from-table (λ a. Of calls.FindText (foundTold a)) (found.Refused BadTable) (textFound x i j) refl (λ t. go (nodeStart i t) (nodeOf i t)) l
+texts p q x i j l =
+    from-table (λ a. Of calls.FindText (foundTold a)) (found.Refused BadTable) (textFoundAs p q x i j) refl (λ t. go (nodeStart i (seen p q t)) (nodeOf i (seen p q t))) l
   where
     at : (start : ℕ) (o : Option Rec) → Of calls.FindText (foundTold (placeOn x start j o))
     at start none = refl
@@ -850,21 +889,23 @@ asks-numbers true false c next h = refl
 asks-numbers true true false next h = refl
 asks-numbers true true true next h = h
 
-asks-taking : (formed b : Bool) → Asks (pick formed (pick b ready.Yes (ready.No Applying NoPlace)) (ready.No Applying BadForm))
+asks-taking : (o : Profile) (formed b : Bool) → Asks (pick formed (pick b ready.Yes (ready.No Applying NoPlace)) (ready.No Applying (oddNumber o)))
 unfolding among calls.refusals
-asks-taking true true = tt
-asks-taking true false = refl
-asks-taking false b = refl
+asks-taking o true true = tt
+asks-taking o true false = refl
+asks-taking Free false b = refl
+asks-taking Meter false b = refl
+asks-taking Shared false b = refl
 
-asks-on : (edition : ℕ) (unasked : List ℕ) (k : Rooms) (formed : Bool) (p f : Table) → Asks (readyOn edition unasked k formed p f)
+asks-on : (edition : ℕ) (unasked : List ℕ) (k : Rooms) (o : Profile) (formed : Bool) (p f : Table) → Asks (readyOn edition unasked k o formed p f)
 unfolding readyOn roomsFor takingFor askedOf among calls.refusals
-asks-on edition unasked k formed p f = known (digest.isEdition edition)
+asks-on edition unasked k o formed p f = known (digest.isEdition edition)
   where
-    go : (b : Bool) → Asks (pick b (unlessRefused (askedOf (k .mtu) 0 (k .delta) (k .ties) (length p)) (takingFor formed (k .answers) (length p))) (ready.No Digest NoPlace))
-    go true = asks-numbers (mtuFits (k .mtu)) (isFree 0 (k .mtu) (k .delta)) (eqb (k .ties) (length p)) _ (asks-taking formed (leb (length p) (k .answers)))
+    go : (b : Bool) → Asks (pick b (unlessRefused (askedOf (k .mtu) 0 (k .delta) (k .ties) (length p)) (takingFor o formed (k .answers) (length p))) (ready.No Digest NoPlace))
+    go true = asks-numbers (mtuFits (k .mtu)) (isFree 0 (k .mtu) (k .delta)) (eqb (k .ties) (length p)) _ (asks-taking o formed (leb (length p) (k .answers)))
     go false = refl
 
-    known : (b : Bool) → Asks (pick b (roomsFor edition unasked k formed p f) (ready.No Digest BadEdition))
+    known : (b : Bool) → Asks (pick b (roomsFor edition unasked k o formed p f) (ready.No Digest BadEdition))
     known true = go (leb (length (digest.digestBytes edition (digest.digestOf unasked f))) (k .digest))
     known false = refl
 
@@ -872,10 +913,10 @@ asks : (edition : ℕ) (unasked : List ℕ) (k : Rooms) (publisher follower : By
 unfolding readyFor among calls.refusals
 asks edition unasked k publisher follower = go (validWhole follower) (validWhole publisher)
   where
-    go : (u v : Bool) → Asks (pick u (pick v (readyOn edition unasked k (formsFit publisher follower) (decodeWhole publisher .table) (decodeWhole follower .table)) (ready.No Delta BadTable)) (ready.No Digest BadTable))
+    go : (u v : Bool) → Asks (pick u (pick v (readyOn edition unasked k (decodeWhole follower .kind .profile) (formsFit publisher follower) (decodeWhole publisher .table) (decodeWhole follower .table)) (ready.No Delta BadTable)) (ready.No Digest BadTable))
     go false v = refl
     go true false = refl
-    go true true = asks-on edition unasked k (formsFit publisher follower) (decodeWhole publisher .table) (decodeWhole follower .table)
+    go true true = asks-on edition unasked k (decodeWhole follower .kind .profile) (formsFit publisher follower) (decodeWhole publisher .table) (decodeWhole follower .table)
 
 exchanges : (g : Lending) (publisher follower : Bytes) → Of calls.Exchange (exchangedTold (lentExchange g publisher follower .answer))
 unfolding lentExchange exchangedTold
@@ -904,15 +945,15 @@ no-other (calls.delete-after-ttl t k i now who) = deleted-ttl (decodeWhole t .ki
 no-other (calls.remove-scheduled t now grace) = collected (now .value) (grace .value) t
 no-other (calls.offer-heartbeat t i h) = offers (i .value) (h .value) t
 no-other (calls.local-beat t i) = beaten (i .value) t
-no-other (calls.find t k i who) = finds (i .value) k t
-no-other (calls.list-prefix t k out i who) = lists (i .value) k out t
+no-other (calls.find t k i who) = finds (decodeWhole t .kind .profile) who (i .value) k t
+no-other (calls.list-prefix t k out i who) = lists (decodeWhole t .kind .profile) who (i .value) k out t
 no-other (calls.new-overrides o i) = over-made (i .value) o
 no-other (calls.write-override o k v wanted now) = over-wrote (wanted .value) v (now .value) k o
 no-other (calls.delete-override o k now) = over-deleted (now .value) k o
 no-other (calls.delete-override-after-ttl o k now) = over-deleted-ttl (now .value) k o
 no-other (calls.remove-overrides o now grace) = over-cleaned (now .value) (grace .value) o
-no-other (calls.find-over t o k i who) = found-over (i .value) k o t
-no-other (calls.list-over t o k out i who) = listed-over (i .value) k out o t
+no-other (calls.find-over t o k i who) = found-over who (i .value) k o t
+no-other (calls.list-over t o k out i who) = listed-over who (i .value) k out o t
 no-other (calls.new-grid t g) = grid-made t g
 no-other (calls.grid-add-node t g i) = came (i .value) g t
 no-other (calls.grid-remove-node t g i) = went (i .value) g t
@@ -924,14 +965,14 @@ no-other (calls.remove-carefully t g now grace) = carefully (now .value) (grace 
 no-other (calls.node-count t) = counts t
 no-other (calls.node-number t i) = numbered i t
 no-other (calls.node-header t i) = headed (i .value) t
-no-other (calls.record-count t i who) = record-counts (i .value) t
-no-other (calls.record-at t i j who) = records (i .value) j t
-no-other (calls.record-of t i j who) = record-places i j t
-no-other (calls.record-by-key t k i who) = keyed (i .value) k t
-no-other (calls.node-rows t i who) = all-rows (i .value) t
+no-other (calls.record-count t i who) = record-counts (decodeWhole t .kind .profile) who (i .value) t
+no-other (calls.record-at t i j who) = records (decodeWhole t .kind .profile) who (i .value) j t
+no-other (calls.record-of t i j who) = record-places (decodeWhole t .kind .profile) who i j t
+no-other (calls.record-by-key t k i who) = keyed (decodeWhole t .kind .profile) who (i .value) k t
+no-other (calls.node-rows t i who) = all-rows (decodeWhole t .kind .profile) who (i .value) t
 no-other (calls.front t i who) = fronts (decodeWhole t .kind .profile) who (i .value) t
-no-other (calls.prefix-rows t k i who) = some-rows (i .value) k t
-no-other (calls.find-text t i j x who) = texts x (i .value) j t
+no-other (calls.prefix-rows t k i who) = some-rows (decodeWhole t .kind .profile) who (i .value) k t
+no-other (calls.find-text t i j x who) = texts (decodeWhole t .kind .profile) who x (i .value) j t
 no-other (calls.write-digest t edition excluded datagram place) = digests edition excluded place datagram t
 no-other (calls.read-digest edition digest) = digest-reads edition digest
 no-other (calls.digest-entry digest edition i) = entries edition digest i

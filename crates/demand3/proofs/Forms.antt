@@ -23,7 +23,6 @@ use Rattle.rules.proofs.Refusing.{whole-bytes}
 use Rattle.rules.specs.Local.{gc, gives}
 use Rattle.rules.specs.Node.{Rec, due, goes, lastGc, remove, scheduled}
 use Rattle.rules.specs.Table.{Entry, Table, numbersOf, obeys, removeAll}
-use Rattle.rules.specs.declared.Party.the-variants.{Nobody}
 use Rattle.rules.specs.declared.Answer.the-variants as plain
 use Rattle.rules.specs.declared.Computed.{Computed}
 use Rattle.rules.specs.declared.Computed.the-variants as computed

@@ -9,14 +9,14 @@ use mathlib.Core.Option.{Option, none, some}
 use native.Mathlib.Omega.{arith}
 use lib.Dec.{eqb}
 use Rattle.fields.specs.Choice.{_∈_, all, pick}
-use Rattle.fields.proofs.Choice.{and-left, and-right, in-none}
+use Rattle.fields.proofs.Choice.{and-intro, and-left, and-right, in-none}
 use Rattle.rules.specs.Given.{Given, given}
 use Rattle.rules.specs.Node.{Call, KeyValue}
-use Rattle.rules.specs.Table.{Table, nodeOf, obeys}
+use Rattle.rules.specs.Table.{Entry, Table, nodeOf, obeys}
 use Rattle.rules.specs.Local.{Outcome, call, callAs, gives, localBeat, offer, unlessGuarded}
 use Rattle.rules.specs.Digest.{writeDigest}
 use Rattle.rules.specs.Apply.{Ways, apply, waysIn}
-use Rattle.rules.specs.Profile.{Kind, guardIn, profileObeys}
+use Rattle.rules.specs.Profile.{Kind, guardIn, profileObeys, recsObey}
 use Rattle.rules.specs.Whole.{Whole, decodeWhole, encodeWhole, obeysWhole}
 use Rattle.rules.specs.Lent.{TableAndList, fromTable, lentApply, onTable, onWhole, storedApply, storedIn}
 use Rattle.rules.specs.declared.Answer.{Answer}
@@ -37,6 +37,7 @@ use Rattle.profiles.proofs.Lawful.{kind-lawful}
 use Rattle.demand3.specs.Demand3.{allQuiet, quiet}
 use Rattle.demand3.specs.Forms.{Order, Removal, computeBy, lentComputeBy, lentRemovedBy, removedBy}
 use Rattle.demand3.specs.World.{Applying, Arriving, Beating, Computing, DeltaSent, DigestSent, Digesting, Event, Exchange, Followers, Idle, Offering, Publishers, Receiving, Removing, Sending, Side, World, Writing, after, afterDelta, afterDigest, calls, computedFor, appliedTo, arrives, cutBy, freshTable, givenAs, givenIn, happen, onExchange, onSent, onSide, possible, sentAfter, sentOn, start, unlessRefused}
+use Rattle.rules.proofs.Formed.{none-obey}
 use Rattle.demand3.proofs.Formed.{removal-formed, sent-read}
 use Rattle.demand3.proofs.Forms.{comes, lent-computing, lent-removal}
 use Rattle.demand3.proofs.Moments.{InOrder, moment-start, next-event}
@@ -76,7 +77,7 @@ none-some r e = let z : _≡_ {A = ℕ} 0 1 = cc in absurd (omega arith)
 pub fresh-formed : (p : Profile) (is : List ℕ) → profileObeys p (freshTable is) ≡ true
 unfolding profileObeys freshTable all
 fresh-formed p [] = refl
-fresh-formed p (i ∷ is) = fresh-formed p is
+fresh-formed p (i ∷ is) = and-intro (recsObey p []) (all (λ (e : Entry). recsObey p (e .node .recs)) (freshTable is)) (none-obey p) (fresh-formed p is)
 
 -- ---- the bytes of a world of tables, the publisher's of kind pk and the follower's of kind fk
 

@@ -7,16 +7,19 @@ use native.Mathlib.Omega.{arith}
 use lib.Dec.{leb}
 use lib.ListN.{length}
 use Rattle.fields.specs.Choice.{pick}
-use Rattle.rules.specs.Apply.{Ways, apply, applyNode, applyOps, applyParts, waysIn}
-use Rattle.rules.specs.Delta.{Ops, Part, partsOf}
+use Rattle.rules.specs.Apply.{Taking, Ways, answered, apply, applyNode, applyOps, applyParts, deltaStatus, outcome, waysIn}
+use Rattle.rules.specs.Delta.{NodeDelta, Ops, Part, partsOf}
 use Rattle.rules.specs.Digest.{digestBytes, digestOf, isEdition}
 use Rattle.rules.specs.Given.{Given, given}
 use Rattle.rules.specs.Lent.{TableAndList, both, lentApply, lentApplyAs, storedApply}
+use Rattle.rules.specs.Node.{Node}
 use Rattle.rules.specs.Profile.{Kind, oddNumber, profileObeys, tableFormed}
 use Rattle.rules.specs.Table.{Table, obeys}
 use Rattle.rules.specs.Whole.{Whole, decodeWhole, encodeWhole, obeysWhole, validWhole}
 use Rattle.rules.specs.declared.Applied.{Applied}
 use Rattle.rules.specs.declared.Applied.the-variants as applied
+use Rattle.rules.specs.declared.DeltaStatus.{DeltaStatus}
+use Rattle.rules.specs.declared.DeltaStatus.the-variants.{Apply, ApplyAfterReset, Fenced, Reject}
 use Rattle.rules.specs.declared.Profile.{Profile}
 use Rattle.rules.specs.declared.Refusal.{Refusal}
 use Rattle.rules.specs.declared.Refusal.the-variants.{BadEdition, BadTable, NoPlace}
@@ -53,9 +56,22 @@ module _ (k : Kind) (b : List ℕ) (read : IsRead (k .profile) b) (now : ℕ) (t
   it-is = ap (λ (o : Ops). applyOps (applyNode (waysIn k) now) o t l) (read .1)
 
   -- what a node takes does not hang on the reading
+  one : (d : NodeDelta) (n : Node) → applyNode (waysIn k) now d n ≡ applyNode (readingAll k) now d n
+  unfolding applyNode
+  one d n = go (deltaStatus (waysIn k .fence) n d)
+    where
+      go : (s : DeltaStatus) → answered (waysIn k) s (outcome s now d n) n ≡ answered (readingAll k) s (outcome s now d n) n
+      go Reject = refl
+      go Apply = refl
+      go ApplyAfterReset = refl
+      go Fenced = refl
+
+  taking : applyNode (waysIn k) now ≡ applyNode (readingAll k) now
+  taking = λ z d n. one d n z
+
   as-read : apply (waysIn k) b now t l ≡ apply (readingAll k) b now t l
-  unfolding apply applyNode
-  as-read = it-is ∙ ap (λ (o : Ops). applyOps (applyNode (readingAll k) now) o t l) (sym (delta-plain (k .profile) b (read .0) (read .1) .0))
+  unfolding apply
+  as-read = it-is ∙ ap (λ (take : Taking). applyParts take parts t l) taking ∙ ap (λ (o : Ops). applyOps (applyNode (readingAll k) now) o t l) (sym (delta-plain (k .profile) b (read .0) (read .1) .0))
 
 -- applying in any ways, of the bytes of a whole that obeys
 apply-as : (w : Whole) → obeysWhole w ≡ true → (its : Ways) (b : List ℕ) (now : ℕ) (l : List ℕ) → lentApplyAs its b now l (encodeWhole w) ≡ storedApply w (apply its b now (w .table) l)

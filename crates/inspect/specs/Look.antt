@@ -2,7 +2,10 @@
 -- A node is named by its number (2 where there is none) or its place, a record by its place among the node's records in key order, or by its key (1
 -- where that is too long). A place past the end is 8, as document 01 has it for places. Hidden records are told too: their status says so. Of a record it
 -- is also told where its key and its value stand in the table. All records of a node are told in one piece too: where the first begins, and how many.
+-- Records are read by a party: each reading is the plain one of the table that the party sees (`seen`), with 19 behind 2 and 1 where a key is named that it may
+-- not name. So the places are those of a table with its own records alone; in the lent bytes they stand further back by the front.
 use Prim.Native.Nat.{ℕ, zero, suc, _+_}
+use mathlib.Core.Bool.{Bool, true, false}
 use mathlib.Core.List.{List, [], _∷_}
 use mathlib.Core.Option.{Option, none, some}
 use lib.ListN.{length}
@@ -14,10 +17,15 @@ use Rattle.fields.specs.Widths.{offset}
 use Rattle.rules.specs.Sizes.{maxKey}
 use Rattle.rules.specs.Node.{Rec, Node}
 use Rattle.rules.specs.Table.{Entry, Table, nodeOf}
+use Rattle.rules.specs.Party.{sees, seen}
 use Rattle.rules.specs.Layout.{recWidths, recPlace, nodePlace}
+use Rattle.rules.specs.Whole.{decodeWhole}
 use Rattle.rules.specs.Lent.{fromTable}
-use Rattle.rules.specs.declared.Refusal.the-variants.{TooLong, NoNode, NoPlace, BadTable}
+use Rattle.rules.specs.declared.Profile.{Profile}
+use Rattle.rules.specs.declared.Party.{Party}
+use Rattle.rules.specs.declared.Refusal.the-variants.{TooLong, NoNode, NoPlace, BadTable, OtherParty}
 use Rattle.table_read.specs.Find.{nodeStart, headerOf, recordOf}
+use Rattle.own_rows.specs.Sight.{seenHeld, frontOn}
 use Rattle.inspect.specs.declared.Count.{Count}
 use Rattle.inspect.specs.declared.Count.the-variants as count
 use Rattle.inspect.specs.declared.NodeNumber.{NodeNumber}
@@ -120,6 +128,41 @@ rowsOn start (some n) = rows.Are (start + recPlace 0) (length (n .recs))
 abbrev pub nodeRows : (number : ℕ) (table : Table) → Rows
 nodeRows number table = rowsOn (nodeStart number table) (nodeOf number table)
 
+-- ---- by a party: in what it sees
+
+abbrev pub recordCountAs : (profile : Profile) (party : Party) (number : ℕ) (table : Table) → Count
+recordCountAs p q number table = recordCount number (seen p q table)
+
+abbrev pub readRecordAs : (profile : Profile) (party : Party) (number j : ℕ) (table : Table) → RecordRead
+readRecordAs p q number j table = readRecord number j (seen p q table)
+
+abbrev pub recordOfAs : (profile : Profile) (party : Party) (i j : ℕ) (table : Table) → RecordRead
+recordOfAs p q i j table = recordOfPlaces i j (seen p q table)
+
+abbrev pub nodeRowsAs : (profile : Profile) (party : Party) (number : ℕ) (table : Table) → Rows
+nodeRowsAs p q number table = nodeRows number (seen p q table)
+
+-- 19 behind the others
+abbrev pub unlessOther : (sees : Bool) (read : RecordRead) → RecordRead
+unlessOther true r = r
+unlessOther false (rec.Is k v r) = rec.Refused OtherParty
+unlessOther false rec.Nothing = rec.Refused OtherParty
+unlessOther false (rec.Refused r) = rec.Refused r
+
+abbrev pub recordByKeyOnAs : (profile : Profile) (party : Party) (key : Bytes) (start : ℕ) (held : Option Node) → RecordRead
+recordByKeyOnAs p q key start held = unlessOther (sees p q key) (recordByKeyOn key start (seenHeld p q held))
+
+abbrev pub recordByKeyAs : (profile : Profile) (party : Party) (number : ℕ) (key : Bytes) (table : Table) → RecordRead
+recordByKeyAs p q number key table = unlessOther (sees p q key) (recordByKey number key (seen p q table))
+
+-- the front: 2
+abbrev pub frontTold : (profile : Profile) (party : Party) (held : Option Node) → Count
+frontTold p q none = count.Refused NoNode
+frontTold p q (some n) = count.Are (frontOn p q (some n))
+
+abbrev pub frontAs : (profile : Profile) (party : Party) (number : ℕ) (table : Table) → Count
+frontAs p q number table = frontTold p q (nodeOf number table)
+
 -- ---- in lent bytes: 14 first
 
 abbrev pub lentNodeCount : (table : Bytes) → Count
@@ -131,17 +174,20 @@ lentNodeNumber i table = fromTable (number.Refused BadTable) (nodeNumber i) tabl
 abbrev pub lentNodeHeader : (number : ℕ) (table : Bytes) → NodeHeader
 lentNodeHeader number table = fromTable (header.Refused BadTable) (nodeHeader number) table
 
-abbrev pub lentRecordCount : (number : ℕ) (table : Bytes) → Count
-lentRecordCount number table = fromTable (count.Refused BadTable) (recordCount number) table
+abbrev pub lentRecordCount : (party : Party) (number : ℕ) (table : Bytes) → Count
+lentRecordCount q number table = fromTable (count.Refused BadTable) (recordCountAs (decodeWhole table .kind .profile) q number) table
 
-abbrev pub lentReadRecord : (number j : ℕ) (table : Bytes) → RecordRead
-lentReadRecord number j table = fromTable (rec.Refused BadTable) (readRecord number j) table
+abbrev pub lentReadRecord : (party : Party) (number j : ℕ) (table : Bytes) → RecordRead
+lentReadRecord q number j table = fromTable (rec.Refused BadTable) (readRecordAs (decodeWhole table .kind .profile) q number j) table
 
-abbrev pub lentRecordOf : (i j : ℕ) (table : Bytes) → RecordRead
-lentRecordOf i j table = fromTable (rec.Refused BadTable) (recordOfPlaces i j) table
+abbrev pub lentRecordOf : (party : Party) (i j : ℕ) (table : Bytes) → RecordRead
+lentRecordOf q i j table = fromTable (rec.Refused BadTable) (recordOfAs (decodeWhole table .kind .profile) q i j) table
 
-abbrev pub lentRecordByKey : (number : ℕ) (key table : Bytes) → RecordRead
-lentRecordByKey number key table = fromTable (rec.Refused BadTable) (recordByKey number key) table
+abbrev pub lentRecordByKey : (party : Party) (number : ℕ) (key table : Bytes) → RecordRead
+lentRecordByKey q number key table = fromTable (rec.Refused BadTable) (recordByKeyAs (decodeWhole table .kind .profile) q number key) table
 
-abbrev pub lentNodeRows : (number : ℕ) (table : Bytes) → Rows
-lentNodeRows number table = fromTable (rows.Refused BadTable) (nodeRows number) table
+abbrev pub lentNodeRows : (party : Party) (number : ℕ) (table : Bytes) → Rows
+lentNodeRows q number table = fromTable (rows.Refused BadTable) (nodeRowsAs (decodeWhole table .kind .profile) q number) table
+
+abbrev pub lentFront : (party : Party) (number : ℕ) (table : Bytes) → Count
+lentFront q number table = fromTable (count.Refused BadTable) (frontAs (decodeWhole table .kind .profile) q number) table

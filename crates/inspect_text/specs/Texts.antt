@@ -1,5 +1,6 @@
 -- A record's key or value in the bytes of a lent table: where it stands (`textFound`), and the bytes themselves (`bytesOn`). The record is named by its
--- node's number (2 where there is none) and its place among the node's records in key order (8 past the end). Hidden records are told too.
+-- node's number (2 where there is none) and its place among the node's records in key order (8 past the end). Hidden records are told too. A party reads the
+-- table that it sees (`seen`): places are those of a table with its own records alone, and in the lent bytes the text stands further back by the front.
 use Prim.Native.Nat.{ℕ, _+_}
 use mathlib.Core.List.{[]}
 use mathlib.Core.Option.{Option, none, some}
@@ -8,14 +9,21 @@ use Rattle.fields.specs.Numbers.{Bytes}
 use Rattle.fields.specs.Widths.{offset}
 use Rattle.rules.specs.Node.{Rec, Node}
 use Rattle.rules.specs.Table.{Table, nodeOf}
+use Rattle.rules.specs.Party.{seen}
 use Rattle.rules.specs.Layout.{recWidths, recPlace}
+use Rattle.rules.specs.Whole.{decodeWhole}
 use Rattle.rules.specs.Lent.{fromTable}
+use Rattle.rules.specs.declared.Profile.{Profile}
+use Rattle.rules.specs.declared.Party.{Party}
 use Rattle.rules.specs.declared.Refusal.the-variants.{NoNode, NoPlace, BadTable}
 use Rattle.table_read.specs.Find.{nodeStart}
-use Rattle.lookup.specs.Lookup.{HandedOut, startOf}
+use Rattle.own_rows.specs.Sight.{frontIn}
+use Rattle.lookup.specs.Lookup.{HandedOut, startOf, movedBy, nothingHeld}
 use Rattle.lookup.specs.declared.Found.{Found}
 use Rattle.lookup.specs.declared.Found.the-variants as found
 use Rattle.inspect.specs.Look.{elementAt}
+use Rattle.inspect.specs.declared.Count.{Count}
+use Rattle.inspect.specs.declared.Count.the-variants as count
 use Rattle.inspect_text.specs.declared.Text.{Text}
 use Rattle.inspect_text.specs.declared.Text.the-variants.{Key, Value}
 
@@ -46,9 +54,13 @@ textOn text j start (some n) = placeOn text start j (elementAt j (n .recs))
 abbrev pub textFound : (text : Text) (number j : ℕ) (table : Table) → Found
 textFound text number j table = textOn text j (nodeStart number table) (nodeOf number table)
 
+-- by a party, in what it sees
+abbrev pub textFoundAs : (profile : Profile) (party : Party) (text : Text) (number j : ℕ) (table : Table) → Found
+textFoundAs p q text number j table = textFound text number j (seen p q table)
+
 -- in lent bytes: 14, 2, 8
-abbrev pub lentTextFound : (text : Text) (number j : ℕ) (table : Bytes) → Found
-lentTextFound text number j table = fromTable (found.Refused BadTable) (textFound text number j) table
+abbrev pub lentTextFound : (party : Party) (text : Text) (number j : ℕ) (table : Bytes) → Found
+lentTextFound q text number j table = fromTable (found.Refused BadTable) (textFoundAs (decodeWhole table .kind .profile) q text number j) table
 
 -- ---- the bytes themselves, none where the call is refused
 
@@ -65,9 +77,14 @@ bytesIn text number j table = bytesOn text j (nodeOf number table)
 
 -- ---- what is handed out, of a good table and of lent bytes
 
-abbrev pub textPart : (text : Text) (number j : ℕ) (table : Table) → HandedOut
-textPart text number j table = record { bytes = bytesIn text number j table; start = startOf (textFound text number j table) }
+-- a count, or 0 where it was refused
+abbrev pub countedOr : (count : Count) → ℕ
+countedOr (count.Are n) = n
+countedOr (count.Refused r) = 0
 
-abbrev pub lentTextPart : (text : Text) (number j : ℕ) (table : Bytes) → HandedOut
-lentTextPart text number j table =
-    record { bytes = fromTable [] (bytesIn text number j) table; start = startOf (lentTextFound text number j table) }
+abbrev pub textPart : (profile : Profile) (party : Party) (text : Text) (number j : ℕ) (table : Table) → HandedOut
+textPart p q text number j table =
+    record { bytes = bytesIn text number j (seen p q table); start = startOf (movedBy (frontIn p q number table) (textFoundAs p q text number j table)) }
+
+abbrev pub lentTextPart : (party : Party) (text : Text) (number j : ℕ) (table : Bytes) → HandedOut
+lentTextPart q text number j table = fromTable nothingHeld (textPart (decodeWhole table .kind .profile) q text number j) table

@@ -7,7 +7,7 @@ use lib.Dec.{eqb}
 use borrow.Author.Tests.{eqb-true, eq-eqb}
 use Rattle.fields.specs.Choice.{pick}
 use Rattle.rules.specs.Answers.{modeOf, profileOf}
-use Rattle.rules.specs.Given.{Given, Gives, given}
+use Rattle.rules.specs.Given.{Gives, given}
 use Rattle.rules.specs.Node.{Node, Setting, SettingTtl}
 use Rattle.rules.specs.Table.{Entry, Table}
 use Rattle.rules.specs.Delta.{statusByte}
@@ -25,7 +25,7 @@ use Rattle.local.specs.Wanted.{wantedOf}
 use Rattle.overrides.specs.Overrides.{validNode, onOverrides, called, written, lentWriteOverride}
 use Rattle.overrides.specs.Both.{fromBoth}
 use Rattle.overrides.specs.declared.Which.{Which}
-use Rattle.overrides.proofs.Both.{good-both, good-both-fills}
+use Rattle.overrides.proofs.Both.{good-both}
 use Rattle.library.specs.Numbers.{madeBy}
 
 -- a test of two numbers
@@ -85,7 +85,3 @@ module _ (v : List ℕ) (now : ℕ) (k : List ℕ) (n : ℕ) where
 module _ (o t : List ℕ) (v : validNode o ≡ true) (w : validWhole t ≡ true) where
   pub good-over : {A : Type 0} (bad : Which → A) (rule : Node → Table → A) (r : A) → r ≡ rule (decodeNode o .node) (decodeWhole t .table) → r ≡ fromBoth bad rule o t
   good-over bad rule r p = good-both bad rule o t (sym v) refl (sym w) refl r p
-
-  pub good-over-fill : {A M : Type 0} (bad : Which → Given A M) (rule : Node → Table → Given A M) (a : A) (m : M)
-      → Gives (rule (decodeNode o .node) (decodeWhole t .table)) a m → Gives (fromBoth bad rule o t) a m
-  good-over-fill bad rule a m p = good-both-fills bad rule o t (sym v) refl (sym w) refl a m p

@@ -85,7 +85,8 @@ pub extern "C" fn kev_good_write(
     clock: u64,
 ) -> u64
     requires { ⌜ validWhole (now table) ≡ true ⌝ }
-    ensures { λ r. ⌜ Gives (shownAs answerTold numberShown (lentWrite (partyOf party) wanted (now (value .entry)) clock number (now (key .entry)) (now (table .entry))))
+    ensures { λ r. ⌜ Gives
+        (shownAs answerTold numberShown (lentWrite (partyOf party) wanted (now (value .entry)) clock number (now (key .entry)) (now (table .entry))))
         r (now (table .exit)) ⌝ }
 {
     answers::number(local::write_known(
@@ -206,7 +207,8 @@ pub extern "C" fn kev_good_find_over(
     key: &[u8],
 ) -> KevFoundOver
     requires { ⌜ (validNode (now overrides) ≡ true) × (validWhole (now table) ≡ true) ⌝ }
-    ensures { λ r. ⌜ r ≡ foundOverShown (foundOverTold (lentFindOver (partyOf party) number (now (key .entry)) (now (overrides .entry)) (now (table .entry)))) ⌝ }
+    ensures { λ r. ⌜ r ≡ foundOverShown (foundOverTold
+        (lentFindOver (partyOf party) number (now (key .entry)) (now (overrides .entry)) (now (table .entry)))) ⌝ }
 {
     answers::found_over(over_find::find_over_known(
         overrides,

@@ -128,7 +128,8 @@ pub extern "C" fn kev_write(
     wanted: u64,
     clock: u64,
 ) -> u64
-    ensures { λ r. ⌜ Gives (shownAs answerTold numberShown (lentWrite (partyOf party) wanted (now (value .entry)) clock number (now (key .entry)) (now (table .entry))))
+    ensures { λ r. ⌜ Gives
+        (shownAs answerTold numberShown (lentWrite (partyOf party) wanted (now (value .entry)) clock number (now (key .entry)) (now (table .entry))))
         r (now (table .exit)) ⌝ }
 {
     answers::number(local::write(
@@ -292,7 +293,8 @@ pub extern "C" fn kev_find_over(
     number: u64,
     key: &[u8],
 ) -> KevFoundOver
-    ensures { λ r. ⌜ r ≡ foundOverShown (foundOverTold (lentFindOver (partyOf party) number (now (key .entry)) (now (overrides .entry)) (now (table .entry)))) ⌝ }
+    ensures { λ r. ⌜ r ≡ foundOverShown (foundOverTold
+        (lentFindOver (partyOf party) number (now (key .entry)) (now (overrides .entry)) (now (table .entry)))) ⌝ }
 {
     answers::found_over(over_find::find_over(
         overrides,

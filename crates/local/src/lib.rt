@@ -59,7 +59,8 @@ fn call_let(
     clock: u64,
 ) -> Answer
     requires { ⌜ validWhole (now table) ≡ true ⌝ }
-    ensures { λ r. ⌜ Gives (onTable (answer.Refused BadTable) (rule.call (callOf kind (now (value .entry)) clock) number (now (key .entry))) (now (table .entry)))
+    ensures { λ r. ⌜ Gives
+        (onTable (answer.Refused BadTable) (rule.call (callOf kind (now (value .entry)) clock) number (now (key .entry))) (now (table .entry)))
         r (now (table .exit)) ⌝ }
 {
     call_good(&mut table[..layout::AREA], number, kind, key, value, clock)

@@ -31,20 +31,17 @@ module _ (c : Call) (k : List ℕ) where
 
 -- ---- a write: the 17th key
 
-module _ (mine : List ℕ → Bool) (r : KeyValue) (o : Option Rec) (l : List Rec) where
-  pub there : (x : Rec) → o ≡ some x → Passed ≡ guardedBy (fullGuard mine (some r) o l)
-  there x e = sym (ap (λ (y : Option Rec). guardedBy (fullGuard mine (some r) y l)) e)
+module _ (mine : List ℕ → Bool) (r : KeyValue) (l : List Rec) (n : ℕ) (q : n ≡ length (ofKeys mine l)) where
+  pub has-room : n < maxEach → (o : Option Rec) → Passed ≡ guardedBy (fullGuard mine (some r) o l)
+  has-room h none = sym (ap (λ (x : Bool). guardedBy (pick x (some NodeFull) none)) (ap (leb maxEach) (sym q) ∙ lt-leb maxEach n h))
+  has-room h (some x) = refl
 
-  module _ (e : o ≡ none) (n : ℕ) (q : n ≡ length (ofKeys mine l)) where
-    by-count : (b : Bool) → leb maxEach n ≡ b → guardedBy (pick b (some NodeFull) none) ≡ guardedBy (fullGuard mine (some r) o l)
-    by-count b f =
-        ap (λ (x : Bool). guardedBy (pick x (some NodeFull) none)) (sym f ∙ ap (leb maxEach) q) ∙ sym (ap (λ (y : Option Rec). guardedBy (fullGuard mine (some r) y l)) e)
+  pub there : (o : Option Rec) (x : Rec) → o ≡ some x → Passed ≡ guardedBy (fullGuard mine (some r) o l)
+  there o x e = sym (ap (λ (y : Option Rec). guardedBy (fullGuard mine (some r) y l)) e)
 
-    pub full : maxEach ≤ n → Refused NodeFull ≡ guardedBy (fullGuard mine (some r) o l)
-    full h = by-count true (le-leb maxEach n h)
-
-    pub has-room : n < maxEach → Passed ≡ guardedBy (fullGuard mine (some r) o l)
-    has-room h = by-count false (lt-leb maxEach n h)
+  pub full : maxEach ≤ n → (o : Option Rec) → o ≡ none → Refused NodeFull ≡ guardedBy (fullGuard mine (some r) o l)
+  full h o e =
+      sym (ap (λ (x : Bool). guardedBy (pick x (some NodeFull) none)) (ap (leb maxEach) (sym q) ∙ le-leb maxEach n h)) ∙ sym (ap (λ (y : Option Rec). guardedBy (fullGuard mine (some r) y l)) e)
 
 -- of the record it only matters that there is one
 pub any-record : (mine : List ℕ → Bool) (r s : KeyValue) (o : Option Rec) (l : List Rec) → fullGuard mine (some r) o l ≡ fullGuard mine (some s) o l

@@ -21,7 +21,8 @@ ghost use Rattle.rules.specs.Sizes.{maxKey, maxValue};
 ghost use Rattle.rules.specs.Node.{hidden, find};
 ghost use Rattle.rules.specs.Table.{keysRise, nodeOf};
 ghost use Rattle.rules.specs.Party.{own};
-ghost use Rattle.rules.specs.Profile.{brings, fullGuard, guardAt, guardIn, inForm, meterGuard, meterValue, numeral, profileObeys, recsFormed, sizesFit, smaller};
+ghost use Rattle.rules.specs.Profile.{brings, fullGuard, guardAt, guardIn, meterGuard, sizesFit, smaller};
+ghost use Rattle.rules.specs.Profile.{inForm, meterValue, numeral, profileObeys, recsFormed};
 ghost use Rattle.rules.specs.Layout.{decode, decodeRec, recWidth, valid};
 ghost use Rattle.rules.specs.declared.Party.the-variants.{Nobody};
 ghost use Rattle.rules.specs.declared.Profile.the-variants.{Meter, Shared};
@@ -122,7 +123,8 @@ fn guard_node(node: &[u8], kind: Kind, key: &[u8], value: &[u8]) -> Guarded
 // On a good meter table: a node that is not held passes, as 2 comes first.
 fn guard_meter(table: &[u8], number: u64, kind: Kind, key: &[u8], value: &[u8]) -> Guarded
     requires { ⌜ (valid (now table) ≡ true) × (profileObeys Meter (decode (now table)) ≡ true) ⌝ }
-    ensures { λ r. ⌜ r ≡ guardedBy (guardIn Meter Nobody (callOf kind (now (value .entry)) 0) (now (key .entry)) (nodeOf number (decode (now (table .entry))))) ⌝ }
+    ensures { λ r. ⌜ r ≡ guardedBy
+        (guardIn Meter Nobody (callOf kind (now (value .entry)) 0) (now (key .entry)) (nodeOf number (decode (now (table .entry))))) ⌝ }
 {
     match table_read::node_span(table, number) {
         Span::Held { start, end } => guard_node(&table[start..end], kind, key, value),
@@ -147,21 +149,19 @@ fn is_sized(kind: Kind, key: &[u8], value: &[u8]) -> bool
     }
 }
 
-// A write at an own key: 5 where the key is not there and the party has 16.
+// A write at an own key: 5 where the party has 16 and the key is not there. The count is quicker found than the key.
 fn guard_own(node: &[u8], party: Party, key: &[u8]) -> Guarded
     requires { ⌜ LaidNode (now node) × (keysRise (recsIn (now node)) ≡ true) × (recsFormed Shared (recsIn (now node)) ≡ true) ⌝ }
     ensures { λ r. ⌜ r ≡ guardedBy (fullGuard (own party) (some (bringing (now (key .entry)) [] Set))
         (find (now (key .entry)) (recsIn (now (node .entry)))) (recsIn (now (node .entry)))) ⌝ }
 {
+    let seen = own_rows::sight_of(node, Profile::Shared, party);
+    if seen.count < Party::RECORDS {
+        return Guarded::Passed;
+    }
     match table_read::search_key(node, key) {
         Place::At(_) => Guarded::Passed,
-        Place::Free(_) => {
-            let seen = own_rows::sight_of(node, Profile::Shared, party);
-            if Party::RECORDS <= seen.count {
-                return Guarded::Refused(Refusal::NodeFull);
-            }
-            Guarded::Passed
-        }
+        Place::Free(_) => Guarded::Refused(Refusal::NodeFull),
     }
 }
 
@@ -203,7 +203,8 @@ fn guard_shared(
     value: &[u8],
 ) -> Guarded
     requires { ⌜ (valid (now table) ≡ true) × (profileObeys Shared (decode (now table)) ≡ true) ⌝ }
-    ensures { λ r. ⌜ r ≡ guardedBy (guardIn Shared party (callOf kind (now (value .entry)) 0) (now (key .entry)) (nodeOf number (decode (now (table .entry))))) ⌝ }
+    ensures { λ r. ⌜ r ≡ guardedBy
+        (guardIn Shared party (callOf kind (now (value .entry)) 0) (now (key .entry)) (nodeOf number (decode (now (table .entry))))) ⌝ }
 {
     match table_read::node_span(table, number) {
         Span::Held { start, end } => guard_party(&table[start..end], party, kind, key, value),
@@ -224,7 +225,8 @@ pub fn guard(
     value: &[u8],
 ) -> Guarded
     requires { ⌜ (valid (now table) ≡ true) × (profileObeys profile (decode (now table)) ≡ true) ⌝ }
-    ensures { λ r. ⌜ r ≡ guardedBy (guardIn profile party (callOf kind (now (value .entry)) 0) (now (key .entry)) (nodeOf number (decode (now (table .entry))))) ⌝ }
+    ensures { λ r. ⌜ r ≡ guardedBy
+        (guardIn profile party (callOf kind (now (value .entry)) 0) (now (key .entry)) (nodeOf number (decode (now (table .entry))))) ⌝ }
 {
     match profile {
         Profile::Free => Guarded::Passed,

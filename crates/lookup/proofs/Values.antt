@@ -17,13 +17,12 @@ use Rattle.fields.proofs.Lent.{seen-first}
 use Rattle.fields.proofs.Parts.{length-part, part-part}
 use Rattle.rules.specs.Sizes.{maxKey}
 use Rattle.rules.specs.Node.{Rec, hidden, shown, find}
-use Rattle.rules.specs.Table.{Table, keysRise}
+use Rattle.rules.specs.Table.{keysRise}
 use Rattle.rules.specs.Local as rule
 use Rattle.rules.specs.Local.{foundOf, lookupOn}
 use Rattle.rules.specs.Layout.{recWidths, recPlace, recWidth, nodeWidth, tableWidth, decodeRec, decodeNode, decode, valid}
-use Rattle.rules.specs.Whole.{areaOf, decodeWhole, validWhole}
-use Rattle.rules.specs.Lent.{fromTable, lentLookup}
-use Rattle.rules.specs.declared.Refusal.the-variants.{TooLong, BadTable}
+use Rattle.rules.specs.Whole.{areaOf, validWhole}
+use Rattle.rules.specs.declared.Refusal.the-variants.{TooLong}
 use Rattle.table.specs.Tests.{valueLength, countOf, recsIn}
 use Rattle.table.specs.Fits.{LaidNode}
 use Rattle.table.proofs.Places.{recBytes, recAt, recs-at, in-rec}
@@ -37,7 +36,7 @@ use Rattle.table_read.specs.declared.Span.{Span}
 use Rattle.table_read.specs.declared.Span.the-variants.{Held, Missing}
 use Rattle.table_read.proofs.Searched.{search-at, search-free, key-hit, rec-in, rec-found, rec-missing, recs-ordered}
 use Rattle.table_read.proofs.Held.{node-end, node-fits, held-laid, held-rises, held-start, held-node, missing-node}
-use Rattle.lookup.specs.Lookup.{valuePlace, foundRec, findRec, findOn, foundIn, lentFind, valueIn, startOf, lenOf, Within, Hands, partOf, handed}
+use Rattle.lookup.specs.Lookup.{valuePlace, foundRec, findRec, findOn, foundIn, valueIn, startOf, lenOf, Within, HandedOut, Hands, partOf, handed}
 use Rattle.lookup.specs.declared.Found.{Found}
 use Rattle.lookup.specs.declared.Found.the-variants.{At, Nothing, Refused}
 
@@ -173,18 +172,6 @@ area-stands l v f bytes s =
     ∙ ap (λ (k : ℕ). part k (lenOf f) l) (zero-add (startOf f)) in
     (omega (arith, s .0, long, w), sym same ∙ s .1)
 
--- in any bytes
-pub lent-stands : (l : List ℕ) (n : ℕ) (k : List ℕ) → Stands l (lentFind n k l) (handed (lentLookup n k l))
-unfolding fromTable
-lent-stands l n k = go (validWhole l) refl
-  where
-    t : Table
-    t = decodeWhole l .table
-
-    go : (b : Bool) → validWhole l ≡ b → Stands l (pick b (foundIn n k t) (Refused BadTable)) (handed (pick b (rule.lookup n k t) (rule.NotFound BadTable)))
-    go true v = area-stands l v (foundIn n k t) (handed (rule.lookup n k t)) (found-stands (areaOf l) (area-valid l v) n k)
-    go false v = refused-stands l (Refused BadTable) refl refl
-
 -- the code found the place f, and it is g
 module _ (l : List ℕ) {f g : Found} (e : f ≡ g) (bytes : List ℕ) (s : Stands l g bytes) where
   pub found-within : Within (length l) f
@@ -192,3 +179,6 @@ module _ (l : List ℕ) {f g : Found} (e : f ≡ g) (bytes : List ℕ) (s : Stan
 
   pub hands-found : (t p : ℕ × ℕ) (b : List ℕ) → Hands (partOf l f) t b p → Hands (record { bytes = bytes; start = startOf g }) t b p
   hands-found t p b h = (h .0 ∙ ap (λ (x : Found). part (startOf x) (lenOf x) l) e ∙ s .1, h .1, h .2 ∙ ap (λ (x : Found). t .1 + startOf x) e)
+
+pub same-hands : {x y : HandedOut} → x ≡ y → (t p : ℕ × ℕ) (b : List ℕ) → Hands x t b p → Hands y t b p
+same-hands e t p b h = (h .0 ∙ ap (λ (x : HandedOut). x .bytes) e, h .1, h .2 ∙ ap (λ (x : HandedOut). t .1 + x .start) e)

@@ -84,7 +84,7 @@ pub fn in_node(node: &[u8], start: usize, key: &[u8]) -> Found
 }
 
 // Where the value of the key stands in what a party sees of the area of a good table of this profile: 2, 1, 19.
-pub fn find_as(area: &[u8], profile: Profile, party: Party, number: u64, key: &[u8]) -> Found
+fn find_as(area: &[u8], profile: Profile, party: Party, number: u64, key: &[u8]) -> Found
     requires { ⌜ (valid (now area) ≡ true) × (profileObeys profile (decode (now area)) ≡ true) ⌝ }
     ensures { λ r. ⌜ r ≡ findAs profile party number (now (key .entry)) (decode (now (area .entry))) ⌝ }
 {

@@ -14,7 +14,6 @@ use Rattle.rules.specs.Delta.{Op, Good, Part, partsOf, readDelta}
 use Rattle.rules.specs.Apply.{applyNode}
 use Rattle.rules.specs.Whole.{decodeWhole}
 use Rattle.rules.specs.Profile.{Kind}
-use Rattle.rules.specs.declared.Party.the-variants.{Nobody}
 use Rattle.rules.specs.declared.NodeAnswer.the-variants as node
 use Rattle.grid.specs.Grid.{Grid, columns, placeOf}
 use Rattle.grid.specs.GridLayout.{decodeGrid}

@@ -19,7 +19,6 @@ use Rattle.rules.specs.Table.{among, nodeOf}
 use Rattle.rules.specs.Delta.{Op, Good, Part, partsOf, readDelta}
 use Rattle.rules.specs.Apply.{applyNode, waysIn}
 use Rattle.rules.specs.Lent.{lentDigest}
-use Rattle.rules.specs.declared.Party.the-variants.{Nobody}
 use Rattle.rules.specs.declared.NodeAnswer.the-variants as node
 use Rattle.rules.specs.declared.Written.{Written}
 use Rattle.rules.specs.declared.Written.the-variants as written

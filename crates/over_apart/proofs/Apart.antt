@@ -61,7 +61,7 @@ unfolding lentExchange readyFor exchangedTold
 not-exchanged g publisher follower h = go (validWhole follower) refl (validWhole publisher) refl h
   where
     next : Ready
-    next = readyOn (g .edition) (g .unasked) (roomsOf g) (formsFit publisher follower) (decodeWhole publisher .table) (decodeWhole follower .table)
+    next = readyOn (g .edition) (g .unasked) (roomsOf g) (decodeWhole follower .kind .profile) (formsFit publisher follower) (decodeWhole publisher .table) (decodeWhole follower .table)
 
     go : (f : Bool) → validWhole follower ≡ f → (p : Bool) → validWhole publisher ≡ p → (p ≡ false) ⊎ (f ≡ false)
         → exchangedTold (afterAsking g publisher follower (pick f (pick p next (ready.No Delta BadTable)) (ready.No Digest BadTable)) .answer) .number ≡ 14

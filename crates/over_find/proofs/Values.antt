@@ -1,5 +1,5 @@
 -- What a lookup over both finds on the bytes is what the rules find: the place lies within its slice, and the bytes there are the rules' value, which are then
--- handed out. Then what the rules' answer is in the words of the ticket. Assumes nothing.
+-- handed out; by a party that may name the key, those of all records of the node. Then what the rules' answer is in the words of the tickets. Assumes nothing.
 use Prim.Native.Nat.{ℕ, _+_, _≤_, _<_}
 use mathlib.Core.Path.{_≡_, refl, ap, ap₂, sym, _∙_, subst}
 use mathlib.Core.Bool.{Bool, true, false}
@@ -20,10 +20,12 @@ use Rattle.rules.specs.Node.{Rec, Node, hidden, shown, find}
 use Rattle.rules.specs.Table.{Table, keysRise, nodeOf}
 use Rattle.rules.specs.Local as rule
 use Rattle.rules.specs.Local.{foundOf, lookupOn}
-use Rattle.rules.specs.Layout.{recWidths, recPlace, recWidth, decodeRec, decodeNode, decode, valid}
+use Rattle.rules.specs.Party.{sees, seen}
+use Rattle.rules.specs.Layout.{recWidths, recPlace, recWidth, decodeRec, decodeNode, decode}
 use Rattle.rules.specs.Whole.{areaOf, decodeWhole, validWhole}
-use Rattle.rules.specs.Lent.{fromTable}
-use Rattle.rules.specs.declared.Refusal.the-variants.{TooLong, BadTable}
+use Rattle.rules.specs.declared.Profile.{Profile}
+use Rattle.rules.specs.declared.Party.{Party}
+use Rattle.rules.specs.declared.Refusal.the-variants.{TooLong, OtherParty}
 use Rattle.table.specs.Tests.{valueLength, countOf, recsIn}
 use Rattle.table.specs.Fits.{LaidNode}
 use Rattle.table.proofs.Places.{recBytes, recAt, in-rec}
@@ -34,15 +36,16 @@ use Rattle.table_read.specs.declared.Place.{Place}
 use Rattle.table_read.specs.declared.Place.the-variants as place
 use Rattle.table_read.proofs.Searched.{rec-in, rec-found, rec-missing}
 use Rattle.lookup.specs.Lookup as whole
-use Rattle.lookup.specs.Lookup.{valuePlace, foundRec, findRec, findOn, foundIn, valueIn, handed}
+use Rattle.own_rows.specs.Sight.{seenNode, seenHeld, frontIn}
+use Rattle.own_rows.proofs.Tables.{node-seen}
+use Rattle.lookup.specs.Lookup.{valuePlace, foundRec, findRec, findOn, foundIn, unlessOther, findAs, valueIn, handed}
 use Rattle.lookup.specs.declared.Found.{Found}
 use Rattle.lookup.specs.declared.Found.the-variants as one
 use Rattle.lookup.proofs.Values.{value-place, value-nowhere, found-means, area-stands}
+use Rattle.lookup.proofs.Seen.{same-value, whole-found}
 use Rattle.overrides.specs.Overrides.{validNode}
-use Rattle.overrides.specs.Both.{fromBoth}
-use Rattle.overrides.specs.declared.Which.the-variants as which
 use Rattle.overrides.proofs.Valid.{over-laid, over-rises}
-use Rattle.over_find.specs.Over.{orElse, overFound, ruledOver, lookupOver, lentLookupOver, overOf, foundOver, lentFindOver, startOf, isOver, Within, HandsOver, partOver}
+use Rattle.over_find.specs.Over.{orElse, overFound, ruledOver, lookupOver, overOf, ownFound, foundOver, startOf, isOver, Within, HandedOver, HandsOver, partOver, movedBy, valueOver, nothingHeld}
 use Rattle.over_find.specs.declared.FoundOver.{FoundOver}
 use Rattle.over_find.specs.declared.FoundOver.the-variants.{InOverrides, InTable, Nothing, Refused}
 
@@ -144,26 +147,13 @@ both-means o t own shared ro rs h g = (inside own shared (h .0) (g .0), values o
     values (one.Refused q) one.Nothing = refl
     values (one.Refused q) (one.Refused r) = refl
 
-module _ (b : List ℕ) (o : validNode b ≡ true) (n : ℕ) (k : List ℕ) where
-  own : Means b (findOn k 0 (some (decodeNode b .node))) (lookupOn k (some (decodeNode b .node)))
-  own = own-means b (over-laid b o) (over-rises b o) k
-
-  -- with the area of a good table
-  good-means : (l : List ℕ) → valid l ≡ true → MeansOver b l (foundOver n k (decodeNode b .node) (decode l)) (lookupOver n k (decodeNode b .node) (decode l))
-  unfolding lookupOver
-  good-means l v = both-means b l (findOn k 0 (some (decodeNode b .node))) (foundIn n k (decode l)) _ _ own (found-means l v n k)
-
-  -- with a whole table
-  whole-means : (l : List ℕ) → validWhole l ≡ true
-      → MeansOver b l (foundOver n k (decodeNode b .node) (decodeWhole l .table)) (lookupOver n k (decodeNode b .node) (decodeWhole l .table))
-  unfolding lookupOver
-  whole-means l v =
-      both-means b l (findOn k 0 (some (decodeNode b .node))) (foundIn n k (decodeWhole l .table)) _ _ own
-      (area-means l v (foundIn n k (decodeWhole l .table)) (rule.lookup n k (decodeWhole l .table)) (found-means (areaOf l) (area-valid l v) n k))
+-- what is found in the overrides of the key
+own : (b : List ℕ) → validNode b ≡ true → (k : List ℕ) → Means b (ownFound k (decodeNode b .node)) (lookupOn k (some (decodeNode b .node)))
+own b o k = own-means b (over-laid b o) (over-rises b o) k
 
 -- ---- what is handed out
 
-abbrev pub StandsOver : (overrides table : List ℕ) (found : FoundOver) (bytes : List ℕ) → Type 0
+abbrev StandsOver : (overrides table : List ℕ) (found : FoundOver) (bytes : List ℕ) → Type 0
 StandsOver o t f bytes = Within (length o) (length t) f × (partOver o t f .bytes ≡ bytes)
 
 means-stands : (o t : List ℕ) (f : FoundOver) (r : rule.Found) → MeansOver o t f r → StandsOver o t f (handed r)
@@ -173,48 +163,111 @@ means-stands o t (InTable start len) r h = (h .0, ap handed (h .1))
 means-stands o t Nothing r h = (h .0, ap handed (h .1))
 means-stands o t (Refused w q) r h = (h .0, ap handed (h .1))
 
-pub good-stands : (b l : List ℕ) → validNode b ≡ true → valid l ≡ true → (n : ℕ) (k : List ℕ)
-    → StandsOver b l (foundOver n k (decodeNode b .node) (decode l)) (handed (lookupOver n k (decodeNode b .node) (decode l)))
-good-stands b l o v n k = means-stands b l (foundOver n k (decodeNode b .node) (decode l)) (lookupOver n k (decodeNode b .node) (decode l)) (good-means b o n k l v)
+pub same-hands : {x y : HandedOver} → x ≡ y → (op tp p : ℕ × ℕ) (b : List ℕ) → HandsOver x op tp b p → HandsOver y op tp b p
+same-hands e op tp p b h = subst (λ (x : HandedOver). HandsOver x op tp b p) e h
 
--- in any bytes
-pub lent-stands : (b l : List ℕ) (n : ℕ) (k : List ℕ) → StandsOver b l (lentFindOver n k b l) (handed (lentLookupOver n k b l))
-unfolding fromBoth fromTable
-lent-stands b l n k = go (validNode b) refl (validWhole l) refl
+-- ---- by a party, over a whole table
+
+-- a place in the table is moved, one in the overrides is not
+moved-over : (m : ℕ) (mine f : Found) → overOf mine (whole.movedBy m f) ≡ movedBy m (overOf mine f)
+moved-over m (one.At s n) (one.At u l) = refl
+moved-over m (one.At s n) one.Nothing = refl
+moved-over m (one.At s n) (one.Refused r) = refl
+moved-over m one.Nothing (one.At u l) = refl
+moved-over m one.Nothing one.Nothing = refl
+moved-over m one.Nothing (one.Refused r) = refl
+moved-over m (one.Refused r) (one.At u l) = refl
+moved-over m (one.Refused r) one.Nothing = refl
+moved-over m (one.Refused r) (one.Refused q) = refl
+
+same-side : (m : ℕ) (f : FoundOver) → isOver (movedBy m f) ≡ isOver f
+same-side m (InOverrides s n) = refl
+same-side m (InTable s n) = refl
+same-side m Nothing = refl
+same-side m (Refused w r) = refl
+
+-- a key that the party may name
+module _ (b l : List ℕ) (o : validNode b ≡ true) (v : validWhole l ≡ true) (q : Party) (n : ℕ) (k : List ℕ) (h : sees (decodeWhole l .kind .profile) q k ≡ true) where
+  abbrev p : Profile
+  p = decodeWhole l .kind .profile
+
+  abbrev t : Table
+  t = decode (areaOf l)
+
+  abbrev d : Node
+  d = decodeNode b .node
+
+  abbrev seenPlace : FoundOver
+  seenPlace = movedBy (frontIn p q n t) (foundOver p q n k d t)
+
+  -- it stands where it is found among all records of the node
+  named-place : overOf (ownFound k d) (foundIn n k t) ≡ seenPlace
+  named-place = ap (overOf (ownFound k d)) (whole-found l v q n k h) ∙ moved-over (frontIn p q n t) (ownFound k d) (findAs p q n k t)
+
+  named-means : MeansOver b l (overOf (ownFound k d) (foundIn n k t)) (lookupOver p q n k d t)
+  unfolding lookupOver
+  named-means =
+      subst (λ (r : rule.Found). MeansOver b l (overOf (ownFound k d) (foundIn n k t)) (ruledOver (lookupOn k (some d)) r)) (same-value p q n k t h)
+      (both-means b l (ownFound k d) (foundIn n k t) _ _ (own b o k) (area-means l v (foundIn n k t) (rule.lookup n k t) (found-means (areaOf l) (area-valid l v) n k)))
+
+  named-stands : (f : FoundOver) → f ≡ overOf (ownFound k d) (foundIn n k t) → StandsOver b l f (handed (lookupOver p q n k d t))
+  named-stands f e =
+      subst (λ (x : FoundOver). StandsOver b l x (handed (lookupOver p q n k d t))) (sym e)
+      (means-stands b l (overOf (ownFound k d) (foundIn n k t)) (lookupOver p q n k d t) named-means)
+
+  -- the code found the place f there
+  pub named-within : (f : FoundOver) → f ≡ overOf (ownFound k d) (foundIn n k t) → Within (length b) (length l) f
+  named-within f e = named-stands f e .0
+
+  pub named-hands : (f : FoundOver) → f ≡ overOf (ownFound k d) (foundIn n k t) → (op tp r : ℕ × ℕ) (bytes : List ℕ) → HandsOver (partOver b l f) op tp bytes r
+      → HandsOver (valueOver p q n k d t) op tp bytes r
+  named-hands f e op tp r bytes g =
+      subst (λ (x : Bool). HandsOver (record { bytes = handed (lookupOver p q n k d t); over = x; start = startOf seenPlace }) op tp bytes r) (same-side (frontIn p q n t) (foundOver p q n k d t))
+      (subst (λ (x : FoundOver). HandsOver (record { bytes = handed (lookupOver p q n k d t); over = isOver x; start = startOf x }) op tp bytes r) (e ∙ named-place)
+      (subst (λ (x : List ℕ). HandsOver (record { bytes = x; over = isOver f; start = startOf f }) op tp bytes r) (named-stands f e .1) g))
+
+-- one that it may not name: nothing is handed out
+pub other-held : (p : Profile) (q : Party) (n : ℕ) (k : List ℕ) (d : Node) (t : Table) → sees p q k ≡ false → nothingHeld ≡ valueOver p q n k d t
+unfolding lookupOver rule.lookupAs
+other-held p q n k d t h =
+    go (foundIn n k (seen p q t)) (rule.lookup n k (seen p q t))
+    ∙ ap
+    (λ (u : Bool). record {
+      bytes = handed (ruledOver (lookupOn k (some d)) (rule.unlessOther u (rule.lookup n k (seen p q t))));
+      over = isOver (overOf (ownFound k d) (unlessOther u (foundIn n k (seen p q t))));
+      start = startOf (movedBy (frontIn p q n t) (overOf (ownFound k d) (unlessOther u (foundIn n k (seen p q t)))));
+    })
+    (sym h)
   where
-    d : Node
-    d = decodeNode b .node
+    held : Found → rule.Found → HandedOver
+    held f r =
+        record {
+          bytes = handed (ruledOver (lookupOn k (some d)) (rule.unlessOther false r));
+          over = isOver (overOf (ownFound k d) (unlessOther false f));
+          start = startOf (movedBy (frontIn p q n t) (overOf (ownFound k d) (unlessOther false f)));
+        }
 
-    t : Table
-    t = decodeWhole l .table
-
-    go : (x : Bool) → validNode b ≡ x → (y : Bool) → validWhole l ≡ y
-        → StandsOver b l (pick x (pick y (foundOver n k d t) (Refused which.Table BadTable)) (Refused which.Overrides BadTable))
-        (handed (pick x (pick y (lookupOver n k d t) (rule.NotFound BadTable)) (rule.NotFound BadTable)))
-    go true o true v = means-stands b l (foundOver n k d t) (lookupOver n k d t) (whole-means b o n k l v)
-    go true o false v = means-stands b l (Refused which.Table BadTable) (rule.NotFound BadTable) (omega arith, refl)
-    go false o true v = means-stands b l (Refused which.Overrides BadTable) (rule.NotFound BadTable) (omega arith, refl)
-    go false o false v = means-stands b l (Refused which.Overrides BadTable) (rule.NotFound BadTable) (omega arith, refl)
-
--- the code found the place f, and it is g
-module _ (o t : List ℕ) {f g : FoundOver} (e : f ≡ g) (bytes : List ℕ) (s : StandsOver o t g bytes) where
-  pub found-within : Within (length o) (length t) f
-  found-within = subst (Within (length o) (length t)) (sym e) (s .0)
-
-  pub hands-found : (op tp p : ℕ × ℕ) (b : List ℕ) → HandsOver (partOver o t f) op tp b p → HandsOver (record { bytes = bytes; over = isOver g; start = startOf g }) op tp b p
-  hands-found op tp p b h =
-      subst (λ (x : List ℕ). HandsOver (record { bytes = x; over = isOver g; start = startOf g }) op tp b p) (s .1)
-      (subst (λ (x : FoundOver). HandsOver (partOver o t x) op tp b p) e h)
+    go : (f : Found) (r : rule.Found) → nothingHeld ≡ held f r
+    go (one.At s m) (rule.Value x) = refl
+    go (one.At s m) rule.Nothing = refl
+    go (one.At s m) (rule.NotFound r) = refl
+    go one.Nothing (rule.Value x) = refl
+    go one.Nothing rule.Nothing = refl
+    go one.Nothing (rule.NotFound r) = refl
+    go (one.Refused w) (rule.Value x) = refl
+    go (one.Refused w) rule.Nothing = refl
+    go (one.Refused w) (rule.NotFound r) = refl
 
 -- ---- the ticket's words
 
--- the bytes of the override if its record is there and unhidden, else those of the node
-pub over-reads : (n : ℕ) (k : List ℕ) (o m : Node) (t : Table) → nodeOf n t ≡ some m → length k ≤ maxKey → lookupOver n k o t ≡ foundOf (overFound k o m)
+-- the bytes of the override if its record is there and unhidden, else those of the node, for a key that the party may name
+pub over-reads : (p : Profile) (q : Party) (n : ℕ) (k : List ℕ) (o m : Node) (t : Table) → nodeOf n t ≡ some m → length k ≤ maxKey → sees p q k ≡ true
+    → lookupOver p q n k o t ≡ foundOf (overFound k o m)
 unfolding lookupOver rule.lookup
-over-reads n k o m t h s =
+over-reads p q n k o m t h s named =
     let short : (x y : rule.Found) → pick (leb (length k) maxKey) x y ≡ x = λ x y. pick-true (leb (length k) maxKey) x y (le-leb (length k) maxKey s) in
     ap₂ ruledOver (short (foundOf (shown (find k (o .recs)))) (rule.NotFound TooLong))
-    (ap (lookupOn k) h ∙ short (foundOf (shown (find k (m .recs)))) (rule.NotFound TooLong))
+    (sym (same-value p q n k t named) ∙ ap (lookupOn k) h ∙ short (foundOf (shown (find k (m .recs)))) (rule.NotFound TooLong))
     ∙ go (shown (find k (o .recs))) (shown (find k (m .recs)))
   where
     go : (x y : Option (List ℕ)) → ruledOver (foundOf x) (foundOf y) ≡ foundOf (orElse x y)
@@ -222,3 +275,18 @@ over-reads n k o m t h s =
     go none (some w) = refl
     go (some v) none = refl
     go (some v) (some w) = refl
+
+-- and 19 before both, for one that it may not name, behind 2 and 1
+pub other-reads : (p : Profile) (q : Party) (n : ℕ) (k : List ℕ) (o m : Node) (t : Table) → nodeOf n t ≡ some m → length k ≤ maxKey → sees p q k ≡ false
+    → lookupOver p q n k o t ≡ rule.NotFound OtherParty
+unfolding lookupOver rule.lookupAs rule.lookup
+other-reads p q n k o m t h s foreign =
+    ap (ruledOver (lookupOn k (some o)))
+    (ap (λ (u : Bool). rule.unlessOther u (lookupOn k (nodeOf n (seen p q t)))) foreign
+    ∙ ap (λ (x : Option Node). rule.unlessOther false (lookupOn k x)) (node-seen p q n t ∙ ap (seenHeld p q) h)
+    ∙ ap (λ (u : Bool). rule.unlessOther false (pick u (foundOf (shown (find k (seenNode p q m .recs)))) (rule.NotFound TooLong))) (le-leb (length k) maxKey s)
+    ∙ go (shown (find k (seenNode p q m .recs))))
+  where
+    go : (x : Option (List ℕ)) → rule.unlessOther false (foundOf x) ≡ rule.NotFound OtherParty
+    go none = refl
+    go (some v) = refl

@@ -58,7 +58,8 @@ fn over(own: Found, shared: Found) -> FoundOver
 // Which of the two has the value of the key, and where, in good overrides and the area of a good table: 2, 1.
 fn find_over_good(overrides: &[u8], area: &[u8], number: u64, key: &[u8]) -> FoundOver
     requires { ⌜ (validNode (now overrides) ≡ true) × (valid (now area) ≡ true) ⌝ }
-    ensures { λ r. ⌜ r ≡ overOf (ownFound (now (key .entry)) (decodeNode (now (overrides .entry)) .node)) (foundIn number (now (key .entry)) (decode (now (area .entry)))) ⌝ }
+    ensures { λ r. ⌜ r ≡ overOf (ownFound (now (key .entry)) (decodeNode (now (overrides .entry)) .node))
+        (foundIn number (now (key .entry)) (decode (now (area .entry)))) ⌝ }
 {
     let shared = lookup::find_good(area, number, key);
     let own = lookup::in_node(overrides, 0, key);
@@ -83,13 +84,7 @@ pub fn find_over_known(
 }
 
 // Which of the two has the value of the key, and where, by a party, in lent bytes: 14 of the overrides, 14 of the table, 2, 1, 19.
-pub fn find_over(
-    overrides: &[u8],
-    table: &[u8],
-    party: Party,
-    number: u64,
-    key: &[u8],
-) -> FoundOver
+pub fn find_over(overrides: &[u8], table: &[u8], party: Party, number: u64, key: &[u8]) -> FoundOver
     ensures { λ r. ⌜ Says foundOverTold (lentFindOver party number (now (key .entry)) (now (overrides .entry)) (now (table .entry))) r ⌝ }
 {
     if overrides::check_overrides(overrides) {
@@ -160,8 +155,11 @@ pub fn lookup_over<'a>(
 {
     if overrides::check_overrides(overrides) {
         if table_check::check_table(table) {
-            return lookup_over_known(overrides, table, party, number, key);
+            lookup_over_known(overrides, table, party, number, key)
+        } else {
+            &table[..0]
         }
+    } else {
+        &table[..0]
     }
-    &table[..0]
 }

@@ -10,9 +10,9 @@ use Rattle.fields.specs.Choice.{pick, _∈_, here, later}
 use Rattle.fields.specs.Order.{sameBytes, lessBytes}
 use Rattle.fields.proofs.Choice.{in-none, in-cons, pick-true, pick-false}
 use Rattle.fields.proofs.Ordered.{same-true, eq-same, less-same, less-not, less-total, less-trans}
-use Rattle.rules.specs.Node.{Rec, hits}
+use Rattle.rules.specs.Node.{Rec}
 use Rattle.rules.proofs.Records.{Above, Sorted, keyOf}
-use Rattle.over_list.specs.Merged.{Hit, hit, keyOfHit, hitsIn, layOver, overlaid, recsOf}
+use Rattle.over_list.specs.Merged.{Hit, hit, keyOfHit, hitsBy, layOver, overlaid, recsOf}
 
 -- every key of the hits comes after k
 unfoldable pub AllAbove : List ℕ → List Hit → Type 0
@@ -22,30 +22,30 @@ pub none-above : (k : List ℕ) → AllAbove k []
 unfolding AllAbove
 none-above k h m = absurd (in-none m)
 
--- ---- the hits of records
+-- ---- the hits of records that pass a test
 
 -- they come after k where the records do
-pub hits-above : (p k : List ℕ) (i : ℕ) (l : List Rec) → Above k l → AllAbove k (hitsIn p i l)
-unfolding AllAbove hitsIn Above
-hits-above p k i [] a h m = absurd (in-none m)
-hits-above p k i (r ∷ l) a h m = go (hits p r) m (hits-above p k (suc i) l (λ x u. a x (later u)) h)
+pub hits-above : (f : Rec → Bool) (k : List ℕ) (i : ℕ) (l : List Rec) → Above k l → AllAbove k (hitsBy f i l)
+unfolding AllAbove hitsBy Above
+hits-above f k i [] a h m = absurd (in-none m)
+hits-above f k i (r ∷ l) a h m = go (f r) m (hits-above f k (suc i) l (λ x u. a x (later u)) h)
   where
-    first : (h ≡ hit i r) ⊎ (h ∈ hitsIn p (suc i) l) → (h ∈ hitsIn p (suc i) l → lessBytes k (keyOfHit h) ≡ true) → lessBytes k (keyOfHit h) ≡ true
+    first : (h ≡ hit i r) ⊎ (h ∈ hitsBy f (suc i) l) → (h ∈ hitsBy f (suc i) l → lessBytes k (keyOfHit h) ≡ true) → lessBytes k (keyOfHit h) ≡ true
     first (inl e) rest = ap (λ (x : Hit). lessBytes k (keyOfHit x)) e ∙ a r (here refl)
     first (inr n) rest = rest n
 
-    go : (t : Bool) → h ∈ pick t (hit i r ∷ hitsIn p (suc i) l) (hitsIn p (suc i) l) → (h ∈ hitsIn p (suc i) l → lessBytes k (keyOfHit h) ≡ true)
+    go : (t : Bool) → h ∈ pick t (hit i r ∷ hitsBy f (suc i) l) (hitsBy f (suc i) l) → (h ∈ hitsBy f (suc i) l → lessBytes k (keyOfHit h) ≡ true)
         → lessBytes k (keyOfHit h) ≡ true
     go true n rest = first (in-cons n) rest
     go false n rest = rest n
 
 -- no more than there are records
-pub hits-few : (p : List ℕ) (i : ℕ) (l : List Rec) → length (hitsIn p i l) ≤ length l
-unfolding hitsIn
-hits-few p i [] = zero-le
-hits-few p i (r ∷ l) = go (hits p r) (hits-few p (suc i) l)
+pub hits-few : (f : Rec → Bool) (i : ℕ) (l : List Rec) → length (hitsBy f i l) ≤ length l
+unfolding hitsBy
+hits-few f i [] = zero-le
+hits-few f i (r ∷ l) = go (f r) (hits-few f (suc i) l)
   where
-    go : (t : Bool) → length (hitsIn p (suc i) l) ≤ length l → length (pick t (hit i r ∷ hitsIn p (suc i) l) (hitsIn p (suc i) l)) ≤ suc (length l)
+    go : (t : Bool) → length (hitsBy f (suc i) l) ≤ length l → length (pick t (hit i r ∷ hitsBy f (suc i) l) (hitsBy f (suc i) l)) ≤ suc (length l)
     go true ih = omega arith
     go false ih = omega arith
 
@@ -150,13 +150,13 @@ unfoldable pub Rises : List Hit → Type 0
 Rises [] = Unit {0}
 Rises (h ∷ l) = AllAbove (keyOfHit h) l × Rises l
 
-pub hits-rise : (p : List ℕ) (i : ℕ) (l : List Rec) → Sorted l → Rises (hitsIn p i l)
-unfolding Rises hitsIn Sorted
-hits-rise p i [] s = tt
-hits-rise p i (r ∷ l) s = go (hits p r) (hits-rise p (suc i) l (s .1))
+pub hits-rise : (f : Rec → Bool) (i : ℕ) (l : List Rec) → Sorted l → Rises (hitsBy f i l)
+unfolding Rises hitsBy Sorted
+hits-rise f i [] s = tt
+hits-rise f i (r ∷ l) s = go (f r) (hits-rise f (suc i) l (s .1))
   where
-    go : (t : Bool) → Rises (hitsIn p (suc i) l) → Rises (pick t (hit i r ∷ hitsIn p (suc i) l) (hitsIn p (suc i) l))
-    go true ih = (hits-above p (keyOf r) (suc i) l (s .0), ih)
+    go : (t : Bool) → Rises (hitsBy f (suc i) l) → Rises (pick t (hit i r ∷ hitsBy f (suc i) l) (hitsBy f (suc i) l))
+    go true ih = (hits-above f (keyOf r) (suc i) l (s .0), ih)
     go false ih = ih
 
 lay-rise : (h : Hit) (l : List Hit) → Rises l → Rises (layOver h l)

@@ -229,7 +229,7 @@ fn in_nodes(
         × (recsFormed profile (recsIn (now node)) ≡ true) ⌝ }
     ensures { λ r. ⌜ Gives
         (listOn (sees profile party) (now (prefix .entry)) (decodeNode (now (overrides .entry)) .node)
-            (some (seenNode profile party (decodeNode (now (node .entry)) .node))) (now (out .entry)))
+        (some (seenNode profile party (decodeNode (now (node .entry)) .node))) (now (out .entry)))
         r (now (out .exit)) ⌝ }
 {
     if Record::KEY < prefix.len() {
@@ -291,7 +291,15 @@ pub fn list_over_known(
         r (now (out .exit)) ⌝ }
 {
     let profile = profile_check::profile_of(table);
-    list_over_seen(overrides, &table[..layout::AREA], profile, party, number, prefix, out)
+    list_over_seen(
+        overrides,
+        &table[..layout::AREA],
+        profile,
+        party,
+        number,
+        prefix,
+        out,
+    )
 }
 
 // The listing by a party in lent bytes: 14 of the overrides, 14 of the table, 2, 1, 8.

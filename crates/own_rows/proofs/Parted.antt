@@ -66,13 +66,6 @@ metering-not-building k m = go (own Building k) refl
     go true b = absurd (less-other k k (building-less k k b m) refl)
     go false b = refl
 
-pub building-not-metering : (k : List ℕ) → own Building k ≡ true → own Metering k ≡ false
-building-not-metering k b = go (own Metering k) refl
-  where
-    go : (t : Bool) → own Metering k ≡ t → t ≡ false
-    go true m = absurd (less-other k k (building-less k k b m) refl)
-    go false m = refl
-
 -- what comes behind a key of the metering firm is the metering firm's
 behind-metering : (j k : List ℕ) → own Metering j ≡ true → lessBytes j k ≡ true → someones k ≡ true → own Metering k ≡ true
 behind-metering j k m h s = go (own Metering k) (own Building k) refl s

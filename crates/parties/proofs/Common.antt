@@ -1,5 +1,5 @@
--- What is common to both parties: nodes that come and go, the memory, heartbeats, removal. Each says the same of a table and of what a party has of it, and leaves the same of that.
--- Assumes nothing.
+-- What is common to both parties: nodes that come and go, the memory, heartbeats, removal. Each says the same of a table and of what a party has of it, and
+-- leaves the same of that. Assumes nothing.
 use Prim.Native.Nat.{ℕ, _+_}
 use mathlib.Core.Bool.{Bool, true, false}
 use mathlib.Core.List.{List}

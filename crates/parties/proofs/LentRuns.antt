@@ -1,5 +1,5 @@
--- Ticket 9's two runs of lent bytes. On the bytes of a table that obeys the rules a run says and leaves what it says and leaves of the table; on other bytes every call is
--- refused with 14 and leaves them. Assumes nothing.
+-- Ticket 9's two runs of lent bytes. On the bytes of a table that obeys the rules a run says and leaves what it says and leaves of the table; on other bytes
+-- every call is refused with 14 and leaves them. Assumes nothing.
 use Prim.Native.Nat.{ℕ}
 use mathlib.Core.Bool.{Bool, true, false}
 use mathlib.Core.List.{List, [], _∷_}
@@ -39,7 +39,7 @@ use Rattle.table.proofs.Encoded.{from-whole, on-whole, whole-whole}
 use Rattle.table.proofs.Wholes.{decode-encode-whole, valid-encode-whole, whole-obeys}
 use Rattle.parties.specs.Readings.{Lookup, Listing, Counting, RecordAt, RecordOf, foundSaid, readingSaid}
 use Rattle.parties.specs.TwoRuns.{Event, Writing, Calling, Asking, Removing, Adding, Dropping, Remembering, Offering, Beating, happen, after, Said, says, said, Telling, Blind, concerns, stripped, heard, Unspent, view}
-use Rattle.parties.specs.LentRuns.{LentTelling, Lends, lentHappen, lentAfter, lentReadingSaid, lentSaid, lentHeard, LentUnspent, lentView, clockFits, eventFits, allFit}
+use Rattle.parties.specs.LentRuns.{Alike, LentTelling, Lends, lentHappen, lentAfter, lentReadingSaid, lentSaid, lentHeard, LentUnspent, lentView, clockFits, eventFits, allFit}
 use Rattle.parties.proofs.Runs.{Sound, obeys-sound, stays-sound, two-tables}
 
 -- ---- the rules are kept
@@ -167,10 +167,6 @@ module _ (l : List ℕ) (bad : validWhole l ≡ false) where
   unfolding onWhole
   no-whole b rule = ap (λ (x : Bool). pick x (given (rule (decodeWhole l) .answer) (encodeWhole (rule (decodeWhole l) .lent))) (given b l)) bad
 
-  no-reading : {A : Type 0} (b : A) (rule : Table → A) → fromTable b rule l ≡ b
-  unfolding fromTable
-  no-reading b rule = ap (λ (x : Bool). pick x (rule (decodeWhole l .table)) b) bad
-
   bad-leaves : {Ask : Type 0} (e : Event Ask) → lentHappen e l ≡ l
   bad-leaves (Writing q wanted v now i k) = ap (λ (g : Given Answer (List ℕ)). g .lent) (no-table (plain.Refused BadTable) (writeAs (decodeWhole l .kind .profile) q wanted v now i k))
   bad-leaves (Calling q i k c) = ap (λ (g : Given Answer (List ℕ)). g .lent) (no-table (plain.Refused BadTable) (callAs (decodeWhole l .kind .profile) q c i k))
@@ -203,13 +199,6 @@ module _ {Ask : Type 0} (tells : LentTelling Ask) where
       go false ih = ih
 
 -- ---- two runs
-
--- what the two runs have in common
-pub record Alike {Ask : Type 0} (tells : LentTelling Ask) (p : Party) (es fs : List (Event Ask)) (l : List ℕ) : Type 0 where
-  pub hear : lentHeard tells p es l ≡ lentHeard tells p fs l
-  pub have : lentView p (lentAfter es l) ≡ lentView p (lentAfter fs l)
-  -- 14 is for both or for neither
-  pub stand : validWhole (lentAfter es l) ≡ validWhole (lentAfter fs l)
 
 module _ {Ask : Type 0} (lentTells : LentTelling Ask) (tells : Telling Ask) (lends : Lends lentTells tells) (blind : Blind tells) where
   -- Two runs of calls from the same bytes, whatever these are; where they are a table, it is shared.

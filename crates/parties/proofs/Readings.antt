@@ -5,7 +5,7 @@ use mathlib.Core.List.{List, [], _∷_}
 use mathlib.Core.Option.{Option, none, some}
 use mathlib.Core.Path.{_≡_, refl, ap, sym, _∙_}
 use lib.Dec.{eqb, leb}
-use lib.ListN.{length}
+use lib.ListN.{length, drop}
 use Rattle.fields.specs.Choice.{pick}
 use Rattle.fields.specs.Order.{sameBytes}
 use Rattle.rules.specs.Sizes.{maxKey}
@@ -18,7 +18,7 @@ use Rattle.rules.specs.Local.{Found, NotFound, foundOf, listInto, lookup, looku
 use Rattle.rules.specs.declared.Refusal.the-variants.{TooLong, OtherParty}
 use Rattle.rules.specs.declared.Listed.{Listed}
 use Rattle.rules.specs.declared.Listed.the-variants as listed
-use Rattle.parties.specs.Readings.{Lookup, Listing, Counting, RecordAt, RecordOf, foundSaid, countSaid, elementAt, placeSaid, atSaid, keySaid, ofSaid, readingSaid}
+use Rattle.parties.specs.Readings.{Lookup, Listing, Counting, RecordAt, RecordOf, foundSaid, countSaid, firstSaid, atSaid, keySaid, ofSaid, readingSaid}
 use Rattle.parties.specs.TwoRuns.{Said, says, Blind, unversioned, unversionedEach, versionlessNode, versionless}
 use Rattle.parties.proofs.Views.{view-own, view-is, bare}
 
@@ -38,16 +38,16 @@ unfolding hitsFrom unversionedEach
 hits-blind k i [] = refl
 hits-blind k i (a ∷ l) = ap (λ (x : List ℕ). pick (hits k a) (i ∷ x) x) (hits-blind k (suc i) l)
 
-length-blind : (l : List Rec) → length (unversionedEach l) ≡ length l
+pub length-blind : (l : List Rec) → length (unversionedEach l) ≡ length l
 unfolding unversionedEach
 length-blind [] = refl
 length-blind (a ∷ l) = ap suc (length-blind l)
 
-at-blind : (j : ℕ) (l : List Rec) → elementAt j (unversionedEach l) ≡ bare (elementAt j l)
-unfolding elementAt unversionedEach
-at-blind j [] = refl
-at-blind zero (a ∷ l) = refl
-at-blind (suc j) (a ∷ l) = at-blind j l
+drop-blind : (j : ℕ) (l : List Rec) → drop j (unversionedEach l) ≡ unversionedEach (drop j l)
+unfolding unversionedEach
+drop-blind zero l = refl
+drop-blind (suc j) [] = refl
+drop-blind (suc j) (a ∷ l) = drop-blind j l
 
 -- the node of a table without versions
 abbrev pub bareHeld : Option Node → Option Node
@@ -67,19 +67,20 @@ shown-bare : (o : Option Rec) → shown (bare o) ≡ shown o
 shown-bare none = refl
 shown-bare (some r) = refl
 
-place-bare : (o : Option Rec) → placeSaid (bare o) ≡ placeSaid o
-place-bare none = refl
-place-bare (some r) = refl
+first-bare : (l : List Rec) → firstSaid (unversionedEach l) ≡ firstSaid l
+unfolding unversionedEach
+first-bare [] = refl
+first-bare (r ∷ l) = refl
 
 key-bare : (o : Option Rec) → keySaid (bare o) ≡ keySaid o
 key-bare none = refl
 key-bare (some r) = refl
 
-lookup-blind : (k : List ℕ) (o : Option Node) → lookupOn k (bareHeld o) ≡ lookupOn k o
+pub lookup-blind : (k : List ℕ) (o : Option Node) → lookupOn k (bareHeld o) ≡ lookupOn k o
 lookup-blind k none = refl
 lookup-blind k (some n) = ap (λ (x : Option (List ℕ)). pick (leb (length k) maxKey) (foundOf x) (NotFound TooLong)) (ap shown (find-blind k (n .recs)) ∙ shown-bare (find k (n .recs)))
 
-prefix-blind : (k : List ℕ) (o : Option Node) (l : List ℕ) → prefixOn k (bareHeld o) l ≡ prefixOn k o l
+pub prefix-blind : (k : List ℕ) (o : Option Node) (l : List ℕ) → prefixOn k (bareHeld o) l ≡ prefixOn k o l
 prefix-blind k none l = refl
 prefix-blind k (some n) l = ap (λ (x : List ℕ). pick (leb (length k) maxKey) (listInto x l) (given (listed.Refused TooLong) l)) (hits-blind k 0 (n .recs))
 
@@ -89,7 +90,7 @@ count-blind (some n) = ap (λ (x : ℕ). says (accepted (x ∷ [])) []) (length-
 
 place-blind : (j : ℕ) (o : Option Node) → atSaid j (bareHeld o) ≡ atSaid j o
 place-blind j none = refl
-place-blind j (some n) = ap placeSaid (at-blind j (n .recs)) ∙ place-bare (elementAt j (n .recs))
+place-blind j (some n) = ap firstSaid (drop-blind j (n .recs)) ∙ first-bare (drop j (n .recs))
 
 key-blind : (b : Bool) (k : List ℕ) (o : Option Node) → ofSaid b k (bareHeld o) ≡ ofSaid b k o
 key-blind b k none = refl

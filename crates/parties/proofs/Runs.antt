@@ -1,5 +1,5 @@
--- Ticket 9's two runs. A run says to a party what its own calls and the common ones alone say on what the party has; so two runs that agree on these say the same, and
--- leave the same of it. Assumes nothing.
+-- Ticket 9's two runs. A run says to a party what its own calls and the common ones alone say on what the party has; so two runs that agree on these say the
+-- same, and leave the same of it. Assumes nothing.
 use Prim.Native.Nat.{ℕ}
 use mathlib.Core.Bool.{Bool, true, false, true≢false}
 use mathlib.Core.List.{List, [], _∷_}
@@ -222,9 +222,9 @@ module _ {Ask : Type 0} (tells : Telling Ask) (blind : Blind tells) where
         x .1 ∙ ap₂ (afterAlone p) same has ∙ sym (y .1),
       )
 
-  -- Two runs from one shared table that the rules hold of (14), of any mode. They agree on the party's own calls and on all that is common, clocks included, and differ in
-  -- the other's calls; no delta is applied; none of the party's own writes and deletes is answered 6 in either. Then every call that concerns the party is told the same in
-  -- both, and at the end the party has the same: keys, values, statuses, starts, heartbeats, and what is remembered of removed nodes.
+  -- Two runs from one shared table that the rules hold of (14), of any mode. They agree on the party's own calls and on all that is common, clocks included,
+  -- and differ in the other's calls; no delta is applied; none of the party's own writes and deletes is answered 6 in either. Then every call that concerns the
+  -- party is told the same in both, and at the end the party has the same: keys, values, statuses, starts, heartbeats, and what is remembered of removed nodes.
   pub two-runs : (p : Party) (es fs : List (Event Ask)) (w : Whole) → w .kind .profile ≡ Shared → obeysWhole w ≡ true → Unspent tells p es w → Unspent tells p fs w → stripped p es ≡ stripped p fs
       → (heard tells p es w ≡ heard tells p fs w) × (view p (after es w) ≡ view p (after fs w))
   two-runs p es fs w k o a b same = two-tables p es fs w w (obeys-sound w k o) (obeys-sound w k o) a b same refl

@@ -1,5 +1,5 @@
--- One call, in the ticket's order: what it says to the party and what it leaves of what the party has depends on what the party has alone, unless an own write or
--- delete is answered 6; and a call of another leaves all of it. Assumes nothing.
+-- One call, in the ticket's order: what it says to the party and what it leaves of what the party has depends on what the party has alone, unless an own write
+-- or delete is answered 6; and a call of another leaves all of it. Assumes nothing.
 use Prim.Native.Nat.{ℕ, _+_}
 use mathlib.Core.Bool.{Bool, true, false, _&&_, true≢false, false≢true}
 use mathlib.Core.List.{List, [], _∷_}

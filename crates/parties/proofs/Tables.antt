@@ -1,4 +1,5 @@
--- What a party has of a table: how nodes are found, set, added, taken out, and how removal goes through it. And tables whose keys stand in order. Assumes nothing.
+-- What a party has of a table: how nodes are found, set, added, taken out, and how removal goes through it. And tables whose keys stand in order. Assumes
+-- nothing.
 use Prim.Native.Nat.{ℕ, suc}
 use mathlib.Core.Bool.{Bool, true, false, not}
 use mathlib.Core.List.{List, [], _∷_}

@@ -1,5 +1,5 @@
--- What the two runs do not promise (ticket 9's theorem, Runs): each claim with two runs that agree on what concerns the metering firm, and what then differs. All of it is
--- computed. Assumes nothing.
+-- What the two runs do not promise (ticket 9's theorem, Runs): each claim with two runs that agree on what concerns the metering firm, and what then differs.
+-- All of it is computed. Assumes nothing.
 use Prim.Native.Nat.{ℕ, _-_}
 use mathlib.Core.Bool.{true}
 use mathlib.Core.List.{List, [], _∷_}
@@ -38,7 +38,7 @@ use Rattle.parties.specs.TwoRuns.{Event, Calling, Removing, Said, after,
 abbrev holding : (node : Node) → Whole
 holding n = record { kind = kind mode.Plain Shared; memory = []; table = record { number = 7; node = n } ∷ [] }
 
-abbrev start : Whole
+abbrev pub start : Whole
 start = holding fresh
 
 -- `m/a`, `b/x`
@@ -48,20 +48,20 @@ mine = 109 ∷ 47 ∷ 97 ∷ []
 abbrev theirs : Bytes
 theirs = 98 ∷ 47 ∷ 120 ∷ []
 
-abbrev sets : Event Reading
+abbrev pub sets : Event Reading
 sets = Calling Metering 7 mine (Setting (49 ∷ []))
 
 abbrev setsTtl : Event Reading
 setsTtl = Calling Metering 7 mine (SettingTtl (49 ∷ []) 0)
 
-abbrev other : Event Reading
+abbrev pub other : Event Reading
 other = Calling Building 7 theirs (Setting [])
 
 abbrev otherTtl : Event Reading
 otherTtl = Calling Building 7 theirs (SettingTtl [] 0)
 
 -- the runs agree on what concerns the metering firm, and what is shown of the one and of the other differs
-abbrev Differ : (from : Whole) (es fs : List (Event Reading)) (shown : Whole → List ℕ) (one another : List ℕ) → Type 0
+abbrev pub Differ : (from : Whole) (es fs : List (Event Reading)) (shown : Whole → List ℕ) (one another : List ℕ) → Type 0
 Differ w es fs f a b = (stripped Metering es ≡ stripped Metering fs) × (f (after es w) ≡ a) × (f (after fs w) ≡ b)
 
 -- ---- what may be shown

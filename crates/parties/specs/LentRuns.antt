@@ -1,5 +1,5 @@
--- The two runs of lent bytes: the calls are what the entry points promise (Lent of `rules`), one after the other on the bytes of a table, any bytes to begin with. The events
--- are those of tables (TwoRuns). The theorem is in proofs/LentRuns.
+-- The two runs of lent bytes: the calls are what the entry points promise (Lent of `rules`), one after the other on the bytes of a table, any bytes to begin
+-- with. The events are those of tables (TwoRuns). The theorem is in proofs/LentRuns.
 use mathlib.Core.Path.{_≡_}
 use mathlib.Core.Bool.{Bool, true}
 use mathlib.Core.List.{List, [], _∷_}
@@ -9,7 +9,7 @@ use Rattle.fields.specs.Numbers.{Bytes}
 use Rattle.rules.specs.Sizes.{numbers}
 use Rattle.rules.specs.Answers.{refused, answerTold, offeredTold, rememberedTold, listedTold}
 use Rattle.rules.specs.Node.{Call, Setting, SettingTtl, Deleting, DeletingAfterTtl}
-use Rattle.rules.specs.Whole.{Whole, decodeWhole, encodeWhole, obeysWhole}
+use Rattle.rules.specs.Whole.{Whole, decodeWhole, encodeWhole, obeysWhole, validWhole}
 use Rattle.rules.specs.Lent.{fromTable, lentAdd, lentRemoveNode, lentRemoved, lentCall, lentWrite, lentGc, lentOffer, lentBeat, lentLookup, lentPrefixed}
 use Rattle.rules.specs.declared.Party.{Party}
 use Rattle.rules.specs.declared.Refusal.the-variants.{BadTable}
@@ -64,6 +64,13 @@ LentUnspent tells p (e ∷ es) l = (concerns p e ≡ true → changes e ≡ true
 -- what the party has
 abbrev pub lentView : (party : Party) (table : Bytes) → Whole
 lentView p l = view p (decodeWhole l)
+
+-- what two runs from the same bytes have in common
+pub record Alike {Ask : Type 0} (tells : LentTelling Ask) (p : Party) (es fs : List (Event Ask)) (l : Bytes) : Type 0 where
+  pub hear : lentHeard tells p es l ≡ lentHeard tells p fs l
+  pub have : lentView p (lentAfter es l) ≡ lentView p (lentAfter fs l)
+  -- 14 is for both or for neither
+  pub stand : validWhole (lentAfter es l) ≡ validWhole (lentAfter fs l)
 
 -- times, new nodes and heartbeats are numbers of eight bytes, as code passes them
 abbrev pub clockFits : (call : Call) → Bool

@@ -1,5 +1,5 @@
--- A party's local call in the order that ticket 9 names: 1, 19, 3, nothing to change, 5 counted by party, 6. The rules have a guard in front of document 01's call
--- (Profile, Local); that it is the same where the table obeys the rules is proved (proofs/Order).
+-- A party's local call in the order that ticket 9 names: 1, 19, 3, nothing to change, 5 counted by party, 6. The rules have a guard in front of document 01's
+-- call (Profile, Local); that it is the same where the table obeys the rules is proved (proofs/Order).
 use Prim.Native.Nat.{ℕ}
 use mathlib.Core.Bool.{Bool, false, _&&_}
 use mathlib.Core.Option.{Option, none, some}

@@ -1,11 +1,11 @@
--- A party's readings, in the rules' own terms: the value of a key, the hits of a prefix, how many records a node has, a record by its place and by its key. What is said of
--- a record is its key, its value, its status and its start. They are readings of what the party sees, so places are counted among its own records. The readings as
--- they are linked, with their places in bytes, stand above (`parties_calls`).
-use Prim.Native.Nat.{ℕ, zero, suc}
+-- A party's readings, in the rules' own terms: the value of a key, the hits of a prefix, how many records a node has, a record by its place and by its key.
+-- What is said of a record is its key, its value, its status and its start. They are readings of what the party sees, so places are counted among its own
+-- records. The readings as they are linked, with their places in bytes, stand above (`parties_calls`).
+use Prim.Native.Nat.{ℕ}
 use mathlib.Core.Bool.{Bool}
 use mathlib.Core.List.{List, [], _∷_}
 use mathlib.Core.Option.{Option, none, some}
-use lib.ListN.{length}
+use lib.ListN.{length, drop}
 use lib.Dec.{leb}
 use Rattle.fields.specs.Numbers.{Bytes}
 use Rattle.fields.specs.Choice.{pick}
@@ -43,19 +43,14 @@ abbrev pub countSaid : (held : Option Node) → Said
 countSaid none = says (refused NoNode []) []
 countSaid (some n) = says (accepted (length (n .recs) ∷ [])) []
 
--- what stands in place i, if the list goes so far
-unfoldable pub elementAt : {A : Type 0} (i : ℕ) (list : List A) → Option A
-elementAt i [] = none
-elementAt zero (a ∷ l) = some a
-elementAt (suc i) (a ∷ l) = elementAt i l
-
-abbrev pub placeSaid : (there : Option Rec) → Said
-placeSaid none = says (refused NoPlace []) []
-placeSaid (some r) = recordSaid r
+-- the first of those that are left, if there is one
+abbrev pub firstSaid : (left : List Rec) → Said
+firstSaid [] = says (refused NoPlace []) []
+firstSaid (r ∷ l) = recordSaid r
 
 abbrev pub atSaid : (j : ℕ) (held : Option Node) → Said
 atSaid j none = says (refused NoNode []) []
-atSaid j (some n) = placeSaid (elementAt j (n .recs))
+atSaid j (some n) = firstSaid (drop j (n .recs))
 
 abbrev pub keySaid : (there : Option Rec) → Said
 keySaid none = says (accepted []) []

@@ -1,6 +1,6 @@
--- What one party sees of the other (ticket 9): two runs from one shared table that agree on its own calls, on all removals, node and heartbeat changes and clocks, and
--- differ in the other's local writes and deletes, give its writes, deletes and reads the same answers, keys, values and statuses. No delta is applied in a run.
--- The calls are the rules' own, in the profile of the table. The theorem is in proofs/Runs.
+-- What one party sees of the other (ticket 9): two runs from one shared table that agree on its own calls, on all removals, node and heartbeat changes and
+-- clocks, and differ in the other's local writes and deletes, give its writes, deletes and reads the same answers, keys, values and statuses. No delta is
+-- applied in a run. The calls are the rules' own, in the profile of the table. The theorem is in proofs/Runs.
 use Prim.Native.Nat.{ℕ}
 use mathlib.Core.Path.{_≡_}
 use mathlib.Core.Bool.{Bool, true, false}
@@ -120,7 +120,8 @@ unfoldable pub heard : {Ask : Type 0} (tells : Telling Ask) (party : Party) (eve
 heard tells p [] w = []
 heard tells p (e ∷ es) w = pick (concerns p e) (said tells e w ∷ heard tells p es (happen e w)) (heard tells p es (happen e w))
 
--- None of the party's own writes and deletes is answered 6. (The ticket's "no number 6 is given" asks more: a 6 of the other's, or of a heartbeat, does no harm.)
+-- None of the party's own writes and deletes is answered 6. (The ticket's "no number 6 is given" asks more: a 6 of the other's, or of a heartbeat, does no
+-- harm.)
 abbrev pub changes : {Ask : Type 0} (event : Event Ask) → Bool
 changes (Writing q wanted v now i k) = true
 changes (Calling q i k c) = true
@@ -141,8 +142,10 @@ unfoldable pub NoSix : {Ask : Type 0} (tells : Telling Ask) (events : List (Even
 NoSix tells [] w = Unit {0}
 NoSix tells (e ∷ es) w = (said tells e w .told .number ≡ 6 → ⊥) × NoSix tells es (happen e w)
 
--- ---- what a party has: its own records in key order, with key, value, status and start; and of each node the number and the heartbeat. Versions, max and last_gc are
--- put to 0, and no record of the other is there.
+-- ---- what a party has
+
+-- Its own records in key order, with key, value, status and start; and of each node the number and the heartbeat. Versions, max and last_gc are put to 0, and
+-- no record of the other is there.
 
 abbrev pub unversioned : (rec : Rec) → Rec
 unversioned r = record { kv = record { key = r .kv .key; value = r .kv .value; version = 0; status = r .kv .status }; start = r .start }
@@ -162,8 +165,8 @@ versionless (e ∷ t) = record { number = e .number; node = versionlessNode (e .
 abbrev pub view : (party : Party) (whole : Whole) → Whole
 view p w = withTable (versionless (alone (own p) (w .table))) w
 
--- A reading by a party says the same of a shared table and of what the party has of it. So it does where it is a reading of what the party sees (Party of `rules`) that
--- looks at no version, max or last_gc (proofs/Readings).
+-- A reading by a party says the same of a shared table and of what the party has of it. So it does where it is a reading of what the party sees (Party of
+-- `rules`) that looks at no version, max or last_gc (proofs/Readings).
 abbrev pub Blind : {Ask : Type 0} (tells : Telling Ask) → Type 0
 Blind {Ask} tells = (p : Party) (q : Ask) (t : Table) → tells Shared p q (versionless (alone (own p) t)) ≡ tells Shared p q t
 

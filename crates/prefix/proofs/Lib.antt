@@ -1,5 +1,5 @@
 mod Run
 mod Counted
 pub mod Hits
-mod Seen
+pub mod Seen
 pub mod Rows

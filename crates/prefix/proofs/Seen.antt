@@ -11,6 +11,7 @@ use Rattle.rules.specs.Sizes.{maxKey}
 use Rattle.rules.specs.Given.{given, Gives}
 use Rattle.rules.specs.Node.{Rec, Node, hitsFrom}
 use Rattle.rules.specs.Table.{Table, nodeOf, keysRise}
+use Rattle.rules.specs.Party.{seenRecs}
 use Rattle.rules.specs.Profile.{recsFormed}
 use Rattle.rules.specs.Local.{listInto, prefixOn, prefixed, prefixedAs}
 use Rattle.rules.specs.Layout.{decodeNode, decode}
@@ -38,11 +39,12 @@ module _ (p : Profile) (q : Party) (b : List ℕ) (rises : keysRise (recsIn b) �
   pub piece-within : s .low + s .count ≤ countOf b
   piece-within = rw (e, sym (length-recs b)) (seen-within p q (recsIn b) rises formed)
 
+  -- and is what the party sees
+  pub piece-seen : take (s .count) (drop (s .low) (recsIn b)) ≡ seenRecs p q (recsIn b)
+  piece-seen = ap (λ (x : Sight). take (x .count) (drop (x .low) (recsIn b))) e ∙ sym (seen-piece p q (recsIn b) rises formed)
+
   piece-is : take (s .count) (drop (s .low) (recsIn b)) ≡ seenNode p q (decodeNode b .node) .recs
-  piece-is =
-      ap (λ (x : Sight). take (x .count) (drop (x .low) (recsIn b))) e
-      ∙ sym (seen-piece p q (recsIn b) rises formed)
-      ∙ sym (seen-recs p q (decodeNode b .node))
+  piece-is = piece-seen ∙ sym (seen-recs p q (decodeNode b .node))
 
   pub seen-fills : (k l : List ℕ) (a : Listed) (m : List ℕ) → Gives (prefixOn k (some (pieceNode (s .low) (s .count) b)) l) a m
       → Gives (prefixOn k (seenHeld p q (some (decodeNode b .node))) l) a m

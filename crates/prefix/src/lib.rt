@@ -146,7 +146,8 @@ fn write_shown(node: &[u8], base: usize, low: usize, high: usize, out: &mut [u8]
     let mut j = low;
     while j < high {
         if is_shown(node, j) {
-            out[next] = (j - base) as u8;
+            let place = j - base;
+            out[next] = place as u8;
             next += 1;
         }
         j += 1;
@@ -193,13 +194,7 @@ fn list_seen(
 }
 
 // The listing by a party in a good table: 2, 1, 8.
-pub fn list_known(
-    table: &[u8],
-    party: Party,
-    number: u64,
-    prefix: &[u8],
-    out: &mut [u8],
-) -> Listed
+pub fn list_known(table: &[u8], party: Party, number: u64, prefix: &[u8], out: &mut [u8]) -> Listed
     requires { ⌜ validWhole (now table) ≡ true ⌝ }
     ensures { λ r. ⌜ Gives (lentPrefixed party number (now (prefix .entry)) (now (out .entry)) (now (table .entry))) r (now (out .exit)) ⌝ }
 {
@@ -208,13 +203,7 @@ pub fn list_known(
 }
 
 // The listing by a party in lent bytes: 14, 2, 1, 8.
-pub fn list_prefix(
-    table: &[u8],
-    party: Party,
-    number: u64,
-    prefix: &[u8],
-    out: &mut [u8],
-) -> Listed
+pub fn list_prefix(table: &[u8], party: Party, number: u64, prefix: &[u8], out: &mut [u8]) -> Listed
     ensures { λ r. ⌜ Tells listedTold (lentPrefixed party number (now (prefix .entry)) (now (out .entry)) (now (table .entry))) r (now (out .exit)) ⌝ }
 {
     if table_check::check_table(table) {

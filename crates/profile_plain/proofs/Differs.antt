@@ -1,4 +1,4 @@
--- What is false of a meter table beside the freed one, each with a call that shows it. Assumes nothing.
+-- What is false of a table beside the freed one, each with a call that shows it. Assumes nothing.
 use Prim.Native.Nat.{ℕ}
 use mathlib.Core.Path.{_≡_, refl, ap, ap₂, sym, _∙_}
 use mathlib.Core.Bool.{Bool, true, false, false≢true}
@@ -6,8 +6,9 @@ use mathlib.Core.List.{[], _∷_, _++_}
 use lib.Dec.{ltb}
 use borrow.Author.Tests.{ltb-true}
 use Rattle.fields.specs.Blocks.{flat}
-use Rattle.fields.specs.Choice.{all, pick}
+use Rattle.fields.specs.Choice.{all, keep, pick}
 use Rattle.fields.specs.Numbers.{Bytes, bytesOf, natOf}
+use Rattle.fields.specs.Order.{sameBytes, startsWith}
 use Rattle.fields.proofs.Choice.{all-from}
 use Rattle.rules.specs.Sizes.{numbers}
 use Rattle.rules.specs.Answers.{appliedTold}
@@ -17,13 +18,15 @@ use Rattle.rules.specs.Given.{Given}
 use Rattle.rules.specs.Layout.{decode}
 use Rattle.rules.specs.Lent.{TableAndList, fromTable, lentApply}
 use Rattle.rules.specs.Node.{beats}
+use Rattle.rules.specs.Party.{alone}
 use Rattle.rules.specs.Profile.{kind, meterKey, meterValue, profileObeys, readDeltaAs, readOpsAs}
-use Rattle.rules.specs.Table.{Table, among, differ, entryObeys, keysRise, nodeObeys, numbersOf, obeys, recObeys, rising, versions}
+use Rattle.rules.specs.Table.{Table, among, differ, entryObeys, keysRise, nodeObeys, nodeOf, numbersOf, obeys, recObeys, rising, versions}
 use Rattle.rules.specs.Whole.{Whole, decodeTail, decodeWhole, encodeWhole, obeysWhole, validWhole}
 use Rattle.rules.specs.declared.Applied.{Applied}
 use Rattle.rules.specs.declared.Mode.the-variants as mode
+use Rattle.rules.specs.declared.Party.the-variants.{Building}
 use Rattle.rules.specs.declared.Profile.{Profile}
-use Rattle.rules.specs.declared.Profile.the-variants.{Free, Meter}
+use Rattle.rules.specs.declared.Profile.the-variants.{Free, Meter, Shared}
 use Rattle.rules.specs.declared.Refusal.the-variants.{BadTable}
 use Rattle.rules.specs.declared.Status.the-variants as status
 use Rattle.rules.proofs.Calls.{none-obeys}
@@ -31,7 +34,11 @@ use Rattle.rules.proofs.Formed.{empty-formed, free-formed}
 use Rattle.rules.proofs.Memories.{whole-profile}
 use Rattle.table.proofs.Encoded.{apply-whole, from-whole}
 use Rattle.table.proofs.Tables.{decode-encode}
-use Rattle.table.proofs.Wholes.{tail-kind, whole-area, whole-obeys, whole-tail, without-memory}
+use Rattle.table.proofs.Wholes.{decode-encode-whole, tail-kind, whole-area, whole-obeys, whole-tail, without-memory}
+use Rattle.lookup.specs.Lookup.{findAs, findRec, lentFind}
+use Rattle.lookup.specs.Told.{foundTold}
+use Rattle.lookup.specs.declared.Found.{Found}
+use Rattle.lookup.specs.declared.Found.the-variants as found
 use Rattle.inspect.specs.Look.{nodeCount}
 use Rattle.inspect.specs.Told.{countTold}
 use Rattle.inspect.specs.declared.Count.{Count}
@@ -111,4 +118,39 @@ empty-set = (
   ap (λ (b : Bool). countTold (pick b (nodeCount (decodeWhole (encodeWhole (metered emptied)) .table)) (count.Refused BadTable)) .number) not-valid,
   ap (λ (l : Bytes). countTold (fromTable (count.Refused BadTable) nodeCount l) .number) (freed-bytes (metered emptied))
       ∙ ap (λ (a : Count). countTold a .number) (from-whole (free (metered emptied)) (without-memory (kind mode.Plain Free) emptied emptied-obeys (free-formed emptied)) (count.Refused BadTable) nodeCount),
+)
+
+-- ---- a shared table: a party that looks the other's key up is answered 19 here, and finds it there
+
+abbrev theirs : Bytes
+theirs = 109 ∷ 47 ∷ []
+
+abbrev lent : Table
+lent =
+    record { number = 7; node = record { heartbeat = beats 1; max = 1; last-gc = 0; recs = record { kv = record { key = theirs; value = 49 ∷ []; version = 1; status = status.Set }; start = 0 } ∷ [] } } ∷ []
+
+abbrev shared : Whole
+shared = record { kind = kind mode.Plain Shared; memory = []; table = lent }
+
+lent-obeys : obeys lent ≡ true
+unfolding obeys rising numbersOf all entryObeys nodeObeys recObeys differ keysRise versions among
+lent-obeys = refl
+
+lent-formed : profileObeys Shared lent ≡ true
+unfolding profileObeys all keep startsWith
+lent-formed = refl
+
+finding : (w : Whole) → obeysWhole w ≡ true → (n : ℕ) → foundTold (findAs (w .kind .profile) Building 7 theirs (w .table)) .number ≡ n
+    → foundTold (lentFind Building 7 theirs (encodeWhole w)) .number ≡ n
+finding w o n e =
+    ap (λ (u : Whole). foundTold (fromTable (found.Refused BadTable) (findAs (u .kind .profile) Building 7 theirs) (encodeWhole w)) .number) (decode-encode-whole w o)
+    ∙ ap (λ (a : Found). foundTold a .number) (from-whole w o (found.Refused BadTable) (findAs (w .kind .profile) Building 7 theirs))
+    ∙ e
+
+pub sees-theirs : Answers (calls.find (encodeWhole shared) theirs late Building) 19 0
+unfolding leaves freedCall foundTold findRec nodeOf sameBytes alone keep startsWith
+sees-theirs = (
+  finding shared (without-memory (kind mode.Plain Shared) lent lent-obeys lent-formed) 19 refl,
+  ap (λ (l : Bytes). foundTold (lentFind Building 7 theirs l) .number) (freed-bytes shared)
+      ∙ finding (free shared) (without-memory (kind mode.Plain Free) lent lent-obeys (free-formed lent)) 0 refl,
 )

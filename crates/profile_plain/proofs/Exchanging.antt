@@ -1,5 +1,5 @@
--- An exchange, which looks at the profile of the follower: first whether it takes the publisher's records, then where it applies. What it does where it does not
--- answer 17 it does of the freed tables. Assumes nothing.
+-- An exchange, which looks at the profile of the follower: first whether it takes the publisher's records, then where it applies. What it does where the follower
+-- is not shared and it does not answer 17 it does of the freed tables. Assumes nothing.
 use Prim.Native.Nat.{ℕ}
 use mathlib.Core.Path.{_≡_, refl, ap, ap₂, sym, _∙_}
 use mathlib.Core.Bool.{Bool, true, false}
@@ -13,17 +13,19 @@ use Rattle.rules.specs.Compute.{compute}
 use Rattle.rules.specs.Digest.{digestBytes, digestOf, isEdition, writeDigest}
 use Rattle.rules.specs.Given.{Given, given}
 use Rattle.rules.specs.Lent.{lentApply, lentCompute, lentDigest}
-use Rattle.rules.specs.Profile.{profileObeys}
+use Rattle.rules.specs.Profile.{oddNumber, tableFormed}
 use Rattle.rules.specs.Table.{Table}
 use Rattle.rules.specs.Whole.{Whole, decodeWhole, validWhole}
 use Rattle.rules.specs.declared.Applied.{Applied}
 use Rattle.rules.specs.declared.Applied.the-variants as applied
 use Rattle.rules.specs.declared.Computed.{Computed}
 use Rattle.rules.specs.declared.Computed.the-variants as computed
+use Rattle.rules.specs.declared.Profile.{Profile}
+use Rattle.rules.specs.declared.Profile.the-variants.{Free}
 use Rattle.rules.specs.declared.Refusal.the-variants.{BadEdition, BadForm, BadTable, NoPlace}
 use Rattle.rules.specs.declared.Written.{Written}
 use Rattle.rules.specs.declared.Written.the-variants as written
-use Rattle.rules.proofs.Formed.{free-formed}
+use Rattle.rules.proofs.Formed.{free-formed, table-formed}
 use Rattle.compute.specs.Asking.{askedOf}
 use Rattle.compute.specs.declared.Asked.{Asked}
 use Rattle.compute.specs.declared.Asked.the-variants as asked
@@ -33,9 +35,9 @@ use Rattle.exchange_ask.specs.Asking.{Rooms, formsFit, readyFor, readyOn, rooms
 use Rattle.exchange_ask.specs.declared.Ready.{Ready}
 use Rattle.exchange_ask.specs.declared.Ready.the-variants as ready
 use Rattle.exchange_ask.specs.declared.Step.the-variants.{Applying, Delta, Digest}
-use Rattle.profile_plain.specs.Plain.{freed}
+use Rattle.profile_plain.specs.Plain.{freed, unshared}
 use Rattle.profile_plain.proofs.Applying.{apply-freed}
-use Rattle.profile_plain.proofs.Freed.{freed-back, freed-valid, from-freed}
+use Rattle.profile_plain.proofs.Freed.{as-free, freed-back, freed-valid, from-freed}
 
 abbrev Not17 : Exchanged → Type 0
 Not17 a = exchangedTold a .number ≡ 17 → ⊥
@@ -46,38 +48,39 @@ Not17 a = exchangedTold a .number ≡ 17 → ⊥
 abbrev AsksSo : (formed all-formed : Ready) → Type 0
 AsksSo x y = (x ≡ ready.No Applying BadForm → ⊥) → y ≡ x
 
-asks-on : (edition : ℕ) (unasked : List ℕ) (k : Rooms) (formed : Bool) (p f : Table) → AsksSo (readyOn edition unasked k formed p f) (readyOn edition unasked k true p f)
+asks-on : (edition : ℕ) (unasked : List ℕ) (k : Rooms) (pr : Profile) → oddNumber pr ≡ BadForm → (formed : Bool) (p f : Table)
+    → AsksSo (readyOn edition unasked k pr formed p f) (readyOn edition unasked k Free true p f)
 unfolding readyOn roomsFor takingFor
-asks-on edition unasked k formed p f = known (isEdition edition)
+asks-on edition unasked k pr odd formed p f = known (isEdition edition)
   where
-    taking : (b : Bool) → AsksSo (takingFor b (k .answers) (length p)) (takingFor true (k .answers) (length p))
+    taking : (b : Bool) → AsksSo (takingFor pr b (k .answers) (length p)) (takingFor Free true (k .answers) (length p))
     taking true h = refl
-    taking false h = absurd (h refl)
+    taking false h = absurd (h (ap (ready.No Applying) odd))
 
-    numbers : (a : Asked) → AsksSo (unlessRefused a (takingFor formed (k .answers) (length p))) (unlessRefused a (takingFor true (k .answers) (length p)))
+    numbers : (a : Asked) → AsksSo (unlessRefused a (takingFor pr formed (k .answers) (length p))) (unlessRefused a (takingFor Free true (k .answers) (length p)))
     numbers asked.Good = taking formed
     numbers (asked.Refused r) = λ h. refl
 
     a : Asked
     a = askedOf (k .mtu) 0 (k .delta) (k .ties) (length p)
 
-    fits : (b : Bool) → AsksSo (pick b (unlessRefused a (takingFor formed (k .answers) (length p))) (ready.No Digest NoPlace)) (pick b (unlessRefused a (takingFor true (k .answers) (length p))) (ready.No Digest NoPlace))
+    fits : (b : Bool) → AsksSo (pick b (unlessRefused a (takingFor pr formed (k .answers) (length p))) (ready.No Digest NoPlace)) (pick b (unlessRefused a (takingFor Free true (k .answers) (length p))) (ready.No Digest NoPlace))
     fits true = numbers a
     fits false = λ h. refl
 
-    known : (b : Bool) → AsksSo (pick b (roomsFor edition unasked k formed p f) (ready.No Digest BadEdition)) (pick b (roomsFor edition unasked k true p f) (ready.No Digest BadEdition))
+    known : (b : Bool) → AsksSo (pick b (roomsFor edition unasked k pr formed p f) (ready.No Digest BadEdition)) (pick b (roomsFor edition unasked k Free true p f) (ready.No Digest BadEdition))
     known true = fits (leb (length (digestBytes edition (digestOf unasked f))) (k .digest))
     known false = λ h. refl
 
-module _ (publisher follower : List ℕ) (pv : validWhole publisher ≡ true) (fv : validWhole follower ≡ true) where
+module _ (publisher follower : List ℕ) (pv : validWhole publisher ≡ true) (fv : validWhole follower ≡ true) (fo : unshared (decodeWhole follower .kind .profile) ≡ true) where
   asks-freed : (edition : ℕ) (unasked : List ℕ) (k : Rooms) → (readyFor edition unasked k publisher follower ≡ ready.No Applying BadForm → ⊥)
       → readyFor edition unasked k (freed publisher) (freed follower) ≡ readyFor edition unasked k publisher follower
   unfolding readyFor
   asks-freed edition unasked k h =
       ap₂ (λ (a b : Bool). pick a (pick b (on (decodeWhole (freed publisher)) (decodeWhole (freed follower))) (ready.No Delta BadTable)) (ready.No Digest BadTable)) (freed-valid follower fv) (freed-valid publisher pv)
       ∙ ap₂ on (freed-back publisher pv) (freed-back follower fv)
-      ∙ ap (λ (b : Bool). readyOn edition unasked k b p f) (free-formed p)
-      ∙ asks-on edition unasked k (formsFit publisher follower) p f (λ e. h (here ∙ e))
+      ∙ ap (λ (b : Bool). readyOn edition unasked k Free b p f) (table-formed Free p (free-formed p))
+      ∙ asks-on edition unasked k (decodeWhole follower .kind .profile) (sym (as-free (decodeWhole follower .kind .profile) fo oddNumber refl)) (formsFit publisher follower) p f (λ e. h (here ∙ e))
       ∙ sym here
     where
       p : Table
@@ -87,10 +90,10 @@ module _ (publisher follower : List ℕ) (pv : validWhole publisher ≡ true) (f
       f = decodeWhole follower .table
 
       on : Whole → Whole → Ready
-      on u w = readyOn edition unasked k (profileObeys (w .kind .profile) (u .table)) (u .table) (w .table)
+      on u w = readyOn edition unasked k (w .kind .profile) (tableFormed (w .kind .profile) (u .table)) (u .table) (w .table)
 
-      here : readyFor edition unasked k publisher follower ≡ readyOn edition unasked k (formsFit publisher follower) p f
-      here = ap₂ (λ (a b : Bool). pick a (pick b (readyOn edition unasked k (formsFit publisher follower) p f) (ready.No Delta BadTable)) (ready.No Digest BadTable)) fv pv
+      here : readyFor edition unasked k publisher follower ≡ readyOn edition unasked k (decodeWhole follower .kind .profile) (formsFit publisher follower) p f
+      here = ap₂ (λ (a b : Bool). pick a (pick b (readyOn edition unasked k (decodeWhole follower .kind .profile) (formsFit publisher follower) p f) (ready.No Delta BadTable)) (ready.No Digest BadTable)) fv pv
 
   -- ---- the three calls
 
@@ -108,7 +111,7 @@ module _ (publisher follower : List ℕ) (pv : validWhole publisher ≡ true) (f
   computed-freed : (clock : ℕ) (answers delta : List ℕ) (c : Computed) → Not17 (afterComputing clock answers follower delta c .answer)
       → afterComputing clock answers (freed follower) delta c ≡ freedThree (afterComputing clock answers follower delta c)
   computed-freed clock answers delta (computed.Delta ops bytes) h =
-      ap (afterApplying ops bytes delta) (apply-freed follower fv (part 0 bytes delta) clock answers (λ e. h (said ops bytes (lentApply (part 0 bytes delta) clock answers follower .answer) ∙ e)))
+      ap (afterApplying ops bytes delta) (apply-freed follower fv fo (part 0 bytes delta) clock answers (λ e. h (said ops bytes (lentApply (part 0 bytes delta) clock answers follower .answer) ∙ e)))
   computed-freed clock answers delta (computed.Refused r) h = refl
 
   module _ (g : Lending) where

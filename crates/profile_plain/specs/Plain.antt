@@ -1,10 +1,11 @@
 -- Ticket 8's demand 2: equal to the plain table on every call not refused by it. `freed` is the same table in the free profile: the same bytes with 0 where the
--- profile stands. Of every call of `demand1` but the making of a table, whose tables are valid and which is answered neither 17 nor 18: on the freed tables it tells
--- the same and leaves the same lists, and the tables that it leaves are those freed. So other refusals are the same too. What else is lent may be anything. Two
--- stronger readings are false (proofs/Differs): without "valid", and that a call which is 17 here is accepted there.
+-- profile stands. Of every call of `demand1` but the making of a table, whose tables are valid and not shared and which is answered neither 17 nor 18: on the freed
+-- tables it tells the same and leaves the same lists, and the tables that it leaves are those freed. So other refusals are the same too. What else is lent may be
+-- anything. Three stronger readings are false (proofs/Differs): without "valid", that a call which is 17 here is accepted there, and of a shared table too, since
+-- freed it shows everyone all of it.
 use Prim.Native.Nat.{ℕ, zero, suc, _+_}
 use mathlib.Core.Path.{_≡_}
-use mathlib.Core.Bool.{true}
+use mathlib.Core.Bool.{Bool, true, false, _&&_}
 use mathlib.Core.List.{List, [], _∷_}
 use lib.ListN.{take}
 use Rattle.fields.specs.Choice.{all}
@@ -12,7 +13,9 @@ use Rattle.fields.specs.Numbers.{Bytes}
 use Rattle.fields.specs.Parts.{put}
 use Rattle.rules.specs.Given.{given}
 use Rattle.rules.specs.Layout.{tableWidth}
-use Rattle.rules.specs.Whole.{validWhole}
+use Rattle.rules.specs.Whole.{decodeWhole, validWhole}
+use Rattle.rules.specs.declared.Profile.{Profile}
+use Rattle.rules.specs.declared.Profile.the-variants.{Free, Meter, Shared}
 use Rattle.demand1.specs.Calls as calls
 use Rattle.demand1.specs.Calls.{Call, Kind, leaves, lentTo, tables}
 
@@ -62,6 +65,7 @@ freedCall (calls.record-at t i j who) = calls.record-at (freed t) i j who
 freedCall (calls.record-of t i j who) = calls.record-of (freed t) i j who
 freedCall (calls.record-by-key t k i who) = calls.record-by-key (freed t) k i who
 freedCall (calls.node-rows t i who) = calls.node-rows (freed t) i who
+freedCall (calls.front t i who) = calls.front (freed t) i who
 freedCall (calls.prefix-rows t k i who) = calls.prefix-rows (freed t) k i who
 freedCall (calls.find-text t i j x who) = calls.find-text (freed t) i j x who
 freedCall (calls.write-digest t edition excluded datagram place) = calls.write-digest (freed t) edition excluded datagram place
@@ -77,11 +81,20 @@ freedCall (calls.make-delta text out) = calls.make-delta text out
 freedCall (calls.exchange publisher follower edition unasked unsent ties digest delta answers mtu now) =
     calls.exchange (freed publisher) (freed follower) edition unasked unsent ties digest delta answers mtu now
 
+-- a profile that asks for no party, and a valid table of one
+abbrev pub unshared : (profile : Profile) → Bool
+unshared Free = true
+unshared Meter = true
+unshared Shared = false
+
+abbrev pub validUnshared : (table : Bytes) → Bool
+validUnshared l = validWhole l && unshared (decodeWhole l .kind .profile)
+
 -- what is claimed of a call
 abbrev pub AsPlain : {k : Kind} (call : Call k) → Type 0
 AsPlain {k} c = leaves (freedCall c) ≡ given (leaves c .answer) (freedFirst (tables k) (leaves c .lent))
 
 -- and of all of them
 abbrev pub Demand2 : Type 0
-Demand2 = (k : Kind) (c : Call k) → (k ≡ calls.NewTable → ⊥) → all validWhole (take (tables k) (lentTo c)) ≡ true
+Demand2 = (k : Kind) (c : Call k) → (k ≡ calls.NewTable → ⊥) → all validUnshared (take (tables k) (lentTo c)) ≡ true
     → (leaves c .answer .number ≡ 17 → ⊥) → (leaves c .answer .number ≡ 18 → ⊥) → AsPlain c

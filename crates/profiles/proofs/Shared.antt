@@ -1,20 +1,20 @@
 -- A local call that the guard of a shared table lets through keeps the rules of the shared profile: the key is of one of the two parties, and neither has over 16
 -- records. Assumes nothing.
 use Prim.Native.Nat.{ℕ}
-use mathlib.Core.Bool.{Bool, true, false, false≢true, _&&_}
+use mathlib.Core.Bool.{Bool, true, false, false≢true}
 use mathlib.Core.List.{List, [], _∷_}
 use mathlib.Core.Option.{Option, none, some}
 use mathlib.Core.Path.{_≡_, refl, ap, sym, _∙_}
 use native.Mathlib.Omega.{arith}
 use lib.Dec.{eqb, leb}
 use lib.ListN.{length}
-use borrow.Author.Tests.{le-leb, leb-true, leb-false, eqb-true}
+use borrow.Author.Tests.{le-leb, leb-false, eqb-true}
 use Rattle.fields.specs.Choice.{pick}
 use Rattle.fields.specs.Order.{startsWith}
 use Rattle.fields.proofs.Choice.{and-intro, and-left, and-right}
 use Rattle.rules.specs.Sizes.{maxEach}
 use Rattle.rules.specs.Node.{KeyValue, Rec, Call, Setting, SettingTtl, Deleting, DeletingAfterTtl, Change, Give, Refuse, find, store, wish}
-use Rattle.rules.specs.Party.{own, ofKeys, roomyEach, someones, buildingKeys, meteringKeys}
+use Rattle.rules.specs.Party.{own, ofKeys, roomyEach}
 use Rattle.rules.specs.Profile.{brings, fullGuard, inForm, partyGuard}
 use Rattle.rules.specs.declared.Profile.the-variants.{Shared}
 use Rattle.rules.specs.declared.Party.{Party}

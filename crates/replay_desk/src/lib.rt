@@ -25,8 +25,8 @@ pub const GRID: usize = grid_layout::GRID + 1;
 
 pub const GRIDS: usize = 4 * GRID;
 
-// The current hub and party, how many bytes of each hub's rooms are its lent table and its lent grid, the lengths of the last digest and the last delta, and the output
-// so far.
+// The current hub and party, how many bytes of each hub's rooms are its lent table and its lent grid, the lengths of the last digest and the last delta, and
+// the output so far.
 pub struct Desk {
     pub hub: u64,
     pub party: u64,

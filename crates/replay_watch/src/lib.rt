@@ -185,7 +185,7 @@ fn makes(verb: usize, line: &[u8]) -> bool {
     match verb {
         verbs::NEW => true,
         verbs::MAKE => is_below(read::word(line, 1), 3),
-        verbs::KIND => is_below(read::word(line, 1), 3) && is_below(read::word(line, 2), 2),
+        verbs::KIND => is_below(read::word(line, 1), 3) && is_below(read::word(line, 2), 3),
         _ => false,
     }
 }

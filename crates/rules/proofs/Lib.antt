@@ -1,5 +1,6 @@
 pub mod Cases
 pub mod MeterCases
+pub mod SharedCases
 pub mod Records
 pub mod Taking
 pub mod Stale

@@ -23,7 +23,7 @@ use Rattle.rules.specs.declared.Record.{Record}
 use Rattle.table.specs.Fits.{LaidNode}
 use Rattle.table.specs.Tests.{keyLength, valueLength, countOf, recsIn}
 use Rattle.table.proofs.Tables.{valid-long}
-use Rattle.table.proofs.Places.{recBytes, recAt, length-recs}
+use Rattle.table.proofs.Places.{recBytes, recAt}
 use Rattle.table.proofs.Laid.{rec-long, laid-key, laid-value}
 use Rattle.table_read.specs.Find.{findKey, spanIn, nodeStart, recordOf}
 use Rattle.table_read.specs.declared.Place.{Place}
@@ -138,7 +138,3 @@ pub rec-read : (b : List ℕ) (j : ℕ) (x : List ℕ) → x ≡ recBytes j b �
 rec-read b j x e r p = p ∙ ap (λ (y : List ℕ). recordOf (decodeRec y)) e
 
 pub ruleset lent-rec-needs = (key-in, rec-few)
-
--- how many there are
-pub counted : (b : List ℕ) (k : ℕ) → k ≡ countOf b → k ≡ length (recsIn b)
-counted b k e = e ∙ sym (length-recs b)

@@ -14,6 +14,7 @@ mod inputs;
 mod local;
 mod meter;
 mod port;
+mod shared;
 mod stack;
 
 use std::hint::black_box;
@@ -688,6 +689,7 @@ fn main() {
     applying(&mut rows, "apply 16,384 bytes to a half full table, owned table", &half, &newer, APPLY, true, OWNED);
     grid::rows(&mut rows);
     meter::rows(&mut rows);
+    shared::rows(&mut rows);
     println!("An owned table:\n");
     rows.print(BOTH, |aim| matches!(aim, Aim::Owned));
     println!("\nNodes that come and go in an owned table:\n");

@@ -163,7 +163,7 @@ fn break_table(random: &mut Random, nodes: &[Node], profile: u8) -> Option<Vec<u
             soil(random, &mut bytes[AREA_BYTES + 3..])?;
             Some(bytes)
         }
-        17 => Some(set(&nodes, AREA_BYTES + 1, over(random, table::METER as u64 + 1))),
+        17 => Some(set(&nodes, AREA_BYTES + 1, over(random, table::SHARED as u64 + 1))),
         18 => Some(set(&nodes, AREA_BYTES + 2, over(random, REMOVED as u64 + 1))),
         19 => {
             let mut removed = removed(random, &nodes);
@@ -183,6 +183,20 @@ fn break_table(random: &mut Random, nodes: &[Node], profile: u8) -> Option<Vec<u
             let mut bytes = encode_with(&nodes, &removed);
             soil(random, &mut bytes[AREA_BYTES + 3 + removed.len() * REMOVED_BYTES..])?;
             Some(bytes)
+        }
+        22 if profile == table::SHARED => {
+            let record = nodes.get_mut(at)?.records.get_mut(record_at)?;
+            record.key[random.below(2) as usize] = *random.pick(b"a0.c");
+            nodes[at].records.sort_by(|one, other| one.key.cmp(&other.key));
+            Some(encode(&nodes))
+        }
+        23 if profile == table::SHARED => {
+            let node = nodes.get_mut(at)?;
+            let max = node.max.checked_add(17)?;
+            let firm = *random.pick(&["m/", "b/"]);
+            node.records = (0..17).map(|i| Record { key: format!("{firm}{i:02}").into_bytes(), value: Vec::new(), version: max - i, status: table::SET, start: 0 }).collect();
+            node.max = max;
+            Some(encode(&nodes))
         }
         22 | 23 if profile == table::METER => {
             let record = nodes.get_mut(at)?.records.get_mut(record_at)?;

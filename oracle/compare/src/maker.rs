@@ -11,6 +11,9 @@ use crate::pieces::{self, Op};
 use crate::plans::{self, Plan};
 use crate::random::Random;
 
+/// A firm's records of a node in a shared table, at most.
+pub const EACH: usize = 16;
+
 pub struct Maker {
     pub random: Random,
     lines: Vec<String>,
@@ -23,7 +26,7 @@ pub struct Maker {
     clock: u64,
     /// Of both hubs' tables.
     mode: u8,
-    /// Of each hub's: free, meter, or one of each.
+    /// Of each hub's: free, meter, shared, or two of these.
     profiles: [u8; 2],
     /// The edition of the last digest.
     told: u64,
@@ -40,15 +43,24 @@ impl Maker {
     pub fn new(mut random: Random, nodes: u64, keys: u64) -> Maker {
         let nodes = (0..nodes).map(|_| pieces::node(&mut random)).collect();
         let mode = *random.pick(&[table::PLAIN, table::PLAIN, table::FENCED, table::GUARDED]);
-        let profiles = match random.below(12) {
+        let profiles = match random.below(16) {
             0 | 1 => [table::METER, table::METER],
             2 => [table::FREE, table::METER],
             3 => [table::METER, table::FREE],
+            4 | 5 => [table::SHARED, table::SHARED],
+            6 => [table::FREE, table::SHARED],
+            7 => [table::SHARED, table::FREE],
             _ => [table::FREE, table::FREE],
         };
         let readings = profiles.contains(&table::METER);
         let (key, value): (fn(&mut Random) -> _, fn(&mut Random) -> _) =
-            if readings { (pieces::meter_key, pieces::meter_value) } else { (pieces::key, pieces::value) };
+            if readings {
+                (pieces::meter_key, pieces::meter_value)
+            } else if profiles.contains(&table::SHARED) {
+                (pieces::firms_key, pieces::value)
+            } else {
+                (pieces::key, pieces::value)
+            };
         let keys = (0..keys).map(|_| key(&mut random)).collect();
         let values = (0..4).map(|_| value(&mut random)).collect();
         let mut maker =
@@ -69,11 +81,20 @@ impl Maker {
         self.profile() == table::METER
     }
 
+    pub fn is_shared(&self) -> bool {
+        self.profile() == table::SHARED
+    }
+
     pub fn finish(self) -> Vec<String> {
         self.lines
     }
 
+    /// Where a table is shared the parties take turns, with nobody among them.
     pub fn line(&mut self, line: impl Into<String>) {
+        if self.profiles.contains(&table::SHARED) && self.random.once_in(3) {
+            let party = *self.random.pick(&[1, 1, 2, 2, 0, 3, u64::MAX]);
+            self.lines.push(format!("party {party}"));
+        }
         self.lines.push(line.into());
     }
 
@@ -392,7 +413,8 @@ impl Maker {
         for place in 0..count {
             version += self.random.within(1, 2);
             let key = if reset { place } else { self.random.below(36) };
-            let key = format!("k{key}").into_bytes();
+            let firm = if self.is_shared() { *self.random.pick(&["m/", "b/"]) } else { "" };
+            let key = format!("{firm}k{key}").into_bytes();
             let status = self.random.below(3) as u8;
             let value = if status == table::SET && self.is_meter() { b"5".to_vec() } else { Vec::new() };
             ops.push(Op::KeyValue { key, value, version, status });
@@ -402,6 +424,20 @@ impl Maker {
     pub fn apply(&mut self, delta: &str) {
         let (now, places) = (self.now(), self.places());
         self.line(format!("apply {delta} {now} {places}"));
+    }
+
+    /// A delta whole, or cut at one of its Nodes, the first too: both parts at one time, in either order.
+    pub fn apply_ops(&mut self, ops: &[Op]) {
+        let starts: Vec<usize> = (0..ops.len()).filter(|&place| matches!(ops[place], Op::Node { .. })).collect();
+        if starts.is_empty() || !self.random.once_in(3) {
+            return self.apply(&hex(&pieces::delta(ops)));
+        }
+        let (first, second) = ops.split_at(*self.random.pick(&starts));
+        let halves = if self.random.once_in(2) { [first, second] } else { [second, first] };
+        let (now, places) = (self.now(), self.places());
+        for half in halves {
+            self.line(format!("apply {} {now} {places}", hex(&pieces::delta(half))));
+        }
     }
 
     /// Nodes of a table that obeys the rules. `long`: with texts near their sizes.
@@ -415,17 +451,27 @@ impl Maker {
     }
 
     fn good_node(&mut self, number: u64, records: u64, long: bool) -> Node {
-        let meter = self.is_meter();
-        let fits = |key: &&Vec<u8>| key.len() <= table::KEY && (!meter || pieces::is_name(key));
+        let (meter, shared) = (self.is_meter(), self.is_shared());
+        let fits = |key: &&Vec<u8>| key.len() <= table::KEY && (!meter || pieces::is_name(key)) && (!shared || pieces::is_firms(key));
         let mut keys: BTreeSet<Vec<u8>> = self.keys.iter().filter(fits).cloned().collect();
         while keys.len() < RECORDS {
             let len = self.random.within(if long { 24 } else { 1 }, 32) as usize;
-            keys.insert(if meter { pieces::name(&mut self.random, len) } else { pieces::text(&mut self.random, len) });
+            keys.insert(match (meter, shared) {
+                (true, _) => pieces::name(&mut self.random, len),
+                (_, true) => pieces::firms_name(&mut self.random, len.max(2)),
+                _ => pieces::text(&mut self.random, len),
+            });
         }
         let mut keys: Vec<Vec<u8>> = keys.into_iter().collect();
         while keys.len() > records as usize {
             let out = self.random.place(keys.len());
             keys.remove(out);
+        }
+        for firm in [&b"m/"[..], b"b/"] {
+            while shared && keys.iter().filter(|key| key.starts_with(firm)).count() > EACH {
+                let out = keys.iter().position(|key| key.starts_with(firm)).expect("there are some");
+                keys.remove(out);
+            }
         }
         let floor = if self.random.once_in(8) { u64::MAX - 40 } else { self.random.below(4) };
         let mut versions: Vec<u64> = (1..=keys.len() as u64).map(|step| floor + step).collect();

@@ -82,6 +82,29 @@ pub fn meter_value(random: &mut Random) -> Vec<u8> {
     }
 }
 
+/// A key of a shared table, of exactly `len` bytes, 2 at least: of the one firm or of the other.
+pub fn firms_name(random: &mut Random, len: usize) -> Vec<u8> {
+    let mut key = random.pick(&["m/", "b/"]).as_bytes().to_vec();
+    key.extend(text(random, len - 2));
+    key
+}
+
+/// Whether a shared table may have such a key. Only to aim.
+pub fn is_firms(key: &[u8]) -> bool {
+    key.starts_with(b"m/") || key.starts_with(b"b/")
+}
+
+/// A key for a shared table: few of each firm, now and then one of neither.
+pub fn firms_key(random: &mut Random) -> Vec<u8> {
+    const ODD: [&str; 9] = ["", "m", "b", "/", "M/a", "mm/", "a/x", "c/", "m\\x"];
+    match random.below(12) {
+        0 => random.pick(&ODD).as_bytes().to_vec(),
+        1 => firms_name(random, 32),
+        2 => firms_name(random, 2),
+        _ => random.pick(&["m/a", "m/b", "m/total", "b/a", "b/b", "b/label"]).as_bytes().to_vec(),
+    }
+}
+
 /// A node's number: small ones, ones whose bytes order otherwise than they do, the last ones.
 pub fn node(random: &mut Random) -> u64 {
     *random.pick(&[0, 1, 2, 3, 255, 256, 257, 65_536, 1 << 32, 1 << 63, LAST - 1, LAST, 7, 8, 9, 10])

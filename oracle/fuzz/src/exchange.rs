@@ -1,14 +1,21 @@
-//! The exchange in one call, between the tables that a script left, free or meter, good or not. It is asked that it is refused by the step and the number that docs/RULES.md says, 17 wherever the
-//! follower is a meter table and a record of the publisher's table is not a reading, with no lent byte changed; and that it else does what its three calls do.
+//! The exchange in one call, between the tables that a script left, of any profile, good or not. It is asked that it is refused by the step and the number that docs/RULES.md says, 17 wherever the
+//! follower is a meter table and a record of the publisher's table is not a reading, 19 wherever it is shared and a record is of neither firm, with no lent byte changed; and that it else does what its
+//! three calls do.
 
 use plain::table::Table;
-use script::table::{AREA_BYTES, METER};
+use script::table::{AREA_BYTES, BUILDING, METER, METERING, SHARED, owns};
 
 use crate::ffi;
 use crate::random::Random;
 
 const MARK: u8 = 0xEE;
 const PROFILE_AT: usize = AREA_BYTES + 1;
+
+/// Whether every key is of one firm or of the other.
+fn of_firms(publisher: &[u8]) -> bool {
+    let nodes = Table::from_bytes(publisher).map(|table| table.nodes).unwrap_or_default();
+    nodes.values().flat_map(|node| node.records.keys()).all(|key| owns(METERING, key) || owns(BUILDING, key))
+}
 
 /// Step and number that the call must give; 0 and 0 where it goes ahead.
 fn foreseen(publisher: &[u8], follower: &[u8], mtu: usize, ties: usize, answers: usize) -> (usize, u64) {
@@ -25,6 +32,7 @@ fn foreseen(publisher: &[u8], follower: &[u8], mtu: usize, ties: usize, answers:
         () if mtu < 100 => (2, 7),
         () if ties != nodes => (2, 15),
         () if follower[PROFILE_AT] == METER && Table::from_bytes(&as_meter).is_none() => (3, 17),
+        () if follower[PROFILE_AT] == SHARED && !of_firms(publisher) => (3, 19),
         () if answers < nodes => (3, 8),
         () => (0, 0),
     }

@@ -77,6 +77,9 @@ impl Port {
         let (number, answer) = ask(&mut self.grid, &mut self.table, call);
         self.calls += 1;
         let (grid_stays, table_stays) = (self.grid == grid, self.table == table);
+        if !table_stays {
+            self.twins.meet();
+        }
         if number != 0 && !(grid_stays && table_stays) {
             return Err(format!("{call:?}: refused with {number}, and something has changed"));
         }

@@ -2,14 +2,15 @@
 //!
 //!     fuzz N SEED     at least N calls of the library; tools/fuzz builds it and runs it
 //!
-//! The scripts are those of `compare beyond` and `compare peers`: random and damaged tables, digests, deltas and lists. Of each call it is asked that
+//! The scripts are those of `compare beyond` and `compare peers`: random and damaged tables, digests, deltas and lists; and those of two firms on one table (`firms.rs`). Of each call it is asked that
 //! - its answer and the table afterwards equal those of `plain`,
 //! - where it is refused, no lent byte has changed,
 //! - where it is accepted, the check accepts the table that it leaves, and what was not to be written is as it was,
 //! - on a good table, the same call without the check tells and leaves the same,
-//! - on a good meter table, where it is answered neither 17 nor 18, it tells and leaves what it does on the free table of the same records,
+//! - on a good meter table, where it is answered neither 17 nor 18, it tells and leaves what it does on the free table of the same records; on a good shared table so does a call that no party makes,
+//! - on a good shared table it tells a firm the same without the other's writes and deletes (`twins.rs`),
 //! - where a delta was applied, its two parts do the same in either order, cut at a Node; cut elsewhere, the second is refused with 11,
-//! - now and then, the readings by place give the very table again.
+//! - now and then, the readings by place give the very table again; of a shared table those of the two firms together, and nobody's nothing.
 //!
 //! A call on a grid is made by the crate's `Watched` too (`grid.rs`). Each script is followed by an exchange in one call between the tables that it left (`exchange.rs`), and one in sixteen by a walk
 //! over overrides (`over.rs`).
@@ -21,6 +22,7 @@ mod exchange;
 #[allow(dead_code)]
 #[path = "../../../rust/kevdarosh/src/ffi.rs"]
 mod ffi;
+mod firms;
 mod grid;
 #[path = "../../compare/src/grids.rs"]
 mod grids;
@@ -40,6 +42,7 @@ mod random;
 #[allow(dead_code)]
 #[path = "../../compare/src/scripts.rs"]
 mod scripts;
+mod twins;
 
 use std::collections::BTreeMap;
 use std::process::ExitCode;
@@ -80,6 +83,9 @@ struct Run {
     lines: u64,
     scripts: u64,
     answers: BTreeMap<String, u64>,
+    /// Calls on second tables, and those of them that were not the table (`twins.rs`).
+    asked: u64,
+    apart: u64,
 }
 
 impl Run {
@@ -87,7 +93,7 @@ impl Run {
     fn script(&mut self, lines: &[String], port: &mut [Port; HUBS]) -> Result<(), String> {
         let mut plain = [(); HUBS].map(|()| Lent::new(0, 0));
         let mut grids = [(); HUBS].map(|()| script::grid::empty());
-        let (mut current, mut digest, mut delta) = (0, Vec::new(), Vec::new());
+        let (mut current, mut party, mut digest, mut delta) = (0, 0, Vec::new(), Vec::new());
         let calls = all(port);
         *port = [(); HUBS].map(|()| Port::new());
         port[0].calls += calls;
@@ -108,6 +114,7 @@ impl Run {
             self.lines += 1;
             match &call {
                 Call::Hub(hub) => current = *hub,
+                Call::Party { number } => party = *number,
                 Call::New { mode, profile } => {
                     let refused = port[current].remake(*mode, *profile)?;
                     if !refused {
@@ -118,6 +125,7 @@ impl Run {
                 Call::Table { bytes: Bytes::Given(bytes) } => {
                     plain[current].take_table(bytes);
                     port[current].table = bytes.clone();
+                    port[current].twins.meet();
                 }
                 Call::Grid { bytes: Bytes::Given(bytes) } => {
                     grids[current] = bytes.clone();
@@ -132,7 +140,7 @@ impl Run {
                     let (want, got) = if call.on_grid() {
                         (plain[current].answer_grid(&mut grids[current], call), port[current].answer_grid(call)?)
                     } else {
-                        (plain[current].answer(call), port[current].answer(call)?)
+                        (plain[current].answer(call, party), port[current].answer(call, party)?)
                     };
                     if want != got {
                         return Err(format!("{line}\n  plain:   {want}\n  library: {got}"));
@@ -160,6 +168,12 @@ impl Run {
             let (calls, number) = exchange::once(&mut random, &port[publisher].table, &port[follower].table)?;
             *self.answers.entry(format!("exchange{number:02}")).or_default() += 1;
             port[0].calls += calls;
+        }
+        for port in port.iter_mut() {
+            let twins = std::mem::take(&mut port.twins);
+            self.asked += twins.asked;
+            self.apart += twins.apart;
+            port.calls += twins.calls;
         }
         self.scripts += 1;
         Ok(())
@@ -206,8 +220,9 @@ fn main() -> ExitCode {
                 }
             }
         }
-        // Grids among all others would be few.
+        // Grids and two firms among all others would be few.
         let script = match index % 16 {
+            1 | 9 => firms::turns(Random::new(seed, index)),
             3 => grids::watched(Random::new(seed, index)),
             11 => grids::given(Random::new(seed, index)),
             15 => scripts::peers(seed, index / 16),
@@ -222,6 +237,7 @@ fn main() -> ExitCode {
         }
     }
     let answers: Vec<String> = run.answers.iter().map(|(kind, count)| format!("{kind}={count}")).collect();
-    println!("seed={seed} calls={} scripts={} lines={} answers [{}] differences=0", all(&port), run.scripts, run.lines, answers.join(" "));
+    let two_runs = format!("two-runs={} apart={}", run.asked, run.apart);
+    println!("seed={seed} calls={} scripts={} lines={} {two_runs} answers [{}] differences=0", all(&port), run.scripts, run.lines, answers.join(" "));
     ExitCode::SUCCESS
 }

@@ -1,17 +1,18 @@
 //! The library's side: each call by its C function, what was lent to it looked at afterwards, and the same call without the check.
 
-use kevdarosh::{Status, TableView};
-use script::table::{AREA_BYTES, DELETE, FREE, KEY, METER, NODE_BYTES, NODE_HEAD_BYTES, Node, RECORD_BYTES, REMOVED_BYTES, Record, VALUE, encode_as};
+use kevdarosh::{Party, Status, TableView};
+use script::table::{AREA_BYTES, BUILDING, DELETE, FREE, KEY, METER, METERING, NODE_BYTES, NODE_HEAD_BYTES, Node, RECORD_BYTES, REMOVED_BYTES, Record, SHARED, VALUE, encode_as};
 use script::{Answer, Bytes, Call, DigestEntry, Fault, Verdict};
 
 use crate::ffi::{self, Kept};
+use crate::twins::Twins;
 
 /// What stands in lent memory before a call.
 const MARK: u8 = 0xEE;
 /// Where the status stands in a record.
 const STATUS_AT: usize = 1 + KEY + 1 + VALUE + 8;
 /// Where the profile stands in a table.
-const PROFILE_AT: usize = AREA_BYTES + 1;
+pub const PROFILE_AT: usize = AREA_BYTES + 1;
 /// More places than a call can want.
 const PLACES: u64 = 64;
 
@@ -19,6 +20,8 @@ pub struct Port {
     pub table: Vec<u8>,
     /// The grid beside it (`grid.rs`).
     pub grid: Vec<u8>,
+    /// What each firm's runs would be without the other's (`twins.rs`).
+    pub twins: Twins,
     /// How many calls of the library were made.
     pub calls: u64,
 }
@@ -73,15 +76,32 @@ fn marked(bytes: &[u8]) -> bool {
 }
 
 /// A call that tells an answer and may write to a lent list: what it told, and the list.
-struct Told {
-    number: u64,
-    answer: Answer,
+#[derive(PartialEq)]
+pub struct Told {
+    pub number: u64,
+    pub answer: Answer,
     list: Vec<u8>,
+    /// Where it says that a text or rows stand, and how many.
+    places: Vec<usize>,
 }
 
-/// The call on a table in one form or the other.
-fn ask<S: ffi::BytesMut>(table: &mut S, call: &Call) -> Told {
-    let mut list = Vec::new();
+/// The party of a number, as the crate has it.
+pub fn party_of(number: u64) -> Party {
+    match number {
+        METERING => Party::Metering,
+        BUILDING => Party::Building,
+        _ => Party::Nobody,
+    }
+}
+
+/// How many bytes further back than it is told the party's texts of a node stand.
+pub fn front<S: ffi::Bytes>(table: &S, party: u64, node: u64) -> usize {
+    ffi::front(table, party, node).count.get()
+}
+
+/// The call on a table in one form or the other, by a party.
+pub fn ask<S: ffi::BytesMut>(table: &mut S, party: u64, call: &Call) -> Told {
+    let (mut list, mut places) = (Vec::new(), Vec::new());
     let (number, answer) = match call {
         Call::Add { node } => plain(ffi::add_node(table, *node)),
         Call::Remove { node } => plain(ffi::remove_node(table, *node)),
@@ -89,9 +109,9 @@ fn ask<S: ffi::BytesMut>(table: &mut S, call: &Call) -> Told {
             let told = ffi::last_heartbeat(table, *node);
             or(told.number, if told.found.get() == 0 { Answer::None } else { Answer::Heartbeat(told.heartbeat) })
         }
-        Call::Write { node, key, value, status, now } => plain(ffi::write(table, *node, key, value, *status, *now)),
-        Call::Delete { node, key, now } => plain(ffi::delete(table, *node, key, *now)),
-        Call::DeleteTtl { node, key, now } => plain(ffi::delete_after_ttl(table, *node, key, *now)),
+        Call::Write { node, key, value, status, now } => plain(ffi::write(table, party, *node, key, value, *status, *now)),
+        Call::Delete { node, key, now } => plain(ffi::delete(table, party, *node, key, *now)),
+        Call::DeleteTtl { node, key, now } => plain(ffi::delete_after_ttl(table, party, *node, key, *now)),
         Call::Beat { node } => plain(ffi::local_beat(table, *node)),
         Call::Gc { now, grace } => plain(ffi::remove_scheduled(table, *now, *grace)),
         Call::Offer { node, heartbeat } => {
@@ -99,18 +119,22 @@ fn ask<S: ffi::BytesMut>(table: &mut S, call: &Call) -> Told {
             or(told.number, if told.count.get() == 0 { Answer::No } else { Answer::Yes })
         }
         Call::Get { node, key } => {
-            let told = ffi::find(table, *node, key);
-            let value = || table.bytes()[told.start.get()..told.start.get() + told.len.get()].to_vec();
+            let told = ffi::find(table, party, *node, key);
+            let start = front(table, party, *node) + told.start.get();
+            places = vec![told.found.get(), told.start.get(), told.len.get()];
+            let value = || table.bytes()[start..start + told.len.get()].to_vec();
             or(told.number, if told.found.get() == 0 { Answer::None } else { Answer::Value(value()) })
         }
-        Call::List { node, prefix, places } => {
-            list = vec![MARK; (*places).min(PLACES) as usize];
-            let told = ffi::list_prefix(table, *node, prefix, &mut list);
+        Call::List { node, prefix, places: room } => {
+            list = vec![MARK; (*room).min(PLACES) as usize];
+            let told = ffi::list_prefix(table, party, *node, prefix, &mut list);
             assert!(marked(&list[told.count.get()..]), "a place behind the hits was written");
-            let rows = ffi::prefix_rows(table, *node, prefix);
+            let rows = ffi::prefix_rows(table, party, *node, prefix);
+            places = vec![rows.at.get(), rows.count.get()];
             assert_eq!(rows.number, if told.number == 8 { 0 } else { told.number });
             if told.number == 0 {
-                assert_eq!(shown(table, ffi::node_rows(table, *node).at.get(), rows), list[..told.count.get()], "the rows of {prefix:?}");
+                let all = ffi::node_rows(table, party, *node).at.get();
+                assert_eq!(shown(table, front(table, party, *node), all, rows), list[..told.count.get()], "the rows of {prefix:?}");
             }
             or(told.number, Answer::Ranks(list[..told.count.get()].iter().map(|&place| place.into()).collect()))
         }
@@ -162,7 +186,7 @@ fn ask<S: ffi::BytesMut>(table: &mut S, call: &Call) -> Told {
         }
         _ => unreachable!("answered without a table"),
     };
-    Told { number, answer, list }
+    Told { number, answer, list, places }
 }
 
 /// Where the operations of a delta that was accepted begin, and whether they are Nodes.
@@ -183,11 +207,65 @@ fn operations(delta: &[u8]) -> Vec<(usize, bool)> {
     ops
 }
 
-/// The places of the rows that are not hidden, the node's rows beginning at `all`.
-fn shown<S: ffi::Bytes>(table: &S, all: usize, rows: ffi::Rows) -> Vec<u8> {
+/// The places of the rows that are not hidden, the party's rows of the node beginning at `all`, and that many bytes further back.
+fn shown<S: ffi::Bytes>(table: &S, front: usize, all: usize, rows: ffi::Rows) -> Vec<u8> {
     let first = (rows.at.get() - all) / RECORD_BYTES;
-    let hidden = |i: &usize| table.bytes()[rows.at.get() + i * RECORD_BYTES + STATUS_AT] == DELETE;
+    let hidden = |i: &usize| table.bytes()[front + rows.at.get() + i * RECORD_BYTES + STATUS_AT] == DELETE;
     (0..rows.count.get()).filter(|i| !hidden(i)).map(|i| (first + i) as u8).collect()
+}
+
+/// A record as a party is told it: what it has, and where its key and its value are said to stand.
+#[derive(Clone, PartialEq)]
+pub struct Seen {
+    pub record: Record,
+    places: (usize, usize),
+}
+
+impl Seen {
+    /// The same but for its version.
+    pub fn unversioned(mut self) -> Seen {
+        self.record.version = 0;
+        self
+    }
+}
+
+/// The records of the table's node at place `i` that a party sees, by each reading, which must tell the same.
+pub fn seen(table: &&[u8], party: u64, i: usize) -> Result<Vec<Seen>, String> {
+    let number = ffi::node_number(table, i).node;
+    let count = ffi::record_count(table, party, number).count.get();
+    let front = front(table, party, number);
+    let text = |found: ffi::Found| table[front + found.start.get()..front + found.start.get() + found.len.get()].to_vec();
+    let seen: Vec<Seen> = (0..count)
+        .map(|j| {
+            let record = ffi::record_at(table, party, number, j);
+            let [key_at, value_at] = [ffi::key_at(table, party, number, j), ffi::value_at(table, party, number, j)];
+            let texts = (record.key_at, record.key_len, record.value_at, record.value_len);
+            assert_eq!(texts, (key_at.start, key_at.len, value_at.start, value_at.len));
+            let (key, value) = (text(key_at), text(value_at));
+            assert_eq!(ffi::record_of(table, party, i, j), record);
+            assert_eq!(ffi::record_by_key(table, party, number, &key), record);
+            let places = (record.key_at.get(), record.value_at.get());
+            Seen { record: Record { key, value, version: record.version, status: record.status.get() as u8, start: record.start }, places }
+        })
+        .collect();
+    // none behind them
+    let past = [ffi::record_at(table, party, number, count).found, ffi::record_of(table, party, i, count).found];
+    let texts = [ffi::key_at(table, party, number, count).found, ffi::value_at(table, party, number, count).found];
+    assert!(past.iter().chain(&texts).all(|found| found.get() == 0), "a record behind the last of node {number}");
+    // the same in one piece: its rows, and the crate's reading of them
+    let rows = ffi::node_rows(table, party, number);
+    assert_eq!((rows.number, rows.at.get(), rows.count.get()), (0, 1 + i * NODE_BYTES + NODE_HEAD_BYTES, count));
+    let view = TableView::over(table);
+    let again = view.party(party_of(party)).node_state(number).map_err(|why| why.to_string())?.key_values_including_deleted();
+    let again = again.map(|it| (it.key.to_vec(), it.value.to_vec(), it.version, status(it.status), it.start));
+    let told = seen.iter().map(|seen| &seen.record).map(|it| (it.key.clone(), it.value.clone(), it.version, it.status, it.start));
+    assert!(again.eq(told), "the rows of node {number}");
+    Ok(seen)
+}
+
+/// The calls that a party makes.
+pub fn by_party(call: &Call) -> bool {
+    matches!(call, Call::Write { .. } | Call::Delete { .. } | Call::DeleteTtl { .. } | Call::Get { .. } | Call::List { .. })
 }
 
 fn plain(number: u64) -> (u64, Answer) {
@@ -204,7 +282,7 @@ pub fn or(number: u64, answer: Answer) -> (u64, Answer) {
 
 impl Port {
     pub fn new() -> Port {
-        let mut port = Port { table: vec![MARK; crate::TABLE], grid: script::grid::empty(), calls: 1 };
+        let mut port = Port { table: vec![MARK; crate::TABLE], grid: script::grid::empty(), twins: Twins::default(), calls: 1 };
         assert_eq!(ffi::new_table(&mut port.table, 0, 0), 0);
         port
     }
@@ -218,6 +296,7 @@ impl Port {
             0 => {
                 self.table = table;
                 self.grid = script::grid::empty();
+                self.twins.meet();
                 Ok(false)
             }
             14 if marked(&table) => Ok(true),
@@ -226,30 +305,36 @@ impl Port {
     }
 
     /// Document 02's demand of the meter profile: a call on a good table that is answered neither 17 nor 18 tells what it tells on the free table of the same records, and
-    /// leaves the same.
-    fn as_free(&mut self, before: &[u8], call: &Call, told: &Told) -> Result<(), String> {
-        if before[PROFILE_AT] != METER || told.number == 17 || told.number == 18 {
+    /// leaves the same. In a shared table that holds of the calls that no party makes, but for applying, where each firm has its own room.
+    fn as_free(&mut self, before: &[u8], party: u64, call: &Call, told: &Told) -> Result<(), String> {
+        let profile = before[PROFILE_AT];
+        let alike = match profile {
+            METER => told.number != 17 && told.number != 18,
+            SHARED => !by_party(call) && !matches!(call, Call::Apply { .. }),
+            _ => false,
+        };
+        if !alike {
             return Ok(());
         }
         let mut free = before.to_vec();
         free[PROFILE_AT] = FREE;
-        let other = ask(&mut &mut free[..], call);
+        let other = ask(&mut &mut free[..], party, call);
         self.calls += 1;
-        free[PROFILE_AT] = METER;
-        if other.answer == told.answer && other.list == told.list && free == self.table {
+        free[PROFILE_AT] = profile;
+        if other == *told && free == self.table {
             return Ok(());
         }
-        Err(format!("{call:?}: a free table gives {}, and a meter table {}", other.answer, told.answer))
+        Err(format!("{call:?}: a free table gives {}, and one of profile {profile} {}", other.answer, told.answer))
     }
 
-    pub fn answer(&mut self, call: &Call) -> Result<Answer, String> {
+    pub fn answer(&mut self, call: &Call, party: u64) -> Result<Answer, String> {
         match call {
             Call::ReadDigest { bytes, edition } => return Ok(self.read_digest(given(bytes), *edition)),
             Call::ReadDelta { bytes } => return Ok(self.read_delta(given(bytes))),
             _ => {}
         }
         let before = self.table.clone();
-        let told = ask(&mut &mut self.table[..], call);
+        let told = ask(&mut &mut self.table[..], party, call);
         self.calls += 2;
         let good = ffi::check(&before) == 0;
         if told.number != 0 && (self.table != before || !marked(&told.list)) {
@@ -264,13 +349,16 @@ impl Port {
                 return Err(format!("{call:?}: it leaves a table that the check refuses"));
             }
             let mut kept = Kept::checked(&before).map_err(|number| format!("{number} of a good table"))?;
-            let other = ask(&mut kept, call);
-            if other.answer != told.answer || other.list != told.list || ffi::Bytes::bytes(&kept) != &self.table[..] {
+            let other = ask(&mut kept, party, call);
+            if other != told || ffi::Bytes::bytes(&kept) != &self.table[..] {
                 return Err(format!("{call:?}: without the check it gives {}, and {} with it", other.answer, told.answer));
             }
         }
         if good {
-            self.as_free(&before, call, &told)?;
+            self.as_free(&before, party, call, &told)?;
+            self.twins.follow(&before, &self.table, party, call, &told)?;
+        } else {
+            self.twins.meet();
         }
         if let (Call::Apply { bytes, now, .. }, Answer::Applied(verdicts)) = (call, &told.answer) {
             self.cut(&before, given(bytes), *now, &told.list[..verdicts.len()])?;
@@ -365,34 +453,25 @@ impl Port {
             let same = count.number == 14 && ffi::node_number(&table, 0).number == 14 && ffi::check(table) == 14;
             return if same { Ok(()) } else { Err("readings of a table that is not good".into()) };
         }
+        // the two firms' records, in key order, are a shared table's, and anyone's are any other's
+        let parties = if table[PROFILE_AT] == SHARED { vec![BUILDING, METERING, self.calls % 5 * 3] } else { vec![self.calls % 4] };
         let mut nodes = Vec::new();
         for i in 0..count.count.get() {
             let number = ffi::node_number(&table, i).node;
             let header = ffi::node_header(&table, number);
-            let records = ffi::record_count(&table, number).count.get();
-            self.calls += 3 + 5 * records as u64;
-            let text = |found: ffi::Found| table[found.start.get()..found.start.get() + found.len.get()].to_vec();
-            let records: Vec<Record> = (0..records)
-                .map(|j| {
-                    let record = ffi::record_at(&table, number, j);
-                    let [key_at, value_at] = [ffi::key_at(&table, number, j), ffi::value_at(&table, number, j)];
-                    let texts = (record.key_at, record.key_len, record.value_at, record.value_len);
-                    assert_eq!(texts, (key_at.start, key_at.len, value_at.start, value_at.len));
-                    let (key, value) = (text(key_at), text(value_at));
-                    assert_eq!(ffi::record_of(&table, i, j), record);
-                    assert_eq!(ffi::record_by_key(&table, number, &key), record);
-                    Record { key, value, version: record.version, status: record.status.get() as u8, start: record.start }
-                })
-                .collect();
-            // the same in one piece: its rows, and the crate's reading of them
-            let rows = ffi::node_rows(&table, number);
-            assert_eq!((rows.number, rows.at.get(), rows.count.get()), (0, 1 + i * NODE_BYTES + NODE_HEAD_BYTES, records.len()));
-            let view = TableView::over(table);
-            let again = view.node_state(number).map_err(|why| why.to_string())?.key_values_including_deleted();
-            let again = again.map(|it| (it.key.to_vec(), it.value.to_vec(), it.version, status(it.status), it.start));
-            let told = records.iter().map(|it| (it.key.clone(), it.value.clone(), it.version, it.status, it.start));
-            assert!(again.eq(told), "the rows of node {number}");
-            self.calls += 3;
+            let mut records = Vec::new();
+            for &party in &parties {
+                let shared_front = if party == METERING && table[PROFILE_AT] == SHARED { records.len() * RECORD_BYTES } else { 0 };
+                assert_eq!((ffi::front(&table, party, number).number, front(&table, party, number)), (0, shared_front), "the front of node {number}");
+                let seen = seen(&table, party, i)?;
+                self.calls += 5 + 5 * seen.len() as u64;
+                if parties.len() == 1 || party == METERING || party == BUILDING {
+                    records.extend(seen.into_iter().map(|seen| seen.record));
+                } else if !seen.is_empty() {
+                    return Err(format!("nobody sees records of node {number}"));
+                }
+            }
+            self.calls += 2;
             nodes.push(Node { number, heartbeat: header.heartbeat, max: header.max, last_gc: header.last_gc, records });
         }
         let view = TableView::over(table);

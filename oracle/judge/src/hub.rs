@@ -132,7 +132,7 @@ enum Fault {
     Originals(u8),
 }
 
-/// Layer: 13 for length, 1, SetMaxVersion below the running max (11), 17, 13 for a ninth Node, where the fault is, and what 9 lacks.
+/// Layer: 13 for length, 1, SetMaxVersion below the running max (11), 17, 19, 13 for a ninth Node, where the fault is, and what 9 lacks.
 /// Original: 9, 10, the other 11, 12, and what an accepted delta says.
 fn read_delta(bytes: &[u8], profile: u8) -> Outcome<ReadDelta> {
     if bytes.len() > DELTA_MOST {
@@ -181,7 +181,7 @@ fn read_operation(reader: &mut Reader, bytes: &[u8], profile: u8) -> Outcome<Res
         return originals(error);
     }
     if !formed {
-        return Ok(Err(Fault::Layers(17)));
+        return Ok(Err(Fault::Layers(meter::odd(profile))));
     }
     Ok(if reader.nodes() > NODES { Err(Fault::Layers(13)) } else { Ok(()) })
 }
@@ -289,27 +289,31 @@ impl Hub {
         }
     }
 
-    /// Layer: 2, 1, 17, 18, 5. Number 5 asks only for a key that is not held, and 18 for another value, so "nothing to change" is never in their way.
-    fn may_set(&mut self, number: u64, key: &[u8], value: &[u8], status: u8) -> Outcome<()> {
+    /// Layer: 2, 1, 17, 19, 18, 5. Number 5 asks only for a key that is not held, and 18 for another value, so "nothing to change" is never in their way.
+    fn may_set(&mut self, party: u64, number: u64, key: &[u8], value: &[u8], status: u8) -> Outcome<()> {
         let profile = self.profile;
         let node = self.node(number)?;
         within(key.len(), KEY)?;
         within(value.len(), VALUE)?;
-        if !meter::in_form(profile, key, value, status) {
-            return Err(Answer::Refused(17));
+        if !meter::sees(profile, party, key) || !meter::in_form(profile, key, value, status) {
+            return Err(Answer::Refused(meter::odd(profile)));
         }
         let (key, value) = (text(key)?, text(value)?);
         if meter::falls(profile, key, value, node.get(key)) {
             return Err(Answer::Refused(18));
         }
-        let full = node.key_values_including_deleted().count() == RECORDS;
+        let full = meter::full(profile, party, node.key_values_including_deleted().map(|(key, _)| key.as_bytes()));
         if full && node.get_versioned(key).is_none() { Err(Answer::Refused(5)) } else { Ok(()) }
     }
 
-    /// Layer: 2, 1, 3.
-    fn may_delete<'a>(&mut self, number: u64, key: &'a [u8]) -> Outcome<&'a str> {
+    /// Layer: 2, 1, 19, 3.
+    fn may_delete<'a>(&mut self, party: u64, number: u64, key: &'a [u8]) -> Outcome<&'a str> {
+        let profile = self.profile;
         let node = self.node(number)?;
         within(key.len(), KEY)?;
+        if !meter::sees(profile, party, key) {
+            return Err(Answer::Refused(19));
+        }
         let key = text(key)?;
         if node.get_versioned(key).is_none() { Err(Answer::Refused(3)) } else { Ok(key) }
     }
@@ -350,21 +354,27 @@ impl Hub {
         }
     }
 
-    fn get(&mut self, number: u64, key: &[u8]) -> Outcome<Answer> {
+    fn get(&mut self, party: u64, number: u64, key: &[u8]) -> Outcome<Answer> {
+        let profile = self.profile;
         let node = self.node(number)?;
         within(key.len(), KEY)?;
+        if !meter::sees(profile, party, key) {
+            return Err(Answer::Refused(19));
+        }
         Ok(match node.get(text(key)?) {
             Some(value) => Answer::Value(value.as_bytes().to_vec()),
             None => Answer::None,
         })
     }
 
-    /// The hits are the original's; that they are told as ranks is the layer's.
-    fn list(&mut self, number: u64, prefix: &[u8], places: u64) -> Outcome<Answer> {
+    /// The hits are the original's; that they are told as ranks, and in a shared table the party's own alone, is the layer's.
+    fn list(&mut self, party: u64, number: u64, prefix: &[u8], places: u64) -> Outcome<Answer> {
+        let profile = self.profile;
         let node = self.node(number)?;
         within(prefix.len(), KEY)?;
         let prefix = text(prefix)?;
-        let rank = |key: &str| node.key_values_including_deleted().position(|(held, _)| held == key);
+        let seen: Vec<&str> = node.key_values_including_deleted().map(|(key, _)| key).filter(|key| meter::sees(profile, party, key.as_bytes())).collect();
+        let rank = |key: &str| seen.iter().position(|held| *held == key);
         let ranks: Vec<usize> = node.iter_prefix(prefix).filter_map(|(key, _)| rank(key)).collect();
         if ranks.len() as u64 > places { Err(Answer::Refused(8)) } else { Ok(Answer::Ranks(ranks)) }
     }
@@ -551,7 +561,7 @@ impl Hub {
         self.mode != table::PLAIN && !future && older && !reaches
     }
 
-    /// Layer: 17, Unknown where the original passes over a node in silence, Room, Fenced, 8. Original: status and change.
+    /// Layer: 17, 19, Unknown where the original passes over a node in silence, Room, Fenced, 8. Original: status and change.
     fn apply(&mut self, bytes: &[u8], now: u64, places: u64) -> Outcome<Answer> {
         let mut delta = read_delta(bytes, self.profile)?.delta;
         if delta.node_deltas.len() as u64 > places {
@@ -565,7 +575,7 @@ impl Hub {
                 Some(node) if self.fences(node, &tried) => Verdict::Fenced,
                 Some(node) => match ask(|| node.try_delta(tried, Instant::now()))? {
                     (Status::Reject, _) => Verdict::Reject,
-                    (_, keys) if keys > RECORDS => Verdict::Room,
+                    (_, keys) if meter::too_many(self.profile, keys.iter().map(|key| key.as_bytes())) => Verdict::Room,
                     (Status::Apply, _) => Verdict::Apply,
                     (Status::ApplyAfterReset, _) => Verdict::ApplyAfterReset,
                 },
@@ -582,25 +592,25 @@ impl Hub {
     }
 
     /// A call on a good table.
-    fn answer_good(&mut self, call: &Call) -> Outcome<Answer> {
+    fn answer_good(&mut self, call: &Call, party: u64) -> Outcome<Answer> {
         match call {
             Call::Add { node } => self.add(*node),
             Call::Remove { node } => self.remove(*node),
             Call::Removed { node } => self.last_heartbeat(*node),
             Call::Write { node, key, value, status, now } => {
                 let ttl = with_ttl(*status)?;
-                self.may_set(*node, key, value, if ttl { table::TTL } else { table::SET })?;
+                self.may_set(party, *node, key, value, if ttl { table::TTL } else { table::SET })?;
                 let (key, value) = (text(key)?, text(value)?);
                 set_clock(*now);
                 self.write(*node, |state| if ttl { state.set_with_ttl(key, value) } else { state.set(key, value) })
             }
             Call::Delete { node, key, now } => {
-                let key = self.may_delete(*node, key)?;
+                let key = self.may_delete(party, *node, key)?;
                 set_clock(*now);
                 self.write(*node, |state| state.delete(key))
             }
             Call::DeleteTtl { node, key, now } => {
-                let key = self.may_delete(*node, key)?;
+                let key = self.may_delete(party, *node, key)?;
                 set_clock(*now);
                 self.write(*node, |state| state.delete_after_ttl(key))
             }
@@ -609,8 +619,8 @@ impl Hub {
                 Ok(if stored { Answer::Yes } else { Answer::No })
             }
             Call::Beat { node } => self.write(*node, |state| state.inc_heartbeat()),
-            Call::Get { node, key } => self.get(*node, key),
-            Call::List { node, prefix, places } => self.list(*node, prefix, *places),
+            Call::Get { node, key } => self.get(party, *node, key),
+            Call::List { node, prefix, places } => self.list(party, *node, prefix, *places),
             Call::Gc { now, grace } => {
                 set_clock(*now);
                 ask(|| self.cluster.gc_keys_marked_for_deletion(Duration::from_millis(*grace)))?;
@@ -636,12 +646,15 @@ impl Hub {
         let nodes = decode(bytes)?;
         let removed = decode_removed(&bytes[table::AREA_BYTES..])?;
         let (mode, profile) = (bytes[table::AREA_BYTES], bytes[table::AREA_BYTES + 1]);
-        let formed = |node: &table::Node| node.records.iter().all(|held| meter::in_form(profile, &held.key, &held.value, held.status));
+        let formed = |node: &table::Node| {
+            let few = !meter::too_many(profile, node.records.iter().map(|held| &held.key[..]));
+            few && node.records.iter().all(|held| meter::in_form(profile, &held.key, &held.value, held.status))
+        };
         let ascending = nodes.windows(2).all(|pair| pair[0].number < pair[1].number);
         let all: HashSet<u64> =
             nodes.iter().map(|node| node.number).chain(removed.iter().map(|&(number, _)| number)).collect();
         let apart = all.len() == nodes.len() + removed.len();
-        let kind = mode <= table::GUARDED && profile <= table::METER;
+        let kind = mode <= table::GUARDED && profile <= table::SHARED;
         let good = ascending && apart && nodes.iter().all(|node| obeys(node) && formed(node)) && kind;
         (good && table::encode_as(&nodes, mode, profile, &removed) == bytes).then_some((nodes, mode, profile, removed))
     }
@@ -706,7 +719,7 @@ impl Side for Hub {
         }
     }
 
-    fn answer(&mut self, call: &Call) -> Answer {
+    fn answer(&mut self, call: &Call, party: u64) -> Answer {
         // The two readers are lent no table.
         let outcome = match call {
             Call::ReadDigest { bytes, edition } => read_digest(given(bytes), *edition).map(|(digest, rest)| Answer::Digest {
@@ -728,7 +741,7 @@ impl Side for Hub {
                 bytes: given(bytes).len(),
             }),
             _ if self.bad.is_some() => Err(Answer::Refused(14)),
-            call => self.answer_good(call),
+            call => self.answer_good(call, party),
         };
         outcome.unwrap_or_else(|early| early)
     }

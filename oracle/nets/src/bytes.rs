@@ -1,6 +1,6 @@
 //! What stands in the bytes of a table and of a delta, read after docs/FORMAT.md.
 
-use script::table::{AREA_BYTES, DELETE, KEY, METER, NODE_BYTES, NODE_HEAD_BYTES, RECORD_BYTES, SET, VALUE};
+use script::table::{AREA_BYTES, BUILDING, DELETE, KEY, METER, METERING, NODE_BYTES, NODE_HEAD_BYTES, RECORD_BYTES, SET, SHARED, VALUE, owns};
 
 fn number(bytes: &[u8], at: usize) -> u64 {
     u64::from_le_bytes(bytes[at..at + 8].try_into().expect("eight bytes"))
@@ -22,21 +22,34 @@ pub struct Record<'a> {
 }
 
 impl Record<'_> {
-    /// Whether a meter table may have it.
-    pub fn is_reading(&self) -> bool {
-        is_reading(self.key, self.value, self.set)
+    /// Whether such a table may have it.
+    pub fn fits(&self, table: &[u8]) -> bool {
+        match profile(table) {
+            METER => is_reading(self.key, self.value, self.set),
+            SHARED => is_firms(self.key),
+            _ => true,
+        }
     }
 }
 
 /// Keys are 1 to 32 of small letters, digits and dots, values 1 to 10 digits, or empty where the status is not Set.
-pub fn is_reading(key: &[u8], value: &[u8], set: bool) -> bool {
+fn is_reading(key: &[u8], value: &[u8], set: bool) -> bool {
     let name = !key.is_empty() && key.iter().all(|&byte| byte.is_ascii_lowercase() || byte.is_ascii_digit() || byte == b'.');
     name && value.len() <= 10 && value.iter().all(u8::is_ascii_digit) && !(set && value.is_empty())
 }
 
+/// Keys are of the one firm or of the other.
+fn is_firms(key: &[u8]) -> bool {
+    owns(METERING, key) || owns(BUILDING, key)
+}
+
+pub fn profile(table: &[u8]) -> u8 {
+    table[AREA_BYTES + 1]
+}
+
 /// Whether a table has the meter profile.
 pub fn is_meter(table: &[u8]) -> bool {
-    table[AREA_BYTES + 1] == METER
+    profile(table) == METER
 }
 
 fn slot(table: &[u8], place: usize) -> &[u8] {
@@ -81,13 +94,25 @@ pub fn tell_most(digest: &mut [u8], place: usize) {
     digest[2 + 32 * place + 24..2 + 32 * (place + 1)].fill(0xFF);
 }
 
-/// A node delta's numbers, and whether a meter table would take all its records.
+/// A node delta's numbers, and whether a meter table and a shared one would take all its records.
 pub struct Part {
     pub number: u64,
     pub last_gc: u64,
     pub from: u64,
     pub max: u64,
-    pub readings: bool,
+    readings: bool,
+    firms: bool,
+}
+
+impl Part {
+    /// Whether such a table takes it.
+    pub fn fits(&self, table: &[u8]) -> bool {
+        match profile(table) {
+            METER => self.readings,
+            SHARED => self.firms,
+            _ => true,
+        }
+    }
 }
 
 /// The parts of a delta that the port wrote.
@@ -98,7 +123,7 @@ pub fn parts(delta: &[u8]) -> Vec<Part> {
         match delta[at] {
             0 => {
                 let [number, last_gc, from] = [1, 9, 17].map(|place| number(delta, at + place));
-                parts.push(Part { number, last_gc, from, max: 0, readings: true });
+                parts.push(Part { number, last_gc, from, max: 0, readings: true, firms: true });
                 at += 25;
             }
             1 => {
@@ -109,6 +134,7 @@ pub fn parts(delta: &[u8]) -> Vec<Part> {
                 let part = parts.last_mut().expect("a Node first");
                 part.max = number(delta, at);
                 part.readings &= is_reading(key, value, delta[at + 8] == SET);
+                part.firms &= is_firms(key);
                 at += 9;
             }
             _ => {

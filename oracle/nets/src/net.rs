@@ -3,7 +3,7 @@
 use std::collections::BTreeMap;
 
 use script::grid::PRESENT;
-use script::table::{self, AREA_BYTES, FENCED, FREE, GUARDED, METER, PLAIN};
+use script::table::{self, AREA_BYTES, BUILDING, FENCED, FREE, GUARDED, METER, METERING, PLAIN, SHARED, owns};
 
 use crate::bytes::{self, Pair, Part};
 use crate::port;
@@ -128,14 +128,21 @@ pub struct Counts {
     pub waited: u64,
     pub gone: u64,
     pub meters: u64,
+    pub shared: u64,
     pub unformed: u64,
     pub smaller: u64,
+    pub others: u64,
     pub refused: u64,
 }
 
 const KEYS: [&[u8]; 4] = [b"a", b"total", b"c", b"d"];
+/// Where two firms share tables; and where free hubs are beside them.
+const FIRMS: [&[u8]; 4] = [b"m/a", b"b/a", b"m/total", b"b/d"];
+const NEITHER: [&[u8]; 4] = [b"m/a", b"b/a", b"d", b"b/d"];
+const NOBODY: u64 = 0;
 const UNFORMED: u64 = 17;
 const SMALLER: u64 = 18;
+const OTHERS: u64 = 19;
 const RESET_CODE: u8 = 2;
 const FENCED_CODE: u8 = 5;
 const WHOLE: usize = 16_384;
@@ -148,9 +155,10 @@ pub struct Net<'a> {
     tables: Vec<Vec<u8>>,
     saved: Vec<Vec<Vec<u8>>>,
     clocks: Vec<u64>,
-    /// How many keys are used.
+    /// Its keys, and how many of them are used.
+    names: [&'static [u8]; 4],
     keys: usize,
-    /// Whether free hubs and hubs of the meter profile are side by side. Then a delta may be refused, and hubs may stay behind.
+    /// Whether free hubs and hubs of another profile are side by side. Then a delta may be refused, and hubs may stay behind.
     mixed: bool,
     /// The owner of each node. Node number n stands in slot n - 1 of every table.
     owners: Vec<usize>,
@@ -174,6 +182,11 @@ pub struct Net<'a> {
 }
 
 type Claim = Result<(), String>;
+
+/// The firm whose key it is.
+fn owner_of(key: &[u8]) -> u64 {
+    [METERING, BUILDING].into_iter().find(|&firm| owns(firm, key)).unwrap_or(NOBODY)
+}
 
 fn ensure(holds: bool, claim: impl Fn() -> String) -> Claim {
     if holds { Ok(()) } else { Err(claim()) }
@@ -206,14 +219,22 @@ impl<'a> Net<'a> {
         let fresh: Vec<_> = (1..=nodes as u64).map(fresh).collect();
         counts.nets += 1;
         // Where a kind must be found out, and where grids are told, all hubs are of one profile.
-        let profiles: Vec<u8> = match random.below(5) {
+        let profiles: Vec<u8> = match random.below(8) {
             _ if !SAFE.contains(&kind) => vec![FREE; hubs],
             0 | 1 => vec![METER; hubs],
             2 if !kind.has_grids() => (0..hubs).map(|_| *random.pick(&[FREE, METER])).collect(),
+            3 | 4 => vec![SHARED; hubs],
+            5 if !kind.has_grids() => (0..hubs).map(|_| *random.pick(&[FREE, SHARED])).collect(),
             _ => vec![FREE; hubs],
         };
         counts.meters += u64::from(profiles.contains(&METER));
+        counts.shared += u64::from(profiles.contains(&SHARED));
         let mixed = profiles.iter().any(|&profile| profile != profiles[0]);
+        let names = match (profiles.contains(&SHARED), mixed) {
+            (false, _) => KEYS,
+            (true, false) => FIRMS,
+            (true, true) => NEITHER,
+        };
         let kinds = modes.iter().zip(&profiles);
         let tables: Vec<Vec<u8>> = kinds.map(|(&mode, &profile)| table::encode_as(&fresh, mode, profile, &[])).collect();
         let grids = tables.iter().map(|table| if kind.has_grids() { port::grid(table) } else { Vec::new() }).collect();
@@ -226,6 +247,7 @@ impl<'a> Net<'a> {
             tables,
             saved: vec![Vec::new(); hubs],
             clocks: vec![10; hubs],
+            names,
             keys,
             mixed,
             owners,
@@ -359,9 +381,9 @@ impl<'a> Net<'a> {
         let place = self.random.below(self.owners.len());
         let owner = self.owners[place];
         self.lapse_before();
-        let key = KEYS[self.random.below(self.keys)];
+        let key = self.names[self.random.below(self.keys)];
         let (before, clock) = (self.pair(owner, place), self.clock(owner));
-        port::delete(&mut self.tables[owner], place as u64 + 1, key, clock);
+        port::delete(&mut self.tables[owner], owner_of(key), place as u64 + 1, key, clock);
         if self.pair(owner, place).max > before.max {
             self.gave(place, key);
         }
@@ -442,7 +464,7 @@ impl<'a> Net<'a> {
         }
         let hub = self.owners[place];
         let before = self.pair(hub, place);
-        let key = KEYS[self.random.below(self.keys)];
+        let key = self.names[self.random.below(self.keys)];
         let long = if bytes::is_meter(&self.tables[hub]) && !self.random.once_in(6) { 10 } else { 40 };
         let value = [b"12345678"[self.random.below(8)]; 40];
         let value = if self.random.once_in(4) { &value[..long] } else { &value[..1] };
@@ -453,15 +475,19 @@ impl<'a> Net<'a> {
             3 => Some(table::TTL),
             _ => None,
         };
+        // In a shared table now and then who may not.
+        let odd = bytes::profile(&self.tables[hub]) == SHARED && self.random.once_in(8);
+        let party = if odd { *self.random.pick(&[NOBODY, METERING, BUILDING]) } else { owner_of(key) };
         match wanted {
             Some(status) => {
-                let foreseen = self.judged(hub, place, key, value);
-                let told = port::write(&mut self.tables[hub], number, key, value, status.into(), clock);
+                let foreseen = self.judged(hub, place, party, key, value);
+                let told = port::write(&mut self.tables[hub], party, number, key, value, status.into(), clock);
                 self.counts.unformed += u64::from(told == UNFORMED);
                 self.counts.smaller += u64::from(told == SMALLER);
+                self.counts.others += u64::from(told == OTHERS);
                 ensure(!self.look.rule || told == foreseen, || format!("a write is answered {told} and not {foreseen}"))?;
             }
-            None => drop(port::delete(&mut self.tables[hub], number, key, clock)),
+            None => drop(port::delete(&mut self.tables[hub], party, number, key, clock)),
         }
         let max = self.pair(hub, place).max;
         if max > before.max {
@@ -470,9 +496,12 @@ impl<'a> Net<'a> {
         ensure(max <= before.max + 1, || "a write gives one version".into())
     }
 
-    /// What the profile says to a write of digits: 17, 18, or nothing.
-    fn judged(&self, hub: usize, place: usize, key: &[u8], value: &[u8]) -> u64 {
+    /// What the profile says to a party's write of digits: 17, 18, 19, or nothing.
+    fn judged(&self, hub: usize, place: usize, party: u64, key: &[u8], value: &[u8]) -> u64 {
         let table = &self.tables[hub];
+        if bytes::profile(table) == SHARED {
+            return if owns(party, key) { 0 } else { OTHERS };
+        }
         let number = |digits: &[u8]| digits.iter().fold(0u64, |number, digit| number * 10 + u64::from(digit - b'0'));
         let shown = bytes::records(table, place).find(|record| record.key == key && !record.hidden);
         match shown {
@@ -490,10 +519,10 @@ impl<'a> Net<'a> {
             return Ok(());
         }
         let hub = self.owners[place];
-        let key = KEYS[self.random.below(self.keys)];
+        let key = self.names[self.random.below(self.keys)];
         let before = self.pairs(hub);
         let clock = self.clock(hub);
-        if port::delete(&mut self.tables[hub], place as u64 + 1, key, clock) == 0
+        if port::delete(&mut self.tables[hub], owner_of(key), place as u64 + 1, key, clock) == 0
             && self.pair(hub, place).max > before[place].max
         {
             self.gave(place, key);
@@ -716,7 +745,7 @@ impl<'a> Net<'a> {
         }
         self.counts.recalled += 1;
         let table = self.random.pick(&self.saved[saver]).clone();
-        if bytes::is_meter(&self.tables[hub]) && !bytes::records(&table, place).all(|record| record.is_reading()) {
+        if !bytes::records(&table, place).all(|record| record.fits(&self.tables[hub])) {
             return;
         }
         bytes::copy_node(&table, &mut self.tables[hub], place);
@@ -739,13 +768,14 @@ impl<'a> Net<'a> {
         let clock = self.clock(hub);
         let answers = port::apply(&mut self.tables[hub], delta, clock);
         let parts = bytes::parts(delta);
-        let odd = bytes::is_meter(&self.tables[hub]) && !parts.iter().all(|part| part.readings);
+        let odd = !parts.iter().all(|part| part.fits(&self.tables[hub]));
+        let unlike = if bytes::is_meter(&self.tables[hub]) { UNFORMED } else { OTHERS };
         ensure(self.mixed || !odd, || "between tables of one profile every delta is in form".into())?;
         let answers = match answers {
             Ok(answers) => answers,
             Err(number) => {
                 self.counts.refused += 1;
-                ensure(odd && number == UNFORMED, || format!("a computed delta is refused with {number}"))?;
+                ensure(odd && number == unlike, || format!("a computed delta is refused with {number}"))?;
                 return self.no_fall(hub, &before);
             }
         };
@@ -797,9 +827,8 @@ impl<'a> Net<'a> {
             return Ok(());
         }
         for place in 0..self.owners.len() {
-            let meters = self.tables.iter().filter(|table| bytes::is_meter(table));
-            let readings = meters.flat_map(|table| bytes::records(table, place)).all(|record| record.is_reading());
-            ensure(readings, || "a meter table has readings alone".into())?;
+            let in_form = self.tables.iter().all(|table| bytes::records(table, place).all(|record| record.fits(table)));
+            ensure(in_form, || "a meter table has readings alone, and a shared one the firms' records".into())?;
             if self.kind.is_careful() {
                 let pairs: Vec<Pair> = (0..self.tables.len()).map(|hub| self.pair(hub, place)).collect();
                 let least = pairs.iter().map(|pair| pair.max).min().unwrap_or(0);
@@ -962,7 +991,7 @@ impl<'a> Net<'a> {
                 let (key, value) = (KEYS[self.random.below(KEYS.len())], [b'1'; 64]);
                 let status = if self.random.once_in(3) { table::TTL } else { table::SET };
                 let length = 30 + self.random.below(35);
-                port::write(&mut self.tables[0], place as u64 + 1, key, &value[..length], status.into(), 10);
+                port::write(&mut self.tables[0], NOBODY, place as u64 + 1, key, &value[..length], status.into(), 10);
                 self.gave(place, key);
             }
         }
@@ -1020,8 +1049,8 @@ impl Counts {
             self.nets, self.steps, self.late, self.restored, self.wiped, self.removals, self.equal, self.behind
         );
         println!(
-            "  nets with meter tables {}: writes out of form {}, of a smaller total {}; deltas refused between unlike profiles {}",
-            self.meters, self.unformed, self.smaller, self.refused
+            "  nets with meter tables {}: writes out of form {}, of a smaller total {}; with shared tables {}: writes of another's key {}; deltas refused between unlike profiles {}",
+            self.meters, self.unformed, self.smaller, self.shared, self.others, self.refused
         );
         if self.crashed > 0 {
             println!(

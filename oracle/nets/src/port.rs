@@ -20,8 +20,8 @@ mod c {
     use super::Lent;
 
     unsafe extern "C" {
-        pub fn kev_write(table: &Lent, number: u64, key: &Lent, value: &Lent, wanted: u64, time: u64) -> u64;
-        pub fn kev_delete(table: &Lent, number: u64, key: &Lent, time: u64) -> u64;
+        pub fn kev_write(table: &Lent, party: u64, number: u64, key: &Lent, value: &Lent, wanted: u64, time: u64) -> u64;
+        pub fn kev_delete(table: &Lent, party: u64, number: u64, key: &Lent, time: u64) -> u64;
         pub fn kev_remove(table: &Lent, time: u64, grace: u64) -> u64;
         pub fn kev_write_digest(table: &Lent, excluded: &Lent, datagram: &Lent, place: usize) -> usize;
         pub fn kev_compute(
@@ -43,13 +43,13 @@ mod c {
     }
 }
 
-/// Under the wanted status. 0 where it was done, else the number of the refusal.
-pub fn write(table: &mut [u8], number: u64, key: &[u8], value: &[u8], wanted: u64, time: u64) -> u64 {
-    unsafe { c::kev_write(&lent_mut(table), number, &lent(key), &lent(value), wanted, time) }
+/// By a party, under the wanted status. 0 where it was done, else the number of the refusal.
+pub fn write(table: &mut [u8], party: u64, number: u64, key: &[u8], value: &[u8], wanted: u64, time: u64) -> u64 {
+    unsafe { c::kev_write(&lent_mut(table), party, number, &lent(key), &lent(value), wanted, time) }
 }
 
-pub fn delete(table: &mut [u8], number: u64, key: &[u8], time: u64) -> u64 {
-    unsafe { c::kev_delete(&lent_mut(table), number, &lent(key), time) }
+pub fn delete(table: &mut [u8], party: u64, number: u64, key: &[u8], time: u64) -> u64 {
+    unsafe { c::kev_delete(&lent_mut(table), party, number, &lent(key), time) }
 }
 
 pub fn remove(table: &mut [u8], time: u64, grace: u64) -> u64 {

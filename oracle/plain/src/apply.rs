@@ -3,7 +3,7 @@
 use script::Verdict;
 
 use crate::delta::NodeDelta;
-use crate::table::{MOST_RECORDS, Mode, Node, Record, Status, Table};
+use crate::table::{Mode, Node, Record, Status, Table};
 
 fn fenced(mode: Mode, node: &Node, delta: &NodeDelta) -> bool {
     let older = node.last_gc > node.max && delta.last_gc < node.last_gc;
@@ -46,7 +46,7 @@ fn outcome(node: &Node, delta: &NodeDelta, reset: bool, now: u64) -> Node {
 }
 
 fn apply_one(table: &mut Table, delta: &NodeDelta, now: u64) -> Verdict {
-    let mode = table.mode;
+    let (mode, profile) = (table.mode, table.profile);
     let Some(node) = table.nodes.get_mut(&delta.number) else {
         return Verdict::Unknown;
     };
@@ -55,7 +55,7 @@ fn apply_one(table: &mut Table, delta: &NodeDelta, now: u64) -> Verdict {
         return verdict;
     }
     let after = outcome(node, delta, verdict == Verdict::ApplyAfterReset, now);
-    if after.records.len() > MOST_RECORDS {
+    if profile.overfull(&after) {
         return Verdict::Room;
     }
     *node = after;

@@ -138,7 +138,7 @@ impl Delta {
                     return Err(11);
                 }
                 if !profile.takes(&sent.key, &sent.value, sent.status) {
-                    return Err(17);
+                    return Err(profile.number());
                 }
                 node.max = sent.version;
                 node.records.push(sent);

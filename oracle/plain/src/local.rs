@@ -1,6 +1,6 @@
 //! The node rules: document 01, "Node rules" and the local part of "Order".
 
-use crate::table::{MOST_KEY, MOST_NODES, MOST_RECORDS, MOST_REMOVED, MOST_VALUE, Node, Record, Status, Table};
+use crate::table::{MOST_KEY, MOST_NODES, MOST_REMOVED, MOST_VALUE, Node, Record, Status, Table};
 
 /// A refusal's number.
 pub type Refused = u8;
@@ -62,7 +62,7 @@ impl Table {
     }
 
     /// The one write (document 02, ticket 6): the wanted status by its number, Set or TTL.
-    pub fn write(&mut self, number: u64, key: &[u8], value: &[u8], wanted: u64, now: u64) -> Result<(), Refused> {
+    pub fn write(&mut self, party: u64, number: u64, key: &[u8], value: &[u8], wanted: u64, now: u64) -> Result<(), Refused> {
         let (status, start) = match wanted {
             0 => (Status::Set, 0),
             2 => (Status::Ttl, now),
@@ -72,8 +72,8 @@ impl Table {
         let node = self.node_mut(number)?;
         check_text(key.len(), MOST_KEY)?;
         check_text(value.len(), MOST_VALUE)?;
-        if !profile.takes(key, value, status) {
-            return Err(17);
+        if !profile.sees(party, key) || !profile.takes(key, value, status) {
+            return Err(profile.number());
         }
         let held = node.records.get(key);
         if held.is_some_and(|record| record.value == value && record.status == status) {
@@ -82,7 +82,7 @@ impl Table {
         if profile.falls(key, value, held) {
             return Err(18);
         }
-        if held.is_none() && node.records.len() == MOST_RECORDS {
+        if held.is_none() && profile.full(party, node) {
             return Err(5);
         }
         let version = risen(node.max)?;
@@ -91,9 +91,13 @@ impl Table {
         Ok(())
     }
 
-    pub fn delete(&mut self, number: u64, key: &[u8], now: u64, how: Scheduled) -> Result<(), Refused> {
+    pub fn delete(&mut self, party: u64, number: u64, key: &[u8], now: u64, how: Scheduled) -> Result<(), Refused> {
+        let profile = self.profile;
         let node = self.node_mut(number)?;
         check_text(key.len(), MOST_KEY)?;
+        if !profile.sees(party, key) {
+            return Err(19);
+        }
         let record = node.records.get_mut(key).ok_or(3)?;
         let version = risen(node.max)?;
         node.max = version;
@@ -129,17 +133,20 @@ impl Table {
         Ok(())
     }
 
-    pub fn get(&self, number: u64, key: &[u8]) -> Result<Option<&[u8]>, Refused> {
+    pub fn get(&self, party: u64, number: u64, key: &[u8]) -> Result<Option<&[u8]>, Refused> {
         let node = self.node(number)?;
         check_text(key.len(), MOST_KEY)?;
+        if !self.profile.sees(party, key) {
+            return Err(19);
+        }
         Ok(node.records.get(key).filter(|record| !record.hidden()).map(|record| &record.value[..]))
     }
 
-    /// Ranks of the hits among all records of the node.
-    pub fn list(&self, number: u64, prefix: &[u8], places: u64) -> Result<Vec<usize>, Refused> {
+    /// Ranks of the hits among all records of the node that the party sees.
+    pub fn list(&self, party: u64, number: u64, prefix: &[u8], places: u64) -> Result<Vec<usize>, Refused> {
         let node = self.node(number)?;
         check_text(prefix.len(), MOST_KEY)?;
-        let ranked = node.records.iter().enumerate();
+        let ranked = self.profile.seen(party, node).enumerate();
         let hits = ranked.filter(|(_, (key, record))| key.starts_with(prefix) && !record.hidden());
         let ranks: Vec<usize> = hits.map(|(rank, _)| rank).collect();
         if ranks.len() as u64 > places { Err(8) } else { Ok(ranks) }

@@ -40,11 +40,11 @@ impl Overrides {
     }
 
     pub fn write(&mut self, key: &[u8], value: &[u8], wanted: u64, now: u64) -> Result<(), Refused> {
-        self.held.write(OWN, key, value, wanted, now)
+        self.held.write(0, OWN, key, value, wanted, now)
     }
 
     pub fn delete(&mut self, key: &[u8], now: u64, how: Scheduled) -> Result<(), Refused> {
-        self.held.delete(OWN, key, now, how)
+        self.held.delete(0, OWN, key, now, how)
     }
 
     pub fn gc(&mut self, now: u64, grace: u64) {
@@ -52,9 +52,9 @@ impl Overrides {
     }
 
     /// The override's value if its record is there and unhidden, else the node's.
-    pub fn get(&self, table: &Table, number: u64, key: &[u8]) -> Result<Over, Refused> {
-        let shared = table.get(number, key)?;
-        let own = self.held.get(OWN, key)?;
+    pub fn get(&self, table: &Table, party: u64, number: u64, key: &[u8]) -> Result<Over, Refused> {
+        let shared = table.get(party, number, key)?;
+        let own = self.held.get(0, OWN, key)?;
         Ok(match (own, shared) {
             (Some(value), _) => Over::Overrides(value.to_vec()),
             (None, Some(value)) => Over::Node(value.to_vec()),
@@ -62,16 +62,18 @@ impl Overrides {
         })
     }
 
-    /// Each key once, in key order: 128 and the place in the overrides, or the place in the node.
-    pub fn list(&self, table: &Table, number: u64, prefix: &[u8], places: u64) -> Result<Vec<u8>, Refused> {
+    /// Each key once, in key order: 128 and the place in the overrides, or the place among the node's records that the party sees. Of a shared table the party's own
+    /// keys alone.
+    pub fn list(&self, table: &Table, party: u64, number: u64, prefix: &[u8], places: u64) -> Result<Vec<u8>, Refused> {
         let node = table.node(number)?;
         if prefix.len() > MOST_KEY {
             return Err(1);
         }
         let keys: std::collections::BTreeSet<&Vec<u8>> = self.node().records.keys().chain(node.records.keys()).collect();
-        let place = |of: &Node, key: &Vec<u8>| of.records.iter().position(|(other, record)| other == key && !record.hidden()).map(|place| place as u8);
-        let hit = |key: &Vec<u8>| place(self.node(), key).map(|place| 128 + place).or_else(|| place(node, key));
-        let hits: Vec<u8> = keys.into_iter().filter(|key| key.starts_with(prefix)).filter_map(hit).collect();
+        let own = |key: &Vec<u8>| self.node().records.iter().position(|(other, record)| other == key && !record.hidden()).map(|place| 128 + place as u8);
+        let below = |key: &Vec<u8>| table.profile.seen(party, node).position(|(other, record)| other == key && !record.hidden()).map(|place| place as u8);
+        let named = keys.into_iter().filter(|key| key.starts_with(prefix) && table.profile.sees(party, key));
+        let hits: Vec<u8> = named.filter_map(|key| own(key).or_else(|| below(key))).collect();
         if hits.len() as u64 > places { Err(8) } else { Ok(hits) }
     }
 }

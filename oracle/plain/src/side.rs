@@ -142,27 +142,27 @@ fn done(outcome: Result<(), Refused>) -> Result<Answer, Answer> {
     outcome.map(|()| Answer::Done).map_err(Answer::Refused)
 }
 
-fn answer_good(table: &mut Table, call: &Call) -> Result<Answer, Answer> {
+fn answer_good(table: &mut Table, call: &Call, party: u64) -> Result<Answer, Answer> {
     match call {
         Call::Add { node } => done(table.add(*node)),
         Call::Remove { node } => done(table.remove(*node)),
         Call::Removed { node } => Ok(table.last_heartbeat(*node).map_or(Answer::None, Answer::Heartbeat)),
-        Call::Write { node, key, value, status, now } => done(table.write(*node, key, value, *status, *now)),
-        Call::Delete { node, key, now } => done(table.delete(*node, key, *now, Scheduled::Delete)),
-        Call::DeleteTtl { node, key, now } => done(table.delete(*node, key, *now, Scheduled::AfterTtl)),
+        Call::Write { node, key, value, status, now } => done(table.write(party, *node, key, value, *status, *now)),
+        Call::Delete { node, key, now } => done(table.delete(party, *node, key, *now, Scheduled::Delete)),
+        Call::DeleteTtl { node, key, now } => done(table.delete(party, *node, key, *now, Scheduled::AfterTtl)),
         Call::Beat { node } => done(table.beat(*node)),
         Call::Offer { node, heartbeat } => match table.offer(*node, *heartbeat) {
             Ok(true) => Ok(Answer::Yes),
             Ok(false) => Ok(Answer::No),
             Err(number) => Err(Answer::Refused(number)),
         },
-        Call::Get { node, key } => match table.get(*node, key) {
+        Call::Get { node, key } => match table.get(party, *node, key) {
             Ok(Some(value)) => Ok(Answer::Value(value.to_vec())),
             Ok(None) => Ok(Answer::None),
             Err(number) => Err(Answer::Refused(number)),
         },
         Call::List { node, prefix, places } => {
-            table.list(*node, prefix, *places).map(Answer::Ranks).map_err(Answer::Refused)
+            table.list(party, *node, prefix, *places).map(Answer::Ranks).map_err(Answer::Refused)
         }
         Call::Gc { now, grace } => {
             table.gc(*now, *grace);
@@ -220,7 +220,7 @@ impl Side for Lent {
         Lent::Good(Table::made(mode, profile))
     }
 
-    fn answer(&mut self, call: &Call) -> Answer {
+    fn answer(&mut self, call: &Call, party: u64) -> Answer {
         let outcome = match (call, self) {
             (Call::ReadDigest { bytes, edition }, _) => read_digest(given(bytes), *edition),
             (Call::ReadDelta { bytes }, _) => read_delta(given(bytes), Profile::Free).map(|delta| Answer::DeltaRead {
@@ -229,7 +229,7 @@ impl Side for Lent {
                 bytes: given(bytes).len(),
             }),
             (_, Lent::Bad(_)) => Err(Answer::Refused(14)),
-            (call, Lent::Good(table)) => answer_good(table, call),
+            (call, Lent::Good(table)) => answer_good(table, call, party),
         };
         outcome.unwrap_or_else(|refused| refused)
     }

@@ -141,7 +141,8 @@ impl Table {
         walk.zeros((MOST_NODES - count) * layout::NODE_BYTES)?;
         table.mode = Mode::of_byte(walk.byte()?)?;
         table.profile = Profile::of_byte(walk.byte()?)?;
-        if table.nodes.values().any(|node| !node.records.iter().all(|(key, held)| table.profile.takes(key, &held.value, held.status))) {
+        let formed = |node: &Node| node.records.iter().all(|(key, held)| table.profile.takes(key, &held.value, held.status));
+        if table.nodes.values().any(|node| !formed(node) || table.profile.overfull(node)) {
             return None;
         }
         let count = walk.count(MOST_REMOVED)?;

@@ -16,6 +16,8 @@ pub enum Call {
     /// A number that names no mode or no profile is refused with 14.
     New { mode: u64, profile: u64 },
     Hub(usize),
+    /// From now on this party calls.
+    Party { number: u64 },
     Add { node: u64 },
     Remove { node: u64 },
     /// Asks for a removed node.
@@ -146,6 +148,7 @@ impl Call {
             "make" => Call::New { mode: w.number()?, profile: 0 },
             "kind" => Call::New { mode: w.number()?, profile: w.number()? },
             "hub" => Call::Hub(w.hub()?),
+            "party" => Call::Party { number: w.number()? },
             "add" => Call::Add { node: w.number()? },
             "remove" => Call::Remove { node: w.number()? },
             "removed" => Call::Removed { node: w.number()? },
@@ -272,7 +275,8 @@ mod tests {
         );
         assert_eq!(Call::parse("tell 8 @digest 2"), Some(Call::Tell { peer: 8, digest: Bytes::LastDigest, edition: 2 }));
         assert_eq!(Call::parse("told 0 7"), Some(Call::Told { peer: 0, node: 7 }));
-        let calls = ["", "write 1 x x 0", "write 1 x x x 0 0", "write 1 x x -1 0", "get 1 xA0", "get 1 x0", "hub 4"];
+        assert_eq!(Call::parse("party 3"), Some(Call::Party { number: 3 }));
+        let calls = ["", "write 1 x x 0", "write 1 x x x 0 0", "write 1 x x -1 0", "get 1 xA0", "get 1 x0", "hub 4", "party", "party m", "party 1 2"];
         let numbers = ["add -1", "add +1", "add :", "add  1", "digest +1 0 2 0", "digest - 0 2"];
         let plans = ["plan x0000 100 - 7 1 0 100", "plan x0000 100 - 7 -1 0 100 0", "planfault x0000 100 - 7 1", "planfault x0000 100 - 7 1 0 100 0"];
         let grids = ["newgrid 1", "grid", "tell 0 x0000", "tell 0 0 x0000", "takeout", "least 1 2", "told 1", "careful 9"];

@@ -3,16 +3,17 @@
 use std::io::{BufRead, Write};
 
 use crate::call::HUBS;
-use crate::table::{FREE, GUARDED, METER, PLAIN, checksum};
+use crate::table::{FREE, GUARDED, PLAIN, SHARED, checksum};
 use crate::{Answer, Bytes, Call, grid, over};
 
-/// One lent table and who answers for it. Calls come with their bytes written out; `new`, `hub`, `table` and
+/// One lent table and who answers for it. Calls come with their bytes written out; `new`, `hub`, `party`, `table` and
 /// `dump` are answered by the runner through `take_table` and `table_bytes`, and so are the calls on overrides (`over`).
 /// The lent grid beside the table is the runner's, which answers `grid` and `dumpgrid`.
 pub trait Side {
     /// An empty table in a mode, of a profile.
     fn new(mode: u8, profile: u8) -> Self;
-    fn answer(&mut self, call: &Call) -> Answer;
+    /// A call on this table, by a party.
+    fn answer(&mut self, call: &Call, party: u64) -> Answer;
     /// A call on a grid and this table.
     fn answer_grid(&mut self, grid: &mut Vec<u8>, call: &Call) -> Answer;
     /// From now on the lent table is these bytes, good or not.
@@ -24,6 +25,7 @@ struct Desk<S> {
     hubs: [S; HUBS],
     grids: [Vec<u8>; HUBS],
     current: usize,
+    party: u64,
     last_digest: Vec<u8>,
     last_delta: Vec<u8>,
 }
@@ -32,7 +34,7 @@ impl<S: Side> Desk<S> {
     fn new() -> Self {
         let hubs = [(); HUBS].map(|()| S::new(PLAIN, FREE));
         let grids = [(); HUBS].map(|()| grid::empty());
-        Desk { hubs, grids, current: 0, last_digest: Vec::new(), last_delta: Vec::new() }
+        Desk { hubs, grids, current: 0, party: 0, last_digest: Vec::new(), last_delta: Vec::new() }
     }
 
     fn write_out(&self, bytes: &mut Bytes) {
@@ -57,7 +59,7 @@ impl<S: Side> Desk<S> {
             _ => {}
         }
         let answer = match &call {
-            Call::New { mode, profile } if *mode > u64::from(GUARDED) || *profile > u64::from(METER) => Answer::Refused(14),
+            Call::New { mode, profile } if *mode > u64::from(GUARDED) || *profile > u64::from(SHARED) => Answer::Refused(14),
             Call::New { mode, profile } => {
                 self.hubs[self.current] = S::new(*mode as u8, *profile as u8);
                 self.grids[self.current] = grid::empty();
@@ -65,6 +67,10 @@ impl<S: Side> Desk<S> {
             }
             Call::Hub(hub) => {
                 self.current = *hub;
+                Answer::Done
+            }
+            Call::Party { number } => {
+                self.party = *number;
                 Answer::Done
             }
             Call::Table { bytes: Bytes::Given(bytes) } => self.hubs[self.current].take_table(bytes),
@@ -79,11 +85,11 @@ impl<S: Side> Desk<S> {
             }
             Call::GetOver { hub, node, key } => {
                 let overrides = self.hubs[*hub].table_bytes();
-                over::get(&overrides, &mut self.hubs[self.current], *node, key).unwrap_or_else(|refused| refused)
+                over::get(&overrides, &mut self.hubs[self.current], self.party, *node, key).unwrap_or_else(|refused| refused)
             }
             Call::ListOver { hub, node, prefix, places } => {
                 let overrides = self.hubs[*hub].table_bytes();
-                over::list(&overrides, &mut self.hubs[self.current], *node, prefix, *places).unwrap_or_else(|refused| refused)
+                over::list(&overrides, &mut self.hubs[self.current], self.party, *node, prefix, *places).unwrap_or_else(|refused| refused)
             }
             Call::Grid { bytes: Bytes::Given(bytes) } => {
                 self.grids[self.current] = bytes.clone();
@@ -91,7 +97,7 @@ impl<S: Side> Desk<S> {
             }
             Call::DumpGrid => Answer::Grid(self.grids[self.current].clone()),
             call if call.on_grid() => self.hubs[self.current].answer_grid(&mut self.grids[self.current], call),
-            call => self.hubs[self.current].answer(call),
+            call => self.hubs[self.current].answer(call, self.party),
         };
         match &answer {
             Answer::DigestWritten { datagram, start, end } => self.last_digest = datagram[*start..*end].to_vec(),

@@ -24,9 +24,23 @@ pub const PLAIN: u8 = 0;
 pub const FENCED: u8 = 1;
 pub const GUARDED: u8 = 2;
 
-/// Its profiles (document 02, ticket 8).
+/// Its profiles (document 02, tickets 8 and 9).
 pub const FREE: u8 = 0;
 pub const METER: u8 = 1;
+pub const SHARED: u8 = 2;
+
+/// Who calls, where a table is shared (ticket 9): any other number is nobody.
+pub const METERING: u64 = 1;
+pub const BUILDING: u64 = 2;
+
+/// Whether the key is the party's own.
+pub fn owns(party: u64, key: &[u8]) -> bool {
+    match party {
+        METERING => key.starts_with(b"m/"),
+        BUILDING => key.starts_with(b"b/"),
+        _ => false,
+    }
+}
 
 /// Status bytes, in the table and in a delta.
 pub const SET: u8 = 0;

@@ -169,7 +169,7 @@ impl<S: Bytes> Table<S> {
     ///
     /// # Errors
     ///
-    /// [`Refusal::BadTable`], [`Refusal::NoNode`], [`Refusal::TooLong`].
+    /// [`Refusal::BadTable`], [`Refusal::NoNode`], [`Refusal::TooLong`], in a shared table [`Refusal::OtherParty`].
     ///
     /// ```
     /// # use kevdarosh::{Mode, Overrides, OwnedTable, Wanted};
@@ -224,7 +224,7 @@ impl<'a, S: Bytes> NodeState<'a, S> {
     ///
     /// # Errors
     ///
-    /// [`Refusal::TooLong`].
+    /// [`Refusal::TooLong`], in a shared table [`Refusal::OtherParty`].
     ///
     /// ```
     /// # use kevdarosh::{Mode, Overrides, OwnedTable, Wanted};

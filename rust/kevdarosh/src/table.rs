@@ -566,7 +566,7 @@ impl<S: Bytes> Table<S> {
     ///
     /// # Errors
     ///
-    /// [`Refusal::BadTable`], [`Refusal::NoNode`], [`Refusal::TooLong`].
+    /// [`Refusal::BadTable`], [`Refusal::NoNode`], [`Refusal::TooLong`], in a shared table [`Refusal::OtherParty`].
     ///
     /// ```
     /// # use kevdarosh::{Mode, OwnedTable, Refusal, Wanted};
@@ -947,8 +947,8 @@ impl<S: BytesMut> Table<S> {
     ///
     /// # Errors
     ///
-    /// [`Refusal::BadTable`], [`Refusal::TooMany`], [`Refusal::Cut`], [`Refusal::TooLong`], [`Refusal::BadTag`], [`Refusal::OutOfOrder`], in a meter table [`Refusal::BadForm`], in a shared one [`Refusal::OtherParty`], [`Refusal::NodeTwice`]: of the delta's the first that is
-    /// met in its order, with its place.
+    /// [`Refusal::BadTable`], [`Refusal::TooMany`], [`Refusal::Cut`], [`Refusal::TooLong`], [`Refusal::BadTag`], [`Refusal::OutOfOrder`], in a meter table [`Refusal::BadForm`], in a shared one
+    /// [`Refusal::OtherParty`], [`Refusal::NodeTwice`]: of the delta's the first that is met in its order, with its place.
     ///
     /// ```
     /// # use kevdarosh::{Answer, Fault, Mode, OwnedTable, Refusal, make_delta};
@@ -1216,11 +1216,10 @@ impl<S: Bytes> fmt::Debug for NodeState<'_, S> {
 impl<'a, S: Bytes> NodeState<'a, S> {
     #[inline]
     fn of(table: Lent<'a, S>, party: Party, node: u64) -> Result<NodeState<'a, S>, Refusal> {
-        // An owned table's header is read when it is asked for, once. A lent one's is read here, since each reading of it checks the table.
-        let header = OnceCell::new();
-        let number = if S::GOOD { ffi::record_count(&table, party.number(), node).number } else { header.get_or_init(|| ffi::node_header(&table, node)).number };
-        accepted(number)?;
-        Ok(NodeState { table, party, node, header })
+        // The header is read here, once: it tells whether the node is there, and looks at no party.
+        let read = ffi::node_header(&table, node);
+        accepted(read.number)?;
+        Ok(NodeState { table, party, node, header: OnceCell::from(read) })
     }
 
     /// Its number.

@@ -229,7 +229,7 @@ pub struct Datagrams<'a> {
 ///
 /// # Errors
 ///
-/// [`Refusal::BadTable`], [`Refusal::NoPlace`], [`Refusal::BadMtu`], [`Refusal::BadTies`], to a meter table [`Refusal::BadForm`], each with the step that would have been refused.
+/// [`Refusal::BadTable`], [`Refusal::NoPlace`], [`Refusal::BadMtu`], [`Refusal::BadTies`], to a meter table [`Refusal::BadForm`], to a shared one [`Refusal::OtherParty`], each with the step that would have been refused.
 ///
 /// ```
 /// use kevdarosh::{DIGEST, Datagrams, Edition, Mode, NODES, OwnedTable, TableView, Wanted, exchange};

@@ -201,7 +201,7 @@ fn a_late_delta_is_fenced() {
 
 #[test]
 fn numbers_and_words() {
-    assert_eq!(Refusal::ALL.iter().map(|refusal| refusal.number()).collect::<Vec<_>>(), (1..=15).chain([17, 18]).chain(20..=23).collect::<Vec<_>>());
+    assert_eq!(Refusal::ALL.iter().map(|refusal| refusal.number()).collect::<Vec<_>>(), (1..=15).chain(17..=23).collect::<Vec<_>>());
     for refusal in Refusal::ALL {
         assert_eq!(Refusal::of_number(refusal.number()), Some(*refusal));
         assert!(!refusal.to_string().is_empty());

@@ -28,7 +28,7 @@ fn numbers() -> BTreeMap<String, Vec<u64>> {
     numbers
 }
 
-/// Of each public function of a file: its page. The second of a name, which is a node's, is so called.
+/// Of each public function of a file: its page. The second and the third of a name, which are a party's and a node's, are so called.
 fn pages(name: &str) -> Vec<(String, String)> {
     let (mut pages, mut page): (Vec<(String, String)>, _) = (vec![], String::new());
     for line in file(name).lines().map(str::trim) {
@@ -36,10 +36,9 @@ fn pages(name: &str) -> Vec<(String, String)> {
             page += text;
             page += "\n";
         } else if let Some(rest) = line.strip_prefix("pub fn ").or_else(|| line.strip_prefix("pub const fn ")) {
-            let mut method = rest.split(['(', '<']).next().unwrap().to_string();
-            if pages.iter().any(|(before, _)| *before == method) {
-                method += " 2";
-            }
+            let name = rest.split(['(', '<']).next().unwrap();
+            let before = pages.iter().filter(|(before, _)| before.split(' ').next() == Some(name)).count();
+            let method = if before == 0 { name.to_string() } else { format!("{name} {}", before + 1) };
             pages.push((method, std::mem::take(&mut page)));
         } else if !line.starts_with("#[") {
             page.clear();
@@ -67,7 +66,12 @@ fn each_page_names_its_refusals_in_order_and_has_an_example() {
         ("src/table.rs", "node_state", "node_header", &[]),
         ("src/table.rs", "into_node_state", "node_header", &[]),
         ("src/table.rs", "get", "find", &[]),
-        ("src/table.rs", "get 2", "find", &[14, 2]),
+        ("src/table.rs", "node_state 2", "node_header", &[]),
+        ("src/table.rs", "get 2", "find", &[]),
+        ("src/table.rs", "write 2", "write", &[]),
+        ("src/table.rs", "delete 2", "delete", &[]),
+        ("src/table.rs", "delete_after_ttl 2", "delete_after_ttl", &[]),
+        ("src/table.rs", "get 3", "find", &[14, 2]),
         ("src/table.rs", "last_heartbeat_if_deleted", "last_heartbeat", &[]),
         ("src/table.rs", "compute_digest", "write_digest", &[]),
         ("src/table.rs", "compute_partial_delta_respecting_mtu", "compute", &[]),
@@ -90,7 +94,8 @@ fn each_page_names_its_refusals_in_order_and_has_an_example() {
         ("src/over.rs", "delete", "delete_override", &[14]),
         ("src/over.rs", "delete_after_ttl", "delete_override_after_ttl", &[14]),
         ("src/over.rs", "get_over", "find_over", &[]),
-        ("src/over.rs", "get_over 2", "find_over", &[14, 2]),
+        ("src/over.rs", "get_over 2", "find_over", &[]),
+        ("src/over.rs", "get_over 3", "find_over", &[14, 2]),
         ("src/over.rs", "iter_prefix_over", "list_over", &[14, 2, 8]),
         ("src/watch.rs", "from_bytes", "new_grid", &[]),
         ("src/watch.rs", "add_node", "grid_add_node", &[14]),

@@ -14,7 +14,10 @@ record-of-requires : tie.Need-record-of-requires
 record-of-requires c κs = search lent-rec-needs
 
 read-record-requires : tie.Need-read-record-requires
-read-record-requires c κs = let s = c .before .before in rec-fits _ (s .pre .0) _ (s .pre .2) _ (c .record-of .ensures)
+read-record-requires c κs = let s = c .before .before in rec-fits _ (s .pre .0) _ (s .pre .3) _ (c .record-of .ensures)
+
+sub-record-place : tie.Need-sub-record-place
+sub-record-place c = search needs
 
 record-place-requires : tie.Need-record-place-requires
 record-place-requires c κs = search needs
@@ -22,11 +25,11 @@ record-place-requires c κs = search needs
 add-at : tie.Need-add-at
 add-at c = search needs
 
-add-t7 : tie.Need-add-t7
-add-t7 c = search needs
-
 add-t8 : tie.Need-add-t8
 add-t8 c = search needs
+
+add-t9 : tie.Need-add-t9
+add-t9 c = search needs
 
 returns : tie.Need-returns
 returns c =
@@ -41,8 +44,9 @@ placed-spec =
     (tie.spec
     record-of-requires
     read-record-requires
+    sub-record-place
     record-place-requires
     add-at
-    add-t7
     add-t8
+    add-t9
     returns)

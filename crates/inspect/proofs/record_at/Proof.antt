@@ -1,8 +1,7 @@
 -- `inspect::record_at` meets its contract: 14, or the reading on a good table. Assumes nothing.
-use mathlib.Core.Path.{ap}
+use mathlib.Core.Path.{ap, sym, _∙_}
 use Rattle.inspect.specs.Told.{recordReadTold}
 use Rattle.table_read.proofs.Entry.{read-good, read-bad}
-use Rattle.table_check.proofs.Entry.{area-good, area-long}
 use borrow.Author.Needs.{needs}
 use Rattle.inspect.proofs.record_at.Statement.{statement}
 use Rattle.inspect.proofs.record_at.Tie as tie
@@ -10,11 +9,8 @@ use Rattle.inspect.proofs.record_at.Tie as tie
 check-table-requires : tie.Need-check-table-requires
 check-table-requires c κs = search needs
 
-slice-aggregate-record-at-good : tie.Need-slice-aggregate-record-at-good
-slice-aggregate-record-at-good c = area-long _ (c .before .before .check-table .ensures) (c .before .if1 .taken)
-
-record-at-good-requires : tie.Need-record-at-good-requires
-record-at-good-requires c κs = area-good _ (c .before .before .check-table .ensures) (c .before .if1 .taken)
+record-at-known-requires : tie.Need-record-at-known-requires
+record-at-known-requires c κs = sym (c .before .check-table .ensures) ∙ c .if1 .taken
 
 returns : tie.Need-returns
 returns c = ap recordReadTold (search read-good)
@@ -23,4 +19,4 @@ returns-2 : tie.Need-returns-2
 returns-2 c = ap recordReadTold (search read-bad)
 
 pub record-at-spec : {M : Type 1} → statement M
-record-at-spec = tie.close (tie.spec check-table-requires slice-aggregate-record-at-good record-at-good-requires returns returns-2)
+record-at-spec = tie.close (tie.spec check-table-requires record-at-known-requires returns returns-2)

@@ -1,8 +1,7 @@
 -- `inspect::record_count` meets its contract: 14, or the reading on a good table. Assumes nothing.
-use mathlib.Core.Path.{ap}
+use mathlib.Core.Path.{ap, sym, _∙_}
 use Rattle.inspect.specs.Told.{countTold}
 use Rattle.table_read.proofs.Entry.{read-good, read-bad}
-use Rattle.table_check.proofs.Entry.{area-good, area-long}
 use borrow.Author.Needs.{needs}
 use Rattle.inspect.proofs.record_count.Statement.{statement}
 use Rattle.inspect.proofs.record_count.Tie as tie
@@ -10,11 +9,8 @@ use Rattle.inspect.proofs.record_count.Tie as tie
 check-table-requires : tie.Need-check-table-requires
 check-table-requires c κs = search needs
 
-slice-aggregate-record-count-good : tie.Need-slice-aggregate-record-count-good
-slice-aggregate-record-count-good c = area-long _ (c .before .before .check-table .ensures) (c .before .if1 .taken)
-
-record-count-good-requires : tie.Need-record-count-good-requires
-record-count-good-requires c κs = area-good _ (c .before .before .check-table .ensures) (c .before .if1 .taken)
+record-count-known-requires : tie.Need-record-count-known-requires
+record-count-known-requires c κs = sym (c .before .check-table .ensures) ∙ c .if1 .taken
 
 returns : tie.Need-returns
 returns c = ap countTold (search read-good)
@@ -23,4 +19,4 @@ returns-2 : tie.Need-returns-2
 returns-2 c = ap countTold (search read-bad)
 
 pub record-count-spec : {M : Type 1} → statement M
-record-count-spec = tie.close (tie.spec check-table-requires slice-aggregate-record-count-good record-count-good-requires returns returns-2)
+record-count-spec = tie.close (tie.spec check-table-requires record-count-known-requires returns returns-2)

@@ -1,18 +1,21 @@
 -- `inspect_text::in_node` meets its contract: 8, or the length that was read, at the place of the layout. Assumes nothing.
 use Prim.Native.Nat.{ℕ, _+_, _<_}
 use mathlib.Core.Path.{_≡_, ap, ap₂, sym, _∙_}
+use mathlib.Core.Option.{Option}
 use native.Mathlib.Omega.{arith}
 use lib.ListN.{length}
 use Rattle.fields.specs.Widths.{offset}
-use Rattle.rules.specs.Layout.{recWidths}
+use Rattle.rules.specs.Node.{Rec}
+use Rattle.rules.specs.Layout.{recWidths, decodeNode}
 use Rattle.rules.specs.declared.Record.{Record}
-use Rattle.table.specs.Tests.{countOf, recsIn}
+use Rattle.table.specs.Tests.{countOf}
 use Rattle.table.proofs.Places.{recAt}
 use Rattle.table_read.specs.Find.{recordOf}
 use Rattle.table_read.proofs.Reading.{rec-fits, rec-read}
+use Rattle.own_rows.specs.Sight.{seenNode}
 use Rattle.lookup.specs.declared.Found.the-variants.{At}
 use Rattle.inspect.specs.Look.{elementAt}
-use Rattle.inspect.proofs.Elements.{rec-there, no-rec-there}
+use Rattle.inspect.proofs.Elements.{own-within, rec-there, no-rec-there}
 use Rattle.inspect_text.specs.Texts.{textOf, textPlace, placeOn}
 use Rattle.inspect_text.specs.declared.Text.{Text}
 use Rattle.inspect_text.specs.declared.Text.the-variants.{Key, Value}
@@ -20,63 +23,88 @@ use borrow.Author.Needs.{needs}
 use Rattle.inspect_text.proofs.in_node.Statement.{statement}
 use Rattle.inspect_text.proofs.in_node.Tie as tie
 
-within : (c : tie.Else1) → let s = c .before .before .before in s .args .j < countOf (s .args .node .now)
-within c = omega (arith, c .before .byte-at .ensures .0)
+-- the record's place among all records of the node
+abbrev at : tie.Else1 → ℕ
+at c = c .before .before .sight-of .result .low + c .before .before .before .before .args .j
+
+within : (c : tie.Else1) → at c < countOf (c .before .before .before .before .args .node .now)
+within c =
+    let s = c .before .before .before .before in
+    let a = s .args in
+    own-within (a .profile) (a .party) (a .node .now) (s .pre .1) (s .pre .2) (c .before .before .sight-of .ensures) (λ (o : Option Rec). o) (a .j) (c .if1 .left)
+
+few : (c : tie.Else1) → at c < 32
+few c = omega (arith, within c, c .before .before .before .before .pre .0 .few)
 
 -- what was read of the record
-read : (c : tie.After-read-record) → let a = c .before .before .before .before .before .args in c .read-record .result ≡ recordOf (recAt (a .j) (a .node .now))
+read : (c : tie.After-read-record)
+    → let e = c .before .before .before in c .read-record .result ≡ recordOf (recAt (at e) (e .before .before .before .before .args .node .now))
 read c =
     let p = c .before in
-    let a = p .before .before .before .before .args in
-    rec-read (a .node .now) (a .j) _ (p .record-of .ensures) _ (c .read-record .ensures)
+    let e = p .before .before in
+    rec-read (e .before .before .before .before .args .node .now) (at e) _ (p .record-of .ensures) _ (c .read-record .ensures)
 
 -- where the node's bytes begin
 abbrev start : tie.After-read-record → ℕ
-start c = c .before .before .before .before .before .args .start
+start c = c .before .before .before .before .before .before .before .args .start
 
 -- by the text that is asked for
-answer : (c : tie.After-read-record) (x : Text) (at n : ℕ)
-    → let a = c .before .before .before .before .before .args in
-    a .text ≡ x → at ≡ textPlace x (a .start) (a .j) → n ≡ length (textOf x (recAt (a .j) (a .node .now)))
-    → At at n ≡ placeOn (a .text) (a .start) (a .j) (elementAt (a .j) (recsIn (a .node .now)))
-answer c x at n e p q =
-    let t = c .before .before in
-    let a = t .before .before .before .args in
-    rec-there (placeOn (a .text) (a .start) (a .j)) (a .node .now) (a .j) (within t) _
+answer : (c : tie.After-read-record) (x : Text) (k n : ℕ)
+    → let e = c .before .before .before in
+    let a = e .before .before .before .before .args in
+    a .text ≡ x → k ≡ textPlace x (a .start) (a .j) → n ≡ length (textOf x (recAt (at e) (a .node .now)))
+    → At k n ≡ placeOn (a .text) (a .start) (a .j) (elementAt (a .j) (seenNode (a .profile) (a .party) (decodeNode (a .node .now) .node) .recs))
+answer c x k n y p q =
+    let e = c .before .before .before in
+    let s = e .before .before .before .before in
+    let a = s .args in
+    rec-there (a .profile) (a .party) (a .node .now) (s .pre .1) (s .pre .2) (e .before .before .sight-of .ensures) (placeOn (a .text) (a .start) (a .j)) (a .j) (e .if1 .left) _
     (ap₂ At p q
-    ∙ ap (λ (y : Text). At (textPlace y (a .start) (a .j)) (length (textOf y (recAt (a .j) (a .node .now))))) (sym e))
+    ∙ ap (λ (z : Text). At (textPlace z (a .start) (a .j)) (length (textOf z (recAt (at e) (a .node .now))))) (sym y))
 
-byte-at-requires : tie.Need-byte-at-requires
-byte-at-requires c κs = search needs
+sight-of-requires : tie.Need-sight-of-requires
+sight-of-requires c κs = search needs
 
 returns : tie.Need-returns
 returns c =
-    let a = c .before .before .before .args in
-    no-rec-there (placeOn (a .text) (a .start) (a .j)) _ _ (omega (arith, c .before .byte-at .ensures .0))
+    let s = c .before .before .before .before in
+    let a = s .args in
+    no-rec-there (a .profile) (a .party) (a .node .now) (s .pre .1) (s .pre .2) (c .before .before .sight-of .ensures) (placeOn (a .text) (a .start) (a .j)) (a .j) (c .if1 .taken)
+
+add-record-of : tie.Need-add-record-of
+add-record-of c = omega (arith, few (c .before))
 
 record-of-requires : tie.Need-record-of-requires
-record-of-requires c κs = search needs
+record-of-requires c κs = (c .before .before .before .before .before .pre .0 .long, few (c .before))
 
 read-record-requires : tie.Need-read-record-requires
-read-record-requires c κs = rec-fits _ (c .before .before .before .before .pre .0) _ (within (c .before)) _ (c .record-of .ensures)
+read-record-requires c κs = rec-fits _ (c .before .before .before .before .before .before .pre .0) _ (within (c .before .before)) _ (c .record-of .ensures)
 
 record-place-requires : tie.Need-record-place-requires
-record-place-requires c κs = search needs
+record-place-requires c κs = omega (arith, few (c .before .before .before))
 
 add-record : tie.Need-add-record
-add-record c = search needs
+add-record c =
+    let e = c .before .before .before .before in
+    omega (arith, c .record-place .ensures, few e, e .before .before .before .before .pre .3)
 
 enum-told : tie.Need-enum-told
 enum-told c = search needs
 
-add-t13 : tie.Need-add-t13
-add-t13 c = search needs
+add-t15 : tie.Need-add-t15
+add-t15 c =
+    let m = c .before .before in
+    let e = m .before .before .before .before in
+    omega (arith, m .record-place .ensures, few e, e .before .before .before .before .pre .3)
 
 enum-told-2 : tie.Need-enum-told-2
 enum-told-2 c = search needs
 
-add-t14 : tie.Need-add-t14
-add-t14 c = search needs
+add-t16 : tie.Need-add-t16
+add-t16 c =
+    let m = c .before .before in
+    let e = m .before .before .before .before in
+    omega (arith, m .record-place .ensures, few e, e .before .before .before .before .pre .3)
 
 returns-2 : tie.Need-returns-2
 returns-2 c =
@@ -94,15 +122,16 @@ pub in-node-spec : {M : Type 1} → statement M
 in-node-spec =
     tie.close
     (tie.spec
-    byte-at-requires
+    sight-of-requires
     returns
+    add-record-of
     record-of-requires
     read-record-requires
     record-place-requires
     add-record
     enum-told
-    add-t13
+    add-t15
     enum-told-2
-    add-t14
+    add-t16
     returns-2
     returns-3)

@@ -1,9 +1,12 @@
--- `library::kev_delete_after_ttl` meets its contract: the call, and what its answer tells. Assumes nothing.
+-- `library::kev_delete_after_ttl` meets its contract: the call by the number's party, and what its answer tells. Assumes nothing.
 use mathlib.Core.Path.{ap, _∙_}
 use Rattle.answers.specs.Shown.{numberShown}
 use borrow.Author.Needs.{needs}
 use Rattle.library.proofs.kev_delete_after_ttl.Statement.{statement}
 use Rattle.library.proofs.kev_delete_after_ttl.Tie as tie
+
+of-number-requires : tie.Need-of-number-requires
+of-number-requires c κs = search needs
 
 delete-after-ttl-requires : tie.Need-delete-after-ttl-requires
 delete-after-ttl-requires c κs = search needs
@@ -16,9 +19,9 @@ same-length c = search needs
 
 returns : tie.Need-returns
 returns c =
-    let e = c .before .before .before .delete-after-ttl .ensures in
+    let e = rw (c .before .before .before .before .of-number .ensures) at (c .before .before .before .delete-after-ttl .ensures) in
     (c .number .ensures ∙ ap numberShown (e .0), e .1)
 
 pub kev-delete-after-ttl-spec : {M : Type 1} → statement M
 kev-delete-after-ttl-spec =
-    tie.close (tie.spec delete-after-ttl-requires number-requires same-length returns)
+    tie.close (tie.spec of-number-requires delete-after-ttl-requires number-requires same-length returns)

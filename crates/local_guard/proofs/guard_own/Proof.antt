@@ -1,6 +1,5 @@
 -- `local_guard::guard_own` meets its contract: a key that is there passes, and so does one for which there is room. Assumes nothing.
 use mathlib.Core.List.{[]}
-use mathlib.Core.Option.{none}
 use mathlib.Core.Path.{_≡_, ap, sym, _∙_}
 use lib.ListN.{length}
 use Rattle.rules.specs.Node.{find}
@@ -17,21 +16,23 @@ use borrow.Author.Needs.{needs}
 use Rattle.local_guard.proofs.guard_own.Statement.{statement}
 use Rattle.local_guard.proofs.guard_own.Tie as tie
 
-abbrev entry : tie.After-search-key → tie.Start
+abbrev entry : tie.After-sight-of → tie.Start
 entry c = c .before .before .before
 
--- the key is not there
-missing : (c : tie.After-enum-told2) → let a = entry (c .before .before) .args in find (a .key .now) (recsIn (a .node .now)) ≡ none
-missing c =
-    let k = c .before .before in
-    let st = entry k in
-    rec-missing (st .args .node .now) (st .args .key .now) _ (st .pre .1) (sym (k .search-key .ensures) ∙ c .enum-told2 .given .1)
-
 -- how many are the party's
-counted : (c : tie.After-sight-of) → let a = entry (c .before .before .before) .args in c .sight-of .result .count ≡ length (ofKeys (own (a .party)) (recsIn (a .node .now)))
+counted : (c : tie.After-sight-of) → let a = entry c .args in c .sight-of .result .count ≡ length (ofKeys (own (a .party)) (recsIn (a .node .now)))
 counted c =
-    let a = entry (c .before .before .before) .args in
+    let a = entry c .args in
     ap (λ (s : Sight). s .count) (c .sight-of .ensures) ∙ sym (seen-count Shared (a .party) (recsIn (a .node .now)))
+
+sight-of-requires : tie.Need-sight-of-requires
+sight-of-requires c κs = search needs
+
+returns : tie.Need-returns
+returns c =
+    let s = c .before .before in
+    let a = entry s .args in
+    has-room (own (a .party)) (bringing (a .key .now) [] Set) (recsIn (a .node .now)) _ (counted s) (c .if1 .taken) (find (a .key .now) (recsIn (a .node .now)))
 
 search-key-requires : tie.Need-search-key-requires
 search-key-requires c κs = search needs
@@ -42,34 +43,32 @@ enum-told c = search needs
 enum-told-2 : tie.Need-enum-told-2
 enum-told-2 c = search needs
 
-sight-of-requires : tie.Need-sight-of-requires
-sight-of-requires c κs = search needs
-
-returns : tie.Need-returns
-returns c =
-    let a = entry (c .before .before .before .before .before) .args in
-    full (own (a .party)) (bringing (a .key .now) [] Set) _ _ (missing (c .before .before .before)) _ (counted (c .before .before)) (c .if1 .taken)
-
 returns-2 : tie.Need-returns-2
 returns-2 c =
     let k = c .before .before in
-    let st = k .before .before .before in
-    let a = st .args in
-    there (own (a .party)) (bringing (a .key .now) [] Set) _ (recsIn (a .node .now)) _ (rec-found (a .node .now) (a .key .now) _ (sym (k .search-key .ensures) ∙ c .enum-told .given .1))
+    let e = k .before in
+    let s = e .before .before in
+    let a = entry s .args in
+    there (own (a .party)) (bringing (a .key .now) [] Set) (recsIn (a .node .now)) _ (counted s) _ _ (rec-found (a .node .now) (a .key .now) _ (sym (k .search-key .ensures) ∙ c .enum-told .given .1))
 
 returns-3 : tie.Need-returns-3
 returns-3 c =
-    let a = entry (c .before .before .before .before .before) .args in
-    has-room (own (a .party)) (bringing (a .key .now) [] Set) _ _ (missing (c .before .before .before)) _ (counted (c .before .before)) (c .if1 .left)
+    let k = c .before .before in
+    let e = k .before in
+    let s = e .before .before in
+    let st = entry s in
+    let a = st .args in
+    full (own (a .party)) (bringing (a .key .now) [] Set) (recsIn (a .node .now)) _ (counted s) (e .if1 .left) _
+    (rec-missing (a .node .now) (a .key .now) _ (st .pre .1) (sym (k .search-key .ensures) ∙ c .enum-told2 .given .1))
 
 pub guard-own-spec : {M : Type 1} → statement M
 guard-own-spec =
     tie.close
     (tie.spec
+    sight-of-requires
+    returns
     search-key-requires
     enum-told
     enum-told-2
-    sight-of-requires
-    returns
     returns-2
     returns-3)

@@ -1,5 +1,5 @@
 -- `lookup::in_record` meets its contract: a hidden record shows nothing, any other its value's place. Assumes nothing.
-use Prim.Native.Nat.{ℕ, _+_}
+use Prim.Native.Nat.{ℕ, _+_, _-_}
 use mathlib.Core.Path.{_≡_, ap, sym, _∙_}
 use Rattle.fields.specs.Choice.{pick}
 use Rattle.fields.specs.Widths.{offset}
@@ -20,11 +20,11 @@ use Rattle.lookup.proofs.in_record.Tie as tie
 answer : (c : tie.After-record-place) (s : Status) → c .before .read-record .result .status ≡ s
     → let a = c .before .before .before .before .args in
     pick (hidden s) Nothing (At (a .start + c .record-place .result + offset recWidths 3) (c .before .read-record .result .valuelen))
-    ≡ foundRec (a .start) (a .j) (recAt (a .j) (a .node .now))
+    ≡ foundRec (a .start) (a .j - a .low) (recAt (a .j) (a .node .now))
 answer c s h =
     let r = c .before in
     let a = r .before .before .before .args in
-    let at : ℕ = valuePlace (a .start) (a .j) in
+    let at : ℕ = valuePlace (a .start) (a .j - a .low) in
     ap (λ (k : ℕ). pick (hidden s) Nothing (At (a .start + k + offset recWidths 3) (r .read-record .result .valuelen))) (c .record-place .ensures)
     ∙ ap (λ (t : Status). pick (hidden t) Nothing (At at (r .read-record .result .valuelen))) (sym h)
     ∙ ap (λ (r : Record). pick (hidden (r .status)) Nothing (At at (r .valuelen)))
@@ -34,7 +34,10 @@ record-of-requires : tie.Need-record-of-requires
 record-of-requires c κs = search lent-rec-needs
 
 read-record-requires : tie.Need-read-record-requires
-read-record-requires c κs = let s = c .before .before in rec-fits _ (s .pre .0) _ (s .pre .2) _ (c .record-of .ensures)
+read-record-requires c κs = let s = c .before .before in rec-fits _ (s .pre .0) _ (s .pre .3) _ (c .record-of .ensures)
+
+sub-record-place : tie.Need-sub-record-place
+sub-record-place c = search needs
 
 record-place-requires : tie.Need-record-place-requires
 record-place-requires c κs = search needs
@@ -69,6 +72,7 @@ in-record-spec =
     (tie.spec
     record-of-requires
     read-record-requires
+    sub-record-place
     record-place-requires
     add-value
     add-value-2

@@ -1,18 +1,36 @@
--- `lookup::lookup` meets its contract: the part that was found, which has the rules' bytes. Assumes nothing.
-use Rattle.lookup.proofs.Values.{lent-stands, found-within, hands-found}
-use Rattle.lookup.proofs.Told.{same-found}
+-- `lookup::lookup` meets its contract: nothing where the table is bad (14), or what is handed out of a good table. Assumes nothing.
+use mathlib.Core.Path.{refl, sym, _∙_}
+use native.Mathlib.Nat.{add-zero}
+use Rattle.rules.specs.Whole.{decodeWhole}
+use Rattle.table_read.proofs.Entry.{read-good, read-bad}
+use Rattle.lookup.specs.Lookup.{nothingHeld, valuePart}
+use Rattle.lookup.proofs.Values.{same-hands}
 use borrow.Author.Needs.{needs}
 use Rattle.lookup.proofs.lookup.Statement.{statement}
 use Rattle.lookup.proofs.lookup.Tie as tie
 
-find-requires : tie.Need-find-requires
-find-requires c κs = search needs
+check-table-requires : tie.Need-check-table-requires
+check-table-requires c κs = search needs
 
-held-requires : tie.Need-held-requires
-held-requires c κs = found-within _ (same-found _ _ (c .find .ensures)) _ (lent-stands _ _ _)
+lookup-known-requires : tie.Need-lookup-known-requires
+lookup-known-requires c κs = sym (c .before .check-table .ensures) ∙ c .if1 .taken
+
+slice-aggregate-result : tie.Need-slice-aggregate-result
+slice-aggregate-result c = search needs
 
 returns : tie.Need-returns
-returns c = hands-found _ (same-found _ _ (c .before .find .ensures)) _ (lent-stands _ _ _) _ _ _ (c .held .ensures)
+returns c =
+    let a = c .before .before .before .before .before .args in
+    let rule = valuePart (decodeWhole (a .table .now) .kind .profile) (a .party) (a .number) (a .key .now) in
+    same-hands (read-good nothingHeld rule (a .table .now) (c .before .before .check-table .ensures) (c .before .if1 .taken) _ refl) _ _ _
+    (c .lookup-known .ensures)
+
+returns-2 : tie.Need-returns-2
+returns-2 c =
+    let a = c .before .before .before .before .before .args in
+    let rule = valuePart (decodeWhole (a .table .now) .kind .profile) (a .party) (a .number) (a .key .now) in
+    same-hands (read-bad nothingHeld rule (a .table .now) (c .before .before .check-table .ensures) (c .before .if1 .left)) _ _ _
+    (refl, refl, sym (add-zero (a .table .ptr .1)))
 
 pub lookup-spec : {M : Type 1} → statement M
-lookup-spec = tie.close (tie.spec find-requires held-requires returns)
+lookup-spec = tie.close (tie.spec check-table-requires lookup-known-requires slice-aggregate-result returns returns-2)

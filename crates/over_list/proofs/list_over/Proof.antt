@@ -1,10 +1,10 @@
 -- `over_list::list_over` meets its contract: 14 of the overrides, 14 of the table, or the listing in good ones. Assumes nothing.
 use mathlib.Core.Path.{sym, _∙_}
 use Rattle.rules.specs.Given.{given}
+use Rattle.rules.specs.Whole.{decodeWhole}
 use Rattle.rules.specs.declared.Refusal.the-variants.{BadTable}
 use Rattle.rules.proofs.Unique.{tells}
-use Rattle.table_check.proofs.Entry.{area-good, area-long}
-use Rattle.overrides.proofs.Both.{bad-over-fills, bad-under-fills, good-both-fills}
+use Rattle.overrides.proofs.Both.{bad-over-fills, bad-under-fills}
 use Rattle.over_list.specs.Merged.{listOver}
 use Rattle.over_list.specs.Told.{listedOverTold}
 use Rattle.over_list.specs.declared.ListedOver.the-variants as listed
@@ -18,36 +18,28 @@ check-overrides-requires c κs = search needs
 check-table-requires : tie.Need-check-table-requires
 check-table-requires c κs = search needs
 
-slice-aggregate-list-over-good : tie.Need-slice-aggregate-list-over-good
-slice-aggregate-list-over-good c = area-long _ (c .before .before .check-table .ensures) (c .before .if2 .taken)
-
-list-over-good-requires : tie.Need-list-over-good-requires
-list-over-good-requires c κs =
-    (sym (c .before .before .before .before .before .check-overrides .ensures) ∙ c .before .before .before .before .if1 .taken, area-good _ (c .before .before .before .check-table .ensures) (c .before .before .if2 .taken))
+list-over-known-requires : tie.Need-list-over-known-requires
+list-over-known-requires c κs =
+    (sym (c .before .before .before .before .check-overrides .ensures) ∙ c .before .before .before .if1 .taken, sym (c .before .before .check-table .ensures) ∙ c .before .if2 .taken)
 
 same-length : tie.Need-same-length
 same-length c = search needs
 
 returns : tie.Need-returns
-returns c =
-    let a = c .before .before .before .before .before .before .before .before .before .before .before .before .before .args in
-    let w = c .before .before .list-over-good in
-    tells listedOverTold
-    (good-both-fills (λ w. given (listed.Refused w BadTable) (a .out .now)) (listOver (a .number) (a .prefix .now) (a .out .now)) (a .overrides .now) (a .table .now)
-    (c .before .before .before .before .before .before .before .before .check-overrides .ensures) (c .before .before .before .before .before .before .before .if1 .taken) (c .before .before .before .before .before .before .check-table .ensures) (c .before .before .before .before .before .if2 .taken) _ _ (w .ensures))
+returns c = tells listedOverTold (c .before .before .list-over-known .ensures)
 
 returns-2 : tie.Need-returns-2
 returns-2 c =
     let a = c .before .before .before .before .before .before .before .before .args in
     tells listedOverTold
-    (bad-under-fills (λ w. given (listed.Refused w BadTable) (a .out .now)) (listOver (a .number) (a .prefix .now) (a .out .now)) (a .overrides .now) (a .table .now)
+    (bad-under-fills (λ w. given (listed.Refused w BadTable) (a .out .now)) (listOver (decodeWhole (a .table .now) .kind .profile) (a .party) (a .number) (a .prefix .now) (a .out .now)) (a .overrides .now) (a .table .now)
     (c .before .before .before .check-overrides .ensures) (c .before .before .if1 .taken) (c .before .check-table .ensures) (c .if2 .left))
 
 returns-3 : tie.Need-returns-3
 returns-3 c =
     let a = c .before .before .before .before .before .before .args in
     tells listedOverTold
-    (bad-over-fills (λ w. given (listed.Refused w BadTable) (a .out .now)) (listOver (a .number) (a .prefix .now) (a .out .now)) (a .overrides .now) (a .table .now)
+    (bad-over-fills (λ w. given (listed.Refused w BadTable) (a .out .now)) (listOver (decodeWhole (a .table .now) .kind .profile) (a .party) (a .number) (a .prefix .now) (a .out .now)) (a .overrides .now) (a .table .now)
     (c .before .check-overrides .ensures) (c .if1 .left))
 
 pub list-over-spec : {M : Type 1} → statement M
@@ -56,8 +48,7 @@ list-over-spec =
     (tie.spec
     check-overrides-requires
     check-table-requires
-    slice-aggregate-list-over-good
-    list-over-good-requires
+    list-over-known-requires
     same-length
     returns
     returns-2

@@ -1,5 +1,5 @@
 -- `over_list::next_turn` meets its contract: by which of the two keys comes next. Assumes nothing.
-use Prim.Native.Nat.{ℕ, _+_, _≤_, _<_}
+use Prim.Native.Nat.{ℕ, _+_, _-_, _≤_, _<_}
 use mathlib.Core.Path.{_≡_, refl, ap, sym, _∙_}
 use mathlib.Core.Bool.{Bool, true, false, not, true≢false, false≢true}
 use native.Mathlib.Omega.{arith}
@@ -80,8 +80,8 @@ next-key-requires c κs = search needs
 enum-told : tie.Need-enum-told
 enum-told c = search needs
 
-add-t9 : tie.Need-add-t9
-add-t9 c = search needs
+add-t10 : tie.Need-add-t10
+add-t10 c = search needs
 
 shown-once-requires : tie.Need-shown-once-requires
 shown-once-requires c κs =
@@ -98,15 +98,18 @@ is-shown-requires c κs =
     let s = k .before .before .before in
     (s .pre .0, omega (arith, both-in k (c .enum-told2 .given .1) .0, s .pre .3))
 
-add-t12 : tie.Need-add-t12
-add-t12 c = search needs
+add-t13 : tie.Need-add-t13
+add-t13 c = search needs
 
 returns : tie.Need-returns
 returns c =
     let k = c .before .before .before .before in
     let t = k .before .before .before .args in
-    as-turn _ Same (t .a) (t .b) (recAt (t .a) (t .overrides .now)) (recAt (t .b) (t .node .now)) (answered k Same (c .before .before .enum-told2 .given .1)) _
-    (sym (ap (λ (h : Bool). bothTurn h (t .a) (t .b) (recAt (t .b) (t .node .now))) (not-hidden (hidden (recAt (t .a) (t .overrides .now) .kv .status)) (sym (c .before .is-shown .ensures) ∙ c .if1 .taken))))
+    as-turn _ Same (t .a) (t .b - t .base) (recAt (t .a) (t .overrides .now)) (recAt (t .b) (t .node .now)) (answered k Same (c .before .before .enum-told2 .given .1)) _
+    (sym (ap (λ (h : Bool). bothTurn h (t .a) (t .b - t .base) (recAt (t .b) (t .node .now))) (not-hidden (hidden (recAt (t .a) (t .overrides .now) .kv .status)) (sym (c .before .is-shown .ensures) ∙ c .if1 .taken))))
+
+sub-t14 : tie.Need-sub-t14
+sub-t14 c = c .before .before .before .before .before .before .before .pre .7
 
 shown-once-requires-2 : tie.Need-shown-once-requires-2
 shown-once-requires-2 c κs =
@@ -116,6 +119,9 @@ shown-once-requires-2 c κs =
 
 enum-told-3 : tie.Need-enum-told-3
 enum-told-3 c = search needs
+
+sub-t16 : tie.Need-sub-t16
+sub-t16 c = c .before .before .before .before .before .pre .7
 
 shown-once-requires-3 : tie.Need-shown-once-requires-3
 shown-once-requires-3 c κs =
@@ -127,23 +133,23 @@ returns-2 : tie.Need-returns-2
 returns-2 c =
     let k = c .before .before .before in
     let t = k .before .before .before .args in
-    as-turn _ Less (t .a) (t .b) (recAt (t .a) (t .overrides .now)) (recAt (t .b) (t .node .now)) (answered k Less (c .before .enum-told .given .1)) _
+    as-turn _ Less (t .a) (t .b - t .base) (recAt (t .a) (t .overrides .now)) (recAt (t .b) (t .node .now)) (answered k Less (c .before .enum-told .given .1)) _
     (ap (λ (m : ℕ). turnAs (overPlace + t .a) m 1 0) (c .shown-once .ensures))
 
 returns-3 : tie.Need-returns-3
 returns-3 c =
     let k = c .before .before .before .before .before in
     let t = k .before .before .before .args in
-    as-turn _ Same (t .a) (t .b) (recAt (t .a) (t .overrides .now)) (recAt (t .b) (t .node .now)) (answered k Same (c .before .before .before .enum-told2 .given .1)) _
-    (ap (λ (m : ℕ). turnAs (t .b) m 1 1) (c .shown-once2 .ensures)
-    ∙ sym (ap (λ (h : Bool). bothTurn h (t .a) (t .b) (recAt (t .b) (t .node .now))) (is-hidden (hidden (recAt (t .a) (t .overrides .now) .kv .status)) (sym (c .before .before .is-shown .ensures) ∙ c .before .if1 .left))))
+    as-turn _ Same (t .a) (t .b - t .base) (recAt (t .a) (t .overrides .now)) (recAt (t .b) (t .node .now)) (answered k Same (c .before .before .before .enum-told2 .given .1)) _
+    (ap (λ (m : ℕ). turnAs (t .b - t .base) m 1 1) (c .shown-once2 .ensures)
+    ∙ sym (ap (λ (h : Bool). bothTurn h (t .a) (t .b - t .base) (recAt (t .b) (t .node .now))) (is-hidden (hidden (recAt (t .a) (t .overrides .now) .kv .status)) (sym (c .before .before .is-shown .ensures) ∙ c .before .if1 .left))))
 
 returns-4 : tie.Need-returns-4
 returns-4 c =
     let k = c .before .before .before in
     let t = k .before .before .before .args in
-    as-turn _ More (t .a) (t .b) (recAt (t .a) (t .overrides .now)) (recAt (t .b) (t .node .now)) (answered k More (c .before .enum-told3 .given .1)) _
-    (ap (λ (m : ℕ). turnAs (t .b) m 0 1) (c .shown-once3 .ensures))
+    as-turn _ More (t .a) (t .b - t .base) (recAt (t .a) (t .overrides .now)) (recAt (t .b) (t .node .now)) (answered k More (c .before .enum-told3 .given .1)) _
+    (ap (λ (m : ℕ). turnAs (t .b - t .base) m 0 1) (c .shown-once3 .ensures))
 
 pub next-turn-spec : {M : Type 1} → statement M
 next-turn-spec =
@@ -151,14 +157,16 @@ next-turn-spec =
     (tie.spec
     next-key-requires
     enum-told
-    add-t9
+    add-t10
     shown-once-requires
     enum-told-2
     is-shown-requires
-    add-t12
+    add-t13
     returns
+    sub-t14
     shown-once-requires-2
     enum-told-3
+    sub-t16
     shown-once-requires-3
     returns-2
     returns-3

@@ -15,7 +15,7 @@ check-table-requires : tie.Need-check-table-requires
 check-table-requires c κs = search needs
 
 list-known-requires : tie.Need-list-known-requires
-list-known-requires c κs = sym (c .before .before .before .check-table .ensures) ∙ c .before .before .if1 .taken
+list-known-requires c κs = sym (c .before .before .check-table .ensures) ∙ c .before .if1 .taken
 
 same-length : tie.Need-same-length
 same-length c = search needs

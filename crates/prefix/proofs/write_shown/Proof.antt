@@ -47,8 +47,8 @@ loop-holds c =
 is-shown-requires : tie.Need-is-shown-requires Inv-loop μ-loop
 is-shown-requires c κs = (c .before .before .before .before .pre .0, within c)
 
-sub-out : tie.Need-sub-out Inv-loop μ-loop
-sub-out c = c .before .before .before .loop .inv .5
+sub-place : tie.Need-sub-place Inv-loop μ-loop
+sub-place c = c .before .before .before .loop .inv .5
 
 cast-out : tie.Need-cast-out Inv-loop μ-loop
 cast-out c =
@@ -128,7 +128,7 @@ write-shown-spec =
     μ-loop
     loop-holds
     is-shown-requires
-    sub-out
+    sub-place
     cast-out
     slice-write-out
     add-next

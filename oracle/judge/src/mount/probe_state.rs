@@ -25,12 +25,12 @@ impl From<DeltaStatus> for Status {
 
 impl NodeState {
     /// The status of the delta for this node, and how many keys the node would hold after it.
-    pub(crate) fn try_delta(&self, node_delta: NodeDelta, now: Instant) -> (Status, usize) {
+    pub(crate) fn try_delta(&self, node_delta: NodeDelta, now: Instant) -> (Status, Vec<String>) {
         let checked = Status::from(self.check_delta_status(&node_delta));
         let mut tried = self.clone();
         let applied = Status::from(tried.apply_delta(node_delta, now));
         assert_eq!(checked, applied, "the status checked is not the status applied");
-        (applied, tried.key_values.len())
+        (applied, tried.key_values.keys().cloned().collect())
     }
 
     /// Any node of document 01, by the original's own setters.

@@ -1,26 +1,28 @@
--- `library::good::kev_good_record_at` meets its contract: the call on a good table, and what its answer tells. Assumes nothing.
+-- `library::good::kev_good_record_at` meets its contract: the call by the number's party on a good table, and what its answer tells. Assumes nothing.
 use mathlib.Core.Path.{ap, _∙_}
 use Rattle.inspect.specs.Told.{recordReadTold}
 use Rattle.inspect.specs.declared.RecordRead.{RecordRead}
 use Rattle.answers.specs.Shown.{recordShown}
-use Rattle.library.proofs.Accepted.{good-area, good-long, good-read}
+use Rattle.library.proofs.Accepted.{good-read}
 use borrow.Author.Needs.{needs}
 use Rattle.library.proofs.good.kev_good_record_at.Statement.{statement}
 use Rattle.library.proofs.good.kev_good_record_at.Tie as tie
 
-slice-aggregate-record-at-good : tie.Need-slice-aggregate-record-at-good
-slice-aggregate-record-at-good c = search good-long
+of-number-requires : tie.Need-of-number-requires
+of-number-requires c κs = search needs
 
-record-at-good-requires : tie.Need-record-at-good-requires
-record-at-good-requires c κs = search good-area
+record-at-known-requires : tie.Need-record-at-known-requires
+record-at-known-requires c κs = search needs
 
 record-requires : tie.Need-record-requires
 record-requires c κs = search needs
 
 returns : tie.Need-returns
-returns c = c .record .ensures ∙ ap (λ (a : RecordRead). recordShown (recordReadTold a)) (search good-read)
+returns c =
+    let s = c .before .before .before .before in
+    let e = rw (c .before .before .of-number .ensures) at (c .before .record-at-known .ensures) in
+    c .record .ensures ∙ ap (λ (a : RecordRead). recordShown (recordReadTold a)) (good-read _ _ (s .args .table .now) (s .pre) _ e)
 
 pub kev-good-record-at-spec : {M : Type 1} → statement M
 kev-good-record-at-spec =
-    tie.close
-    (tie.spec slice-aggregate-record-at-good record-at-good-requires record-requires returns)
+    tie.close (tie.spec of-number-requires record-at-known-requires record-requires returns)

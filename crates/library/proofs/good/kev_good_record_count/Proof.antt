@@ -1,26 +1,28 @@
--- `library::good::kev_good_record_count` meets its contract: the call on a good table, and what its answer tells. Assumes nothing.
+-- `library::good::kev_good_record_count` meets its contract: the call by the number's party on a good table, and what its answer tells. Assumes nothing.
 use mathlib.Core.Path.{ap, _∙_}
 use Rattle.inspect.specs.Told.{countTold}
 use Rattle.inspect.specs.declared.Count.{Count}
 use Rattle.answers.specs.Shown.{countShown}
-use Rattle.library.proofs.Accepted.{good-area, good-long, good-read}
+use Rattle.library.proofs.Accepted.{good-read}
 use borrow.Author.Needs.{needs}
 use Rattle.library.proofs.good.kev_good_record_count.Statement.{statement}
 use Rattle.library.proofs.good.kev_good_record_count.Tie as tie
 
-slice-aggregate-record-count-good : tie.Need-slice-aggregate-record-count-good
-slice-aggregate-record-count-good c = search good-long
+of-number-requires : tie.Need-of-number-requires
+of-number-requires c κs = search needs
 
-record-count-good-requires : tie.Need-record-count-good-requires
-record-count-good-requires c κs = search good-area
+record-count-known-requires : tie.Need-record-count-known-requires
+record-count-known-requires c κs = search needs
 
 count-requires : tie.Need-count-requires
 count-requires c κs = search needs
 
 returns : tie.Need-returns
-returns c = c .count .ensures ∙ ap (λ (a : Count). countShown (countTold a)) (search good-read)
+returns c =
+    let s = c .before .before .before .before in
+    let e = rw (c .before .before .of-number .ensures) at (c .before .record-count-known .ensures) in
+    c .count .ensures ∙ ap (λ (a : Count). countShown (countTold a)) (good-read _ _ (s .args .table .now) (s .pre) _ e)
 
 pub kev-good-record-count-spec : {M : Type 1} → statement M
 kev-good-record-count-spec =
-    tie.close
-    (tie.spec slice-aggregate-record-count-good record-count-good-requires count-requires returns)
+    tie.close (tie.spec of-number-requires record-count-known-requires count-requires returns)

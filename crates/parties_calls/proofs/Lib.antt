@@ -1,0 +1,4 @@
+pub mod Blind
+pub mod Linked
+pub mod Calls
+pub mod Fronts
