@@ -896,6 +896,33 @@ def two_datagrams():
             yield apply(half, now=50)
 
 
+def two_datagrams_kinds():
+    """The same in meter and shared tables, with Room of a node, or of one party where the other has room. Then a record out of form in the second part: the whole is refused, and of the parts
+    the second alone."""
+    for profile, key, other, odd in ((1, b"k%02d", b"z", b"K"), (2, b"m/%02d", b"b/1", b"k")):
+        full = 32 if profile == 1 else 16
+        before = (node(1) + kv(key % 1, b"1", 1) + kv(key % 2, b"2", 4), node(2) + b"".join(kv(key % i, b"1", i + 1) for i in range(full)))
+        good = (node(1, 0, 4) + kv(key % 1, b"", 5, 1) + kv(key % 3, b"6", 6, 2), node(9) + kv(key % 1, b"8", 1), node(2, 0, full) + kv(key % 90, b"1", 40) + kv(other, b"1", 41), node(3, 7) + kv(other, b"9", 2))
+        bad = good[:3] + (node(3, 7) + kv(odd, b"9", 2),)
+
+        def fresh(hub, mode):
+            yield f"hub {hub}"
+            yield f"kind {mode} {profile}"
+            yield from (f"add {number}" for number in range(1, 4))
+            yield apply(*before, now=3)
+
+        for mode in (0, 1, 2):
+            for parts in (good, bad):
+                yield from fresh(0, mode)
+                yield apply(*parts, now=50)
+                for cut in range(len(parts) + 1):
+                    for hub in (1, 2):
+                        yield from fresh(hub, mode)
+                        halves = [parts[:cut], parts[cut:]]
+                        for half in halves if hub == 1 else reversed(halves):
+                            yield apply(*half, now=50)
+
+
 def net(*modes):
     for hub, mode in reversed(list(enumerate(modes))):
         yield f"hub {hub}"
@@ -1740,7 +1767,7 @@ SCRIPTS = {
     "removal": removal, "removed": removed, "bad-memories": bad_memories,
     "digests": digests, "digest-reading": digest_reading, "editions": editions, "delta-reading": delta_reading, "lacking": lacking, "delta-lengths": delta_lengths, "asking": asking,
     "from": from_where, "in-line": in_line, "plans": plans, "plan-lists": plan_lists, "plan-cuts": plan_cuts, "plan-refusals": plan_refusals,
-    "cuts": cuts, "longest-record": longest_record, "verdicts": verdicts, "taking": taking, "room-counts": room, "fence": fence, "guard": guard, "two-datagrams": two_datagrams, "exchange": exchange,
+    "cuts": cuts, "longest-record": longest_record, "verdicts": verdicts, "taking": taking, "room-counts": room, "fence": fence, "guard": guard, "two-datagrams": two_datagrams, "two-datagrams-kinds": two_datagrams_kinds, "exchange": exchange,
     "net-triangle": triangle, "net-line": line, "net-relay": relay, "net-owner": owner, "net-behind": behind,
     "meter-forms": meter_forms, "meter-totals": meter_totals, "meter-orders": meter_orders, "meter-streams": meter_streams, "meter-tables": meter_tables,
     "over-writes": over_writes, "over-reads": over_reads, "over-refusals": over_refusals,

@@ -17,21 +17,21 @@ use Rattle.rules.proofs.Tables.{node-set-other}
 
 -- ---- one node delta
 
-abbrev answerOn : Taking → Part → Option Node → NodeAnswer
+abbrev pub answerOn : Taking → Part → Option Node → NodeAnswer
 answerOn take x none = node.Unknown
 answerOn take x (some n) = take (x .delta) n .answer
 
-abbrev tableOn : Taking → Part → Option Node → Table → Table
+abbrev pub tableOn : Taking → Part → Option Node → Table → Table
 tableOn take x none t = t
 tableOn take x (some n) t = setNode (x .number) (take (x .delta) n .node) t
 
-abbrev answerTo : Taking → Part → Table → NodeAnswer
+abbrev pub answerTo : Taking → Part → Table → NodeAnswer
 answerTo take x t = answerOn take x (nodeOf (x .number) t)
 
-abbrev after : Taking → Part → Table → Table
+abbrev pub after : Taking → Part → Table → Table
 after take x t = tableOn take x (nodeOf (x .number) t) t
 
-each-cons : (take : Taking) (x : Part) (xs : List Part) (t : Table) → applyEach take (x ∷ xs) t ≡ answering (answerTo take x t) (applyEach take xs (after take x t))
+pub each-cons : (take : Taking) (x : Part) (xs : List Part) (t : Table) → applyEach take (x ∷ xs) t ≡ answering (answerTo take x t) (applyEach take xs (after take x t))
 unfolding applyEach
 each-cons take x xs t = go (nodeOf (x .number) t)
   where

@@ -23,7 +23,7 @@ use Rattle.rules.specs.Apply.{ApplyOutcome, Lawful, Stream, Taking, Ways, apply
 use Rattle.rules.specs.Profile.{Kind}
 use Rattle.rules.specs.declared.NodeAnswer.{NodeAnswer}
 use Rattle.rules.specs.declared.Applied.the-variants as applied
-use Rattle.rules.proofs.Deltas.{read-delta, delta-is}
+use Rattle.rules.proofs.Deltas.{AllSmall, Chain, read-delta, delta-is}
 use Rattle.profiles.proofs.Reading.{delta-formed, delta-plain, form-first, form-second}
 use Rattle.delta_split.specs.Split.{nodeTags, cutPlaces, wanted, inOrder, reversed, given, AsUncut, FromNode, Cuttable}
 use Rattle.delta_split.proofs.Cutting.{parts-cut, bytes-cut, small-first, small-second, chain-first, chain-second, parts-apart}
@@ -31,12 +31,12 @@ use Rattle.delta_split.proofs.Each.{Apart, each-append, each-swapped}
 
 -- ---- the operations on both sides of a Node's tag
 
-record CutOps (a place : ℕ) (ops : List Op) : Type 0 where
-  first : List Op
-  second : List Op
-  ops-are : ops ≡ first ++ second
-  from-node : FromNode second
-  place-is : place ≡ a + length (deltaBytes first)
+pub record CutOps (a place : ℕ) (ops : List Op) : Type 0 where
+  pub first : List Op
+  pub second : List Op
+  pub ops-are : ops ≡ first ++ second
+  pub from-node : FromNode second
+  pub place-is : place ≡ a + length (deltaBytes first)
 
 -- one operation more before them
 with-first : (a place : ℕ) (o : Op) (ops : List Op) → CutOps (a + sizeOf o) place ops → CutOps a place (o ∷ ops)
@@ -50,7 +50,7 @@ with-first a place o ops c =
       place-is = c .place-is ∙ rw (length-append (opBytes o) (flat opBytes (c .first))) (omega arith);
     }
 
-tag-cuts : (a place : ℕ) (ops : List Op) → place ∈ nodeTags a ops → CutOps a place ops
+pub tag-cuts : (a place : ℕ) (ops : List Op) → place ∈ nodeTags a ops → CutOps a place ops
 unfolding nodeTags deltaBytes flat
 tag-cuts a place [] m = absurd (in-none m)
 tag-cuts a place (NodeOp n g f ∷ ops) (here e) = record { first = []; second = NodeOp n g f ∷ ops; ops-are = refl; from-node = tt; place-is = e ∙ sym (add-zero a) }
@@ -60,14 +60,17 @@ tag-cuts a place (SetMaxVersionOp x ∷ ops) m = with-first a place (SetMaxVersi
 
 -- ---- document 01's reading, of both parts
 
+pub read-both : (xs ys : List Op) → FromNode ys → Chain nothingRead (xs ++ ys) → AllSmall (xs ++ ys) → length (deltaBytes (xs ++ ys)) ≤ maxDelta
+    → (readDelta (deltaBytes xs) ≡ Good xs) × (readDelta (deltaBytes ys) ≡ Good ys)
+read-both xs ys k chain small short =
+    let long : length (deltaBytes xs) + length (deltaBytes ys) ≤ maxDelta = subst (λ (n : ℕ). n ≤ maxDelta) (ap length (bytes-cut xs ys) ∙ length-append (deltaBytes xs) (deltaBytes ys)) short in (
+      read-delta xs (chain-first nothingRead xs ys chain) (small-first xs ys small) (omega arith),
+      read-delta ys (chain-second nothingRead xs ys k chain) (small-second xs ys small) (omega arith),
+    )
+
 pub read-parts : (xs ys : List Op) → FromNode ys → AreBytes (deltaBytes (xs ++ ys)) → readDelta (deltaBytes (xs ++ ys)) ≡ Good (xs ++ ys)
     → (readDelta (deltaBytes xs) ≡ Good xs) × (readDelta (deltaBytes ys) ≡ Good ys)
-read-parts xs ys k are r =
-    let d = delta-is (deltaBytes (xs ++ ys)) (xs ++ ys) are r in
-    let long : length (deltaBytes xs) + length (deltaBytes ys) ≤ maxDelta = subst (λ (n : ℕ). n ≤ maxDelta) (ap length (bytes-cut xs ys) ∙ length-append (deltaBytes xs) (deltaBytes ys)) (d .1) in (
-      read-delta xs (chain-first nothingRead xs ys (d .0 .chain)) (small-first xs ys (d .0 .small)) (omega arith),
-      read-delta ys (chain-second nothingRead xs ys k (d .0 .chain)) (small-second xs ys (d .0 .small)) (omega arith),
-    )
+read-parts xs ys k are r = let d = delta-is (deltaBytes (xs ++ ys)) (xs ++ ys) are r in read-both xs ys k (d .0 .chain) (d .0 .small) (d .1)
 
 -- ---- a call that is accepted
 
@@ -91,10 +94,10 @@ codes-append [] m = refl
 codes-append (a ∷ l) m = ap₂ (λ (c : ℕ) (r : List ℕ). c ∷ r) refl (codes-append l m)
 
 -- the node deltas are taken, and the answers told
-abbrev accepted : Stream → ℕ → List ℕ → ApplyOutcome
+abbrev pub accepted : Stream → ℕ → List ℕ → ApplyOutcome
 accepted s n l = record { answer = applied.Nodes n; table = s .table; list = put 0 (codes (s .answers)) l }
 
-call-accepted : (ways : Ways) (b : List ℕ) (ops : List Op) (now : ℕ) (t : Table) (l : List ℕ) → ways .reads b ≡ Good ops → length (partsOf ops) ≤ length l
+pub call-accepted : (ways : Ways) (b : List ℕ) (ops : List Op) (now : ℕ) (t : Table) (l : List ℕ) → ways .reads b ≡ Good ops → length (partsOf ops) ≤ length l
     → apply ways b now t l ≡ accepted (applyEach (applyNode ways now) (partsOf ops) t) (length (partsOf ops)) l
 unfolding apply
 call-accepted ways b ops now t l r h =
@@ -111,17 +114,17 @@ told take xs t l h =
 
 -- ---- the two parts of a delta that was read
 
-record Parts (ways : Ways) (b : List ℕ) (place : ℕ) : Type 0 where
-  first : List Op
-  second : List Op
-  from-node : FromNode second
-  whole-read : ways .reads b ≡ Good (first ++ second)
-  first-read : ways .reads (take place b) ≡ Good first
-  second-read : ways .reads (drop place b) ≡ Good second
-  apart : Apart (partsOf first) (partsOf second)
+pub record Parts (ways : Ways) (b : List ℕ) (place : ℕ) : Type 0 where
+  pub first : List Op
+  pub second : List Op
+  pub from-node : FromNode second
+  pub whole-read : ways .reads b ≡ Good (first ++ second)
+  pub first-read : ways .reads (take place b) ≡ Good first
+  pub second-read : ways .reads (drop place b) ≡ Good second
+  pub apart : Apart (partsOf first) (partsOf second)
 
 module _ (ways : Ways) (lawful : Lawful ways) (cuttable : Cuttable ways) (b : List ℕ) (are : AreBytes b) (place : ℕ) where
-  parts-of : (o : Ops) → ways .reads b ≡ o → place ∈ cutPlaces o → Parts ways b place
+  pub parts-of : (o : Ops) → ways .reads b ≡ o → place ∈ cutPlaces o → Parts ways b place
   parts-of (Faulty r at) e m = absurd (in-none m)
   parts-of (Good ops) e m =
       let c : CutOps 0 place ops = tag-cuts 0 place ops m in
@@ -175,7 +178,7 @@ by-three {A} P {w} {w′} {one} {one′} {two} {two′} e f g s =
     subst (λ (x : A). P x one two) (sym e) (subst (λ (x : A). P w′ x two) (sym f) (subst (λ (x : A). P w′ one′ x) (sym g) s))
 
 -- of three outcomes, the last of them being the later one's
-abbrev Says : (whole one two last : ApplyOutcome) → Type 0
+abbrev pub Says : (whole one two last : ApplyOutcome) → Type 0
 Says w one two last = AsUncut (w .answer) (one .answer) (two .answer) (w .list) (one .list) (two .list) (w .table) (last .table)
 
 module _ (ways : Ways) (lawful : Lawful ways) (cuttable : Cuttable ways) (b : List ℕ) (are : AreBytes b) (place : ℕ) (at : place ∈ cutPlaces (ways .reads b)) (now : ℕ) (t : Table)

@@ -27,11 +27,11 @@ use Rattle.demand3.proofs.Forms.{Made}
 use Rattle.demand3.proofs.Moments.{InOrder, Moment, moment, moment-claims, moments, read-once}
 use Rattle.demand3.proofs.Nearer.{Tells, Way, lack, lack-behind, next, stirred, sum, sum-le, sum-lt, sum-none, sum-some, told-held}
 use Rattle.demand3.proofs.Needed.{Onward, needed-most, needed-none, onward-gc, onward-same, onward-then}
-use Rattle.demand3.proofs.Quiet.{AllBeaten, Calm, beaten-on, calm, lack-ours, lacks, lacks-stays, onward-lacks, way-arriving, way-beating, way-offering, way-sending}
+use Rattle.demand3.proofs.Quiet.{AllBeaten, Calm, beaten-on, calm, lack-ours, lacks, lacks-stays, onward-lacks, way-arriving, way-beating, way-offering, way-receiving, way-sending}
 use Rattle.demand3.proofs.Whole.{answered, asked, stream, taken}
 use Rattle.demand3.specs.Demand3.{Answered, Asked, NotBegun, SameMax, Stage, allQuiet, ending, granted, holdings, onward, quiet, unlimited, wholes, wideEnough}
 use Rattle.demand3.specs.Forms.{Order, opsBy}
-use Rattle.demand3.specs.World.{Applying, Arriving, Beating, Computing, DeltaSent, DigestSent, Digesting, Event, Followers, Offering, Removing, Sending, World, Writing, after, freshTable, happen, onSide, start}
+use Rattle.demand3.specs.World.{Applying, Arriving, Beating, Computing, DeltaSent, DigestSent, Digesting, Event, Followers, Offering, Receiving, Removing, Sending, World, Writing, after, freshTable, happen, onSide, start}
 
 -- what the nodes still need is at most one for each record and node
 most : (g : ℕ → ℕ) (t : Table) → ((e : Entry) → e ∈ t → g (e .number) ≤ suc (length (e .node .recs))) → sum g (numbersOf t) ≤ holdings t
@@ -333,6 +333,7 @@ module _ (ways : Ways) (law : Lawful ways) (is : List ℕ) where
     goes-on (Applying now l) NotBegun q a u g = (tt, ends-it (Applying now l) refl NotBegun a)
     goes-on (Applying now l) (Asked edition) q a u g = (tt, ends-it (Applying now l) refl (Asked edition) a)
     goes-on (Applying now l) Answered q a u g = (tt, λ k h. falls now l a g k (omega arith))
+    goes-on (Receiving cuts now l) st q a u g = leaves-it (Receiving cuts now l) refl (way-receiving ways w cuts now l) st a
     goes-on (Sending edition digest excluded order mtu place l) st q a u g = leaves-it (Sending edition digest excluded order mtu place l) refl (way-sending ways w edition digest excluded order mtu place l) st a
     goes-on (Arriving k now l) st q a u g = leaves-it (Arriving k now l) refl (way-arriving ways w k now l) st a
 

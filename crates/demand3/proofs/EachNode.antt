@@ -215,11 +215,25 @@ module _ (ways : Ways) (i : ℕ) (w : World) where
       flight-is : flightOf i (w .exchange) ≡ partAt i (partsOf ops)
       flight-is = ap (flightOf i) x ∙ ap (λ (o : Ops). partAt i (partsIn o)) e
 
-  -- one that was ever computed, late or again
-  pub seen-arriving : Lawful ways → ways .late ≡ true → (now : ℕ) (l b : List ℕ) (ops : List Op) → b ∈ w .sent → readDelta b ≡ Good ops → repeated (partsOf ops) ≡ false → Seen ways (at i w) (at i (onSide Followers (λ t. apply ways b now t l .table) w))
-  seen-arriving law late now l b ops m e once =
-      seen-taken law now l b ops e once
-      (comes-late now (partAt i (partsOf ops)) late (subst (λ (o : Ops). partAt i (partsIn o) ∈ sentOf i (w .sent)) e (sent-in i m)))
+  -- those of a part of it: c brings of the node what b brings, or nothing
+  pub seen-receiving : Lawful ways → (now : ℕ) (l b c : List ℕ) (ops : List Op) → w .exchange ≡ DeltaSent b → readDelta c ≡ Good ops → repeated (partsOf ops) ≡ false
+      → ((d : NodeDelta) → partAt i (partsOf ops) ≡ some d → partAt i (partsIn (readDelta b)) ≡ some d)
+      → Seen ways (at i w) (at i (onSide Followers (λ t. apply ways c now t l .table) w))
+  seen-receiving law now l b c ops x e once its = seen-taken law now l c ops e once (go (partAt i (partsOf ops)) refl)
+    where
+      go : (o : Option NodeDelta) → partAt i (partsOf ops) ≡ o → Step ways (at i w) (theirs-are (taking (applyNode ways now) o (nodeAt i (w .follower))))
+      go none q = stays
+      go (some d) q = subst (λ (o : Option NodeDelta). Step ways (at i w) (theirs-are (taking (applyNode ways now) o (nodeAt i (w .follower))))) (ap (flightOf i) x ∙ its d q) (they-take now)
+
+  -- those of one that was ever computed, or of a part of it, late or again: c brings of the node what b brings, or nothing
+  pub seen-arriving : Lawful ways → ways .late ≡ true → (now : ℕ) (l b c : List ℕ) (ops : List Op) → b ∈ w .sent → readDelta c ≡ Good ops → repeated (partsOf ops) ≡ false
+      → ((d : NodeDelta) → partAt i (partsOf ops) ≡ some d → partAt i (partsIn (readDelta b)) ≡ some d)
+      → Seen ways (at i w) (at i (onSide Followers (λ t. apply ways c now t l .table) w))
+  seen-arriving law late now l b c ops m e once its = seen-taken law now l c ops e once (go (partAt i (partsOf ops)) refl)
+    where
+      go : (o : Option NodeDelta) → partAt i (partsOf ops) ≡ o → Step ways (at i w) (theirs-are (taking (applyNode ways now) o (nodeAt i (w .follower))))
+      go none q = stays
+      go (some d) q = comes-late now (some d) late (subst (λ (o : Option NodeDelta). o ∈ sentOf i (w .sent)) (its d q) (sent-in i m))
 
   -- A delta is computed: its part for the node, if there is one, is what computing makes of it. It is kept, or sent at once.
   module _ (b : List ℕ) (made : (d : NodeDelta) → partAt i (partsIn (readDelta b)) ≡ some d → MadeOf (nodeAt i (w .publisher)) d) where

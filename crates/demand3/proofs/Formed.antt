@@ -14,12 +14,12 @@ use Rattle.fields.specs.Choice.{_∈_, all, pick}
 use Rattle.fields.specs.Parts.{part, put}
 use Rattle.rules.specs.Apply.{ApplyOutcome, applyEach, applyNode, applyOps, apply, codes, waysIn}
 use Rattle.rules.specs.Compute.{StaleNode, staleNodes, staleOf}
-use Rattle.rules.specs.Delta.{Good, Op, Ops, Part, deltaBytes, partsOf}
+use Rattle.rules.specs.Delta.{Op, Ops, Part, deltaBytes, partsOf}
 use Rattle.rules.specs.Digest.{NodeDigest}
 use Rattle.rules.specs.Given.{Given}
 use Rattle.rules.specs.Local.{call, callAs, unlessGuarded}
 use Rattle.rules.specs.Node.{Call, KeyValue, Node}
-use Rattle.rules.specs.Profile.{Kind, guardIn, opInForm, profileObeys, readDeltaAs, recsFormed, recsObey}
+use Rattle.rules.specs.Profile.{Kind, guardIn, opInForm, profileObeys, recsFormed, recsObey}
 use Rattle.rules.specs.Table.{Entry, Table, nodeOf}
 use Rattle.rules.specs.declared.Applied.the-variants as applied
 use Rattle.rules.specs.declared.Computed.{Computed}
@@ -34,6 +34,8 @@ use Rattle.profiles.proofs.Sent.{append-formed, body-formed, delta-in-form, sta
 use Rattle.plan.proofs.Lines.{named-is}
 use Rattle.plan.specs.Plan.{deltaBy, lineOps, named, planOps, staleFor}
 use Rattle.demand3.proofs.Forms.{Comes, refuses, removal-is, writes}
+use Rattle.demand3.proofs.OnTheWay.{Sendable}
+use Rattle.demand3.proofs.Parted.{IsRead, ReadsWell}
 use Rattle.demand3.specs.Forms.{AsPlanned, InLine, Order, Removal, opsBy, removedBy}
 use Rattle.demand3.specs.World.{givenAs, givenIn, sentAfter, unlessRefused}
 
@@ -84,28 +86,27 @@ module _ (p : Profile) where
           let x = behind-from excluded ds [] t m in
           subst (λ (n : Node). recsFormed p (n .recs) ≡ true) (sym (x .node-is)) (obey-formed p (x .entry .node .recs) (all-from (λ (e : Entry). recsObey p (e .node .recs)) t h (x .entry) (x .held)))
 
-  -- these bytes are a delta to a table of the profile
-  abbrev pub IsRead : List ℕ → Type 0
-  IsRead b = (ops : List Op) × (readDeltaAs p b ≡ Good ops)
-
   -- so what is computed is read, and what was computed before stays
   pub sent-read : (edition : ℕ) (excluded : List ℕ) (order : Order) (mtu place : ℕ) (digest : List ℕ) (t : Table) (l : List ℕ) (ss : List (List ℕ)) (o : Given Computed (List ℕ))
       → profileObeys p t ≡ true
       → Comes edition excluded order mtu place digest t l o
       → (b : List ℕ)
       → b ∈ sentAfter place (o .lent) (o .answer) ss
-      → (b ∈ ss) ⊎ IsRead b
+      → (b ∈ ss) ⊎ (IsRead p b × ReadsWell b)
   sent-read edition excluded order mtu place digest t l ss o h (refuses r) b m = inl m
   sent-read edition excluded order mtu place digest t l ss o h (writes ds rest e made there) b m = at (in-cons m)
     where
       ops : List Op
       ops = opsBy excluded order mtu ds t
 
-      its : IsRead (deltaBytes ops)
-      its = (ops, delta-formed p (deltaBytes ops) ops (ops-formed excluded order mtu ds t h) (made .sendable .read))
+      s : Sendable t ops
+      s = made .sendable
 
-      at : (b ≡ part place (length (deltaBytes ops)) (put place (deltaBytes ops) l)) ⊎ (b ∈ ss) → (b ∈ ss) ⊎ IsRead b
-      at (inl q) = inr (subst IsRead (sym (q ∙ there)) its)
+      its : IsRead p (deltaBytes ops) × ReadsWell (deltaBytes ops)
+      its = ((ops, delta-formed p (deltaBytes ops) ops (ops-formed excluded order mtu ds t h) (s .read)), (ops, s .read, s .chain, s .small, refl))
+
+      at : (b ≡ part place (length (deltaBytes ops)) (put place (deltaBytes ops) l)) ⊎ (b ∈ ss) → (b ∈ ss) ⊎ (IsRead p b × ReadsWell b)
+      at (inl q) = inr (subst (λ (c : List ℕ). IsRead p c × ReadsWell c) (sym (q ∙ there)) its)
       at (inr n) = inl n
 
 -- ---- applying

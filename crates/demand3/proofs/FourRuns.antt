@@ -14,7 +14,7 @@ use Rattle.rules.specs.Apply.{Ways, fencedWays, plainWays}
 use Rattle.rules.specs.declared.Party.the-variants.{Nobody}
 use Rattle.rules.specs.declared.Status.the-variants.{Set}
 use Rattle.demand3.specs.Forms.{AsPlanned, ByClock, InLine}
-use Rattle.demand3.specs.World.{World, Publishers, Followers, Event, Writing, Beating, Offering, Removing, Digesting, Computing, Applying, Arriving, onExchange, start, after, happen}
+use Rattle.demand3.specs.World.{World, Publishers, Followers, Event, Writing, Beating, Offering, Removing, Digesting, Computing, Applying, Arriving, onExchange, start, after, happen, intact}
 use Rattle.demand3.specs.Demand3.{granted}
 
 -- one node, number 7, and its pair (last_gc, max)
@@ -187,7 +187,7 @@ dead = record { key = k; value = one; version = 5; status = Set }
 
 -- It arrives at a fenced follower: it is the second of all, for the delta of the reset is newer.
 abbrev arriving : List Event
-arriving = Arriving 1 50 (0 ∷ []) ∷ []
+arriving = Arriving (intact 1) 50 (0 ∷ []) ∷ []
 
 abbrev pub heldOff : World
 heldOff = after fencedWays arriving (wasReset fencedWays)
@@ -197,7 +197,7 @@ abbrev pub amid : List Event
 amid =
     arriving
     ++ ((Digesting 0 [] 0 (replicate 34 0) ∷ [])
-    ++ (arriving ++ ((Computing 0 [] (InLine (0 ∷ [])) 300 0 (replicate 300 0) ∷ Arriving 2 50 (0 ∷ []) ∷ Applying 50 (0 ∷ []) ∷ []) ++ exchange 300)))
+    ++ (arriving ++ ((Computing 0 [] (InLine (0 ∷ [])) 300 0 (replicate 300 0) ∷ Arriving (intact 2) 50 (0 ∷ []) ∷ Applying 50 (0 ∷ []) ∷ []) ++ exchange 300)))
 
 abbrev pub fencedUp : World
 fencedUp = after fencedWays amid heldOff

@@ -8,12 +8,14 @@ pub mod Computing
 pub mod Needed
 pub mod OneNode
 pub mod EachNode
+pub mod Parted
 pub mod OnTheWay
 pub mod Nearer
 pub mod Planned
 pub mod Forms
 pub mod Formed
 pub mod Moments
+pub mod Gateway
 pub mod Quiet
 pub mod Whole
 pub mod Closing

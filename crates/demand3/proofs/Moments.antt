@@ -1,6 +1,6 @@
 -- Every moment of a run: both tables hold their nodes and obey the rules, every delta that was ever computed is one that reading accepts, and each
 -- node's facts hold. Each event keeps this, and is a step of every node.
-use Prim.Native.Nat.{_<_, suc, zero, ℕ}
+use Prim.Native.Nat.{_<_, ℕ}
 use mathlib.Core.Bool.{Bool, false, true, true≢false}
 use mathlib.Core.List.{List, [], _∷_}
 use mathlib.Core.Logic.{_⊎_, inl, inr}
@@ -9,10 +9,10 @@ use mathlib.Core.Path.{_∙_, _≡_, ap, refl, subst, sym}
 use lib.Dec.{eqb}
 use borrow.Author.Tests.{ltb-true}
 use Rattle.fields.proofs.Choice.{and-left, and-right, in-cons, in-none}
-use Rattle.fields.specs.Choice.{here, later, pick, _∈_}
+use Rattle.fields.specs.Choice.{here, pick, _∈_}
 use Rattle.rules.specs.Given.{Given}
 use Rattle.rules.proofs.Calls.{beat-keeps, call-keeps, numbers-beat, numbers-call, numbers-offer, offer-keeps, ok-each, ok-remove-all}
-use Rattle.rules.proofs.Deltas.{AllSmall, Chain, follow-node}
+use Rattle.rules.proofs.Deltas.{Chain, follow-node}
 use Rattle.rules.proofs.Keeps.{ClockFits}
 use Rattle.rules.proofs.Obeys.{OkTable, facts-table, in-among, table-facts}
 use Rattle.rules.proofs.Received.{OkDelta, parts-new, parts-ok}
@@ -27,18 +27,15 @@ use Rattle.rules.specs.Table.{Table, among, nodeOf, numbersOf, obeys, removeAll
 use Rattle.rules.specs.declared.Computed.{Computed}
 use Rattle.rules.specs.declared.Written.{Written}
 use Rattle.rules.specs.declared.Written.the-variants as written
-use Rattle.demand3.proofs.EachNode.{Seen, at, nodeAt, orFresh, partsIn, seen-applying, seen-arriving, seen-beating, seen-computed, seen-digesting, seen-facts, seen-offering, seen-removing, seen-rises, seen-sent, seen-writing, sentOf}
+use Rattle.demand3.proofs.EachNode.{Seen, at, nodeAt, orFresh, partsIn, seen-applying, seen-arriving, seen-beating, seen-computed, seen-digesting, seen-facts, seen-offering, seen-receiving, seen-removing, seen-rises, seen-sent, seen-writing, sentOf}
 use Rattle.demand3.proofs.Forms.{Comes, comes, refuses, removal-is, writes}
 use Rattle.demand3.proofs.OnTheWay.{Sendable}
+use Rattle.demand3.proofs.Parted.{Parted, ReadsWell, cut-way, nth-sent}
 use Rattle.demand3.proofs.OneNode.{Facts, facts-fresh, rises-same, rises-trans, stays}
 use Rattle.demand3.proofs.Publisher.{claims-of}
 use Rattle.demand3.specs.Demand3.{Claims, Rises}
 use Rattle.demand3.specs.Forms.{Order, Removal, computeBy, removedBy}
-use Rattle.demand3.specs.World.{Applying, Arriving, Beating, Computing, DeltaSent, DigestSent, Digesting, Event, Exchange, Followers, Idle, Offering, Publishers, Removing, Sending, Side, World, Writing, after, afterDelta, afterDigest, appliedTo, calls, computedFor, freshTable, happen, nthSent, onExchange, onSent, onSide, possible, sentAfter, sentOn, start, timeOf}
-
--- bytes that are read as operations that may follow each other and have their sizes
-abbrev pub ReadsWell : List ℕ → Type 0
-ReadsWell b = (ops : List Op) × (readDelta b ≡ Good ops) × Chain nothingRead ops × AllSmall ops
+use Rattle.demand3.specs.World.{Applying, Arriving, Beating, Computing, DeltaSent, DigestSent, Digesting, Event, Exchange, Followers, Idle, Offering, Publishers, Receiving, Removing, Sending, Side, World, Writing, after, afterDelta, afterDigest, appliedTo, calls, computedFor, freshTable, happen, onExchange, onSent, onSide, possible, sentAfter, sentOn, start, timeOf}
 
 -- a delta on its way
 abbrev pub Readable : Exchange → Type 0
@@ -104,13 +101,6 @@ clock-fits (DeletingAfterTtl now) h = h
 pub kept : (t u : Table) → (obeys t ≡ true → obeys u ≡ true) → OkTable t → OkTable u
 kept t u f ok = table-facts u (f (facts-table t ok))
 
--- one of all deltas that were ever computed, or nothing
-pub nth-sent : (P : Exchange → Type 0) → P Idle → (k : ℕ) (ss : List (List ℕ)) → ((b : List ℕ) → b ∈ ss → P (DeltaSent b)) → P (nthSent k ss)
-unfolding nthSent
-nth-sent P nothing k [] f = nothing
-nth-sent P nothing zero (b ∷ ss) f = f b (here refl)
-nth-sent P nothing (suc k) (b ∷ ss) f = nth-sent P nothing k ss (λ c m. f c (later m))
-
 -- ---- each event
 
 module _ (ways : Ways) (law : Lawful ways) (is : List ℕ) (w : World) (ok : InOrder is w) where
@@ -159,7 +149,7 @@ module _ (ways : Ways) (law : Lawful ways) (is : List ℕ) (w : World) (ok : InO
     made-of i d e = s .made i d (sym (ap (λ (o : Ops). partAt i (partsIn o)) (s .read)) ∙ e)
 
     reads-well : ReadsWell bytes
-    reads-well = (ops, s .read, s .chain, s .small)
+    reads-well = (ops, s .read, s .chain, s .small, refl)
 
     one-more : (b : List ℕ) → b ∈ bytes ∷ w .sent → ReadsWell b
     one-more b m = go (in-cons m)
@@ -205,11 +195,17 @@ module _ (ways : Ways) (law : Lawful ways) (is : List ℕ) (w : World) (ok : InO
   next-applying now l b clock x r =
       record { seen = λ i. seen-applying ways i w law now l b (r .0) x (r .1) (read-once (r .0) nothingRead (r .2)); order = taken-order now l b clock r }
 
-  -- those of any delta that was ever computed, where it may come late
-  next-arriving : ways .late ≡ true → (now : ℕ) (l b : List ℕ) → now < numbers → b ∈ w .sent → Next ways is w (onSide Followers (λ t. apply ways b now t l .table) w)
-  next-arriving late now l b clock m =
-      let r = ok .all-read b m in
-      record { seen = λ i. seen-arriving ways i w law late now l b (r .0) m (r .1) (read-once (r .0) nothingRead (r .2)); order = taken-order now l b clock r }
+  -- those of a part of it
+  next-receiving : (now : ℕ) (l b c : List ℕ) → now < numbers → w .exchange ≡ DeltaSent b → Parted b c → Next ways is w (onSide Followers (λ t. apply ways c now t l .table) w)
+  next-receiving now l b c clock x p =
+      let r = p .reads in
+      record { seen = λ i. seen-receiving ways i w law now l b c (r .0) x (r .1) (read-once (r .0) nothingRead (r .2)) (p .each i); order = taken-order now l c clock r }
+
+  -- those of any delta that was ever computed, and of any part of it, where it may come late
+  next-arriving : ways .late ≡ true → (now : ℕ) (l b c : List ℕ) → now < numbers → b ∈ w .sent → Parted b c → Next ways is w (onSide Followers (λ t. apply ways c now t l .table) w)
+  next-arriving late now l b c clock m p =
+      let r = p .reads in
+      record { seen = λ i. seen-arriving ways i w law late now l b c (r .0) m (r .1) (read-once (r .0) nothingRead (r .2)) (p .each i); order = taken-order now l c clock r }
 
   -- any removal of scheduled records, by node number and record
   pub next-removing : (s : Side) (due : ℕ → Rec → Bool) → Next ways is w (onSide s (removeAll due) w)
@@ -265,10 +261,13 @@ module _ (ways : Ways) (law : Lawful ways) (is : List ℕ) (w : World) (ok : InO
       go Idle q r = stays-so
       go (DigestSent d) q r = stays-so
       go (DeltaSent b) q r = next-applying now l b (ltb-true _ _ p) q r
+  next-calls (Receiving cuts now l) p =
+      cut-way (λ x. Next ways is w (onSide Followers (appliedTo ways now l x) w)) stays-so (λ d. stays-so) cuts (w .exchange) (λ b q. subst Readable q (ok .readable))
+      (λ b c q y. next-receiving now l b c (ltb-true _ _ p) q y)
   next-calls (Sending edition digest excluded order mtu place l) p = next-keeping edition excluded order mtu place l digest _ (come-to edition excluded order mtu place l digest)
   next-calls (Arriving k now l) p =
-      nth-sent (λ x. Next ways is w (onSide Followers (appliedTo ways now l x) w)) stays-so k (w .sent)
-      (λ b m. next-arriving (and-left (ways .late) _ p) now l b (ltb-true _ _ (and-right (ways .late) _ p)) m)
+      nth-sent (λ x. Next ways is w (onSide Followers (appliedTo ways now l x) w)) stays-so k (w .sent) (ok .all-read)
+      (λ b c m. next-arriving (and-left (ways .late) _ p) now l b c (ltb-true _ _ (and-right (ways .late) _ p)) m)
 
   pub next-event : (e : Event) → Next ways is w (happen ways e w)
   unfolding happen

@@ -16,13 +16,14 @@ use Rattle.rules.specs.Node.{KeyValue, Node, withHeartbeat}
 use Rattle.rules.specs.Table.{Table}
 use Rattle.rules.specs.declared.Heartbeat.{Heartbeat}
 use Rattle.demand3.proofs.EachNode.{Beaten, beaten-local, beaten-offer, flightOf, node-taken, nodeAt, partsIn, sent-in, unbeaten}
-use Rattle.demand3.proofs.Moments.{Moment, Readable, nth-sent, read-once}
+use Rattle.demand3.proofs.Moments.{Moment, Readable, read-once}
+use Rattle.demand3.proofs.Parted.{Parted, cut-way, nth-sent}
 use Rattle.demand3.proofs.Nearer.{lack}
 use Rattle.demand3.proofs.Needed.{Onward, needed, onward-came, onward-needed, onward-same}
 use Rattle.demand3.proofs.OneNode.{Flies}
 use Rattle.demand3.specs.Demand3.{quiet}
 use Rattle.demand3.specs.Forms.{Order}
-use Rattle.demand3.specs.World.{Applying, Arriving, Beating, Computing, DeltaSent, DigestSent, Digesting, Event, Exchange, Followers, Idle, Offering, Publishers, Removing, Sending, Side, World, Writing, appliedTo, calls, happen, onSide, possible}
+use Rattle.demand3.specs.World.{Applying, Arriving, Beating, Computing, Cut, DeltaSent, DigestSent, Digesting, Event, Exchange, Followers, Idle, Offering, Publishers, Receiving, Removing, Sending, Side, Which, World, Writing, appliedTo, calls, happen, onSide, possible}
 
 -- ---- heartbeats alone
 
@@ -90,6 +91,14 @@ module _ (ways : Ways) (law : Lawful ways) (is : List ℕ) (w : World) (m : Mome
       by (inl e) = subst (Onward (p i) (f i)) (sym e) (onward-same (p i) (f i))
       by (inr e) = subst (Onward (p i) (f i)) (sym e) (part-onward now i (w .given i) (partAt i (partsOf (r .0))) flies)
 
+  -- a part of one brings of each node what that brings, or nothing
+  part-flies : (b c : List ℕ) → ((i : ℕ) → Flies (w .given i) (p i) (flightOf i (DeltaSent b))) → Parted b c → (i : ℕ) → Flies (w .given i) (p i) (flightOf i (DeltaSent c))
+  part-flies b c f y i = subst (λ (o : Ops). Flies (w .given i) (p i) (partAt i (partsIn o))) (sym (y .reads .1)) (go (partAt i (partsOf (y .reads .0))) refl)
+    where
+      go : (o : Option NodeDelta) → partAt i (partsOf (y .reads .0)) ≡ o → Flies (w .given i) (p i) o
+      go none q = tt
+      go (some d) q = subst (Flies (w .given i) (p i)) (y .each i d q) (f i)
+
   calm-calls : (e : Event) → quiet e ≡ true → Calm w (calls ways e w)
   calm-calls (Writing j k who c) q = absurd (false≢true q)
   calm-calls (Removing s removal) q = absurd (false≢true q)
@@ -98,11 +107,16 @@ module _ (ways : Ways) (law : Lawful ways) (is : List ℕ) (w : World) (m : Mome
   calm-calls (Digesting edition excluded place l) q = record { publisher-beaten = calm-same w .publisher-beaten; onward = calm-same w .onward }
   calm-calls (Computing edition excluded order mtu place l) q = record { publisher-beaten = calm-same w .publisher-beaten; onward = calm-same w .onward }
   calm-calls (Applying now l) q = calm-theirs w _ (applied-onward now l (w .exchange) (m .order .readable) (λ i. m .facts i .flies))
+  calm-calls (Receiving cuts now l) q =
+      calm-theirs w _
+      (cut-way (λ x. (i : ℕ) → Onward (p i) (f i) (nodeAt i (appliedTo ways now l x (w .follower)))) (λ i. onward-same (p i) (f i)) (λ d i. onward-same (p i) (f i)) cuts (w .exchange)
+      (λ b e. subst Readable e (m .order .readable))
+      (λ b c e y. applied-onward now l (DeltaSent c) (y .reads) (part-flies b c (λ i. subst (λ (x : Exchange). Flies (w .given i) (p i) (flightOf i x)) e (m .facts i .flies)) y)))
   calm-calls (Sending edition digest excluded order mtu place l) q = record { publisher-beaten = calm-same w .publisher-beaten; onward = calm-same w .onward }
   calm-calls (Arriving k now l) q =
       calm-theirs w _
-      (nth-sent (λ x. (i : ℕ) → Onward (p i) (f i) (nodeAt i (appliedTo ways now l x (w .follower)))) (λ i. onward-same (p i) (f i)) k (w .sent)
-      (λ b n. applied-onward now l (DeltaSent b) (m .order .all-read b n) (λ i. m .facts i .known _ (sent-in i n))))
+      (nth-sent (λ x. (i : ℕ) → Onward (p i) (f i) (nodeAt i (appliedTo ways now l x (w .follower)))) (λ i. onward-same (p i) (f i)) k (w .sent) (m .order .all-read)
+      (λ b c n y. applied-onward now l (DeltaSent c) (y .reads) (part-flies b c (λ i. m .facts i .known _ (sent-in i n)) y)))
 
   pub calm : (e : Event) → quiet e ≡ true → Calm w (happen ways e w)
   unfolding happen
@@ -154,8 +168,11 @@ module _ (ways : Ways) (w : World) where
   pub way-offering : (s : Side) (j : ℕ) (h : Heartbeat) → SameWay (Offering s j h)
   way-offering s j h = maybe (Offering s j h) (same-side s (λ t. offer j h t .table))
 
+  pub way-receiving : (cuts : List Cut) (now : ℕ) (l : List ℕ) → SameWay (Receiving cuts now l)
+  way-receiving cuts now l = maybe (Receiving cuts now l) refl
+
   pub way-sending : (edition : ℕ) (digest excluded : List ℕ) (order : Order) (mtu place : ℕ) (l : List ℕ) → SameWay (Sending edition digest excluded order mtu place l)
   way-sending edition digest excluded order mtu place l = maybe (Sending edition digest excluded order mtu place l) refl
 
-  pub way-arriving : (k now : ℕ) (l : List ℕ) → SameWay (Arriving k now l)
+  pub way-arriving : (k : Which) (now : ℕ) (l : List ℕ) → SameWay (Arriving k now l)
   way-arriving k now l = maybe (Arriving k now l) refl

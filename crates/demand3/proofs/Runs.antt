@@ -18,7 +18,7 @@ use Rattle.rules.specs.Table.{among, differ, nodeOf, removeAll, setNode}
 use Rattle.plan.specs.Plan.{accepts, computePlan, deltaBy, linesFit, named, planOps}
 use Rattle.demand3.specs.Demand3.{NotBegun, holdings, wholes}
 use Rattle.demand3.proofs.FourRuns.{allGranted, amid, bothNodes, caughtUp, fencedUp, forgotten, heldOff, idle, keys, keysOf, lively, oneBehind, oneRecord, pair, pairAt, planned, removedThere, tookLate, untold, wasReset, whole}
-use Rattle.demand3.specs.World.{after, freshTable, happen, nthSent, start}
+use Rattle.demand3.specs.World.{after, cutBy, freshTable, happen, nthSent, start}
 
 -- the publisher holds one record and one node; one whole exchange brings the follower to (3,1), the second to (3,3), also with beats in it
 pub tight : (pair (oneRecord .publisher) ≡ 3 ∷ 3 ∷ [])
@@ -83,5 +83,5 @@ pub late-fenced : (pair (wasReset fencedWays .follower) ≡ 10 ∷ 3 ∷ [])
     × (pair (fencedUp .follower) ≡ 10 ∷ 10 ∷ [])
     × (keys (fencedUp .follower) ≡ (1 ∷ 1 ∷ []) ∷ (2 ∷ 2 ∷ []) ∷ (3 ∷ 97 ∷ []) ∷ (4 ∷ 98 ∷ []) ∷ [])
     × (keys (fencedUp .publisher) ≡ (1 ∷ 1 ∷ []) ∷ (2 ∷ 2 ∷ []) ∷ (3 ∷ 97 ∷ []) ∷ (4 ∷ 98 ∷ []) ∷ [])
-unfolding keysOf wholes nthSent after happen start freshTable call gc nodeOf setNode removeAll decide wish find act write store remove lastGc keep sameBytes lessBytes among writeDigest digestOf digestBytes headWidth entryBytes entryOf readEntries readDigest tell tellAll compute deltaFor cut allOps ordered queue sooner staleNodes toldOf fromOf stale byVersion keyValueOps sizeOf deltaBytes opBytes textBytes bytesOf natOf part put flat unblock apply applyEach applyNode deltaStatus statusOf newerOf outcome takeAll takes codes readDelta readOps readOp readNode readKeyValue readSetMaxVersion follow partsOf recsOf maxOf
+unfolding keysOf wholes nthSent cutBy after happen start freshTable call gc nodeOf setNode removeAll decide wish find act write store remove lastGc keep sameBytes lessBytes among writeDigest digestOf digestBytes headWidth entryBytes entryOf readEntries readDigest tell tellAll compute deltaFor cut allOps ordered queue sooner staleNodes toldOf fromOf stale byVersion keyValueOps sizeOf deltaBytes opBytes textBytes bytesOf natOf part put flat unblock apply applyEach applyNode deltaStatus statusOf newerOf outcome takeAll takes codes readDelta readOps readOp readNode readKeyValue readSetMaxVersion follow partsOf recsOf maxOf
 late-fenced = (refl, refl, refl, refl, refl, refl, refl)

@@ -24,7 +24,7 @@ use Rattle.rules.specs.declared.Computed.the-variants as computed
 use Rattle.rules.specs.declared.Applied.{Applied}
 use Rattle.rules.specs.declared.Applied.the-variants as applied
 use Rattle.demand3.specs.Forms.{Order, InLine, AsPlanned, computeBy}
-use Rattle.demand3.specs.World.{World, Exchange, Idle, DigestSent, DeltaSent, Event, Writing, Beating, Offering, Removing, Digesting, Computing, Applying, Sending, Arriving, possible, happen, after, start}
+use Rattle.demand3.specs.World.{World, Exchange, Idle, DigestSent, DeltaSent, Event, Writing, Beating, Offering, Removing, Digesting, Computing, Applying, Receiving, Sending, Arriving, possible, happen, after, start}
 
 -- ---- the claims at a moment
 
@@ -77,6 +77,7 @@ quiet (Removing s removal) = false
 quiet (Digesting edition excluded place l) = true
 quiet (Computing edition excluded order mtu place l) = true
 quiet (Applying now l) = true
+quiet (Receiving cuts now l) = true
 quiet (Sending edition digest excluded order mtu place l) = true
 quiet (Arriving k now l) = true
 
@@ -107,6 +108,7 @@ unlimited (Removing s removal) = true
 unlimited (Digesting edition excluded place l) = isNone excluded
 unlimited (Computing edition excluded order mtu place l) = wideEnough excluded order mtu
 unlimited (Applying now l) = true
+unlimited (Receiving cuts now l) = true
 unlimited (Sending edition digest excluded order mtu place l) = true
 unlimited (Arriving k now l) = true
 
@@ -143,6 +145,7 @@ granted ways (Removing s removal) w = true
 granted ways (Digesting edition excluded place l) w = wroteDigest (writeDigest edition excluded place (w .follower) l .answer)
 granted ways (Computing edition excluded order mtu place l) w = isComputed edition excluded order mtu place l (w .publisher) (w .exchange)
 granted ways (Applying now l) w = possible ways (Applying now l) && isApplied ways now l (w .follower) (w .exchange)
+granted ways (Receiving cuts now l) w = true
 granted ways (Sending edition digest excluded order mtu place l) w = true
 granted ways (Arriving k now l) w = true
 
@@ -165,6 +168,7 @@ onward (Computing edition excluded order mtu place l) NotBegun = NotBegun
 onward (Computing edition excluded order mtu place l) (Asked e) = pick (eqb e edition) Answered NotBegun
 onward (Computing edition excluded order mtu place l) Answered = NotBegun
 onward (Applying now l) st = NotBegun
+onward (Receiving cuts now l) st = st
 onward (Sending edition digest excluded order mtu place l) st = st
 onward (Arriving k now l) st = st
 
@@ -179,6 +183,7 @@ ending (Computing edition excluded order mtu place l) st = 0
 ending (Applying now l) NotBegun = 0
 ending (Applying now l) (Asked edition) = 0
 ending (Applying now l) Answered = 1
+ending (Receiving cuts now l) st = 0
 ending (Sending edition digest excluded order mtu place l) st = 0
 ending (Arriving k now l) st = 0
 

@@ -7,14 +7,16 @@ use mathlib.Core.Bool.{Bool, true, _&&_}
 use mathlib.Core.List.{List, [], _∷_}
 use mathlib.Core.Option.{Option, none, some}
 use lib.Dec.{ltb, eqb}
+use lib.ListN.{take, drop}
 use Rattle.fields.specs.Numbers.{Bytes}
 use Rattle.fields.specs.Choice.{pick}
 use Rattle.fields.specs.Parts.{part}
 use Rattle.rules.specs.Sizes.{numbers}
 use Rattle.rules.specs.Node.{KeyValue, Node, fresh, Change, Call, Setting, SettingTtl, Deleting, DeletingAfterTtl, Decision, Refuse, Leave, Give, decide}
-use Rattle.rules.specs.Table.{Table, nodeOf}
+use Rattle.rules.specs.Table.{Table, nodeOf, among}
 use Rattle.rules.specs.Local.{call, offer, localBeat}
 use Rattle.rules.specs.Digest.{writeDigest}
+use Rattle.rules.specs.Delta.{readDelta}
 use Rattle.rules.specs.Apply.{Ways, apply}
 use Rattle.rules.specs.Profile.{guardIn}
 use Rattle.rules.specs.declared.Heartbeat.{Heartbeat}
@@ -25,6 +27,7 @@ use Rattle.rules.specs.declared.Written.{Written}
 use Rattle.rules.specs.declared.Written.the-variants as written
 use Rattle.rules.specs.declared.Computed.{Computed}
 use Rattle.rules.specs.declared.Computed.the-variants as computed
+use Rattle.delta_split.specs.Split.{cutPlaces}
 use Rattle.demand3.specs.Forms.{Order, Removal, computeBy, removedBy}
 
 -- ---- the world
@@ -59,6 +62,20 @@ pub data Side : Type 0 where
   Publishers : Side
   Followers : Side
 
+-- A gateway cuts a delta at the start of a Node operation (document 02, ticket 14), at this place of its bytes, and one part goes on: what stands before it, or what stands from
+-- it on.
+pub data Cut : Type 0 where
+  Before : ℕ → Cut
+  From : ℕ → Cut
+
+-- what arrives of all deltas that were ever computed: one of them, the newest being 0, and how gateways cut it, one after the other; without a cut it comes whole
+pub record Which : Type 0 where
+  pub delta : ℕ
+  pub cuts : List Cut
+
+abbrev pub intact : ℕ → Which
+intact k = record { delta = k; cuts = [] }
+
 pub data Event : Type 0 where
   -- set, set with TTL, delete or delete after TTL on the publisher: node, key, the party that a shared table looks at, the call with its value and time
   Writing : ℕ → List ℕ → Party → Call → Event
@@ -75,11 +92,13 @@ pub data Event : Type 0 where
   Computing : ℕ → List ℕ → Order → ℕ → ℕ → List ℕ → Event
   -- the follower applies the delta on its way, and may apply it again: now, the lent list of answers
   Applying : ℕ → List ℕ → Event
+  -- a part of it arrives, in any order with the others, again or never, and is applied: the cuts, now, the lent list of answers
+  Receiving : List Cut → ℕ → List ℕ → Event
   -- the publisher computes a delta for any bytes as a digest, late or forged ones too, beside the exchange: the edition, those bytes, excluded nodes,
   -- the order, MTU, the place in the datagram, the datagram
   Sending : ℕ → List ℕ → List ℕ → Order → ℕ → ℕ → List ℕ → Event
-  -- a delta that was ever computed arrives at the follower, late or again: which of them, now, the lent list of answers
-  Arriving : ℕ → ℕ → List ℕ → Event
+  -- a delta that was ever computed arrives at the follower, or a part of it, late or again: which, now, the lent list of answers
+  Arriving : Which → ℕ → List ℕ → Event
 
 -- the time that a call brings
 abbrev pub timeOf : Call → ℕ
@@ -97,6 +116,7 @@ possible ways (Removing s removal) = true
 possible ways (Digesting edition excluded place l) = true
 possible ways (Computing edition excluded order mtu place l) = true
 possible ways (Applying now l) = ltb now numbers
+possible ways (Receiving cuts now l) = ltb now numbers
 possible ways (Sending edition digest excluded order mtu place l) = true
 possible ways (Arriving k now l) = ways .late && ltb now numbers
 
@@ -166,6 +186,21 @@ nthSent k [] = Idle
 nthSent zero (b ∷ ss) = DeltaSent b
 nthSent (suc k) (b ∷ ss) = nthSent k ss
 
+-- what goes on of it behind a gateway; where no Node operation starts there is no such part, and nothing goes on
+abbrev pub cutAt : (cut : Cut) (way : Exchange) → Exchange
+cutAt c Idle = Idle
+cutAt c (DigestSent d) = DigestSent d
+cutAt (Before at) (DeltaSent b) = pick (among at (cutPlaces (readDelta b))) (DeltaSent (take at b)) Idle
+cutAt (From at) (DeltaSent b) = pick (among at (cutPlaces (readDelta b))) (DeltaSent (drop at b)) Idle
+
+unfoldable pub cutBy : (cuts : List Cut) (way : Exchange) → Exchange
+cutBy [] x = x
+cutBy (c ∷ cs) x = cutBy cs (cutAt c x)
+
+-- what arrives, as if it were on its way
+abbrev pub arrives : (which : Which) (sent : List Bytes) → Exchange
+arrives k ss = cutBy (k .cuts) (nthSent (k .delta) ss)
+
 -- only a delta that is on its way
 abbrev pub appliedTo : (ways : Ways) (now : ℕ) (answers : Bytes) (way : Exchange) (table : Table) → Table
 appliedTo ways now l Idle t = t
@@ -201,8 +236,9 @@ calls ways (Digesting edition excluded place l) w = onExchange (digested edition
 calls ways (Computing edition excluded order mtu place l) w =
     onExchange (computedFor edition excluded order mtu place l (w .publisher) (w .exchange)) (onSent (sentOn edition excluded order mtu place l (w .publisher) (w .exchange) (w .sent)) w)
 calls ways (Applying now l) w = onSide Followers (appliedTo ways now l (w .exchange)) w
+calls ways (Receiving cuts now l) w = onSide Followers (appliedTo ways now l (cutBy cuts (w .exchange))) w
 calls ways (Sending edition digest excluded order mtu place l) w = onSent (sentFor edition digest excluded order mtu place l (w .publisher) (w .sent)) w
-calls ways (Arriving k now l) w = onSide Followers (appliedTo ways now l (nthSent k (w .sent))) w
+calls ways (Arriving k now l) w = onSide Followers (appliedTo ways now l (arrives k (w .sent))) w
 
 -- the world after an event; one that is not possible changes nothing
 unfoldable pub happen : (ways : Ways) (event : Event) (world : World) → World

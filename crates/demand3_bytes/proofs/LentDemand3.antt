@@ -26,7 +26,7 @@ use Rattle.rules.specs.declared.Applied.{Applied}
 use Rattle.rules.specs.declared.Refusal.the-variants.{BadTable}
 use Rattle.rules.proofs.Obeys.{facts-table}
 use Rattle.profiles.proofs.Lawful.{kind-lawful}
-use Rattle.demand3.specs.World.{Applying, Arriving, Beating, Computing, DeltaSent, DigestSent, Digesting, Event, Exchange, Idle, Offering, Removing, Sending, World, Writing, after, freshTable, happen, start}
+use Rattle.demand3.specs.World.{Applying, Arriving, Beating, Computing, DeltaSent, DigestSent, Digesting, Event, Exchange, Idle, Offering, Receiving, Removing, Sending, World, Writing, after, freshTable, happen, start}
 use Rattle.demand3.specs.Demand3.{AllRise, Holds, NotBegun, SameMax, Sound, Stage, allQuiet, ending, granted, holdings, isApplied, isComputed, noRoom, onward, quiet, unlimited, wholes, wroteDelta, wroteDigest}
 use Rattle.demand3.proofs.Closing.{closing}
 use Rattle.demand3.proofs.Demand3.{never-falls, sound}
@@ -61,6 +61,7 @@ module _ (pm fm : Kind) (w : World) (p : obeys (w .publisher) ≡ true) (f : obe
       go Idle = refl
       go (DigestSent b) = refl
       go (DeltaSent b) = ap (λ (o : Given Applied TableAndList). noRoom (o .answer) (o .lent .list)) (apply-encoded fm (w .follower) f (form .follower) b now answers)
+  granted-lent (Receiving cuts now answers) = refl
   granted-lent (Sending edition digest excluded order mtu place d) = refl
   granted-lent (Arriving k now answers) = refl
 

@@ -36,11 +36,12 @@ use Rattle.profiles.proofs.Kept.{apply-formed, beat-formed, call-formed, offer-
 use Rattle.profiles.proofs.Lawful.{kind-lawful}
 use Rattle.demand3.specs.Demand3.{allQuiet, quiet}
 use Rattle.demand3.specs.Forms.{Order, Removal, computeBy, lentComputeBy, lentRemovedBy, removedBy}
-use Rattle.demand3.specs.World.{Applying, Arriving, Beating, Computing, DeltaSent, DigestSent, Digesting, Event, Exchange, Followers, Idle, Offering, Publishers, Removing, Sending, Side, World, Writing, after, afterDelta, afterDigest, calls, computedFor, appliedTo, freshTable, givenAs, givenIn, happen, nthSent, onExchange, onSent, onSide, possible, sentAfter, sentOn, start, unlessRefused}
+use Rattle.demand3.specs.World.{Applying, Arriving, Beating, Computing, DeltaSent, DigestSent, Digesting, Event, Exchange, Followers, Idle, Offering, Publishers, Receiving, Removing, Sending, Side, World, Writing, after, afterDelta, afterDigest, calls, computedFor, appliedTo, arrives, cutBy, freshTable, givenAs, givenIn, happen, onExchange, onSent, onSide, possible, sentAfter, sentOn, start, unlessRefused}
 use Rattle.rules.proofs.Formed.{none-obey}
-use Rattle.demand3.proofs.Formed.{IsRead, removal-formed, sent-read}
+use Rattle.demand3.proofs.Formed.{removal-formed, sent-read}
 use Rattle.demand3.proofs.Forms.{comes, lent-computing, lent-removal}
 use Rattle.demand3.proofs.Moments.{InOrder, moment-start, next-event}
+use Rattle.demand3.proofs.Parted.{IsRead, ReadsWell}
 use Rattle.table.proofs.Encoded.{apply-whole, from-whole, on-whole, whole-whole}
 use Rattle.table.proofs.Wholes.{decode-encode-whole, without-memory}
 use Rattle.demand3_bytes.specs.LentWorld.{LentWorld, kindIn, lentAfter, lentApplied, lentCalls, lentComputed, lentHappen, lentSentOn, lentStart, ofKind, onLent, onWay}
@@ -106,6 +107,7 @@ module _ (pk fk : Kind) where
   guardOn (Digesting edition excluded place l) w = none
   guardOn (Computing edition excluded order mtu place l) w = none
   guardOn (Applying now l) w = none
+  guardOn (Receiving cuts now l) w = none
   guardOn (Sending edition digest excluded order mtu place l) w = none
   guardOn (Arriving k now l) w = none
 
@@ -117,6 +119,7 @@ module _ (pk fk : Kind) where
   quiet-free (Digesting edition excluded place l) w q = refl
   quiet-free (Computing edition excluded order mtu place l) w q = refl
   quiet-free (Applying now l) w q = refl
+  quiet-free (Receiving cuts now l) w q = refl
   quiet-free (Sending edition digest excluded order mtu place l) w q = refl
   quiet-free (Arriving k now l) w q = refl
 
@@ -209,9 +212,10 @@ module _ (pk fk : Kind) where
             (computed-lent edition b excluded order mtu place d)
         go (DeltaSent b) = refl
     calls-lent (Applying now answers) g = ap (λ (l : List ℕ). onLent Followers (λ m. l) (lent w)) (applied-lent now answers (w .exchange))
+    calls-lent (Receiving cuts now answers) g = ap (λ (l : List ℕ). onLent Followers (λ m. l) (lent w)) (applied-lent now answers (cutBy cuts (w .exchange)))
     calls-lent (Sending edition digest excluded order mtu place d) g =
         ap (λ (o : Given Computed (List ℕ)). onWay (w .exchange) (sentAfter place (o .lent) (o .answer) (w .sent)) (lent w)) (computed-lent edition digest excluded order mtu place d)
-    calls-lent (Arriving k now answers) g = ap (λ (l : List ℕ). onLent Followers (λ m. l) (lent w)) (applied-lent now answers (nthSent k (w .sent)))
+    calls-lent (Arriving k now answers) g = ap (λ (l : List ℕ). onLent Followers (λ m. l) (lent w)) (applied-lent now answers (arrives k (w .sent)))
 
     -- ---- and keeps in form
 
@@ -228,9 +232,9 @@ module _ (pk fk : Kind) where
           sent = λ b m. go b (sent-read (pk .profile) edition excluded order mtu place digest (w .publisher) d (w .sent) _ (form .publisher) (comes edition excluded order mtu place digest (w .publisher) d p) b m);
         }
       where
-        go : (b : List ℕ) → (b ∈ w .sent) ⊎ IsRead (pk .profile) b → IsRead (pk .profile) b
+        go : (b : List ℕ) → (b ∈ w .sent) ⊎ (IsRead (pk .profile) b × ReadsWell b) → IsRead (pk .profile) b
         go b (inl m) = form .sent b m
-        go b (inr r) = r
+        go b (inr r) = r .0
 
     applied-formed : (now : ℕ) (answers : List ℕ) (x : Exchange) → Formed (onSide Followers (appliedTo ways now answers x) w)
     applied-formed now answers Idle = form
@@ -250,8 +254,9 @@ module _ (pk fk : Kind) where
         go (DigestSent b) = more-sent _ edition b excluded order mtu place d
         go (DeltaSent b) = record { publisher = form .publisher; follower = form .follower; sent = form .sent }
     calls-formed (Applying now answers) g = applied-formed now answers (w .exchange)
+    calls-formed (Receiving cuts now answers) g = applied-formed now answers (cutBy cuts (w .exchange))
     calls-formed (Sending edition digest excluded order mtu place d) g = more-sent (w .exchange) edition digest excluded order mtu place d
-    calls-formed (Arriving k now answers) g = applied-formed now answers (nthSent k (w .sent))
+    calls-formed (Arriving k now answers) g = applied-formed now answers (arrives k (w .sent))
 
     -- ---- an event
 
@@ -276,6 +281,7 @@ module _ (pk fk : Kind) where
     refused-calls (Digesting edition excluded place l) r g = none-some r g
     refused-calls (Computing edition excluded order mtu place l) r g = none-some r g
     refused-calls (Applying now l) r g = none-some r g
+    refused-calls (Receiving cuts now l) r g = none-some r g
     refused-calls (Sending edition digest excluded order mtu place l) r g = none-some r g
     refused-calls (Arriving k now l) r g = none-some r g
 

@@ -6,7 +6,7 @@ use mathlib.Core.Path.{_∙_, _≡_, ap, refl, subst, sym}
 use native.Mathlib.Omega.{arith}
 use lib.Dec.{leb}
 use lib.ListN.{length}
-use Rattle.fields.specs.Choice.{_∈_, pick}
+use Rattle.fields.specs.Choice.{pick}
 use Rattle.rules.specs.Apply.{Taking, Ways, answered, apply, applyNode, applyOps, applyParts, deltaStatus, outcome, waysIn}
 use Rattle.rules.specs.Delta.{NodeDelta, Ops, Part, partsOf}
 use Rattle.rules.specs.Digest.{digestBytes, digestOf, isEdition}
@@ -38,8 +38,9 @@ use Rattle.exchange_ask.specs.declared.Step.the-variants.{Applying, Delta, Dige
 use Rattle.exchange.specs.Exchanging.{Lending, afterAsking, lentExchange, roomsOf}
 use Rattle.exchange.specs.declared.Exchanged.the-variants as exchanged
 use Rattle.exchange.proofs.Refusing.{is-ready, ready-done}
-use Rattle.demand3.proofs.Formed.{IsRead, only-places}
-use Rattle.demand3.specs.World.{Event, World, after, freshTable, start}
+use Rattle.demand3.proofs.Formed.{only-places}
+use Rattle.demand3.proofs.Parted.{IsRead, arrived-so}
+use Rattle.demand3.specs.World.{DeltaSent, Event, Which, World, after, arrives, freshTable, start}
 use Rattle.demand3_bytes.proofs.LentWorld.{apply-encoded, from-start, lent, lent-run, stands, ways, whole, whole-is}
 use Rattle.demand3_bytes.specs.LentDemand3.{LentOneProfile, readingAll}
 use Rattle.demand3_bytes.specs.LentWorld.{LentWorld, lentAfter, lentStart, ofKind}
@@ -125,7 +126,7 @@ module _ (k : Kind) (t : Table) (o : obeys t ≡ true) (f : profileObeys (k .pro
       ∙ sym (apply-as (whole k t o f) (whole-is k t o f) (readingAll k) b now answers)
 
 module _ (pk fk : Kind) (is : List ℕ) (ok : obeys (freshTable is) ≡ true) where
-  -- whatever was computed is read by the follower
+  -- whatever was computed is read by the follower, and so are its parts
   module _ (alike : pk .profile ≡ fk .profile) (es : List Event) where
     abbrev w : World
     w = after (ways pk fk) (from-start pk fk is ok es .events) (start is)
@@ -134,8 +135,10 @@ module _ (pk fk : Kind) (is : List ℕ) (ok : obeys (freshTable is) ≡ true) wh
     here : (P : LentWorld → Type 0) → P (lent pk fk w) → P (lentAfter es (lentStart pk fk is))
     here P x = subst P (sym (lent-run pk fk is ok es)) x
 
-    reads : (b : List ℕ) → b ∈ w .sent → IsRead (fk .profile) b
-    reads b m = subst (λ (p : Profile). IsRead p b) alike (from-start pk fk is ok es .forms .sent b m)
+    reads : (k : Which) (b : List ℕ) → arrives k (w .sent) ≡ DeltaSent b → IsRead (fk .profile) b
+    reads k =
+        arrived-so (IsRead (fk .profile)) k (w .sent) (from-start pk fk is ok es .order .all-read)
+        (λ c d m y. y .in-form (fk .profile) (subst (λ (p : Profile). IsRead p c) alike (from-start pk fk is ok es .forms .sent c m)))
 
     obeyed : obeys (w .follower) ≡ true
     obeyed = facts-table (w .follower) (from-start pk fk is ok es .order .follower-ok)
@@ -155,12 +158,12 @@ module _ (pk fk : Kind) (is : List ℕ) (ok : obeys (freshTable is) ≡ true) wh
   lent-one-profile =
       record {
         only-places =
-            λ alike es b.
-            here alike es (λ v. b ∈ v .sent → (now : ℕ) (answers : List ℕ) (why : Refusal) (at : ℕ) → lentApply b now answers (v .follower) .answer ≡ applied.Refused why at → why ≡ NoPlace)
-            (λ m now answers. bytes-places fk (w alike es .follower) (obeyed alike es) (formed alike es) b (reads alike es b m) now answers);
+            λ alike es k b.
+            here alike es (λ v. arrives k (v .sent) ≡ DeltaSent b → (now : ℕ) (answers : List ℕ) (why : Refusal) (at : ℕ) → lentApply b now answers (v .follower) .answer ≡ applied.Refused why at → why ≡ NoPlace)
+            (λ e now answers. bytes-places fk (w alike es .follower) (obeyed alike es) (formed alike es) b (reads alike es k b e) now answers);
         as-free =
-            λ alike es b.
-            here alike es (λ v. b ∈ v .sent → (now : ℕ) (answers : List ℕ) → lentApply b now answers (v .follower) ≡ lentApplyAs (readingAll fk) b now answers (v .follower))
-            (λ m now answers. bytes-free fk (w alike es .follower) (obeyed alike es) (formed alike es) b (reads alike es b m) now answers);
+            λ alike es k b.
+            here alike es (λ v. arrives k (v .sent) ≡ DeltaSent b → (now : ℕ) (answers : List ℕ) → lentApply b now answers (v .follower) ≡ lentApplyAs (readingAll fk) b now answers (v .follower))
+            (λ e now answers. bytes-free fk (w alike es .follower) (obeyed alike es) (formed alike es) b (reads alike es k b e) now answers);
         exchange-places = λ alike es g. here alike es (λ v. (why : Refusal) → lentExchange g (v .publisher) (v .follower) .answer ≡ exchanged.Refused Applying why → why ≡ NoPlace) (exchange-asks g _ _ (fits alike es));
       }

@@ -7,7 +7,7 @@ use mathlib.Core.Bool.{Bool, true, false, _&&_}
 use mathlib.Core.List.{List, [], _∷_}
 use mathlib.Core.Option.{some}
 use Rattle.fields.specs.Numbers.{Bytes}
-use Rattle.fields.specs.Choice.{_∈_, pick}
+use Rattle.fields.specs.Choice.{pick}
 use Rattle.rules.specs.Apply.{Ways, waysIn}
 use Rattle.rules.specs.Delta.{readDelta}
 use Rattle.rules.specs.Node.{Node}
@@ -19,7 +19,7 @@ use Rattle.rules.specs.declared.Applied.the-variants as applied
 use Rattle.rules.specs.declared.Refusal.{Refusal}
 use Rattle.rules.specs.declared.Refusal.the-variants.{NoPlace}
 use Rattle.demand3.specs.Forms.{Order, lentComputeBy}
-use Rattle.demand3.specs.World.{Exchange, Idle, DigestSent, DeltaSent, Event, Writing, Beating, Offering, Removing, Digesting, Computing, Applying, Sending, Arriving, possible}
+use Rattle.demand3.specs.World.{Exchange, Idle, DigestSent, DeltaSent, Event, Writing, Beating, Offering, Removing, Digesting, Computing, Applying, Receiving, Sending, Arriving, Which, arrives, possible}
 use Rattle.demand3.specs.Demand3.{Claims, AllRise, Stage, NotBegun, allQuiet, unlimited, onward, ending, wroteDigest, wroteDelta, noRoom, holdings, SameMax}
 use Rattle.exchange_ask.specs.declared.Step.the-variants as step
 use Rattle.exchange.specs.Exchanging.{Lending, lentExchange}
@@ -57,6 +57,7 @@ lentGranted (Removing s removal) w = true
 lentGranted (Digesting edition excluded place d) w = wroteDigest (lentDigest edition excluded place d (w .follower) .answer)
 lentGranted (Computing edition excluded order mtu place d) w = lentIsComputed edition excluded order mtu place d (w .publisher) (w .exchange)
 lentGranted (Applying now answers) w = possible (waysIn (kindIn (w .follower))) (Applying now answers) && lentIsApplied now answers (w .follower) (w .exchange)
+lentGranted (Receiving cuts now answers) w = true
 lentGranted (Sending edition digest excluded order mtu place d) w = true
 lentGranted (Arriving k now answers) w = true
 
@@ -91,19 +92,20 @@ pub record LentDemand3 (p f : Kind) (is : List ℕ) : Type 0 where
 abbrev pub readingAll : (kind : Kind) → Ways
 readingAll k = record { reads = readDelta; roomy = waysIn k .roomy; fence = waysIn k .fence; late = waysIn k .late }
 
--- Where publisher and follower have the same profile, no delta that was ever computed, in document 01's order or by a plan, is refused with 17 or 19, whenever it is applied: answer
--- places (8) are all that it may lack, and applying it is what applying is where every record is in form. So whether an exchange counts does not hang on forms. An exchange in
--- one call is refused at its applying for answer places alone. A meter or shared follower of a free publisher is promised no such thing: there the count asks that nothing be refused.
+-- Where publisher and follower have the same profile, no delta that was ever computed, in document 01's order or by a plan, and no part of one that gateways cut, is refused with 17 or 19,
+-- whenever it is applied: answer places (8) are all that it may lack, and applying it is what applying is where every record is in form. So whether an exchange counts does not hang
+-- on forms. An exchange in one call is refused at its applying for answer places alone. A meter or shared follower of a free publisher is promised no such thing: there the count asks
+-- that nothing be refused.
 pub record LentOneProfile (p f : Kind) (is : List ℕ) : Type 0 where
   pub only-places : p .profile ≡ f .profile
-      → (es : List Event) (b : Bytes)
-      → b ∈ lentAfter es (lentStart p f is) .sent
+      → (es : List Event) (k : Which) (b : Bytes)
+      → arrives k (lentAfter es (lentStart p f is) .sent) ≡ DeltaSent b
       → (now : ℕ) (answers : Bytes) (why : Refusal) (at : ℕ)
       → lentApply b now answers (lentAfter es (lentStart p f is) .follower) .answer ≡ applied.Refused why at
       → why ≡ NoPlace
   pub as-free : p .profile ≡ f .profile
-      → (es : List Event) (b : Bytes)
-      → b ∈ lentAfter es (lentStart p f is) .sent
+      → (es : List Event) (k : Which) (b : Bytes)
+      → arrives k (lentAfter es (lentStart p f is) .sent) ≡ DeltaSent b
       → (now : ℕ) (answers : Bytes)
       → lentApply b now answers (lentAfter es (lentStart p f is) .follower) ≡ lentApplyAs (readingAll f) b now answers (lentAfter es (lentStart p f is) .follower)
   pub exchange-places : p .profile ≡ f .profile

@@ -15,7 +15,7 @@ use Rattle.rules.specs.Profile.{Kind}
 use Rattle.rules.specs.Whole.{encodeWhole, decodeWhole}
 use Rattle.rules.specs.Lent.{lentAdd, lentCall, lentOffer, lentBeat, lentDigest, lentApply}
 use Rattle.demand3.specs.Forms.{Order, lentComputeBy, lentRemovedBy}
-use Rattle.demand3.specs.World.{Exchange, Idle, DigestSent, DeltaSent, Side, Publishers, Followers, Event, Writing, Beating, Offering, Removing, Digesting, Computing, Applying, Sending, Arriving, possible, givenAs, afterDigest, afterDelta, sentAfter, nthSent, freshTable}
+use Rattle.demand3.specs.World.{Exchange, Idle, DigestSent, DeltaSent, Side, Publishers, Followers, Event, Writing, Beating, Offering, Removing, Digesting, Computing, Applying, Receiving, Sending, Arriving, possible, givenAs, afterDigest, afterDelta, sentAfter, arrives, cutBy, freshTable}
 
 -- ---- the world
 
@@ -104,8 +104,9 @@ lentCalls (Digesting edition excluded place d) w = onWay (lentDigested edition e
 lentCalls (Computing edition excluded order mtu place d) w =
     onWay (lentComputed edition excluded order mtu place d (w .publisher) (w .exchange)) (lentSentOn edition excluded order mtu place d (w .publisher) (w .exchange) (w .sent)) w
 lentCalls (Applying now answers) w = onLent Followers (lentApplied now answers (w .exchange)) w
+lentCalls (Receiving cuts now answers) w = onLent Followers (lentApplied now answers (cutBy cuts (w .exchange))) w
 lentCalls (Sending edition digest excluded order mtu place d) w = onWay (w .exchange) (lentSentFor edition digest excluded order mtu place d (w .publisher) (w .sent)) w
-lentCalls (Arriving k now answers) w = onLent Followers (lentApplied now answers (nthSent k (w .sent))) w
+lentCalls (Arriving k now answers) w = onLent Followers (lentApplied now answers (arrives k (w .sent))) w
 
 -- the world after an event; one that is not possible changes nothing
 unfoldable pub lentHappen : (event : Event) (world : LentWorld) → LentWorld

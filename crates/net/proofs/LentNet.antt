@@ -36,10 +36,11 @@ use Rattle.rules.specs.declared.Refusal.the-variants.{BadTable, NoPlace}
 use Rattle.profiles.proofs.Kept.{apply-formed, beat-formed, call-formed, offer-formed}
 use Rattle.profiles.proofs.Lawful.{kind-lawful}
 use Rattle.demand3.specs.Demand3.{AllRise}
-use Rattle.demand3.proofs.Formed.{IsRead, by-guard, only-places, removal-formed, sent-read}
+use Rattle.demand3.proofs.Formed.{by-guard, only-places, removal-formed, sent-read}
 use Rattle.demand3.proofs.Forms.{comes, lent-computing, lent-removal, removed-numbers}
+use Rattle.demand3.proofs.Parted.{IsRead, ReadsWell, arrived-so}
 use Rattle.demand3.specs.Forms.{Order, computeBy, lentComputeBy, removedBy}
-use Rattle.demand3.specs.World.{DeltaSent, DigestSent, Exchange, Idle, appliedTo, givenAs, nthSent, sentAfter}
+use Rattle.demand3.specs.World.{DeltaSent, DigestSent, Exchange, Idle, appliedTo, arrives, givenAs, sentAfter}
 use Rattle.table.proofs.Encoded.{apply-whole, from-whole, on-whole, whole-whole}
 use Rattle.table.proofs.Wholes.{decode-encode-whole, valid-encode-whole, whole-obeys, without-memory}
 use Rattle.net.proofs.Moments.{Moment, moment-begin, moment-event, moments, one-more}
@@ -144,7 +145,7 @@ module _ (owner : ℕ → ℕ) (kinds : ℕ → Kind) where
 
   -- some hub's profile reads it
   abbrev Read : List ℕ → Type 0
-  Read b = (y : ℕ) × IsRead (kinds y .profile) b
+  Read b = (y : ℕ) × IsRead (kinds y .profile) b × ReadsWell b
 
   -- every hub's bytes, and those that it saved, are of tables of its kind; and what was ever computed is in the form of a hub's profile
   pub record Good (l : LentNet) : Type 0 where
@@ -195,13 +196,16 @@ module _ (owner : ℕ → ℕ) (kinds : ℕ → Kind) where
               (comes edition excluded order mtu place digest (net .hubs x) d (whole-table (decodeWhole (l .hubs x)) (ok (kinds x) (l .hubs x) (g .hubs x)))) b m));
         }
       where
-        by : (b : List ℕ) → (b ∈ l .sent) ⊎ IsRead (kinds x .profile) b → Read b
+        by : (b : List ℕ) → (b ∈ l .sent) ⊎ (IsRead (kinds x .profile) b × ReadsWell b) → Read b
         by b (inl m) = g .sent b m
-        by b (inr r) = (x, r)
+        by b (inr r) = (x, r .0, r .1)
 
     -- so where all have one profile, no hub refuses it for its form
     pub one-profile : OneProfile kinds l
-    one-profile p all b m x = let r = g .sent b m in places-alone (kinds x) (l .hubs x) (g .hubs x) b (subst (λ (q : Profile). IsRead q b) (all (r .0) ∙ sym (all x)) (r .1))
+    one-profile p all k b e x =
+        places-alone (kinds x) (l .hubs x) (g .hubs x) b
+        (arrived-so (IsRead (kinds x .profile)) k (l .sent) (λ c m. g .sent c m .2)
+        (λ c d m y. let r = g .sent c m in y .in-form (kinds x .profile) (subst (λ (q : Profile). IsRead q c) (all (r .0) ∙ sym (all x)) (r .1))) b e)
 
     -- a write goes by the profile that stands in the bytes, and that is the hub's
     module _ (x i : ℕ) (k : List ℕ) (who : Party) (c : Call) where
@@ -239,7 +243,7 @@ module _ (owner : ℕ → ℕ) (kinds : ℕ → Kind) where
       ap (λ (o : Given Computed (List ℕ)). record { hubs = net .hubs; given = l .given; sent = sentAfter place (o .lent) (o .answer) (l .sent); saved = net .saved })
           (computed-lent (kinds x) (l .hubs x) (g .hubs x) edition digest excluded order mtu place d),
     )
-    calls-lent (Arriving x k now answers) p m = on-hub _ x _ _ (taken (kinds x) (l .hubs x) (g .hubs x) now answers (nthSent k (l .sent)) (obeyed x _ m))
+    calls-lent (Arriving x k now answers) p m = on-hub _ x _ _ (taken (kinds x) (l .hubs x) (g .hubs x) now answers (arrives k (l .sent)) (obeyed x _ m))
     calls-lent (Saving x) p m =
         let a : (y : ℕ) → tablesOf (pick (eqb y x) (l .hubs x ∷ l .saved x) (l .saved y)) ≡ pick (eqb y x) (net .hubs x ∷ net .saved x) (net .saved y) = λ y. is y (eqb y x) in
         (record { hubs = g .hubs; saved = λ y. kept y (eqb y x) refl; sent = g .sent }, λ z. record { hubs = net .hubs; given = l .given; sent = l .sent; saved = λ y. a y z })

@@ -31,14 +31,15 @@ use Rattle.demand3.proofs.Computing.{computed-honest}
 use Rattle.demand3.proofs.EachNode.{Beaten, beaten-local, beaten-offer, node-taken, nodeAt, orFresh, removed}
 use Rattle.demand3.proofs.History.{Numbered}
 use Rattle.demand3.proofs.Honest.{HonestDelta, HonestNode, delta-grows, fresh-honest, node-beat, node-grows, node-remove}
-use Rattle.demand3.proofs.Moments.{ReadsWell, clock-fits, kept, nth-sent, read-once}
+use Rattle.demand3.proofs.Moments.{clock-fits, kept, read-once}
 use Rattle.demand3.proofs.Formed.{by-guard}
 use Rattle.demand3.proofs.Forms.{Comes, comes, refuses, removal-is, writes}
 use Rattle.demand3.proofs.OnTheWay.{Sendable}
+use Rattle.demand3.proofs.Parted.{Parted, ReadsWell, at-whole, nth-sent}
 use Rattle.demand3.proofs.Publisher.{Publisher, next-version, publisher-beat, publisher-fresh, publisher-remove, publisher-write}
 use Rattle.demand3.proofs.Step.{node-apply}
 use Rattle.demand3.specs.Forms.{Order}
-use Rattle.demand3.specs.World.{appliedTo, givenAfter, givenAs, givenBy, givenIn, nthSent, sentAfter, timeOf}
+use Rattle.demand3.specs.World.{Which, appliedTo, arrives, givenAfter, givenAs, givenBy, givenIn, sentAfter, timeOf}
 use Rattle.net.proofs.Coming.{node-added, node-dropped}
 use Rattle.net.proofs.Owners.{owner-again, owner-stays}
 use Rattle.net.specs.Net.{Adding, Arriving, Beating, Computing, Dropping, Event, Net, Offering, Plan, Ready, Removing, Restoring, Saving, Writing, after, begin, calls, happen, hasMax, nothingLost, placed, possible, restored, withTable}
@@ -83,6 +84,10 @@ pub record Moment (owner : ℕ → ℕ) (w : Net) : Type 0 where
   pub ends : (i : ℕ) → Ends (w .given i)
   pub sent : (b : List ℕ) → b ∈ w .sent → Carries (w .given) b
   pub saved : (x : ℕ) (t : Table) → t ∈ w .saved x → Stands (w .given) t
+
+-- a part of such bytes
+abbrev pub part-carried : (h : ℕ → List KeyValue) (b c : List ℕ) → Carries h b → Parted b c → Carries h c
+part-carried h b c y p = record { reads = p .reads; honest = λ i d q. y .honest i d (at-whole b c (y .reads) p i d q) }
 
 pub moment-begin : (owner : ℕ → ℕ) → Moment owner begin
 unfolding nodeOf
@@ -273,7 +278,7 @@ module _ (owner : ℕ → ℕ) (w : Net) (ok : Moment owner w) where
   carried : (x : ℕ) (ops : List Op) → Sendable (w .hubs x) ops → Carries h (deltaBytes ops)
   carried x ops s =
       record {
-        reads = (ops, s .read, s .chain, s .small);
+        reads = (ops, s .read, s .chain, s .small, refl);
         honest =
             λ i d q.
             let m = s .made i d q in
@@ -340,10 +345,10 @@ module _ (owner : ℕ → ℕ) (w : Net) (ok : Moment owner w) where
             (λ i. each i (node-taken i (w .hubs x) take (partsOf ops) (read-once ops nothingRead (y .reads .2))))
 
     -- where deltas may come late, what is not fenced off does
-    moment-arriving : ways .late ≡ true → (k : ℕ) → Moment owner (withTable x (appliedTo ways now l (nthSent k (w .sent)) (w .hubs x)) w)
+    moment-arriving : ways .late ≡ true → (k : Which) → Moment owner (withTable x (appliedTo ways now l (arrives k (w .sent)) (w .hubs x)) w)
     moment-arriving late k =
-        nth-sent (λ y. Moment owner (withTable x (appliedTo ways now l y (w .hubs x)) w)) (same-table x) k (w .sent)
-        (λ b m. arrived b (ok .sent b m) (λ i d q r. law .safe late (nodeAt i (w .hubs x) .last-gc) (nodeAt i (w .hubs x) .max) (d .last-gc) (d .max) (r .let-in)))
+        nth-sent (λ y. Moment owner (withTable x (appliedTo ways now l y (w .hubs x)) w)) (same-table x) k (w .sent) (λ b m. ok .sent b m .reads)
+        (λ b c m p. arrived c (part-carried h b c (ok .sent b m) p) (λ i d q r. law .safe late (nodeAt i (w .hubs x) .last-gc) (nodeAt i (w .hubs x) .max) (d .last-gc) (d .max) (r .let-in)))
 
   -- ---- tables are saved and restored
 

@@ -21,10 +21,9 @@ use Rattle.rules.specs.declared.Profile.{Profile}
 use Rattle.demand3.proofs.EachNode.{Beaten, beaten-local, beaten-offer, nodeAt, orFresh}
 use Rattle.demand3.proofs.Formed.{by-guard}
 use Rattle.demand3.proofs.Forms.{removed-node}
-use Rattle.demand3.proofs.Moments.{nth-sent}
 use Rattle.demand3.proofs.OneNode.{rises-apply, rises-remove, rises-same, rises-trans}
 use Rattle.demand3.specs.Demand3.{AllRise, Rises}
-use Rattle.demand3.specs.World.{appliedTo}
+use Rattle.demand3.specs.World.{DeltaSent, DigestSent, Exchange, Idle, appliedTo, arrives}
 use Rattle.net.proofs.Coming.{node-added}
 use Rattle.net.specs.Net.{Adding, Arriving, Beating, Computing, Dropping, Event, Net, Offering, Plan, Removing, Restoring, Saving, Writing, after, allGoOn, calls, goesOn, happen, possible}
 
@@ -95,8 +94,12 @@ module _ (plan : Plan) (w : Net) where
   calls-up (Computing x edition digest excluded order mtu place l) g = λ y. same (w .hubs y)
   calls-up (Arriving x k now l) g =
       there x _
-      (nth-sent (λ d. Up (w .hubs x) (appliedTo (plan .ways x) now l d (w .hubs x))) (same (w .hubs x)) k (w .sent)
-      (λ b m. applied-table (plan .ways x) b now (w .hubs x) l (Up (w .hubs x)) (same (w .hubs x)) (λ ops q. each-up (plan .ways x) now (partsOf ops) (w .hubs x))))
+      (go (arrives k (w .sent)))
+    where
+      go : (d : Exchange) → Up (w .hubs x) (appliedTo (plan .ways x) now l d (w .hubs x))
+      go Idle = same (w .hubs x)
+      go (DigestSent d) = same (w .hubs x)
+      go (DeltaSent b) = applied-table (plan .ways x) b now (w .hubs x) l (Up (w .hubs x)) (same (w .hubs x)) (λ ops q. each-up (plan .ways x) now (partsOf ops) (w .hubs x))
   calls-up (Saving x) g = λ y. same (w .hubs y)
   calls-up (Restoring x k) g = absurd (false≢true g)
 

@@ -8,7 +8,7 @@ use mathlib.Core.List.{List, [], _∷_}
 use mathlib.Core.Option.{Option, none, some}
 use lib.Dec.{eqb}
 use Rattle.fields.specs.Numbers.{Bytes}
-use Rattle.fields.specs.Choice.{_∈_, pick}
+use Rattle.fields.specs.Choice.{pick}
 use Rattle.rules.specs.Node.{KeyValue}
 use Rattle.rules.specs.Table.{Table, nodeOf}
 use Rattle.rules.specs.Apply.{waysIn}
@@ -20,7 +20,7 @@ use Rattle.rules.specs.declared.Profile.{Profile}
 use Rattle.rules.specs.declared.Refusal.{Refusal}
 use Rattle.rules.specs.declared.Refusal.the-variants.{NoPlace}
 use Rattle.demand3.specs.Forms.{lentComputeBy, lentRemovedBy}
-use Rattle.demand3.specs.World.{Exchange, Idle, DigestSent, DeltaSent, givenAs, sentAfter, nthSent}
+use Rattle.demand3.specs.World.{Exchange, Idle, DigestSent, DeltaSent, Which, givenAs, sentAfter, arrives}
 use Rattle.demand3.specs.Demand3.{AllRise}
 use Rattle.net.specs.Net.{Plan, Net, NetSound, Event, Writing, Beating, Offering, Removing, Adding, Dropping, Computing, Arriving, Saving, Restoring, placed, possible, allGoOn}
 
@@ -82,7 +82,7 @@ lentCalls (Computing x edition digest excluded order mtu place d) w =
       sent = sentAfter place (lentComputeBy edition excluded order mtu place digest d (w .hubs x) .lent) (lentComputeBy edition excluded order mtu place digest d (w .hubs x) .answer) (w .sent);
       saved = w .saved;
     }
-lentCalls (Arriving x k now answers) w = withBytes x (lentTaken now answers (nthSent k (w .sent)) (w .hubs x)) w
+lentCalls (Arriving x k now answers) w = withBytes x (lentTaken now answers (arrives k (w .sent)) (w .hubs x)) w
 lentCalls (Saving x) w = record { hubs = w .hubs; given = w .given; sent = w .sent; saved = λ y. pick (eqb y x) (w .hubs x ∷ w .saved x) (w .saved y) }
 lentCalls (Restoring x k) w = withBytes x (lentRestored (placed k (w .saved x)) (w .hubs x)) w
 
@@ -100,12 +100,13 @@ lentAfter owner (e ∷ es) w = lentAfter owner es (lentHappen owner e w)
 abbrev pub planIn : (owner : ℕ → ℕ) (kinds : ℕ → Kind) → Plan
 planIn owner kinds = record { owner = owner; ways = λ x. waysIn (kinds x); profiles = λ x. kinds x .profile }
 
--- Where all hubs have one profile, no delta that was ever computed, in document 01's order or by a plan, is refused by any of them with 17: answer places (8) are all that it may lack.
+-- Where all hubs have one profile, no delta that was ever computed, in document 01's order or by a plan, and no part of one, is refused by any of them with 17: answer places (8) are all
+-- that it may lack.
 abbrev pub OneProfile : (kinds : ℕ → Kind) (net : LentNet) → Type 0
 OneProfile kinds w = (p : Profile)
     → ((x : ℕ) → kinds x .profile ≡ p)
-    → (b : Bytes)
-    → b ∈ w .sent
+    → (k : Which) (b : Bytes)
+    → arrives k (w .sent) ≡ DeltaSent b
     → (x now : ℕ) (answers : Bytes) (why : Refusal) (at : ℕ)
     → lentApply b now answers (w .hubs x) .answer ≡ applied.Refused why at
     → why ≡ NoPlace

@@ -21,7 +21,7 @@ use Rattle.rules.specs.declared.NodeAnswer.the-variants as node
 use Rattle.rules.specs.declared.Party.{Party}
 use Rattle.rules.specs.declared.Profile.{Profile}
 use Rattle.demand3.specs.Forms.{Order, Removal, removedBy}
-use Rattle.demand3.specs.World.{timeOf, givenAs, sentFor, nthSent, appliedTo}
+use Rattle.demand3.specs.World.{Which, timeOf, givenAs, sentFor, arrives, appliedTo}
 use Rattle.demand3.specs.Demand3.{Claims, AllRise}
 
 -- ---- the net
@@ -66,8 +66,8 @@ pub data Event : Type 0 where
   -- a delta is computed for any bytes as a digest, read in any edition: the edition, those bytes, excluded nodes, the order, MTU, the place in the datagram,
   -- the datagram
   Computing : ℕ → ℕ → List ℕ → List ℕ → Order → ℕ → ℕ → List ℕ → Event
-  -- a delta that any hub ever computed arrives, late or again: which of them, now, the lent list of answers
-  Arriving : ℕ → ℕ → ℕ → List ℕ → Event
+  -- a delta that any hub ever computed arrives, or a part of it that gateways cut, late or again: which, now, the lent list of answers
+  Arriving : ℕ → Which → ℕ → List ℕ → Event
   -- the hub saves its table; it is restored from one that it saved, if no write of its own nodes is lost: which of them
   Saving : ℕ → Event
   Restoring : ℕ → ℕ → Event
@@ -126,7 +126,7 @@ calls plan (Adding x i) w = withTable x (add i (w .hubs x) .table) w
 calls plan (Dropping x i) w = withTable x (removeNode i (w .hubs x) .table) w
 calls plan (Computing x edition digest excluded order mtu place l) w =
     record { hubs = w .hubs; given = w .given; sent = sentFor edition digest excluded order mtu place l (w .hubs x) (w .sent); saved = w .saved }
-calls plan (Arriving x k now l) w = withTable x (appliedTo (plan .ways x) now l (nthSent k (w .sent)) (w .hubs x)) w
+calls plan (Arriving x k now l) w = withTable x (appliedTo (plan .ways x) now l (arrives k (w .sent)) (w .hubs x)) w
 calls plan (Saving x) w = record { hubs = w .hubs; given = w .given; sent = w .sent; saved = λ y. pick (eqb y x) (w .hubs x ∷ w .saved x) (w .saved y) }
 calls plan (Restoring x k) w = withTable x (restored (placed k (w .saved x)) (w .hubs x)) w
 

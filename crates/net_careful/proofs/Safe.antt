@@ -39,12 +39,13 @@ use Rattle.grid.specs.Careful.{carefulDue, seenBy}
 use Rattle.grid.specs.LentGrid.{carefullyRemoved, fitsTable}
 use Rattle.demand3.proofs.EachNode.{nodeAt, orFresh, partsIn, removed}
 use Rattle.demand3.proofs.Forms.{Comes, comes, refuses, writes}
-use Rattle.demand3.proofs.Moments.{nth-sent, read-once}
+use Rattle.demand3.proofs.Moments.{read-once}
+use Rattle.demand3.proofs.Parted.{Parted, nth-sent}
 use Rattle.demand3.specs.Forms.{ByClock, Carefully, Order, Removal, opsBy}
 use Rattle.demand3.specs.World.{appliedTo, sentAfter}
 use Rattle.net.proofs.Coming.{part-there}
 use Rattle.net.proofs.Each.{each-add, each-beat, each-call, each-hub, each-offer, each-taken}
-use Rattle.net.proofs.Moments.{Moment, arrived, moment-begin, moment-calls, moment-removing, same-table}
+use Rattle.net.proofs.Moments.{Moment, arrived, moment-begin, moment-calls, moment-removing, part-carried, same-table}
 use Rattle.net.proofs.Safe.{sound}
 use Rattle.net.specs.Net.{Adding, Arriving, Beating, Computing, Dropping, Event, Net, Offering, Plan, Removing, Restoring, Saving, Writing, after, begin, calls, happen, possible, withTable}
 use Rattle.net_careful.specs.Careful.{CarefulEvent, CarefulOver, CarefulRun, CarefulSafe, ToldBy, maxAt, maxOn, toldMax}
@@ -119,9 +120,9 @@ module _ (plan : Plan) (law : (x : ℕ) → Lawful (plan .ways x)) (ms : List �
   on-same : Onward ms v v
   on-same = record { max-up = λ x i. omega arith; gc-same = λ x i m. omega arith }
 
-  -- a delta that was ever computed is not above any hub's max, so that none is reset
-  part-low : (b : List ℕ) (m : b ∈ v .sent) (i : ℕ) (d : NodeDelta) → partAt i (partsOf (ok .sent b m .reads .0)) ≡ some d → (y : ℕ) → y ∈ ms → d .last-gc ≤ nodeAt i (v .hubs y) .max
-  part-low b m i d q y n = k .sent-low b m i d (ap (λ (o : Ops). partAt i (partsIn o)) (ok .sent b m .reads .1) ∙ q) y n
+  -- a delta that was ever computed, or a part of it, is not above any hub's max, so that none is reset
+  part-low : (b c : List ℕ) (m : b ∈ v .sent) (p : Parted b c) (i : ℕ) (d : NodeDelta) → partAt i (partsOf (p .reads .0)) ≡ some d → (y : ℕ) → y ∈ ms → d .last-gc ≤ nodeAt i (v .hubs y) .max
+  part-low b c m p i d q y n = k .sent-low b m i d (p .each i d q) y n
 
   takes : (ways : Ways) (now : ℕ) (d : NodeDelta) (n : Node) → d .last-gc ≤ n .max → R 0 0 n (applyNode ways now d n .node)
   unfolding outcome
@@ -277,9 +278,9 @@ module _ (plan : Plan) (law : (x : ℕ) → Lawful (plan .ways x)) (ms : List �
       (computed-low x m edition digest excluded order mtu place l _ (comes edition excluded order mtu place digest (v .hubs x) l (facts-table (v .hubs x) (ok .tables x .obeyed))))
   -- any hub takes it, plain ones too: its last_gc is within its own max
   eventful (Arriving x j now l) m p =
-      nth-sent (λ y. Keeps (withTable x (appliedTo (plan .ways x) now l y (v .hubs x)) v)) (stay-table x) j (v .sent)
-      (λ b n. going _ (arrived (plan .owner) v ok (plan .ways x) (law x) x now l (ltb-true _ _ p) b (ok .sent b n) (λ i d q r. let a = k .low i x x m m in omega arith))
-      (on-table x _ (each-taken v R same (plan .ways x) (law x) x now l b (v .given) (ok .sent b n) (λ i d q. takes (plan .ways x) now d (nodeAt i (v .hubs x)) (part-low b n i d q x m))))
+      nth-sent (λ y. Keeps (withTable x (appliedTo (plan .ways x) now l y (v .hubs x)) v)) (stay-table x) j (v .sent) (λ b n. ok .sent b n .reads)
+      (λ b c n z. going _ (arrived (plan .owner) v ok (plan .ways x) (law x) x now l (ltb-true _ _ p) c (part-carried (v .given) b c (ok .sent b n) z) (λ i d q r. let a = k .low i x x m m in omega arith))
+      (on-table x _ (each-taken v R same (plan .ways x) (law x) x now l c (v .given) (part-carried (v .given) b c (ok .sent b n) z) (λ i d q. takes (plan .ways x) now d (nodeAt i (v .hubs x)) (part-low b c n z i d q x m))))
       (k .sent-low))
   eventful (Saving x) m p = going _ (moment-calls plan v ok (Saving x) tt p) (record { max-up = on-same .max-up; gc-same = on-same .gc-same }) (k .sent-low)
   eventful (Restoring x j) m p = absurd m

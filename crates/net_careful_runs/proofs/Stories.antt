@@ -9,6 +9,7 @@ use Rattle.rules.specs.declared.Party.the-variants.{Nobody}
 use Rattle.grid.specs.Grid.{Grid, newGrid, takeOut, tellRow}
 use Rattle.grid.specs.GridLayout.{encodeGrid}
 use Rattle.demand3.specs.Forms.{ByClock, Carefully, InLine}
+use Rattle.demand3.specs.World.{intact}
 use Rattle.net.specs.Net.{Adding, Arriving, Computing, Event, Removing, Restoring, Saving, Writing}
 use Rattle.net_runs.proofs.Stories.{a, b, began, c, hears, set, told}
 
@@ -70,4 +71,4 @@ takenOut =
     ++ ((set b ∷ computes 0 1 300 ∷ [])
     ++ (deletesB
     ++ (hears 1 0 0 0
-    ++ ((Removing 0 (Carefully (encodeGrid (takeOut 2 (twoTold 1 3 2 1))) 9 5) ∷ Writing 0 7 c Nobody (Setting long) ∷ computes 0 1 100 ∷ Arriving 2 0 50 (0 ∷ []) ∷ Arriving 2 2 50 (0 ∷ []) ∷ []) ++ hears 2 0 3 2)))))
+    ++ ((Removing 0 (Carefully (encodeGrid (takeOut 2 (twoTold 1 3 2 1))) 9 5) ∷ Writing 0 7 c Nobody (Setting long) ∷ computes 0 1 100 ∷ Arriving 2 (intact 0) 50 (0 ∷ []) ∷ Arriving 2 (intact 2) 50 (0 ∷ []) ∷ []) ++ hears 2 0 3 2)))))

@@ -19,11 +19,11 @@ use Rattle.rules.specs.Table.{nodeOf}
 use Rattle.rules.specs.declared.Heartbeat.{Heartbeat}
 use Rattle.demand3.proofs.EachNode.{nodeAt}
 use Rattle.demand3.proofs.Honest.{HonestDelta}
-use Rattle.demand3.proofs.Moments.{nth-sent}
+use Rattle.demand3.proofs.Parted.{nth-sent}
 use Rattle.demand3.proofs.Publisher.{Publisher}
 use Rattle.demand3.specs.World.{appliedTo, givenAs}
 use Rattle.net.proofs.Each.{Each, each-add, each-beat, each-call, each-drop, each-hub, each-offer, each-remove, each-same, each-taken}
-use Rattle.net.proofs.Moments.{Moment}
+use Rattle.net.proofs.Moments.{Moment, part-carried}
 use Rattle.net.proofs.Owners.{owner-stays}
 use Rattle.net.specs.Net.{Adding, Arriving, Beating, Computing, Dropping, Event, Net, Offering, Plan, Ready, Removing, Restoring, Saving, Writing, after, calls, happen, possible}
 use Rattle.net_closing.specs.Closing.{calm, every}
@@ -84,10 +84,11 @@ module _ (plan : Plan) (ready : Ready plan) (i : ℕ) where
     calls-onward (Computing x edition digest excluded order mtu place l) q = each-same w On on-same
     calls-onward (Arriving x k now l) q =
         each-hub w On on-same x _
-        (nth-sent (λ d. Each w On on-same x (appliedTo (plan .ways x) now l d (w .hubs x))) (each-same w On on-same x) k (w .sent)
-        (λ b m.
-        each-taken w On on-same (plan .ways x) (ready .lawful x) x now l b (w .given) (ok .sent b m)
-        (λ j d p e. takes now d (subst (λ (z : ℕ). HonestDelta (w .given z) d) e (ok .sent b m .honest j d p)))))
+        (nth-sent (λ d. Each w On on-same x (appliedTo (plan .ways x) now l d (w .hubs x))) (each-same w On on-same x) k (w .sent) (λ b m. ok .sent b m .reads)
+        (λ b c m y.
+        let a = part-carried (w .given) b c (ok .sent b m) y in
+        each-taken w On on-same (plan .ways x) (ready .lawful x) x now l c (w .given) a
+        (λ j d p e. takes now d (subst (λ (z : ℕ). HonestDelta (w .given z) d) e (a .honest j d p)))))
     calls-onward (Saving x) q = each-same w On on-same
     calls-onward (Restoring x k) q = absurd (false≢true q)
 

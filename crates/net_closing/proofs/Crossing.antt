@@ -26,7 +26,7 @@ use Rattle.rules.specs.declared.NodeAnswer.the-variants as node
 use Rattle.demand3.proofs.EachNode.{nodeAt, orFresh}
 use Rattle.demand3.proofs.Honest.{HonestNode}
 use Rattle.demand3.proofs.Publisher.{Publisher}
-use Rattle.demand3.specs.World.{Exchange, appliedTo}
+use Rattle.demand3.specs.World.{Exchange, Which, appliedTo}
 use Rattle.net.proofs.Moments.{Ends, moment-begin, moments}
 use Rattle.net.specs.Net.{Arriving, Event, Net, Plan, Ready, after, begin, happen}
 use Rattle.net_closing.proofs.Calm.{Onward, after-append, beats, calm-given, every-append, onward, removes, stays, takes}
@@ -151,7 +151,7 @@ module _ (plan : Plan) (ready : Ready plan) (i n : ℕ) where
 
   module _ (least : (x : ℕ) → Least (plan .ways x)) (x y : ℕ) where
     -- the moments of an exchange: the digest, the computing, the arriving
-    module _ (u : Net) (ok : Known plan ready i n u) (waiting coming : List Event) (c : every (calm i) waiting ≡ true) (d : every (calm i) coming ≡ true) (q : Asked) (which : ℕ) where
+    module _ (u : Net) (ok : Known plan ready i n u) (waiting coming : List Event) (c : every (calm i) waiting ≡ true) (d : every (calm i) coming ≡ true) (q : Asked) (which : Which) where
       abbrev v : Net
       v = after plan waiting u
 

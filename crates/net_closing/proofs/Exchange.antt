@@ -32,7 +32,7 @@ use Rattle.demand3.proofs.OnTheWay.{PartFor}
 use Rattle.demand3.proofs.Whole.{stream, taken}
 use Rattle.demand3.specs.Demand3.{noRoom, wroteDelta}
 use Rattle.demand3.specs.Forms.{computeBy, opsBy}
-use Rattle.demand3.specs.World.{DeltaSent, World, appliedTo, nthSent, sentAfter}
+use Rattle.demand3.specs.World.{DeltaSent, World, appliedTo, arrives, cutBy, intact, nthSent, sentAfter}
 use Rattle.demand3.specs.World as world
 use Rattle.net.proofs.Coming.{part-there}
 use Rattle.net.proofs.Moments.{Moment}
@@ -148,10 +148,10 @@ module _ (plan : Plan) (lawful : (x : ℕ) → Lawful (plan .ways x)) (w : Net) 
   ops = opsIn q x y w
 
   after-is : after plan (exchangeIn q x y w) w .hubs x ≡ apply (plan .ways x) (deltaBytes ops) (q .now) (w .hubs x) (q .answers) .table
-  unfolding after happen nthSent
+  unfolding after happen nthSent cutBy
   after-is =
       rw (s .clock, eq-eqb x x refl)
-      (ap (λ (l : List (List ℕ)). appliedTo (plan .ways x) (q .now) (q .answers) (nthSent 0 l) (w .hubs x))
+      (ap (λ (l : List (List ℕ)). appliedTo (plan .ways x) (q .now) (q .answers) (arrives (intact 0) l) (w .hubs x))
       (sent-is (plan .ways x) (lawful x) (w .hubs x) (w .hubs y) (w .hubs x) (obeyed x) (obeyed y) i q (s .wrote) (w .sent) .0))
 
   pub heard-node : (d : NodeDelta) → PartIn ops i d → (nodeAt i (after plan (exchangeIn q x y w) w .hubs x) ≡ applyNode (plan .ways x) (q .now) d (s .node) .node) × (applyNode (plan .ways x) (q .now) d (s .node) .answer ≡ node.Room → ⊥)

@@ -29,7 +29,7 @@ use Rattle.rules.specs.declared.NodeAnswer.the-variants as node
 use Rattle.demand3.proofs.Forms.{Comes, comes, refuses, writes}
 use Rattle.demand3.specs.Forms.{Order, opsBy}
 use Rattle.demand3.proofs.EachNode.{nodeAt, orFresh, partsIn}
-use Rattle.demand3.proofs.Moments.{nth-sent}
+use Rattle.demand3.proofs.Parted.{Parted, nth-sent}
 use Rattle.demand3.proofs.Needed.{Moves, Onward, delta-moves-or, needed, needed-falls, needed-most, needed-none, needed-some, onward-came, onward-needed, onward-same}
 use Rattle.demand3.proofs.OnTheWay.{Sendable}
 use Rattle.demand3.proofs.OneNode.{rises-apply, rises-remove}
@@ -37,7 +37,7 @@ use Rattle.demand3.proofs.Publisher.{Publisher}
 use Rattle.demand3.specs.Demand3.{Rises}
 use Rattle.demand3.specs.World.{appliedTo, sentAfter}
 use Rattle.net.proofs.Each.{Each, each-add, each-beat, each-call, each-drop, each-hub, each-offer, each-remove, each-same, each-taken}
-use Rattle.net.proofs.Moments.{Moment, moment-begin, moment-event, placed-in}
+use Rattle.net.proofs.Moments.{Moment, moment-begin, moment-event, part-carried, placed-in}
 use Rattle.net.proofs.Owners.{owner-stays}
 use Rattle.net.specs.Net.{Adding, Arriving, Beating, Computing, Dropping, Event, Net, Offering, Plan, Ready, Removing, Restoring, Saving, Writing, after, begin, calls, happen, placed, possible, restored}
 use Rattle.net_closing.proofs.Calm.{after-append, every-append}
@@ -95,8 +95,8 @@ module _ (plan : Plan) (ready : Ready plan) (i : ℕ) where
         go m (reset r) = omega arith
         go m (took r) = omega arith
 
-    its-part : (b : List ℕ) (m : b ∈ w .sent) (j : ℕ) (d : NodeDelta) → partAt j (partsOf (ok .sent b m .reads .0)) ≡ some d → j ≡ i → d .last-gc ≤ gcAt w own
-    its-part b m j d p e = low .sent b m d (ap (λ (k : Ops). partAt i (partsIn k)) (ok .sent b m .reads .1) ∙ subst (λ (k : ℕ). partAt k (partsOf (ok .sent b m .reads .0)) ≡ some d) e p)
+    its-part : (b c : List ℕ) (m : b ∈ w .sent) (y : Parted b c) (j : ℕ) (d : NodeDelta) → partAt j (partsOf (y .reads .0)) ≡ some d → j ≡ i → d .last-gc ≤ gcAt w own
+    its-part b c m y j d p e = low .sent b m d (subst (λ (k : ℕ). partAt k (partsIn (readDelta b)) ≡ some d) e (y .each j d p))
 
     calls-on : (e : Event) → ownerRemoves plan i e ≡ true → possible (plan .owner) e w ≡ true → (y : ℕ) → Each w On on-same y (calls plan e w .hubs y)
     unfolding remove
@@ -115,8 +115,10 @@ module _ (plan : Plan) (ready : Ready plan) (i : ℕ) where
     calls-on (Computing x edition digest excluded order mtu place l) q p = each-same w On on-same
     calls-on (Arriving x k now l) q p =
         each-hub w On on-same x _
-        (nth-sent (λ d. Each w On on-same x (appliedTo (plan .ways x) now l d (w .hubs x))) (each-same w On on-same x) k (w .sent)
-        (λ b m. each-taken w On on-same (plan .ways x) (ready .lawful x) x now l b (w .given) (ok .sent b m) (λ j d r e. on-take x now d (nodeAt j (w .hubs x)) (its-part b m j d r e))))
+        (nth-sent (λ d. Each w On on-same x (appliedTo (plan .ways x) now l d (w .hubs x))) (each-same w On on-same x) k (w .sent) (λ b m. ok .sent b m .reads)
+        (λ b c m y.
+        each-taken w On on-same (plan .ways x) (ready .lawful x) x now l c (w .given) (part-carried (w .given) b c (ok .sent b m) y)
+        (λ j d r e. on-take x now d (nodeAt j (w .hubs x)) (its-part b c m y j d r e))))
     calls-on (Saving x) q p = each-same w On on-same
     calls-on (Restoring x k) q p = each-hub w On on-same x _ (old (placed k (w .saved x)) (λ t e. placed-in k (w .saved x) e))
       where
@@ -251,14 +253,14 @@ module _ (plan : Plan) (ready : Ready plan) (i : ℕ) where
       other : (j : ℕ) → not (eqb i j) ≡ true → j ≡ i → ⊥
       other j q e = false≢true (sym (ap not (eq-eqb i j (sym e))) ∙ q)
 
-      goes-take : (x now : ℕ) (b : List ℕ) (m : b ∈ w .sent) (j : ℕ) (d : NodeDelta) → partAt j (partsOf (ok .moment .sent b m .reads .0)) ≡ some d → Goes x j (nodeAt j (w .hubs x)) (applyNode (plan .ways x) now d (nodeAt j (w .hubs x)) .node)
-      goes-take x now b m j d q e = (
+      goes-take : (x now : ℕ) (b c : List ℕ) (m : b ∈ w .sent) (y : Parted b c) (j : ℕ) (d : NodeDelta) → partAt j (partsOf (y .reads .0)) ≡ some d → Goes x j (nodeAt j (w .hubs x)) (applyNode (plan .ways x) now d (nodeAt j (w .hubs x)) .node)
+      goes-take x now b c m z j d q e = (
         λ o.
             let n : Node = nodeAt j (w .hubs x) in
             let y = subst (λ (k : ℕ). Publisher (w .given j) (nodeAt j (w .hubs k))) (ap (plan .owner) e ∙ sym o) (ok .moment .owners j) in
-            let is : applyNode (plan .ways x) now d n .node ≡ n = ap (λ (t : Taken). t .node) (owner-stays (plan .ways x) (ready .lawful x) (w .given j) n y d (ok .moment .sent b m .honest j d q) now) in
+            let is : applyNode (plan .ways x) now d n .node ≡ n = ap (λ (t : Taken). t .node) (owner-stays (plan .ways x) (ready .lawful x) (w .given j) n y d (part-carried (w .given) b c (ok .moment .sent b m) z .honest j d q) now) in
             (ap (λ (k : Node). k .max) is, ap (λ (k : Node). k .last-gc) is, ap (λ (k : Node). k .recs) is),
-        onward-came (plan .ways x) now d p (nodeAt j (w .hubs x)) (let a = its-part w (ok .moment) (ok .low) b m j d q e in let c = ok .alike .1 in omega arith),
+        onward-came (plan .ways x) now d p (nodeAt j (w .hubs x)) (let a = its-part w (ok .moment) (ok .low) b c m z j d q e in let c = ok .alike .1 in omega arith),
       )
 
       calls-goes : (e : Event) → settled i e ≡ true → (y : ℕ) → Each w Goes goes-same y (calls plan e w .hubs y)
@@ -271,8 +273,8 @@ module _ (plan : Plan) (ready : Ready plan) (i : ℕ) where
       calls-goes (Computing x edition digest excluded order mtu place l) q = each-same w Goes goes-same
       calls-goes (Arriving x k now l) q =
           each-hub w Goes goes-same x _
-          (nth-sent (λ d. Each w Goes goes-same x (appliedTo (plan .ways x) now l d (w .hubs x))) (each-same w Goes goes-same x) k (w .sent)
-          (λ b m. each-taken w Goes goes-same (plan .ways x) (ready .lawful x) x now l b (w .given) (ok .moment .sent b m) (goes-take x now b m)))
+          (nth-sent (λ d. Each w Goes goes-same x (appliedTo (plan .ways x) now l d (w .hubs x))) (each-same w Goes goes-same x) k (w .sent) (λ b m. ok .moment .sent b m .reads)
+          (λ b c m y. each-taken w Goes goes-same (plan .ways x) (ready .lawful x) x now l c (w .given) (part-carried (w .given) b c (ok .moment .sent b m) y) (goes-take x now b c m y)))
       calls-goes (Saving x) q = each-same w Goes goes-same
       calls-goes (Restoring x k) q = absurd (false≢true q)
 

@@ -10,7 +10,7 @@ use native.Mathlib.Omega.{arith}
 use lib.Dec.{eqb, ltb}
 use lib.ListN.{length}
 use borrow.Author.Tests.{eq-eqb, eqb-true, ltb-false, ltb-true}
-use Rattle.fields.specs.Choice.{pick}
+use Rattle.fields.specs.Choice.{_∈_, here, later, pick}
 use Rattle.fields.specs.Parts.{part, put}
 use Rattle.rules.proofs.Obeys.{facts-table}
 use Rattle.rules.proofs.Records.{gc-below, gc-rises}
@@ -18,7 +18,7 @@ use Rattle.rules.proofs.Sending.{nodeDelta}
 use Rattle.rules.proofs.Tables.{partAt}
 use Rattle.rules.proofs.Taking.{Came, came, left, reset, took}
 use Rattle.rules.specs.Apply.{applyNode, outcome}
-use Rattle.rules.specs.Delta.{NodeDelta, Ops, deltaBytes, partsOf, readDelta}
+use Rattle.rules.specs.Delta.{NodeDelta, Ops, deltaBytes, readDelta}
 use Rattle.rules.specs.Given.{Given}
 use Rattle.rules.specs.Node.{Decision, Give, Leave, Node, Rec, Refuse, act, due, lastGc, remove, withHeartbeat, write}
 use Rattle.rules.specs.Table.{Table, nodeOf}
@@ -28,20 +28,22 @@ use Rattle.demand3.proofs.Forms.{Comes, comes, refuses, writes}
 use Rattle.demand3.specs.Forms.{Order, opsBy}
 use Rattle.demand3.proofs.EachNode.{nodeAt, partsIn}
 use Rattle.demand3.proofs.OnTheWay.{Sendable}
+use Rattle.demand3.proofs.Parted.{Parted, ReadsWell, cut-delta, cut-nothing, uncut}
 use Rattle.demand3.specs.Demand3.{wroteDelta}
-use Rattle.demand3.specs.World.{DeltaSent, Exchange, Idle, appliedTo, nthSent, sentAfter}
+use Rattle.demand3.specs.World.{Cut, DeltaSent, Exchange, Idle, appliedTo, cutBy, nthSent, sentAfter}
 use Rattle.net.proofs.Each.{Each, each-add, each-beat, each-call, each-drop, each-offer, each-remove, each-same, each-taken}
-use Rattle.net.proofs.Moments.{Moment, moment-event, placed-in}
+use Rattle.net.proofs.Moments.{Moment, moment-event, part-carried, placed-in}
 use Rattle.net.specs.Net.{Adding, Arriving, Beating, Computing, Dropping, Event, Net, Offering, Plan, Ready, Removing, Restoring, Saving, Writing, after, begin, calls, happen, placed, possible}
 use Rattle.net_closing.proofs.Chains.{Chain, Turns, chain-from, chain-turns, ends, follows, grows, settles, turns-low}
 use Rattle.net_closing.specs.Closing.{Local, LocalAt, Neighbour, sendersAfter, sendersIn}
 
 -- what is at a place of all deltas is on its way from there
-nth-placed : (P : Exchange → Type 0) → P Idle → (k : ℕ) (ss : List (List ℕ)) → ((b : List ℕ) → placed k ss ≡ some b → P (DeltaSent b)) → P (nthSent k ss)
+nth-placed : (P : Exchange → Type 0) → P Idle → (cs : List Cut) (k : ℕ) (ss : List (List ℕ)) → ((b : List ℕ) → b ∈ ss → ReadsWell b)
+    → ((b c : List ℕ) → placed k ss ≡ some b → Parted b c → P (DeltaSent c)) → P (cutBy cs (nthSent k ss))
 unfolding placed nthSent
-nth-placed P idle k [] f = idle
-nth-placed P idle zero (b ∷ ss) f = f b refl
-nth-placed P idle (suc k) (b ∷ ss) f = nth-placed P idle k ss f
+nth-placed P idle cs k [] r f = cut-nothing P idle cs
+nth-placed P idle cs zero (b ∷ ss) r f = cut-delta P idle cs b b (uncut b (r b (here refl))) (λ c y. f b c refl y)
+nth-placed P idle cs (suc k) (b ∷ ss) r f = nth-placed P idle cs k ss (λ c m. r c (later m)) f
 
 module _ (plan : Plan) (ready : Ready plan) (i : ℕ) (hears : (x y : ℕ) → Type 0) where
   abbrev pub nodes : (ℕ → Table) → ℕ → Node
@@ -180,13 +182,13 @@ module _ (plan : Plan) (ready : Ready plan) (i : ℕ) (hears : (x y : ℕ) → T
     static-calls (Computing x edition digest excluded order mtu place l) q = computes x edition digest excluded order mtu place l _ (comes edition excluded order mtu place digest (w .hubs x) l (facts-table (w .hubs x) (ok .tables x .obeyed)))
     static-calls (Arriving x k now l) q =
         on-hub x _
-        (nth-placed (λ d. Each w On on-same x (appliedTo (plan .ways x) now l d (w .hubs x))) (each-same w On on-same x) k (w .sent)
-        (λ b e.
-        let m = placed-in k (w .sent) e in
-        each-taken w On on-same (plan .ways x) (ready .lawful x) x now l b (w .given) (ok .sent b m)
+        (nth-placed (λ d. Each w On on-same x (appliedTo (plan .ways x) now l d (w .hubs x))) (each-same w On on-same x) (k .cuts) (k .delta) (w .sent) (λ b m. ok .sent b m .reads)
+        (λ b c e y.
+        let m = placed-in (k .delta) (w .sent) e in
+        each-taken w On on-same (plan .ways x) (ready .lawful x) x now l c (w .given) (part-carried (w .given) b c (ok .sent b m) y)
         (λ j d p z.
-        on-take x now d (nodeAt j (w .hubs x)) (placed k s) b
-        (ap (λ (o : Ops). partAt i (partsIn o)) (ok .sent b m .reads .1) ∙ subst (λ (v : ℕ). partAt v (partsOf (ok .sent b m .reads .0)) ≡ some d) z p) (st .from k b e) q)))
+        on-take x now d (nodeAt j (w .hubs x)) (placed (k .delta) s) b
+        (subst (λ (v : ℕ). partAt v (partsIn (readDelta b)) ≡ some d) z (y .each j d p)) (st .from (k .delta) b e) q)))
     static-calls (Saving x) q = st
     static-calls (Restoring x k) q = absurd q
 

@@ -19,7 +19,7 @@ use Rattle.rules.specs.Compute.{stale}
 use Rattle.rules.specs.Apply.{Ways, apply}
 use Rattle.demand3.specs.Forms.{Order, computeBy, opsBy}
 use Rattle.demand3.specs.Demand3.{Claims, wroteDelta, noRoom}
-use Rattle.demand3.specs.World.{DeltaSent, nthSent}
+use Rattle.demand3.specs.World.{DeltaSent, Which, arrives, intact}
 use Rattle.net.specs.Net.{Plan, Net, Event, Writing, Beating, Offering, Removing, Adding, Dropping, Computing, Arriving, Saving, Restoring, placed, happen, after}
 use Rattle.net.specs.LentNet.{LentNet, lentAfter}
 
@@ -36,7 +36,7 @@ pub record Asked : Type 0 where
   pub answers : Bytes
 
 abbrev pub exchangeIn : (asked : Asked) (x y : ℕ) (net : Net) → List Event
-exchangeIn q x y w = Computing y (q .edition) (digestBytes (q .edition) (digestOf [] (w .hubs x))) [] (q .order) (q .mtu) (q .place) (q .datagram) ∷ Arriving x 0 (q .now) (q .answers) ∷ []
+exchangeIn q x y w = Computing y (q .edition) (digestBytes (q .edition) (digestOf [] (w .hubs x))) [] (q .order) (q .mtu) (q .place) (q .datagram) ∷ Arriving x (intact 0) (q .now) (q .answers) ∷ []
 
 -- the operations that y sends
 abbrev pub opsIn : (asked : Asked) (x y : ℕ) (net : Net) → List Op
@@ -164,7 +164,7 @@ abbrev pub Neighbour : (hears : (x y : ℕ) → Type 0) (x : ℕ) (sender : Opti
 Neighbour hears x none = Unit {0}
 Neighbour hears x (some y) = hears x y
 
--- a hub takes deltas only of those that it hears, late and twice too; nobody removes node i, and no table is restored
+-- a hub takes deltas, and parts of deltas, only of those that it hears, late and twice too; nobody removes node i, and no table is restored
 abbrev pub LocalAt : (hears : (x y : ℕ) → Type 0) (node : ℕ) (event : Event) (senders : List ℕ) → Type 0
 LocalAt hears i (Writing x j k who c) s = Unit {0}
 LocalAt hears i (Beating x j) s = Unit {0}
@@ -173,7 +173,7 @@ LocalAt hears i (Removing x removal) s = Unit {0}
 LocalAt hears i (Adding x j) s = Unit {0}
 LocalAt hears i (Dropping x j) s = j ≡ i → ⊥
 LocalAt hears i (Computing x edition digest excluded order mtu place l) s = Unit {0}
-LocalAt hears i (Arriving x k now l) s = Neighbour hears x (placed k s)
+LocalAt hears i (Arriving x k now l) s = Neighbour hears x (placed (k .delta) s)
 LocalAt hears i (Saving x) s = Unit {0}
 LocalAt hears i (Restoring x k) s = ⊥
 
@@ -224,14 +224,14 @@ opsAcross q x y u v = opsBy [] (q .order) (q .mtu) (digestOf [] (u .hubs x)) (v 
 
 -- Hub x wrote its digest at u, y computed for it at v, and of all deltas that were ever computed this one is now to arrive at x, in w. No call is refused and no node answers Room; if y was
 -- ahead of what x told, of node i something comes over, uncut; and x's max of node i is not below what it told: x was not reset since, or is past that again.
-pub record Across (plan : Plan) (i x y : ℕ) (u v w : Net) (q : Asked) (which : ℕ) : Type 0 where
+pub record Across (plan : Plan) (i x y : ℕ) (u v w : Net) (q : Asked) (which : Which) : Type 0 where
   pub told : Node
   pub node : Node
   pub had : nodeOf i (u .hubs x) ≡ some told
   pub has : nodeOf i (w .hubs x) ≡ some node
   pub not-below : told .max ≤ node .max
   pub wrote : wroteDelta (computeBy (q .edition) [] (q .order) (q .mtu) (q .place) (digestBytes (q .edition) (digestOf [] (u .hubs x))) (v .hubs y) (q .datagram) .answer) ≡ true
-  pub comes : nthSent which (w .sent) ≡ DeltaSent (deltaBytes (opsAcross q x y u v))
+  pub comes : arrives which (w .sent) ≡ DeltaSent (deltaBytes (opsAcross q x y u v))
   pub clock : ltb (q .now) numbers ≡ true
   pub roomy : noRoom (apply (plan .ways x) (deltaBytes (opsAcross q x y u v)) (q .now) (w .hubs x) (q .answers) .answer)
       (apply (plan .ways x) (deltaBytes (opsAcross q x y u v)) (q .now) (w .hubs x) (q .answers) .list) ≡ true
@@ -241,7 +241,7 @@ pub record Across (plan : Plan) (i x y : ℕ) (u v w : Net) (q : Asked) (which :
 -- in this run such an exchange begins and ends; anything may happen between
 pub record Crosses (plan : Plan) (i x y : ℕ) (es : List Event) (w : Net) : Type 0 where
   pub asked : Asked
-  pub which : ℕ
+  pub which : Which
   pub before : List Event
   pub waiting : List Event
   pub coming : List Event

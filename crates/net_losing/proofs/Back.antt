@@ -18,12 +18,12 @@ use Rattle.rules.specs.Whole.{decodeWhole}
 use Rattle.rules.specs.Profile.{Kind}
 use Rattle.demand3.proofs.EachNode.{nodeAt, orFresh}
 use Rattle.demand3.proofs.Honest.{Current}
-use Rattle.demand3.proofs.Moments.{nth-sent}
+use Rattle.demand3.proofs.Parted.{nth-sent}
 use Rattle.demand3.specs.Demand3.{Holds, Last}
 use Rattle.demand3.specs.World.{appliedTo}
 use Rattle.net.proofs.Each.{Each, each-add, each-beat, each-call, each-hub, each-offer, each-remove, each-same, each-taken}
 use Rattle.net.proofs.LentNet.{after-lent, lent-run, ready}
-use Rattle.net.proofs.Moments.{Moment, moment-begin, moment-event, moments}
+use Rattle.net.proofs.Moments.{Moment, moment-begin, moment-event, moments, part-carried}
 use Rattle.net.specs.LentNet.{LentNet, lentAfter, lentBegin, planIn, tablesIn}
 use Rattle.net.specs.Net.{Adding, Arriving, Beating, Computing, Dropping, Event, Net, Offering, Plan, Ready, Removing, Restoring, Saving, Writing, after, allGoOn, begin, calls, goesOn, happen, possible}
 use Rattle.net_losing.specs.Back.{NeverBack, reached}
@@ -70,8 +70,8 @@ module _ (plan : Plan) (ready : Ready plan) (w : Net) (ok : Moment (plan .owner)
   farther-calls (Computing x edition digest excluded order mtu place l) g = λ y i. omega arith
   farther-calls (Arriving x k now l) g =
       each-hub w Farther no-farther x _
-      (nth-sent (λ d. Each w Farther no-farther x (appliedTo (plan .ways x) now l d (w .hubs x))) (each-same w Farther no-farther x) k (w .sent)
-      (λ b m. each-taken w Farther no-farther (plan .ways x) (ready .lawful x) x now l b (w .given) (ok .sent b m) (λ i d q. go i d _ (came (plan .ways x) now d (nodeAt i (w .hubs x))))))
+      (nth-sent (λ d. Each w Farther no-farther x (appliedTo (plan .ways x) now l d (w .hubs x))) (each-same w Farther no-farther x) k (w .sent) (λ b m. ok .sent b m .reads)
+      (λ b c m y. each-taken w Farther no-farther (plan .ways x) (ready .lawful x) x now l c (w .given) (part-carried (w .given) b c (ok .sent b m) y) (λ i d q. go i d _ (came (plan .ways x) now d (nodeAt i (w .hubs x))))))
     where
       go : (i : ℕ) (d : NodeDelta) (n : Node) → Came (plan .ways x) now d (nodeAt i (w .hubs x)) n → reached (nodeAt i (w .hubs x)) ≤ reached n
       go i d n left = omega arith

@@ -32,13 +32,14 @@ use Rattle.demand3.proofs.EachNode.{nodeAt, orFresh}
 use Rattle.demand3.proofs.Formed.{by-guard}
 use Rattle.demand3.proofs.Forms.{Comes, refuses, writes}
 use Rattle.demand3.proofs.Honest.{HonestDelta, HonestNode}
-use Rattle.demand3.proofs.Moments.{clock-fits, kept, nth-sent}
+use Rattle.demand3.proofs.Moments.{clock-fits, kept}
+use Rattle.demand3.proofs.Parted.{nth-sent}
 use Rattle.demand3.proofs.OnTheWay.{Sendable}
 use Rattle.demand3.proofs.Publisher.{Publisher, next-version, publisher-fresh, publisher-write}
 use Rattle.demand3.specs.Forms.{Order}
-use Rattle.demand3.specs.World.{appliedTo, givenAfter, givenAs, givenBy, givenIn, nthSent, sentAfter, timeOf}
+use Rattle.demand3.specs.World.{Which, appliedTo, arrives, givenAfter, givenAs, givenBy, givenIn, sentAfter, timeOf}
 use Rattle.net.proofs.Each.{Each, each-hub, each-same, each-set, each-taken}
-use Rattle.net.proofs.Moments.{Carries, Longer, as-long, longer, one-more, placed-in}
+use Rattle.net.proofs.Moments.{Carries, Longer, as-long, longer, one-more, part-carried, placed-in}
 use Rattle.net.specs.Net.{Net, hasMax, nothingLost, placed, withTable}
 use Rattle.net_losing.proofs.Fit.{Fit, caught-up, fit-apply, fit-forgot, fit-fresh, fit-honest, fit-other, fit-out, fit-top}
 use Rattle.net_losing.proofs.Grown.{Grown, as-is, grown-all, grown-carries, grown-long, grown-longer, grown-node, grown-numbered, grown-same}
@@ -413,7 +414,7 @@ module _ (owner : ℕ → ℕ) (w : Losing) (ok : Firm owner w) where
     carried : (ops : List Op) → Sendable (v .hubs x) ops → Carries out (deltaBytes ops)
     carried ops s =
         record {
-          reads = (ops, s .read, s .chain, s .small);
+          reads = (ops, s .read, s .chain, s .small, refl);
           honest =
               λ i d q.
               let m = s .made i d q in
@@ -539,11 +540,11 @@ module _ (owner : ℕ → ℕ) (w : Losing) (ok : Firm owner w) where
         same : (os : List Op) → Good os ≡ Good (y .reads .0) → os ≡ y .reads .0
         same os q = cc
 
-    pub firm-arriving : (k : ℕ) → Firm owner (withNet (withTable x (appliedTo ways now l (nthSent k (v .sent)) (v .hubs x)) v) o w)
+    pub firm-arriving : (k : Which) → Firm owner (withNet (withTable x (appliedTo ways now l (arrives k (v .sent)) (v .hubs x)) v) o w)
     firm-arriving k =
-        nth-sent (λ d. Firm owner (withNet (withTable x (appliedTo ways now l d (v .hubs x)) v) o w)) (as-it-is x) k (v .sent)
-        (λ b m.
-        let c = ok .sent b m in
-        on-hub x (apply ways b now (v .hubs x) l .table) (arrived-okay b c)
-        (each-taken v Keeps keeps-same ways law x now l b o c
+        nth-sent (λ d. Firm owner (withNet (withTable x (appliedTo ways now l d (v .hubs x)) v) o w)) (as-it-is x) k (v .sent) (λ b m. ok .sent b m .reads)
+        (λ b e m p.
+        let c = part-carried o b e (ok .sent b m) p in
+        on-hub x (apply ways e now (v .hubs x) l .table) (arrived-okay e c)
+        (each-taken v Keeps keeps-same ways law x now l e o c
         (λ i d q y. fit-apply (eqb (owner i) x) (w .forgot x) (o i) (h i) (nodeAt i (v .hubs x)) y ways law late (ok .began i) (all-given i) now d (c .honest i d q))))

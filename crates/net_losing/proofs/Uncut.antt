@@ -27,7 +27,7 @@ use Rattle.rules.specs.Profile.{Kind}
 use Rattle.demand3.proofs.EachNode.{nodeAt, orFresh}
 use Rattle.demand3.proofs.Formed.{by-guard}
 use Rattle.demand3.proofs.Forms.{Comes, comes, refuses, writes}
-use Rattle.demand3.proofs.Moments.{ReadsWell, nth-sent}
+use Rattle.demand3.proofs.Parted.{ReadsWell, at-whole, nth-sent}
 use Rattle.demand3.proofs.OnTheWay.{PartFor}
 use Rattle.demand3.proofs.Publisher.{Publisher, all-current, next-version}
 use Rattle.demand3.specs.Demand3.{Holds}
@@ -35,7 +35,7 @@ use Rattle.demand3.specs.Forms.{Order, opsBy}
 use Rattle.demand3.specs.World.{appliedTo, givenAfter, givenAs, givenBy, givenIn, sentAfter}
 use Rattle.net.proofs.Each.{Each, each-add, each-beat, each-call, each-drop, each-hub, each-offer, each-remove, each-same, each-taken}
 use Rattle.net.proofs.LentNet.{after-lent, lent-run, ready}
-use Rattle.net.proofs.Moments.{Longer, Moment, as-long, longer, moment-begin, moment-event, moments, one-more, placed-in}
+use Rattle.net.proofs.Moments.{Longer, Moment, as-long, longer, moment-begin, moment-event, moments, one-more, part-carried, placed-in}
 use Rattle.net.specs.LentNet.{LentNet, lentAfter, lentBegin, planIn, tablesIn}
 use Rattle.net.specs.Net.{Adding, Arriving, Beating, Computing, Dropping, Event, Net, Offering, Plan, Ready, Removing, Restoring, Saving, Writing, after, allGoOn, begin, calls, goesOn, happen, placed, possible, restored}
 use Rattle.net_losing.proofs.Exact.{Exact, ExactDelta, Newest, exact-apply, exact-beat, exact-computed, exact-delta-longer, exact-fresh, exact-honest, exact-longer, exact-owner, exact-remove, exact-sharp, top-write}
@@ -191,11 +191,11 @@ module _ (plan : Plan) (ready : Ready plan) (w : Net) (ok : Moment (plan .owner)
       exacts-computing x edition digest excluded order mtu place l u _ (comes edition excluded order mtu place digest (w .hubs x) l (facts-table (w .hubs x) (ok .tables x .obeyed)))
   exacts-calls (Arriving x k now l) u p m =
       on-hub x _
-      (nth-sent (λ d. Each w R same x (appliedTo (plan .ways x) now l d (w .hubs x))) (each-same w R same x) k (w .sent)
-      (λ b i.
+      (nth-sent (λ d. Each w R same x (appliedTo (plan .ways x) now l d (w .hubs x))) (each-same w R same x) k (w .sent) (λ b m. ok .sent b m .reads)
+      (λ b e i p.
       let c = ok .sent b i in
-      each-taken w R same (plan .ways x) (ready .lawful x) x now l b (w .given) c
-      (λ j d q z. exact-apply (w .given j) (y .base j) now d (y .sent b i (c .reads) j d q) (nodeAt j (w .hubs x)) z (plan .ways x) (reaches x now d (nodeAt j (w .hubs x))))))
+      each-taken w R same (plan .ways x) (ready .lawful x) x now l e (w .given) (part-carried (w .given) b e c p)
+      (λ j d q z. exact-apply (w .given j) (y .base j) now d (y .sent b i (c .reads) j d (at-whole b e (c .reads) p j d q)) (nodeAt j (w .hubs x)) z (plan .ways x) (reaches x now d (nodeAt j (w .hubs x))))))
   exacts-calls (Saving x) u p m = record { base = y .base; nodes = y .nodes; sent = y .sent; saved = λ z. at z (eqb z x) }
     where
       at : (z : ℕ) (b : Bool) (t : Table) → t ∈ pick b (w .hubs x ∷ w .saved x) (w .saved z) → (i : ℕ) → Exact (w .given i) (nodeAt i t)
@@ -234,13 +234,13 @@ module _ (plan : Plan) (ready : Ready plan) (w : Net) (ok : Moment (plan .owner)
     past-calls (Computing x edition digest excluded order mtu place l) g p = each-same w P kept
     past-calls (Arriving x k now l) g p =
         each-hub w P kept x _
-        (nth-sent (λ d. Each w P kept x (appliedTo (plan .ways x) now l d (w .hubs x))) (each-same w P kept x) k (w .sent)
-        (λ b m.
+        (nth-sent (λ d. Each w P kept x (appliedTo (plan .ways x) now l d (w .hubs x))) (each-same w P kept x) k (w .sent) (λ b m. ok .sent b m .reads)
+        (λ b u m v.
         let c = ok .sent b m in
-        each-taken w P kept (plan .ways x) (ready .lawful x) x now l b (w .given) c
+        each-taken w P kept (plan .ways x) (ready .lawful x) x now l u (w .given) (part-carried (w .given) b u c v)
         (λ j d q e f a.
         past-apply s (nodeAt j (w .hubs x)) a (w .given j) (subst (λ (r : ℕ). s ∈ w .given r) (sym e) told) (exact-honest (w .given j) (nodeAt j (w .hubs x)) (y .nodes x j) .sorted) now d
-        (exact-sharp (w .given j) (y .base j) d (y .sent b m (c .reads) j d q)) (plan .ways x) (reaches x now d (nodeAt j (w .hubs x))))))
+        (exact-sharp (w .given j) (y .base j) d (y .sent b m (c .reads) j d (at-whole b u (c .reads) v j d q))) (plan .ways x) (reaches x now d (nodeAt j (w .hubs x))))))
     past-calls (Saving x) g p = each-same w P kept
     past-calls (Restoring x k) g p = absurd (false≢true g)
 

@@ -10,7 +10,7 @@ use Rattle.rules.specs.Sizes.{numbers}
 use Rattle.rules.specs.Profile.{Kind}
 use Rattle.rules.specs.declared.Computed.{Computed}
 use Rattle.demand3.specs.Forms.{computeBy, lentComputeBy}
-use Rattle.demand3.specs.World.{Exchange, afterDelta, appliedTo, sentAfter}
+use Rattle.demand3.specs.World.{Exchange, afterDelta, appliedTo, cutBy, sentAfter}
 use Rattle.net.proofs.LentNet.{Good, begin-lent, computed-good, computed-lent, happen-lent, obeyed, on-hub, one-profile, taken}
 use Rattle.net.specs.LentNet.{LentNet, LentSound, lentCalls, lentHappen, lentTaken, planIn, tablesIn, withBytes}
 use Rattle.net.specs.Net.{Computing, Net, NetSound, Plan, happen, withTable}
@@ -68,15 +68,15 @@ module _ (owner : ℕ → ℕ) (kinds : ℕ → Kind) (source : (hub node : ℕ)
       go : (b : Bool) → Same (pick b (next (computeBy edition excluded order mtu place digest (tablesIn (w .net) .hubs y) l)) (mixedIn w)) (pick b lentNext w)
       go true = (computed-good owner kinds (w .net) g y edition digest excluded order mtu place l, ap next made)
       go false = (g, refl)
-  doing-lent (Hearing x now l) w g ok = go (not (plan .ways x .late) && ltb now numbers) ok
+  doing-lent (Hearing x cuts now l) w g ok = go (not (plan .ways x .late) && ltb now numbers) ok
     where
       u : Mixed
-      u = record { net = withTable x (appliedTo (plan .ways x) now l (w .flights x) (tablesIn (w .net) .hubs x)) (tablesIn (w .net)); flights = w .flights }
+      u = record { net = withTable x (appliedTo (plan .ways x) now l (cutBy cuts (w .flights x)) (tablesIn (w .net) .hubs x)) (tablesIn (w .net)); flights = w .flights }
 
-      go : (b : Bool) → Fine c (pick b u (mixedIn w)) → Same (pick b u (mixedIn w)) (pick b (record { net = withBytes x (lentTaken now l (w .flights x) (w .net .hubs x)) (w .net); flights = w .flights }) w)
+      go : (b : Bool) → Fine c (pick b u (mixedIn w)) → Same (pick b u (mixedIn w)) (pick b (record { net = withBytes x (lentTaken now l (cutBy cuts (w .flights x)) (w .net .hubs x)) (w .net); flights = w .flights }) w)
       go true fine =
-          with-flights (w .flights) (withBytes x (lentTaken now l (w .flights x) (w .net .hubs x)) (w .net)) _
-          (on-hub owner kinds (w .net) g _ x _ _ (taken (kinds x) (w .net .hubs x) (g .hubs x) now l (w .flights x) (obeyed owner kinds (w .net) g x _ (λ y. fine .moment .tables y .obeyed))))
+          with-flights (w .flights) (withBytes x (lentTaken now l (cutBy cuts (w .flights x)) (w .net .hubs x)) (w .net)) _
+          (on-hub owner kinds (w .net) g _ x _ _ (taken (kinds x) (w .net .hubs x) (g .hubs x) now l (cutBy cuts (w .flights x)) (obeyed owner kinds (w .net) g x _ (λ y. fine .moment .tables y .obeyed))))
       go false fine = (g, refl)
 
   run-lent : Right c → (es : List Doing) (w : LentMixed) → Good owner kinds (w .net) → Fine c (mixedIn w) → Same (run c es (mixedIn w)) (lentRun c es w)

@@ -31,16 +31,16 @@ use Rattle.rules.specs.declared.Computed.the-variants as computed
 use Rattle.rules.specs.declared.Heartbeat.{Heartbeat}
 use Rattle.demand3.proofs.EachNode.{nodeAt, orFresh, partsIn}
 use Rattle.demand3.proofs.Honest.{gc-within}
-use Rattle.demand3.proofs.Moments.{nth-sent}
+use Rattle.demand3.proofs.Parted.{Parted, cut-way, nth-sent}
 use Rattle.demand3.proofs.Forms.{Comes, comes, refuses, writes}
 use Rattle.demand3.proofs.OnTheWay.{PartFor, Sendable}
 use Rattle.demand3.proofs.OneNode.{bounded-apply, rises-apply, rises-remove}
 use Rattle.demand3.proofs.Publisher.{Publisher}
 use Rattle.demand3.specs.Demand3.{Rises}
 use Rattle.demand3.specs.Forms.{Order, computeBy, opsBy}
-use Rattle.demand3.specs.World.{DeltaSent, DigestSent, Exchange, Idle, afterDelta, appliedTo, sentAfter}
+use Rattle.demand3.specs.World.{Cut, DeltaSent, DigestSent, Exchange, Idle, Which, afterDelta, appliedTo, cutBy, sentAfter}
 use Rattle.net.proofs.Each.{Each, each-add, each-beat, each-call, each-drop, each-hub, each-offer, each-remove, each-same, each-taken}
-use Rattle.net.proofs.Moments.{Carries, MayCome, Moment, arrived, moment-begin, moment-calls, placed-in, same-table}
+use Rattle.net.proofs.Moments.{Carries, MayCome, Moment, arrived, moment-begin, moment-calls, part-carried, placed-in, same-table}
 use Rattle.net.proofs.Safe.{sound}
 use Rattle.net.specs.Net.{Adding, Arriving, Beating, Computing, Dropping, Event, Net, NetSound, Offering, Removing, Restoring, Saving, Writing, calls, happen, placed, possible, restored, withTable}
 use Rattle.net_mixed.specs.Mixed.{Asking, Cast, Doing, Hearing, Mixed, Ordinary, Right, allowed, doing, flightsAfter, mayAsk, run, start}
@@ -198,15 +198,15 @@ module _ (c : Cast) where
     on-hub : (x : ℕ) (u : Table) → Each v Moved moved-same x u → Moment owner (withTable x u v) → Fine (record { net = withTable x u v; flights = w .flights })
     on-hub x u e moment = fine-moved (withTable x u v) moment (λ y. each-hub v Moved moved-same x u e y) (λ b m. m) (λ y t m. inl m)
 
-    fine-arriving : (x k now : ℕ) (l : List ℕ) → c .plan .ways x .late ≡ true → Moment owner (calls (c .plan) (Arriving x k now l) v) → Fine (record { net = calls (c .plan) (Arriving x k now l) v; flights = w .flights })
-    fine-arriving x k now l late moment = on-hub x _ (nth-sent (λ d. Each v Moved moved-same x (appliedTo ways now l d (v .hubs x))) (each-same v Moved moved-same x) k (v .sent) taken) moment
+    fine-arriving : (x : ℕ) (k : Which) (now : ℕ) (l : List ℕ) → c .plan .ways x .late ≡ true → Moment owner (calls (c .plan) (Arriving x k now l) v) → Fine (record { net = calls (c .plan) (Arriving x k now l) v; flights = w .flights })
+    fine-arriving x k now l late moment = on-hub x _ (nth-sent (λ d. Each v Moved moved-same x (appliedTo ways now l d (v .hubs x))) (each-same v Moved moved-same x) k (v .sent) (λ b m. ok .moment .sent b m .reads) taken) moment
       where
         ways : Ways
         ways = c .plan .ways x
 
-        taken : (b : List ℕ) → b ∈ v .sent → Each v Moved moved-same x (apply ways b now (v .hubs x) l .table)
-        taken b m =
-            each-taken v Moved moved-same ways (right .lawful x) x now l b (v .given) (ok .moment .sent b m)
+        taken : (b e : List ℕ) → b ∈ v .sent → Parted b e → Each v Moved moved-same x (apply ways e now (v .hubs x) l .table)
+        taken b e m y =
+            each-taken v Moved moved-same ways (right .lawful x) x now l e (v .given) (part-carried (v .given) b e (ok .moment .sent b m) y)
             (λ i d q.
             let n : Node = nodeAt i (v .hubs x) in
             (λ s. gc-up n (applyNode ways now d n .node) (rises-apply ways now d n), λ p. absurd (true≢false (sym late ∙ p))))
@@ -396,12 +396,16 @@ module _ (c : Cast) where
       abbrev ways : Ways
       ways = c .plan .ways x
 
-      module _ (b : List ℕ) (y : Carries (v .given) b) (f : Fly v x (DeltaSent b)) where
+      -- it applies e, which is the delta b or a part of it
+      module _ (b e : List ℕ) (parted : Parted b e) (carried : Carries (v .given) b) (f : Fly v x (DeltaSent b)) where
+        abbrev y : Carries (v .given) e
+        y = part-carried (v .given) b e carried parted
+
         abbrev node : ℕ → Node
         node i = nodeAt i (v .hubs x)
 
         its-part : (i : ℕ) (d : NodeDelta) → partAt i (partsOf (y .reads .0)) ≡ some d → Part b i d
-        its-part i d q = ap (λ (k : Ops). partAt i (partsIn k)) (y .reads .1) ∙ q
+        its-part i d q = parted .each i d q
 
         reaches : (i : ℕ) (d : NodeDelta) → partAt i (partsOf (y .reads .0)) ≡ some d → Applies ways now d (node i) → node i .last-gc ≤ max (node i .max) (max (d .last-gc) (d .max))
         reaches i d q r = at (f .1 i d (its-part i d q))
@@ -414,8 +418,8 @@ module _ (c : Cast) where
                 omega arith
             at (inr u) = let a = u .0 in omega arith
 
-        moment : Moment owner (withTable x (apply ways b now (v .hubs x) l .table) v)
-        moment = arrived owner v (ok .moment) ways (right .lawful x) x now l clock b y reaches
+        moment : Moment owner (withTable x (apply ways e now (v .hubs x) l .table) v)
+        moment = arrived owner v (ok .moment) ways (right .lawful x) x now l clock e y reaches
 
         -- what becomes of node i: its last_gc does not fall, and stays within max and whatever the part's last_gc is within
         abbrev Took : ℕ → ℕ → Node → Node → Type 0
@@ -425,12 +429,12 @@ module _ (c : Cast) where
         took-same z i n = (omega arith, inl refl)
 
         abbrev u : Table
-        u = apply ways b now (v .hubs x) l .table
+        u = apply ways e now (v .hubs x) l .table
 
         took : (z : ℕ) → Each v Took took-same z (pick (eqb z x) u (v .hubs z))
         took =
             each-hub v Took took-same x u
-            (each-taken v Took took-same ways (right .lawful x) x now l b (v .given) y
+            (each-taken v Took took-same ways (right .lawful x) x now l e (v .given) y
             (λ i d q. (gc-up (node i) (applyNode ways now d (node i) .node) (rises-apply ways now d (node i)), inr (refl, λ g k a. bounded-apply ways now d (node i) g (k d q) a))))
 
         abbrev n : Net
@@ -482,9 +486,9 @@ module _ (c : Cast) where
                 k
 
         fine-heard : w .flights x ≡ DeltaSent b → Fine (record { net = n; flights = w .flights })
-        fine-heard e =
+        fine-heard q =
             fine-next n (w .flights) moment rises leafs (λ z t m. inl m)
-            (λ z p. fly-up n rises z p (λ a m. m) (w .flights z) (λ a r i d q k. tame z p a r (λ s. same a (sym r ∙ ap (w .flights) s ∙ e)) i d q k) (ok .flies z p))
+            (λ z p. fly-up n rises z p (λ a m. m) (w .flights z) (λ a r i d j k. tame z p a r (λ s. same a (sym r ∙ ap (w .flights) s ∙ q)) i d j k) (ok .flies z p))
           where
             same : (a : List ℕ) → DeltaSent a ≡ DeltaSent b → a ≡ b
             same a q = cc
@@ -492,10 +496,16 @@ module _ (c : Cast) where
             rises : (z i : ℕ) → c .steady z i ≡ true → gcAt v z i ≤ gcAt n z i
             rises z i s = took z i .0
 
-      fine-hearing : (e : Exchange) → w .flights x ≡ e → Fine (record { net = withTable x (appliedTo ways now l e (v .hubs x)) v; flights = w .flights })
-      fine-hearing Idle q = on-hub x (v .hubs x) (each-same v Moved moved-same x) (same-table owner v (ok .moment) x)
-      fine-hearing (DigestSent d) q = on-hub x (v .hubs x) (each-same v Moved moved-same x) (same-table owner v (ok .moment) x)
-      fine-hearing (DeltaSent b) q = let f : Fly v x (DeltaSent b) = subst (Fly v x) q (ok .flies x plain) in fine-heard b (ok .moment .sent b (f .0)) f q
+      fine-hearing : (cuts : List Cut) → Fine (record { net = withTable x (appliedTo ways now l (cutBy cuts (w .flights x)) (v .hubs x)) v; flights = w .flights })
+      fine-hearing cuts =
+          cut-way (λ d. Fine (record { net = withTable x (appliedTo ways now l d (v .hubs x)) v; flights = w .flights })) nothing (λ d. nothing) cuts (w .flights x)
+          (λ b q. ok .moment .sent b (flies b q .0) .reads) (λ b e q y. fine-heard b e y (ok .moment .sent b (flies b q .0)) (flies b q) q)
+        where
+          nothing : Fine (record { net = withTable x (v .hubs x) v; flights = w .flights })
+          nothing = on-hub x (v .hubs x) (each-same v Moved moved-same x) (same-table owner v (ok .moment) x)
+
+          flies : (b : List ℕ) → w .flights x ≡ DeltaSent b → Fly v x (DeltaSent b)
+          flies b q = subst (Fly v x) q (ok .flies x plain)
 
   -- ---- every run
 
@@ -511,10 +521,10 @@ module _ (c : Cast) where
       go : (b : Bool) → mayAsk c x y excluded (w .net .hubs y) ≡ b → Fine (pick b (record { net = calls (c .plan) (Computing y edition digest excluded order mtu place l) (w .net); flights = λ z. pick (eqb z x) (afterDelta place (computeBy edition excluded order mtu place digest (w .net .hubs y) l .lent) (computeBy edition excluded order mtu place digest (w .net .hubs y) l .answer) (w .flights x)) (w .flights z) }) w)
       go true q = fine-asking right w ok x y edition excluded order mtu place digest l q
       go false q = ok
-  fine-doing right (Hearing x now l) w ok = go (c .plan .ways x .late) refl (ltb now numbers) refl
+  fine-doing right (Hearing x cuts now l) w ok = go (c .plan .ways x .late) refl (ltb now numbers) refl
     where
-      go : (p : Bool) → c .plan .ways x .late ≡ p → (b : Bool) → ltb now numbers ≡ b → Fine (pick (not p && b) (record { net = withTable x (appliedTo (c .plan .ways x) now l (w .flights x) (w .net .hubs x)) (w .net); flights = w .flights }) w)
-      go false p true q = fine-hearing right w ok x now l (ltb-true _ _ q) p (w .flights x) refl
+      go : (p : Bool) → c .plan .ways x .late ≡ p → (b : Bool) → ltb now numbers ≡ b → Fine (pick (not p && b) (record { net = withTable x (appliedTo (c .plan .ways x) now l (cutBy cuts (w .flights x)) (w .net .hubs x)) (w .net); flights = w .flights }) w)
+      go false p true q = fine-hearing right w ok x now l (ltb-true _ _ q) p cuts
       go false p false q = ok
       go true p b q = ok
 

@@ -8,7 +8,7 @@ use Rattle.fields.specs.Choice.{pick}
 use Rattle.rules.specs.Sizes.{numbers}
 use Rattle.rules.specs.Profile.{Kind}
 use Rattle.demand3.specs.Forms.{lentComputeBy}
-use Rattle.demand3.specs.World.{Exchange, Idle, afterDelta}
+use Rattle.demand3.specs.World.{Exchange, Idle, afterDelta, cutBy}
 use Rattle.net.specs.Net.{Computing}
 use Rattle.net.specs.LentNet.{LentNet, lentBegin, lentCalls, lentHappen, lentTaken, planIn, tablesIn, withBytes}
 use Rattle.net_mixed.specs.Mixed.{Asking, Cast, Doing, Hearing, Mixed, Ordinary, allowed, flightsAfter, mayAsk}
@@ -43,8 +43,10 @@ lentDoing c (Asking x y edition digest excluded order mtu place l) w =
           (w .flights z);
     })
     w
-lentDoing c (Hearing x now l) w =
-    pick (not (c .plan .ways x .late) && ltb now numbers) (record { net = withBytes x (lentTaken now l (w .flights x) (w .net .hubs x)) (w .net); flights = w .flights }) w
+lentDoing c (Hearing x cuts now l) w =
+    pick (not (c .plan .ways x .late) && ltb now numbers)
+    (record { net = withBytes x (lentTaken now l (cutBy cuts (w .flights x)) (w .net .hubs x)) (w .net); flights = w .flights })
+    w
 
 unfoldable pub lentRun : (cast : Cast) (doings : List Doing) (mixed : LentMixed) → LentMixed
 lentRun c [] w = w

@@ -13,7 +13,7 @@ use Rattle.rules.specs.Sizes.{numbers}
 use Rattle.rules.specs.Table.{Entry, Table, among}
 use Rattle.rules.specs.Apply.{Lawful}
 use Rattle.demand3.specs.Forms.{Order, computeBy}
-use Rattle.demand3.specs.World.{Exchange, Idle, afterDelta, appliedTo}
+use Rattle.demand3.specs.World.{Cut, Exchange, Idle, afterDelta, appliedTo, cutBy}
 use Rattle.net.specs.Net.{Plan, Net, Event, Writing, Beating, Offering, Removing, Adding, Dropping, Computing, Arriving, Saving, Restoring, begin, calls, happen, withTable}
 
 -- ---- who is who
@@ -45,8 +45,8 @@ pub data Doing : Type 0 where
   -- hub x asks hub y, which computes a delta for any bytes as a digest, read in any edition: x, y, the edition, those bytes, excluded nodes, the order, MTU,
   -- the place in the datagram, the datagram
   Asking : ℕ → ℕ → ℕ → List ℕ → List ℕ → Order → ℕ → ℕ → List ℕ → Doing
-  -- and applies the delta on its way, if it is plain, once more too: now, the lent list of answers
-  Hearing : ℕ → ℕ → List ℕ → Doing
+  -- and applies the delta on its way, or a part of it that gateways cut, if it is plain, once more too: the cuts, now, the lent list of answers
+  Hearing : ℕ → List Cut → ℕ → List ℕ → Doing
 
 -- no delta ever computed comes to a plain hub but one that it asked for; no hub removes a node of which it is steady, nor is it restored while it has one
 abbrev pub allowed : (cast : Cast) (event : Event) (net : Net) → Bool
@@ -91,8 +91,10 @@ doing c (Asking x y edition digest excluded order mtu place l) w =
           (w .flights z);
     })
     w
-doing c (Hearing x now l) w =
-    pick (not (c .plan .ways x .late) && ltb now numbers) (record { net = withTable x (appliedTo (c .plan .ways x) now l (w .flights x) (w .net .hubs x)) (w .net); flights = w .flights }) w
+doing c (Hearing x cuts now l) w =
+    pick (not (c .plan .ways x .late) && ltb now numbers)
+    (record { net = withTable x (appliedTo (c .plan .ways x) now l (cutBy cuts (w .flights x)) (w .net .hubs x)) (w .net); flights = w .flights })
+    w
 
 unfoldable pub run : (cast : Cast) (doings : List Doing) (mixed : Mixed) → Mixed
 run c [] w = w

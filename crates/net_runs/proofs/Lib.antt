@@ -3,3 +3,4 @@ pub mod Runs
 pub mod Losses
 pub mod Locked
 pub mod Witnesses
+pub mod Gateways

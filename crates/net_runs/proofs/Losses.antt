@@ -13,7 +13,7 @@ use Rattle.rules.specs.Digest.{digestBytes, entryBytes, entryOf, headWidth, rea
 use Rattle.rules.specs.Local.{add, call, callAs, gc, removeNode}
 use Rattle.rules.specs.Node.{act, decide, find, lastGc, remove, store, wish, write}
 use Rattle.rules.specs.Table.{addNode, among, dropNode, nodeOf, numbersOf, removeAll, setNode, versions}
-use Rattle.demand3.specs.World.{nthSent}
+use Rattle.demand3.specs.World.{cutBy, nthSent}
 use Rattle.net.specs.Net.{after, begin, happen, placed}
 use Rattle.net_runs.proofs.Stories.{alike, backForAWhile, deadAtOne, heardAgain, leafPlan, leafReadded, leafRestored, pairAt, readded, versionsAt}
 
@@ -25,12 +25,12 @@ pub goes-back : (versionsAt 1 (after (alike guardedWays) deadAtOne begin) ≡ 2 
     × (pairAt 1 (after (alike guardedWays) heardAgain begin) ≡ 3 ∷ 4 ∷ [])
     × (versionsAt 1 (after (alike guardedWays) heardAgain begin) ≡ 4 ∷ [])
     × (versionsAt 1 (after (alike fencedWays) heardAgain begin) ≡ 1 ∷ [])
-unfolding after happen nthSent add addNode numbersOf callAs call gc nodeOf setNode removeAll decide wish find act write store remove lastGc keep all sameBytes lessBytes among digestBytes headWidth entryBytes entryOf readEntries readDigest tell tellAll compute deltaFor cut allOps ordered queue sooner staleNodes toldOf fromOf stale byVersion keyValueOps sizeOf deltaBytes opBytes textBytes bytesOf natOf part put flat unblock apply applyEach applyNode deltaStatus statusOf newerOf outcome takeAll takes codes readDelta readOps readOp readNode readKeyValue readSetMaxVersion follow partsOf recsOf maxOf versions
+unfolding after happen nthSent cutBy add addNode numbersOf callAs call gc nodeOf setNode removeAll decide wish find act write store remove lastGc keep all sameBytes lessBytes among digestBytes headWidth entryBytes entryOf readEntries readDigest tell tellAll compute deltaFor cut allOps ordered queue sooner staleNodes toldOf fromOf stale byVersion keyValueOps sizeOf deltaBytes opBytes textBytes bytesOf natOf part put flat unblock apply applyEach applyNode deltaStatus statusOf newerOf outcome takeAll takes codes readDelta readOps readOp readNode readKeyValue readSetMaxVersion follow partsOf recsOf maxOf versions
 goes-back = (refl, refl, refl, refl, refl, refl, refl)
 
 -- hub 1 has b again, which it knew to be deleted
 pub readded-shows : (pairAt 1 (after (alike guardedWays) readded begin) ≡ 0 ∷ 2 ∷ []) × (versionsAt 1 (after (alike guardedWays) readded begin) ≡ 1 ∷ 2 ∷ [])
-unfolding after happen nthSent add addNode numbersOf callAs call gc nodeOf setNode removeAll decide wish find act write store remove lastGc keep all sameBytes lessBytes among digestBytes headWidth entryBytes entryOf readEntries readDigest tell tellAll compute deltaFor cut allOps ordered queue sooner staleNodes toldOf fromOf stale byVersion keyValueOps sizeOf deltaBytes opBytes textBytes bytesOf natOf part put flat unblock apply applyEach applyNode deltaStatus statusOf newerOf outcome takeAll takes codes readDelta readOps readOp readNode readKeyValue readSetMaxVersion follow partsOf recsOf maxOf versions removeNode dropNode placed
+unfolding after happen nthSent cutBy add addNode numbersOf callAs call gc nodeOf setNode removeAll decide wish find act write store remove lastGc keep all sameBytes lessBytes among digestBytes headWidth entryBytes entryOf readEntries readDigest tell tellAll compute deltaFor cut allOps ordered queue sooner staleNodes toldOf fromOf stale byVersion keyValueOps sizeOf deltaBytes opBytes textBytes bytesOf natOf part put flat unblock apply applyEach applyNode deltaStatus statusOf newerOf outcome takeAll takes codes readDelta readOps readOp readNode readKeyValue readSetMaxVersion follow partsOf recsOf maxOf versions removeNode dropNode placed
 readded-shows = (refl, refl)
 
 -- the leaf is at the owner's pair and has b
@@ -38,12 +38,12 @@ pub leaf-restored : (pairAt 0 (after (leafPlan guardedWays) leafRestored begin) 
     × (pairAt 2 (after (leafPlan guardedWays) leafRestored begin) ≡ 3 ∷ 3 ∷ [])
     × (versionsAt 0 (after (leafPlan guardedWays) leafRestored begin) ≡ 1 ∷ [])
     × (versionsAt 2 (after (leafPlan guardedWays) leafRestored begin) ≡ 1 ∷ 2 ∷ [])
-unfolding after happen nthSent add addNode numbersOf callAs call gc nodeOf setNode removeAll decide wish find act write store remove lastGc keep all sameBytes lessBytes among digestBytes headWidth entryBytes entryOf readEntries readDigest tell tellAll compute deltaFor cut allOps ordered queue sooner staleNodes toldOf fromOf stale byVersion keyValueOps sizeOf deltaBytes opBytes textBytes bytesOf natOf part put flat unblock apply applyEach applyNode deltaStatus statusOf newerOf outcome takeAll takes codes readDelta readOps readOp readNode readKeyValue readSetMaxVersion follow partsOf recsOf maxOf versions removeNode dropNode placed
+unfolding after happen nthSent cutBy add addNode numbersOf callAs call gc nodeOf setNode removeAll decide wish find act write store remove lastGc keep all sameBytes lessBytes among digestBytes headWidth entryBytes entryOf readEntries readDigest tell tellAll compute deltaFor cut allOps ordered queue sooner staleNodes toldOf fromOf stale byVersion keyValueOps sizeOf deltaBytes opBytes textBytes bytesOf natOf part put flat unblock apply applyEach applyNode deltaStatus statusOf newerOf outcome takeAll takes codes readDelta readOps readOp readNode readKeyValue readSetMaxVersion follow partsOf recsOf maxOf versions removeNode dropNode placed
 leaf-restored = (refl, refl, refl, refl)
 
 pub leaf-readded : (pairAt 0 (after (leafPlan guardedWays) leafReadded begin) ≡ 3 ∷ 3 ∷ [])
     × (pairAt 2 (after (leafPlan guardedWays) leafReadded begin) ≡ 3 ∷ 3 ∷ [])
     × (versionsAt 0 (after (leafPlan guardedWays) leafReadded begin) ≡ 1 ∷ [])
     × (versionsAt 2 (after (leafPlan guardedWays) leafReadded begin) ≡ 1 ∷ 2 ∷ [])
-unfolding after happen nthSent add addNode numbersOf callAs call gc nodeOf setNode removeAll decide wish find act write store remove lastGc keep all sameBytes lessBytes among digestBytes headWidth entryBytes entryOf readEntries readDigest tell tellAll compute deltaFor cut allOps ordered queue sooner staleNodes toldOf fromOf stale byVersion keyValueOps sizeOf deltaBytes opBytes textBytes bytesOf natOf part put flat unblock apply applyEach applyNode deltaStatus statusOf newerOf outcome takeAll takes codes readDelta readOps readOp readNode readKeyValue readSetMaxVersion follow partsOf recsOf maxOf versions removeNode dropNode placed
+unfolding after happen nthSent cutBy add addNode numbersOf callAs call gc nodeOf setNode removeAll decide wish find act write store remove lastGc keep all sameBytes lessBytes among digestBytes headWidth entryBytes entryOf readEntries readDigest tell tellAll compute deltaFor cut allOps ordered queue sooner staleNodes toldOf fromOf stale byVersion keyValueOps sizeOf deltaBytes opBytes textBytes bytesOf natOf part put flat unblock apply applyEach applyNode deltaStatus statusOf newerOf outcome takeAll takes codes readDelta readOps readOp readNode readKeyValue readSetMaxVersion follow partsOf recsOf maxOf versions removeNode dropNode placed
 leaf-readded = (refl, refl, refl, refl)

@@ -12,6 +12,7 @@ use Rattle.rules.specs.declared.Profile.the-variants.{Free}
 use Rattle.rules.specs.declared.Status.the-variants.{Set}
 use Rattle.demand3.proofs.EachNode.{nodeAt}
 use Rattle.demand3.specs.Forms.{ByClock, InLine}
+use Rattle.demand3.specs.World.{Before, From, intact}
 use Rattle.net.specs.Net.{Adding, Arriving, Computing, Dropping, Event, Net, Plan, Removing, Restoring, Saving, Writing, after, begin, withTable}
 
 -- hub 0 owns every node, and all hubs apply in the same ways, in the free profile
@@ -43,7 +44,7 @@ abbrev pub told : ℕ → ℕ → List NodeDigest
 told g m = record { number = 7; heartbeat = beats 0; last-gc = g; max = m } ∷ []
 
 abbrev hearsWithin : ℕ → ℕ → ℕ → ℕ → ℕ → List Event
-hearsWithin mtu x y g m = Computing y 0 (digestBytes 0 (told g m)) [] (InLine (0 ∷ [])) mtu 0 (replicate 300 0) ∷ Arriving x 0 50 (0 ∷ []) ∷ []
+hearsWithin mtu x y g m = Computing y 0 (digestBytes 0 (told g m)) [] (InLine (0 ∷ [])) mtu 0 (replicate 300 0) ∷ Arriving x (intact 0) 50 (0 ∷ []) ∷ []
 
 abbrev pub hears : ℕ → ℕ → ℕ → ℕ → List Event
 hears x y g m = hearsWithin 300 x y g m
@@ -143,7 +144,7 @@ heardAgain = backForAWhile ++ hears 1 0 3 1
 
 -- Hub 1 hears hub 0 twice, before and after b is deleted; it removes the node and adds it, and the first delta comes again
 abbrev pub readded : List Event
-readded = began ++ (hears 1 0 0 0 ++ (Writing 0 7 b Nobody (Deleting 0) ∷ (hears 1 0 0 2 ++ (Dropping 1 7 ∷ Adding 1 7 ∷ Arriving 1 1 50 (0 ∷ []) ∷ []))))
+readded = began ++ (hears 1 0 0 0 ++ (Writing 0 7 b Nobody (Deleting 0) ∷ (hears 1 0 0 2 ++ (Dropping 1 7 ∷ Adding 1 7 ∷ Arriving 1 (intact 1) 50 (0 ∷ []) ∷ []))))
 
 -- ---- a plain leaf whose one neighbour is not steady
 
@@ -170,7 +171,7 @@ leafRestored = leafBegan (Saving 1 ∷ []) ++ (Restoring 1 0 ∷ leafEnds)
 
 -- or it removed the node and added it, and the first delta came again
 abbrev pub leafReadded : List Event
-leafReadded = leafBegan [] ++ (Dropping 1 7 ∷ Adding 1 7 ∷ Arriving 1 2 50 (0 ∷ []) ∷ leafEnds)
+leafReadded = leafBegan [] ++ (Dropping 1 7 ∷ Adding 1 7 ∷ Arriving 1 (intact 2) 50 (0 ∷ []) ∷ leafEnds)
 
 -- ---- four hubs that lock
 
@@ -180,7 +181,7 @@ toldBoth g m k n = record { number = 7; heartbeat = beats 0; last-gc = g; max = 
 
 -- the hub tells this of itself, and the other leaves out these nodes
 abbrev hearsBoth : List ℕ → ℕ → ℕ → ℕ → List NodeDigest → List Event
-hearsBoth out mtu x y ds = Computing y 0 (digestBytes 0 ds) out (InLine (0 ∷ 0 ∷ [])) mtu 0 (replicate 300 0) ∷ Arriving x 0 0 (0 ∷ 0 ∷ []) ∷ []
+hearsBoth out mtu x y ds = Computing y 0 (digestBytes 0 ds) out (InLine (0 ∷ 0 ∷ [])) mtu 0 (replicate 300 0) ∷ Arriving x (intact 0) 0 (0 ∷ 0 ∷ []) ∷ []
 
 -- values of 64 bytes: under an MTU of 135 one record goes over
 abbrev long : List ℕ
@@ -217,3 +218,30 @@ unlocking =
 -- the pair of node 8
 abbrev pub pairAtEight : ℕ → Net → List ℕ
 pairAtEight x w = nodeAt 8 (w .hubs x) .last-gc ∷ nodeAt 8 (w .hubs x) .max ∷ []
+
+-- ---- a gateway
+
+-- Hub 0 sets a and b in node 7, and those and c in node 8, and computes one delta of both for hubs that have nothing. The Node operation of node 8 starts at its byte 57; a gateway cuts it there.
+abbrev cutDelta : List Event
+cutDelta =
+    Adding 0 7 ∷ Adding 0 8 ∷ Adding 1 7 ∷ Adding 1 8 ∷ Adding 2 7 ∷ Adding 2 8 ∷ set a ∷ set b
+    ∷ Writing 0 8 a Nobody (Setting one) ∷ Writing 0 8 b Nobody (Setting one) ∷ Writing 0 8 c Nobody (Setting one)
+    ∷ Computing 0 0 (digestBytes 0 (toldBoth 0 0 0 0)) [] (InLine (0 ∷ 0 ∷ [])) 300 0 (replicate 300 0) ∷ []
+
+-- the part behind the cut comes first, to hubs 1 and 2
+abbrev pub secondFirst : List Event
+secondFirst = cutDelta ++ (Arriving 1 (record { delta = 0; cuts = From 57 ∷ [] }) 50 (0 ∷ []) ∷ Arriving 2 (record { delta = 0; cuts = From 57 ∷ [] }) 50 (0 ∷ []) ∷ [])
+
+-- The owner deletes b of node 7 and removes it; hub 1 hears that and is at (3,1). Then the first part of the first delta comes, late. At hub 2 it is lost.
+abbrev pub firstLate : List Event
+firstLate = secondFirst ++ (removes ++ (hearsBoth (8 ∷ []) 300 1 0 (toldBoth 0 0 0 3) ++ (Arriving 1 (record { delta = 1; cuts = Before 57 ∷ [] }) 50 (0 ∷ []) ∷ [])))
+
+-- the same with the cut at 58, where no Node operation starts: nothing comes
+abbrev pub cutElsewhere : List Event
+cutElsewhere = cutDelta ++ (Arriving 1 (record { delta = 0; cuts = From 58 ∷ [] }) 50 (0 ∷ []) ∷ [])
+
+-- Three nodes with a key each: their Node operations start at 0, 41 and 82. The delta is cut at 41, and its second part once more: of the three the middle one alone comes.
+abbrev pub middleAlone : List Event
+middleAlone =
+    Adding 0 7 ∷ Adding 0 8 ∷ Adding 0 9 ∷ Adding 1 7 ∷ Adding 1 8 ∷ Adding 1 9 ∷ set a ∷ Writing 0 8 a Nobody (Setting one) ∷ Writing 0 9 a Nobody (Setting one)
+    ∷ Computing 0 0 (digestBytes 0 []) [] (InLine (0 ∷ 0 ∷ 0 ∷ [])) 300 0 (replicate 300 0) ∷ Arriving 1 (record { delta = 0; cuts = From 41 ∷ Before 41 ∷ [] }) 50 (0 ∷ []) ∷ []

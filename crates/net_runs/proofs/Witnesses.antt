@@ -22,7 +22,7 @@ use Rattle.rules.specs.Table.{Table, addNode, among, dropNode, nodeOf, numbersO
 use Rattle.rules.specs.declared.Profile.the-variants.{Free}
 use Rattle.demand3.proofs.EachNode.{nodeAt, orFresh}
 use Rattle.demand3.specs.Demand3.{Holds}
-use Rattle.demand3.specs.World.{nthSent}
+use Rattle.demand3.specs.World.{cutBy, nthSent}
 use Rattle.net.specs.Net.{Net, NetSafe, NetSound, Plan, after, begin, happen, placed}
 use Rattle.net_runs.proofs.Losses.{leaf-readded, leaf-restored}
 use Rattle.net_runs.proofs.Runs.{line-plain, lost-fenced, lost-guarded, poison-fenced, poison-guarded, triangle-plain}
@@ -64,15 +64,15 @@ abbrev pub There : Net → ℕ → Type 0
 There w x = Holds (nodeAt 7 (w .hubs x)) dead
 
 there-triangle : There (after (alike plainWays) triangle begin) 2
-unfolding after happen nthSent add addNode numbersOf callAs call gc nodeOf setNode removeAll decide wish find act write store remove lastGc keep all sameBytes lessBytes among digestBytes headWidth entryBytes entryOf readEntries readDigest tell tellAll compute deltaFor cut allOps ordered queue sooner staleNodes toldOf fromOf stale byVersion keyValueOps sizeOf deltaBytes opBytes textBytes bytesOf natOf part put flat unblock apply applyEach applyNode deltaStatus statusOf newerOf outcome takeAll takes codes readDelta readOps readOp readNode readKeyValue readSetMaxVersion follow partsOf recsOf maxOf versions
+unfolding after happen nthSent cutBy add addNode numbersOf callAs call gc nodeOf setNode removeAll decide wish find act write store remove lastGc keep all sameBytes lessBytes among digestBytes headWidth entryBytes entryOf readEntries readDigest tell tellAll compute deltaFor cut allOps ordered queue sooner staleNodes toldOf fromOf stale byVersion keyValueOps sizeOf deltaBytes opBytes textBytes bytesOf natOf part put flat unblock apply applyEach applyNode deltaStatus statusOf newerOf outcome takeAll takes codes readDelta readOps readOp readNode readKeyValue readSetMaxVersion follow partsOf recsOf maxOf versions
 there-triangle = (record { kv = dead; start = 0 }, later (here refl), refl)
 
 there-line : There (after (alike plainWays) line begin) 1
-unfolding after happen nthSent add addNode numbersOf callAs call gc nodeOf setNode removeAll decide wish find act write store remove lastGc keep all sameBytes lessBytes among digestBytes headWidth entryBytes entryOf readEntries readDigest tell tellAll compute deltaFor cut allOps ordered queue sooner staleNodes toldOf fromOf stale byVersion keyValueOps sizeOf deltaBytes opBytes textBytes bytesOf natOf part put flat unblock apply applyEach applyNode deltaStatus statusOf newerOf outcome takeAll takes codes readDelta readOps readOp readNode readKeyValue readSetMaxVersion follow partsOf recsOf maxOf versions
+unfolding after happen nthSent cutBy add addNode numbersOf callAs call gc nodeOf setNode removeAll decide wish find act write store remove lastGc keep all sameBytes lessBytes among digestBytes headWidth entryBytes entryOf readEntries readDigest tell tellAll compute deltaFor cut allOps ordered queue sooner staleNodes toldOf fromOf stale byVersion keyValueOps sizeOf deltaBytes opBytes textBytes bytesOf natOf part put flat unblock apply applyEach applyNode deltaStatus statusOf newerOf outcome takeAll takes codes readDelta readOps readOp readNode readKeyValue readSetMaxVersion follow partsOf recsOf maxOf versions
 there-line = (record { kv = dead; start = 0 }, later (here refl), refl)
 
 there-poison : There (after (relay fencedWays) poison begin) 3 × There (after (relay guardedWays) poison begin) 3
-unfolding after happen nthSent add addNode numbersOf callAs call gc nodeOf setNode removeAll decide wish find act write store remove lastGc keep all sameBytes lessBytes among digestBytes headWidth entryBytes entryOf readEntries readDigest tell tellAll compute deltaFor cut allOps ordered queue sooner staleNodes toldOf fromOf stale byVersion keyValueOps sizeOf deltaBytes opBytes textBytes bytesOf natOf part put flat unblock apply applyEach applyNode deltaStatus statusOf newerOf outcome takeAll takes codes readDelta readOps readOp readNode readKeyValue readSetMaxVersion follow partsOf recsOf maxOf versions
+unfolding after happen nthSent cutBy add addNode numbersOf callAs call gc nodeOf setNode removeAll decide wish find act write store remove lastGc keep all sameBytes lessBytes among digestBytes headWidth entryBytes entryOf readEntries readDigest tell tellAll compute deltaFor cut allOps ordered queue sooner staleNodes toldOf fromOf stale byVersion keyValueOps sizeOf deltaBytes opBytes textBytes bytesOf natOf part put flat unblock apply applyEach applyNode deltaStatus statusOf newerOf outcome takeAll takes codes readDelta readOps readOp readNode readKeyValue readSetMaxVersion follow partsOf recsOf maxOf versions
 there-poison = ((record { kv = dead; start = 0 }, later (here refl), refl), (record { kv = dead; start = 0 }, later (here refl), refl))
 
 -- three plain hubs: what was deleted and removed is back at hub 2, for ever
@@ -101,7 +101,7 @@ relay-poisons-guarded s =
 -- ---- a plain leaf whose neighbour is not steady
 
 there-leaf : There (after (leafPlan guardedWays) leafRestored begin) 2 × There (after (leafPlan guardedWays) leafReadded begin) 2
-unfolding after happen nthSent add addNode numbersOf callAs call gc nodeOf setNode removeAll decide wish find act write store remove lastGc keep all sameBytes lessBytes among digestBytes headWidth entryBytes entryOf readEntries readDigest tell tellAll compute deltaFor cut allOps ordered queue sooner staleNodes toldOf fromOf stale byVersion keyValueOps sizeOf deltaBytes opBytes textBytes bytesOf natOf part put flat unblock apply applyEach applyNode deltaStatus statusOf newerOf outcome takeAll takes codes readDelta readOps readOp readNode readKeyValue readSetMaxVersion follow partsOf recsOf maxOf versions removeNode dropNode placed
+unfolding after happen nthSent cutBy add addNode numbersOf callAs call gc nodeOf setNode removeAll decide wish find act write store remove lastGc keep all sameBytes lessBytes among digestBytes headWidth entryBytes entryOf readEntries readDigest tell tellAll compute deltaFor cut allOps ordered queue sooner staleNodes toldOf fromOf stale byVersion keyValueOps sizeOf deltaBytes opBytes textBytes bytesOf natOf part put flat unblock apply applyEach applyNode deltaStatus statusOf newerOf outcome takeAll takes codes readDelta readOps readOp readNode readKeyValue readSetMaxVersion follow partsOf recsOf maxOf versions removeNode dropNode placed
 there-leaf = ((record { kv = dead; start = 0 }, later (here refl), refl), (record { kv = dead; start = 0 }, later (here refl), refl))
 
 -- hub 2 is plain and hears hub 1 alone, at once; hub 1 is restored, or removes the node and adds it
@@ -129,7 +129,7 @@ letter-in (later m) = later (letter-in m)
 
 -- a and c stand at the owner
 letters-are : (letters (nodeAt 7 (lost fencedWays .hubs 0) .recs) ≡ 97 ∷ 99 ∷ []) × (letters (nodeAt 7 (lost guardedWays .hubs 0) .recs) ≡ 97 ∷ 99 ∷ [])
-unfolding after happen nthSent add addNode numbersOf callAs call gc nodeOf setNode removeAll decide wish find act write store remove lastGc keep all sameBytes lessBytes among digestBytes headWidth entryBytes entryOf readEntries readDigest tell tellAll compute deltaFor cut allOps ordered queue sooner staleNodes toldOf fromOf stale byVersion keyValueOps sizeOf deltaBytes opBytes textBytes bytesOf natOf part put flat unblock apply applyEach applyNode deltaStatus statusOf newerOf outcome takeAll takes codes readDelta readOps readOp readNode readKeyValue readSetMaxVersion follow partsOf recsOf maxOf versions letters
+unfolding after happen nthSent cutBy add addNode numbersOf callAs call gc nodeOf setNode removeAll decide wish find act write store remove lastGc keep all sameBytes lessBytes among digestBytes headWidth entryBytes entryOf readEntries readDigest tell tellAll compute deltaFor cut allOps ordered queue sooner staleNodes toldOf fromOf stale byVersion keyValueOps sizeOf deltaBytes opBytes textBytes bytesOf natOf part put flat unblock apply applyEach applyNode deltaStatus statusOf newerOf outcome takeAll takes codes readDelta readOps readOp readNode readKeyValue readSetMaxVersion follow partsOf recsOf maxOf versions letters
 letters-are = (refl, refl)
 
 gone-letter : (t : Table) → letters (nodeAt 7 t .recs) ≡ 97 ∷ 99 ∷ [] → Holds (nodeAt 7 t) dead → ⊥
@@ -139,7 +139,7 @@ gone-letter t e x =
     among-not 98 (97 ∷ 99 ∷ []) refl (subst (λ (l : List ℕ). 98 ∈ l) e v)
 
 there-lost : There (lost fencedWays) 1 × There (lost guardedWays) 1
-unfolding after happen nthSent add addNode numbersOf callAs call gc nodeOf setNode removeAll decide wish find act write store remove lastGc keep all sameBytes lessBytes among digestBytes headWidth entryBytes entryOf readEntries readDigest tell tellAll compute deltaFor cut allOps ordered queue sooner staleNodes toldOf fromOf stale byVersion keyValueOps sizeOf deltaBytes opBytes textBytes bytesOf natOf part put flat unblock apply applyEach applyNode deltaStatus statusOf newerOf outcome takeAll takes codes readDelta readOps readOp readNode readKeyValue readSetMaxVersion follow partsOf recsOf maxOf versions
+unfolding after happen nthSent cutBy add addNode numbersOf callAs call gc nodeOf setNode removeAll decide wish find act write store remove lastGc keep all sameBytes lessBytes among digestBytes headWidth entryBytes entryOf readEntries readDigest tell tellAll compute deltaFor cut allOps ordered queue sooner staleNodes toldOf fromOf stale byVersion keyValueOps sizeOf deltaBytes opBytes textBytes bytesOf natOf part put flat unblock apply applyEach applyNode deltaStatus statusOf newerOf outcome takeAll takes codes readDelta readOps readOp readNode readKeyValue readSetMaxVersion follow partsOf recsOf maxOf versions
 there-lost = ((record { kv = dead; start = 0 }, later (here refl), refl), (record { kv = dead; start = 0 }, later (here refl), refl))
 
 -- version 2 was given twice, and the two hubs differ for ever

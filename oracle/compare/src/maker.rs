@@ -426,6 +426,20 @@ impl Maker {
         self.line(format!("apply {delta} {now} {places}"));
     }
 
+    /// A delta whole, or cut at one of its Nodes, the first too: both parts at one time, in either order.
+    pub fn apply_ops(&mut self, ops: &[Op]) {
+        let starts: Vec<usize> = (0..ops.len()).filter(|&place| matches!(ops[place], Op::Node { .. })).collect();
+        if starts.is_empty() || !self.random.once_in(3) {
+            return self.apply(&hex(&pieces::delta(ops)));
+        }
+        let (first, second) = ops.split_at(*self.random.pick(&starts));
+        let halves = if self.random.once_in(2) { [first, second] } else { [second, first] };
+        let (now, places) = (self.now(), self.places());
+        for half in halves {
+            self.line(format!("apply {} {now} {places}", hex(&pieces::delta(half))));
+        }
+    }
+
     /// Nodes of a table that obeys the rules. `long`: with texts near their sizes.
     pub fn good_nodes(&mut self, nodes: u64, records: u64, long: bool) -> Vec<Node> {
         let mut numbers: BTreeSet<u64> = self.nodes.iter().copied().take(nodes as usize).collect();

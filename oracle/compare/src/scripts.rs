@@ -194,8 +194,8 @@ fn full_node(random: Random) -> Vec<String> {
     }
     for _ in 0..30 {
         if m.random.once_in(6) {
-            let bytes = pieces::delta(&m.hand_ops());
-            m.apply(&hex(&bytes));
+            let ops = m.hand_ops();
+            m.apply_ops(&ops);
         } else {
             anything_local(&mut m);
         }
@@ -231,7 +231,7 @@ fn crowded(random: Random) -> Vec<String> {
             let version = 40 * round + m.random.below(9);
             m.crowd(number, version, &mut ops);
         }
-        m.apply(&hex(&pieces::delta(&ops)));
+        m.apply_ops(&ops);
         anything_local(&mut m);
     }
     m.finish()
@@ -386,8 +386,8 @@ fn given(mut random: Random) -> Vec<String> {
                 m.compute(&digest, mtu);
             }
             1 => {
-                let bytes = pieces::delta(&m.hand_ops());
-                m.apply(&hex(&bytes));
+                let ops = m.hand_ops();
+                m.apply_ops(&ops);
             }
             _ => anything_local(&mut m),
         }
