@@ -30,7 +30,7 @@ use rules::{
 
 // A count: of nodes, records, hits or bytes; of an offer, 1 where it was news.
 #[repr(C)]
-#[derive(Drop)]
+#[derive(Clone, Copy)]
 pub struct KevCount {
     pub number: u64,
     pub count: usize,
@@ -38,7 +38,7 @@ pub struct KevCount {
 
 // A node's number.
 #[repr(C)]
-#[derive(Drop)]
+#[derive(Clone, Copy)]
 pub struct KevNode {
     pub number: u64,
     pub node: u64,
@@ -46,7 +46,7 @@ pub struct KevNode {
 
 // The last heartbeat of a node that was removed; `found` is 1 where it is remembered.
 #[repr(C)]
-#[derive(Drop)]
+#[derive(Clone, Copy)]
 pub struct KevHeartbeat {
     pub number: u64,
     pub found: usize,
@@ -55,7 +55,7 @@ pub struct KevHeartbeat {
 
 // Where a text stands in the lent table; `found` is 1 where there is one.
 #[repr(C)]
-#[derive(Drop)]
+#[derive(Clone, Copy)]
 pub struct KevFound {
     pub number: u64,
     pub found: usize,
@@ -66,7 +66,7 @@ pub struct KevFound {
 // Where a text stands in the lent overrides, `over` is 1, or in the lent table, `over` is 0; `found` is 1 where there is one. With 14, `which` is 1 for
 // the overrides and 2 for the table.
 #[repr(C)]
-#[derive(Drop)]
+#[derive(Clone, Copy)]
 pub struct KevFoundOver {
     pub number: u64,
     pub found: usize,
@@ -78,7 +78,7 @@ pub struct KevFoundOver {
 
 // How many hits a merged listing found; `which` as of `KevFoundOver`.
 #[repr(C)]
-#[derive(Drop)]
+#[derive(Clone, Copy)]
 pub struct KevListedOver {
     pub number: u64,
     pub count: usize,
@@ -87,7 +87,7 @@ pub struct KevListedOver {
 
 // What a node has beside its records.
 #[repr(C)]
-#[derive(Drop)]
+#[derive(Clone, Copy)]
 pub struct KevHeader {
     pub number: u64,
     pub heartbeat: u64,
@@ -97,7 +97,7 @@ pub struct KevHeader {
 
 // A record, and where its texts begin in the lent table; `found` is 1 where there is one.
 #[repr(C)]
-#[derive(Drop)]
+#[derive(Clone, Copy)]
 pub struct KevRecord {
     pub number: u64,
     pub found: usize,
@@ -112,7 +112,7 @@ pub struct KevRecord {
 
 // Records of a node in one piece: where the first of them begins in the lent table, and how many there are.
 #[repr(C)]
-#[derive(Drop)]
+#[derive(Clone, Copy)]
 pub struct KevRows {
     pub number: u64,
     pub at: usize,
@@ -121,7 +121,7 @@ pub struct KevRows {
 
 // How many nodes a digest tells of, and where the bytes behind it begin; with 9, how many bytes the field lacks in which its bytes end.
 #[repr(C)]
-#[derive(Drop)]
+#[derive(Clone, Copy)]
 pub struct KevDigest {
     pub number: u64,
     pub count: usize,
@@ -131,7 +131,7 @@ pub struct KevDigest {
 
 // What a digest tells of a node; with 9, how many bytes the field lacks in which its bytes end.
 #[repr(C)]
-#[derive(Drop)]
+#[derive(Clone, Copy)]
 pub struct KevEntry {
     pub number: u64,
     pub node: u64,
@@ -143,7 +143,7 @@ pub struct KevEntry {
 
 // What a computed delta holds; with 9, how many bytes the field of the digest lacks in which its bytes end.
 #[repr(C)]
-#[derive(Drop)]
+#[derive(Clone, Copy)]
 pub struct KevComputed {
     pub number: u64,
     pub ops: usize,
@@ -154,7 +154,7 @@ pub struct KevComputed {
 // What is said of a plan: with 23 its first line at fault, counted from 0, and the number of the fault; with 9, how many bytes the field of the digest lacks in
 // which its bytes end.
 #[repr(C)]
-#[derive(Drop)]
+#[derive(Clone, Copy)]
 pub struct KevJudged {
     pub number: u64,
     pub line: usize,
@@ -164,7 +164,7 @@ pub struct KevJudged {
 
 // What a delta holds; where it is refused, the place of the faulty operation's tag, and with 9 how many bytes its field lacks.
 #[repr(C)]
-#[derive(Drop)]
+#[derive(Clone, Copy)]
 pub struct KevDelta {
     pub number: u64,
     pub ops: usize,
@@ -175,7 +175,7 @@ pub struct KevDelta {
 
 // How many node deltas were answered; where the delta is refused, the place of the faulty operation's tag, and with 9 how many bytes its field lacks.
 #[repr(C)]
-#[derive(Drop)]
+#[derive(Clone, Copy)]
 pub struct KevApplied {
     pub number: u64,
     pub nodes: usize,
@@ -185,7 +185,7 @@ pub struct KevApplied {
 
 // How many bytes the delta of a listing has; with 16, the first line that is not in its form; where the delta is refused, as of `KevDelta`.
 #[repr(C)]
-#[derive(Drop)]
+#[derive(Clone, Copy)]
 pub struct KevMade {
     pub number: u64,
     pub bytes: usize,
@@ -196,7 +196,7 @@ pub struct KevMade {
 
 // What an exchange came to; where it is refused, the step: 1 the digest, 2 the delta, 3 applying.
 #[repr(C)]
-#[derive(Drop)]
+#[derive(Clone, Copy)]
 pub struct KevExchanged {
     pub number: u64,
     pub ops: usize,

@@ -9,7 +9,7 @@ use rules::Answer;
 
 // The answer to a digest that a peer told; with 9, how many bytes the field lacks in which its bytes end.
 #[repr(C)]
-#[derive(Drop)]
+#[derive(Clone, Copy)]
 pub struct KevTold {
     pub number: u64,
     pub need: usize,
@@ -17,7 +17,7 @@ pub struct KevTold {
 
 // The least max of a node.
 #[repr(C)]
-#[derive(Drop)]
+#[derive(Clone, Copy)]
 pub struct KevLeast {
     pub number: u64,
     pub max: u64,
@@ -25,7 +25,7 @@ pub struct KevLeast {
 
 // What a peer told of a node; `found` is 1 where the peer is present.
 #[repr(C)]
-#[derive(Drop)]
+#[derive(Clone, Copy)]
 pub struct KevSeen {
     pub number: u64,
     pub found: usize,

@@ -18,7 +18,7 @@ use table::layout;
 use table_read::Place;
 
 // What an operation of a node delta comes to.
-#[derive(Drop)]
+#[derive(Clone, Copy)]
 pub enum Step {
     // The record is in the node, or skipped.
     Taken,

@@ -19,7 +19,7 @@ use rules::{Computed, Refusal, sizes, wire};
 use table::layout;
 
 // How a digest stands to a node of the table.
-#[derive(Drop)]
+#[derive(Clone, Copy)]
 pub enum Staleness {
     // Nothing is to be sent: the node is excluded, or the digest's max is not below its own.
     UpToDate,
@@ -28,7 +28,7 @@ pub enum Staleness {
 }
 
 // The stale nodes by their places in the table, the first of the line last; a from stands at its node's place.
-#[derive(Drop)]
+#[derive(Clone, Copy)]
 pub struct Lined {
     pub line: [usize; sizes::NODES],
     pub froms: [u64; sizes::NODES],
@@ -110,7 +110,7 @@ pub fn write_delta(
 }
 
 // Whether a call can go ahead, by its numbers alone.
-#[derive(Drop)]
+#[derive(Clone, Copy)]
 pub enum Asked {
     Good,
     Refused(Refusal),

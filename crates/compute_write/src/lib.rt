@@ -15,7 +15,7 @@ ghost use Rattle.compute_write.specs.Sending.{node_op_at, record_at, ops_at, sen
 use delta_write::Wrote;
 
 // How many operations were written, in how many bytes.
-#[derive(Drop)]
+#[derive(Clone, Copy)]
 pub struct Sent {
     pub ops: usize,
     pub bytes: usize,

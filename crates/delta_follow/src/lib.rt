@@ -9,7 +9,7 @@ use delta_op::Op;
 use rules::{Refusal, sizes};
 
 // Whether an operation may follow those before it: a further node, or the running max under the last one, or a refusal.
-#[derive(Drop)]
+#[derive(Clone, Copy)]
 pub enum Followed {
     Entered(u64),
     Under(u64),

@@ -23,7 +23,7 @@ pub const LONGEST_REFUSED: usize = 46;
 const MOST: usize = 18446744073709551615;
 
 // How far a text has come.
-#[derive(Drop)]
+#[derive(Clone, Copy)]
 pub enum Stage {
     // Among the lines of operations.
     Lines,
@@ -34,7 +34,7 @@ pub enum Stage {
 }
 
 // What is kept of a text beside the lent memory: how many bytes of a line have come, and how many operations and bytes of a delta before it.
-#[derive(Drop)]
+#[derive(Clone, Copy)]
 pub struct Making {
     pub stage: Stage,
     pub held: usize,
@@ -43,7 +43,7 @@ pub struct Making {
 }
 
 // What a whole text gives: a delta of so many bytes; the first line that is not in its form; or why the delta is refused, and where.
-#[derive(Drop)]
+#[derive(Clone, Copy)]
 pub enum Made {
     Bytes(usize),
     BadLine(usize),

@@ -9,7 +9,7 @@ ghost use Rattle.delta_op.specs.Places.{key_value_at, node_at, op_at, set_max_ve
 
 use rules::{Record, Refusal, Status, wire};
 
-#[derive(Drop)]
+#[derive(Clone, Copy)]
 pub enum Op {
     Node {
         number: u64,
@@ -30,7 +30,7 @@ pub enum Op {
 }
 
 // An operation and the place behind it, or why there is none.
-#[derive(Drop)]
+#[derive(Clone, Copy)]
 pub enum OpRead {
     Got { op: Op, next: usize },
     Bad(Refusal),
@@ -38,7 +38,7 @@ pub enum OpRead {
 
 // A text behind its length: where it stands and how long it is; or its length is too long, or the bytes end and so many are lacking. It holds no refusal,
 // which would be copied on the way of a text that is there too.
-#[derive(Drop)]
+#[derive(Clone, Copy)]
 pub enum TextRead {
     Held { start: usize, len: usize },
     Long,

@@ -14,7 +14,7 @@ const PIECE: usize = 4096;
 const PIECES: u64 = 4503599627370495;
 
 // What was taken in, and whether the input could be read to its end.
-#[derive(Drop)]
+#[derive(Clone, Copy)]
 pub struct Taken {
     pub making: Making,
     pub ended: bool,

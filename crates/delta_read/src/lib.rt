@@ -13,7 +13,7 @@ use rules::{DeltaRead, Refusal, sizes};
 
 // A delta's verdict and, where it is accepted, each of its node deltas: where its Node stands, how many operations stand behind that Node at most, and
 // the running max at their end.
-#[derive(Drop)]
+#[derive(Clone, Copy)]
 pub struct Heads {
     pub read: DeltaRead,
     pub at: [usize; sizes::NODES],

@@ -9,7 +9,7 @@ ghost use Rattle.delta_write.specs.Written.{key_value, write_op};
 use rules::{Status, wire};
 
 // How many bytes an operation took, or that it does not fit.
-#[derive(Drop)]
+#[derive(Clone, Copy)]
 pub enum Wrote {
     Bytes(usize),
     NoFit,

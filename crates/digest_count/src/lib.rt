@@ -6,7 +6,7 @@ ghost use Rattle.digest_count.specs.Counting.{count_in, count_told, count_whole}
 use rules::{Refusal, sizes, wire};
 
 // How many entries there are, or why there is no digest.
-#[derive(Drop)]
+#[derive(Clone, Copy)]
 pub enum Counted {
     Entries(usize),
     Refused(Refusal),

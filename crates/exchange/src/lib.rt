@@ -10,7 +10,7 @@ use rules::{Applied, Computed, Refusal, Written};
 use table::layout;
 
 // What an exchange came to.
-#[derive(Drop)]
+#[derive(Clone, Copy)]
 pub enum Exchanged {
     // The delta was applied: its operations, its bytes, and how many nodes answered.
     Done {

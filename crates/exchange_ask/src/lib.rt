@@ -12,7 +12,7 @@ use rules::{Profile, Refusal, wire};
 use table::layout;
 
 // The step of an exchange that a refusal belongs to: the follower's digest, the publisher's delta, applying it to the follower.
-#[derive(Drop)]
+#[derive(Clone, Copy)]
 pub enum Step {
     Digest,
     Delta,
@@ -20,7 +20,7 @@ pub enum Step {
 }
 
 // Whether an exchange can go ahead.
-#[derive(Drop)]
+#[derive(Clone, Copy)]
 pub enum Ready {
     Yes,
     No { step: Step, why: Refusal },

@@ -7,7 +7,7 @@ ghost use Rattle.fields.specs.Order.{order_of, rank_of, same_bytes, starts_with}
 ghost use Rattle.fields.specs.Parts.{part, put};
 
 // How two byte strings stand to each other.
-#[derive(Drop)]
+#[derive(Clone, Copy)]
 pub enum Order {
     Less,
     Same,

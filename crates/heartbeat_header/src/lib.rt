@@ -13,14 +13,14 @@ ghost use Rattle.heartbeat_header.specs.Headers.{offered_to, can_rise, risen_fro
 use rules::{Header, Heartbeat, sizes};
 
 // The header after an offer, and whether the offer was news.
-#[derive(Drop)]
+#[derive(Clone, Copy)]
 pub struct OfferedHeader {
     pub header: Header,
     pub news: bool,
 }
 
 // The header after a local beat, and whether the heartbeat rose. It does not where it is 2^64-1.
-#[derive(Drop)]
+#[derive(Clone, Copy)]
 pub struct RaisedHeader {
     pub header: Header,
     pub rose: bool,

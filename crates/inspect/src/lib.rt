@@ -24,28 +24,28 @@ use table::layout;
 use table_read::{Place, Span};
 
 // How many there are.
-#[derive(Drop)]
+#[derive(Clone, Copy)]
 pub enum Count {
     Are(usize),
     Refused(Refusal),
 }
 
 // The number under which a node is held.
-#[derive(Drop)]
+#[derive(Clone, Copy)]
 pub enum NodeNumber {
     Is(u64),
     Refused(Refusal),
 }
 
 // A node's heartbeat, max and last_gc.
-#[derive(Drop)]
+#[derive(Clone, Copy)]
 pub enum NodeHeader {
     Is(Header),
     Refused(Refusal),
 }
 
 // A record: where its key and its value begin in the lent table, their lengths, its version, status and start.
-#[derive(Drop)]
+#[derive(Clone, Copy)]
 pub enum RecordRead {
     Is {
         key: usize,
@@ -58,7 +58,7 @@ pub enum RecordRead {
 }
 
 // Records of a node in one piece: where the first of them begins in the lent table, and how many there are. Each has its width there, one behind the other.
-#[derive(Drop)]
+#[derive(Clone, Copy)]
 pub enum Rows {
     Are { at: usize, count: usize },
     Refused(Refusal),

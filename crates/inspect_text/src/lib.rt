@@ -23,7 +23,7 @@ use table::layout;
 use table_read::Span;
 
 // One of a record's two texts.
-#[derive(Drop)]
+#[derive(Clone, Copy)]
 pub enum Text {
     Key,
     Value,

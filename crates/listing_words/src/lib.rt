@@ -17,35 +17,35 @@ const TENTH: u64 = 1844674407370955161;
 const LONGEST: usize = 3 * rules::Record::VALUE;
 
 // A number, and how many digits it took.
-#[derive(Drop)]
+#[derive(Clone, Copy)]
 pub enum Numeral {
     Is { value: u64, len: usize },
     Not,
 }
 
 // A key's or a value's length, and how many bytes it took as it is shown.
-#[derive(Drop)]
+#[derive(Clone, Copy)]
 pub enum Shown {
     Is { len: usize, took: usize },
     Not,
 }
 
 // A number below 2^64.
-#[derive(Drop)]
+#[derive(Clone, Copy)]
 pub enum Value {
     Is(u64),
     Not,
 }
 
 // How many bytes were stored.
-#[derive(Drop)]
+#[derive(Clone, Copy)]
 pub enum Count {
     Is(usize),
     Not,
 }
 
 // What the next byte of a shown text stands for, and how many bytes it took.
-#[derive(Drop)]
+#[derive(Clone, Copy)]
 pub struct One {
     pub value: usize,
     pub took: usize,

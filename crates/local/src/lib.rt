@@ -132,7 +132,7 @@ fn call(
 // ---- the write
 
 // Which of the four calls a wanted status asks for.
-#[derive(Drop)]
+#[derive(Clone, Copy)]
 enum Asked {
     Call(Kind),
     Nothing,

@@ -25,7 +25,7 @@ use rules::{Party, Profile, Record, Refusal, Status};
 use table_read::{Place, Span};
 
 // Whether the profile lets a call through.
-#[derive(Drop)]
+#[derive(Clone, Copy)]
 pub enum Guarded {
     Passed,
     Refused(Refusal),

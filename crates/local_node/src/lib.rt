@@ -20,7 +20,7 @@ use rules::{Answer, Record, Refusal, Status};
 use table_read::Place;
 
 // Which of the four calls.
-#[derive(Drop)]
+#[derive(Clone, Copy)]
 pub enum Kind {
     Setting,
     SettingTtl,

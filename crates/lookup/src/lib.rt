@@ -21,7 +21,7 @@ use table::layout;
 use table_read::{Place, Span};
 
 // What a lookup finds.
-#[derive(Drop)]
+#[derive(Clone, Copy)]
 pub enum Found {
     // The value is the `len` bytes from `start` on of the lent table. An empty value is found too.
     At { start: usize, len: usize },

@@ -18,7 +18,7 @@ use rules::{Party, Refusal};
 use table::layout;
 
 // What a lookup over both finds.
-#[derive(Drop)]
+#[derive(Clone, Copy)]
 pub enum FoundOver {
     // The value is the `len` bytes from `start` on of the overrides. An empty value is found too.
     InOverrides { start: usize, len: usize },

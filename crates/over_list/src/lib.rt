@@ -34,14 +34,14 @@ pub const PLACES: usize = 2 * Header::RECORDS;
 pub const OVER: usize = 128;
 
 // The answer of a merged listing: how many hits it found.
-#[derive(Drop)]
+#[derive(Clone, Copy)]
 pub enum ListedOver {
     Hits(usize),
     Refused { which: Which, why: Refusal },
 }
 
 // One turn of the merging: a byte, how many times it is listed (0 or 1), and how many records each side goes on.
-#[derive(Drop)]
+#[derive(Clone, Copy)]
 pub struct Turn {
     pub hit: usize,
     pub listed: usize,

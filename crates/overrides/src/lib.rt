@@ -16,7 +16,7 @@ use rules::{Answer, Refusal, Status};
 use table::layout;
 
 // Of two lent things, the one that a refusal is of.
-#[derive(Drop)]
+#[derive(Clone, Copy)]
 pub enum Which {
     // The refusal is of what was asked, and not of a lent thing.
     Neither,

@@ -17,7 +17,7 @@ use table::layout;
 const BUILDING: usize = 98;
 
 // The piece: how many records of the node stand before it, and how many it has.
-#[derive(Drop)]
+#[derive(Clone, Copy)]
 pub struct Sight {
     pub low: usize,
     pub count: usize,

@@ -6,7 +6,7 @@ ghost use Rattle.plan.specs.Faults.{fault_code};
 use rules::Refusal;
 
 // Why a line of a plan cannot be sent.
-#[derive(Drop)]
+#[derive(Clone, Copy)]
 pub enum Fault {
     // The table has no such node.
     NotHeld,
@@ -45,7 +45,7 @@ impl Fault {
 }
 
 // What is said of a plan: that it is accepted, the first line of it that is at fault and why, or why it was not looked at.
-#[derive(Drop)]
+#[derive(Clone, Copy)]
 pub enum Judged {
     Accepted,
     AtFault { line: usize, why: Fault },

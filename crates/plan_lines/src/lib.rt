@@ -30,14 +30,14 @@ use table::layout;
 use table_read::Place;
 
 // What a line comes to: how many bytes its operations take, or why it cannot be sent.
-#[derive(Drop)]
+#[derive(Clone, Copy)]
 pub enum Line {
     Bytes(usize),
     Fault(Fault),
 }
 
 // Stale records of a node: how many, and how many bytes they take as operations.
-#[derive(Drop)]
+#[derive(Clone, Copy)]
 pub struct Above {
     pub count: usize,
     pub bytes: usize,

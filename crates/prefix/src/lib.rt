@@ -28,7 +28,7 @@ use table::layout;
 use table_read::{Place, Span};
 
 // The records of a piece of a node's rows whose keys begin with a prefix: those from `start` up to `end`.
-#[derive(Drop)]
+#[derive(Clone, Copy)]
 pub struct Stretch {
     pub start: usize,
     pub end: usize,

@@ -7,7 +7,7 @@ pub const LINE: usize = 59938;
 pub const CHUNK: usize = 65536;
 
 // What is left of the chunk: the bytes from `at` to `end`. `len` bytes of the line are there, and its end if it is closed.
-#[derive(Drop)]
+#[derive(Clone, Copy)]
 pub struct Source {
     pub at: usize,
     pub end: usize,

@@ -21,7 +21,7 @@ pub const GRIDS: usize = 4 * GRID;
 
 // The current hub and party, how many bytes of each hub's rooms are its lent table and its lent grid, the lengths of the last digest and the last delta, and
 // the output so far.
-#[derive(Drop)]
+#[derive(Clone, Copy)]
 pub struct Desk {
     pub hub: u64,
     pub party: u64,

@@ -13,7 +13,7 @@ const LIST: usize = 16;
 const DATAGRAM: usize = 32768;
 
 // The place behind the output so far, and how many bytes `@digest` or `@delta` stands for.
-#[derive(Drop)]
+#[derive(Clone, Copy)]
 pub struct Kept {
     pub at: usize,
     pub len: usize,

@@ -6,14 +6,14 @@ ghost use Rattle.replay_words.specs.Reading.{pieces, words_of, place_in, with_di
 const MOST: u64 = 18446744073709551615;
 
 // A decimal number below 2^64.
-#[derive(Drop)]
+#[derive(Clone, Copy)]
 pub enum Numeral {
     Is(u64),
     Not,
 }
 
 // How many bytes or numbers a word gave to the lent list.
-#[derive(Drop)]
+#[derive(Clone, Copy)]
 pub enum Count {
     Is(usize),
     Not,

@@ -10,7 +10,7 @@ pub mod sizes;
 pub mod wire;
 
 // How a record stands to deletion. Delete and Ttl are scheduled: a removal takes them after the grace. Only Delete hides.
-#[derive(Drop)]
+#[derive(Clone, Copy)]
 pub enum Status {
     Set,
     Delete,
@@ -46,11 +46,11 @@ impl Status {
 }
 
 // A count of beats. It is a type of its own, so that no one takes it for a version.
-#[derive(Drop)]
+#[derive(Clone, Copy)]
 pub struct Heartbeat(pub u64);
 
 // What a record has beside the bytes of its key and value.
-#[derive(Drop)]
+#[derive(Clone, Copy)]
 pub struct Record {
     pub keylen: usize,
     pub valuelen: usize,
@@ -67,7 +67,7 @@ impl Record {
 }
 
 // What a node has beside its records.
-#[derive(Drop)]
+#[derive(Clone, Copy)]
 pub struct Header {
     pub heartbeat: Heartbeat,
     pub max: u64,
@@ -91,7 +91,7 @@ impl Header {
 }
 
 // What an offered heartbeat leaves, and whether it was news.
-#[derive(Drop)]
+#[derive(Clone, Copy)]
 pub struct Beat {
     pub heartbeat: Heartbeat,
     pub news: bool,
@@ -120,7 +120,7 @@ pub fn after_offer(held: Heartbeat, got: Heartbeat) -> Beat
 }
 
 // How a table takes deltas that may come late. It is chosen when the table is made, and kept in its bytes.
-#[derive(Drop)]
+#[derive(Clone, Copy)]
 pub enum Mode {
     // Document 01's: no node is fenced.
     Plain,
@@ -159,7 +159,7 @@ impl Mode {
 }
 
 // Which records a table may have. It is chosen when the table is made, and kept in its bytes; it does not hang on the mode.
-#[derive(Drop)]
+#[derive(Clone, Copy)]
 pub enum Profile {
     // Document 01's: any record.
     Free,
@@ -198,7 +198,7 @@ impl Profile {
 }
 
 // Who calls, where the call looks at keys. Only a shared table looks at it.
-#[derive(Drop)]
+#[derive(Clone, Copy)]
 pub enum Party {
     // The metering firm: its keys begin `m/`.
     Metering,
@@ -227,7 +227,7 @@ impl Party {
 }
 
 // Whether a node delta can be applied to a node.
-#[derive(Drop)]
+#[derive(Clone, Copy)]
 pub enum DeltaStatus {
     // It is from the future, or brings nothing new.
     Reject,
@@ -240,7 +240,7 @@ pub enum DeltaStatus {
 }
 
 // What is answered for one node delta.
-#[derive(Drop)]
+#[derive(Clone, Copy)]
 pub enum NodeAnswer {
     Reject,
     Apply,
@@ -271,7 +271,7 @@ impl NodeAnswer {
 
 // Why a call was refused. Document 01 numbers them from 1 to 15 in this order; those behind have the numbers of document 02. No call gives one of these
 // until its request lands: which call gives which numbers stands in `demand1: Calls.refusals`, and that it gives no other is proved there.
-#[derive(Drop)]
+#[derive(Clone, Copy)]
 pub enum Refusal {
     // Key over 32 or value over 64.
     TooLong,
@@ -382,14 +382,14 @@ impl Refusal {
 }
 
 // The answer of a call that has nothing to tell.
-#[derive(Drop)]
+#[derive(Clone, Copy)]
 pub enum Answer {
     Done,
     Refused(Refusal),
 }
 
 // The answer of a heartbeat offer: whether it was news.
-#[derive(Drop)]
+#[derive(Clone, Copy)]
 pub enum Offered {
     Yes,
     No,
@@ -397,7 +397,7 @@ pub enum Offered {
 }
 
 // The answer to asking for a removed node: it is remembered with its last heartbeat, or it is not.
-#[derive(Drop)]
+#[derive(Clone, Copy)]
 pub enum Remembered {
     With(Heartbeat),
     Not,
@@ -405,35 +405,35 @@ pub enum Remembered {
 }
 
 // The answer of a prefix listing: how many records it found.
-#[derive(Drop)]
+#[derive(Clone, Copy)]
 pub enum Listed {
     Hits(usize),
     Refused(Refusal),
 }
 
 // The answer of digest writing and of the listing of a delta: how many bytes were written.
-#[derive(Drop)]
+#[derive(Clone, Copy)]
 pub enum Written {
     Bytes(usize),
     Refused(Refusal),
 }
 
 // The answer of computing: what the delta holds.
-#[derive(Drop)]
+#[derive(Clone, Copy)]
 pub enum Computed {
     Delta { ops: usize, bytes: usize },
     Refused(Refusal),
 }
 
 // The answer of delta reading: what the delta holds, or why it is refused and where the faulty operation's tag stands.
-#[derive(Drop)]
+#[derive(Clone, Copy)]
 pub enum DeltaRead {
     Good { ops: usize, nodes: usize },
     Refused { why: Refusal, at: usize },
 }
 
 // The answer of applying: how many answers it gave. A refusal has a place as in delta reading, 0 where there is none.
-#[derive(Drop)]
+#[derive(Clone, Copy)]
 pub enum Applied {
     Nodes(usize),
     Refused { why: Refusal, at: usize },

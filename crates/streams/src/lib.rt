@@ -19,7 +19,7 @@ pub fn unreadable() {
 }
 
 // How many bytes were put at the front, and whether the input ended there.
-#[derive(Drop)]
+#[derive(Clone, Copy)]
 pub struct Filled {
     pub len: usize,
     pub ended: bool,

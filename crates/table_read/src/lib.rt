@@ -11,14 +11,14 @@ use rules::{Header, Heartbeat, Record, Status};
 use table::layout;
 
 // Where something stands, or the place in the order where it belongs.
-#[derive(Drop)]
+#[derive(Clone, Copy)]
 pub enum Place {
     At(usize),
     Free(usize),
 }
 
 // Where the bytes of a node stand in a table's, from `start` up to `end`, or that the table has no such node.
-#[derive(Drop)]
+#[derive(Clone, Copy)]
 pub enum Span {
     Held { start: usize, end: usize },
     Missing,
