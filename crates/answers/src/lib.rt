@@ -1,5 +1,7 @@
 // What a caller that is not Rattle is told of an answer: the number and the values that stand for it, in a struct that crosses to C by value. The number is 0
 // where the call was accepted, else document 01's number of the refusal; it never shares a field with a count. A value that the answer has not is 0.
+#![tactic(auto)]
+
 ghost use Rattle.std.specs.Prelude.{[], ◌≡◌};
 ghost use Rattle.rules.specs.Answers.{answer_told, offered_told, remembered_told, listed_told, written_told, computed_told, read_told, applied_told, refused};
 ghost use Rattle.lookup.specs.Told.{found_told};

@@ -1,4 +1,6 @@
 // What a C caller is told of the answers of `peers`: structs by value, as in `answers`.
+#![tactic(auto)]
+
 ghost use Rattle.std.specs.Prelude.{◌≡◌};
 ghost use Rattle.rules.specs.Answers.{answer_told};
 ghost use Rattle.grid.specs.LentGrid.{least_told, seen_told};

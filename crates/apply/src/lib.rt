@@ -1,5 +1,7 @@
 // Applying a delta to a lent table: each node delta in stream order, and one answer for each. Nothing is touched before the whole delta is known to be
 // good. What is then done to the nodes is in `apply_parts`.
+#![tactic(auto)]
+
 ghost use Rattle.std.specs.Prelude.{true, ◌≡◌, length};
 ghost use Rattle.rules.specs.Answers.{applied_told};
 ghost use Rattle.rules.specs.Given.{Gives, Tells};

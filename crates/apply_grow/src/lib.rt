@@ -1,6 +1,8 @@
 // What an accepted node delta does to one node: a reset where it begins afresh, its records taken, its max. The node is changed where it stands; where its
 // records may be too many it is saved first and put back if they are, so that Room leaves it as it is. Too many are over 32, and in a shared table over 16 of
 // one party.
+#![tactic(auto)]
+
 ghost use Rattle.std.specs.Prelude.{◌≡◌, ◌+◌, ◌≤◌, leb, length};
 ghost use Rattle.rules.specs.Sizes.{max_each};
 ghost use Rattle.rules.specs.Party.{own, of_keys};

@@ -1,5 +1,7 @@
 // The records of a node delta, as they stand in the bytes of an accepted delta, taken into the bytes of one node. Each record is taken or skipped as
 // document 01 says; a record that would be a 33rd key ends the taking with no room.
+#![tactic(auto)]
+
 ghost use Rattle.std.specs.Prelude.{true, ◌≡◌, ◌+◌, ◌≤◌, length};
 ghost use Rattle.rules.specs.Sizes.{max_key, max_value};
 ghost use Rattle.rules.specs.Node.{scheduled, store};

@@ -1,5 +1,7 @@
 // The node deltas of an accepted delta on a good table: the status of each by the table's mode and the numbers of node and delta, the room by the table's
 // profile, the node changed or left, and one answer for each, in stream order.
+#![tactic(auto)]
+
 ghost use Rattle.std.specs.Prelude.{true, ◌≡◌, ◌≤◌, length};
 ghost use Rattle.rules.specs.Given.{Gives};
 ghost use Rattle.rules.specs.Profile.{kind};

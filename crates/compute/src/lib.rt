@@ -1,5 +1,7 @@
 // Computing a delta for a digest that a peer sent, in the edition whose number the caller tells: which nodes it is behind with, their line, and what fits of
 // them under the MTU, written into the lent datagram from a stated place on. Any table bytes, any digest bytes and any lists are an input.
+#![tactic(auto)]
+
 ghost use Rattle.std.specs.Prelude.{◌≡◌, true, ◌+◌, ◌≤◌, ◌<◌, length};
 ghost use Rattle.rules.specs.Answers.{computed_told};
 ghost use Rattle.rules.specs.Given.{Gives, Tells};

@@ -1,5 +1,7 @@
 // Computing a delta by a plan for the air time: the planner's list of node numbers and how many stale records of each to send. Any table bytes, any digest
 // bytes and any lists are an input, of any length and with counts up to 2^64-1. A second call says which line of a plan is at fault, and why.
+#![tactic(auto)]
+
 ghost use Rattle.std.specs.Prelude.{◌≡◌, true, ◌+◌, ◌≤◌, length};
 ghost use Rattle.rules.specs.Answers.{computed_told};
 ghost use Rattle.rules.specs.Digest.{read_digest};

@@ -1,5 +1,7 @@
 // Writing a delta under the MTU: for each node in line a Node operation, then its stale records by rising version, or a SetMaxVersion where there
 // are none. Each operation is written to the part of the datagram that begins at its place and ends where the MTU does.
+#![tactic(auto)]
+
 ghost use Rattle.std.specs.Prelude.{◌≡◌, ◌≤◌, ◌<◌, length};
 ghost use Rattle.rules.specs.Given.{Gives};
 ghost use Rattle.rules.specs.Sizes.{max_nodes};

@@ -1,5 +1,7 @@
 // Whether an operation of a delta may follow those before it: each Node once and no more than eight, records and SetMaxVersion under a Node by rising versions.
 // It goes by the numbers of the nodes seen so far and the running max under the last of them (specs/Following.antt).
+#![tactic(auto)]
+
 ghost use Rattle.std.specs.Prelude.{◌≡◌, ◌≤◌};
 ghost use Rattle.rules.specs.Sizes.{max_nodes};
 ghost use Rattle.rules.specs.Table.{among};

@@ -1,6 +1,8 @@
 // Reading a delta in a table's profile: a delta with one record out of form is refused whole, with the profile's number (17 meter, 19 shared) at that record's
 // place, straight after the operation's own 11. Document 01's verdict comes first, and then one more pass over the records before the fault. A free table makes
 // none.
+#![tactic(auto)]
+
 ghost use Rattle.std.specs.Prelude.{◌≡◌, ◌+◌, ◌≤◌, length};
 ghost use Rattle.fields.specs.Parts.{part};
 ghost use Rattle.rules.specs.Delta.{delta_read};

@@ -1,5 +1,7 @@
 // A delta made from its listing. The text may come in pieces of any length: what is kept of it is the line that has begun, the delta's bytes so far, and
 // two counts. Every line is judged; of a delta over 16,384 bytes what fits is stored, and the counts go on.
+#![tactic(auto)]
+
 ghost use Rattle.std.specs.Prelude.{◌≡◌};
 ghost use Rattle.fields.specs.Order.{same_bytes};
 ghost use Rattle.rules.specs.Given.{Gives};

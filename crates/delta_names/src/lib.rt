@@ -1,5 +1,7 @@
 // Which nodes a delta names, in stream order, for hubs that log or filter. Nothing is applied, and no table is asked for. A delta that reading refuses is
 // refused here with the same number and place.
+#![tactic(auto)]
+
 ghost use Rattle.std.specs.Prelude.{◌≡◌, ◌≤◌, length};
 ghost use Rattle.fields.specs.Parts.{put};
 ghost use Rattle.rules.specs.Answers.{applied_told};

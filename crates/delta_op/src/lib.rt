@@ -2,6 +2,8 @@
 // bytes; nothing is copied. What is read is what the definitions of `rules` say (specs/Places.antt). Where the bytes end, 9 tells what the field still
 // lacks; it is counted on that way out alone. Whether it may follow those before it is the matter
 // of `delta_read`.
+#![tactic(auto)]
+
 ghost use Rattle.std.specs.Prelude.{◌≡◌, ◌+◌, ◌≤◌, ◌<◌, length};
 ghost use Rattle.fields.specs.Widths.{total};
 ghost use Rattle.rules.specs.Delta.{version_widths};

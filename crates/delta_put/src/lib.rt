@@ -1,4 +1,6 @@
 // Reads a listing to its end, by pieces, and says what comes of it. Nothing is written before the whole listing has been judged.
+#![tactic(auto)]
+
 ghost use Rattle.std.specs.Prelude.{◌≡◌, ◌<◌, take};
 
 use delta_make::{Made, Making};

@@ -1,5 +1,7 @@
 // Reading a whole delta: its verdict, and where its node deltas stand. Its operations are read one by one by `delta_op`, and each must be one that may
 // follow those before it (`delta_follow`). What is answered is what the definitions of `rules` say.
+#![tactic(auto)]
+
 ghost use Rattle.std.specs.Prelude.{◌≡◌, length};
 ghost use Rattle.rules.specs.Answers.{read_told};
 ghost use Rattle.rules.specs.Given.{Says};

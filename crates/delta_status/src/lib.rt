@@ -1,4 +1,6 @@
 // Whether a node delta can be applied to a node: document 01's three steps by the numbers alone, and the fence of a fenced or guarded table.
+#![tactic(auto)]
+
 ghost use Rattle.std.specs.Prelude.{◌≡◌};
 ghost use Rattle.rules.specs.Apply.{status_of, newer_of, ways_of};
 

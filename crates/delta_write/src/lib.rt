@@ -1,5 +1,7 @@
 // Writing the three operations of a delta. Each function is lent the part of the datagram that begins at the operation's place and ends where
 // the MTU does, and writes the operation to its front where it fits. What is written is what the definitions of `rules` say (specs/Written.antt).
+#![tactic(auto)]
+
 ghost use Rattle.std.specs.Prelude.{◌≡◌, ◌+◌, ◌≤◌, leb, length};
 ghost use Rattle.fields.specs.Parts.{put};
 ghost use Rattle.rules.specs.Given.{Gives};

@@ -1,5 +1,7 @@
 // How many entries a digest has, in the edition whose number the caller tells, before any of them is looked at: any bytes are an input, and what is no digest
 // is refused here. What is counted is what the definitions of `rules` say (specs/Counting.antt; the proof is in `digest_read`).
+#![tactic(auto)]
+
 ghost use Rattle.std.specs.Prelude.{◌≡◌};
 ghost use Rattle.digest_count.specs.Counting.{count_in, count_told, count_whole};
 

@@ -1,5 +1,7 @@
 // Writing the digest of a lent table into a lent datagram from a stated place on, in the edition whose number the caller tells. Excluded nodes are left
 // out. The bytes before the place and those behind the digest stay as they are. What is written is what the definitions of `rules` say.
+#![tactic(auto)]
+
 ghost use Rattle.std.specs.Prelude.{◌≡◌, true, ◌+◌, ◌*◌, ◌≤◌, length};
 ghost use Rattle.fields.specs.Blocks.{flat};
 ghost use Rattle.fields.specs.Parts.{put};

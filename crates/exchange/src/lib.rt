@@ -1,5 +1,7 @@
 // One whole exchange between two lent tables: the follower's digest, the publisher's delta for it, the delta applied. Any bytes may be lent.
 // What happens to the two tables in any run of calls is demand 3: demand3_bytes/specs/LentDemand3.antt.
+#![tactic(auto)]
+
 ghost use Rattle.std.specs.Prelude.{true, ◌≡◌};
 ghost use Rattle.rules.specs.Given.{Gives, Tells};
 ghost use Rattle.rules.specs.Whole.{valid_whole};

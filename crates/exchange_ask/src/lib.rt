@@ -1,5 +1,7 @@
 // What is asked before an exchange writes anything: whether both tables, the MTU and all that is lent allow it, and whether the follower's profile takes the
 // publisher's records. Any bytes may be lent.
+#![tactic(auto)]
+
 ghost use Rattle.std.specs.Prelude.{◌≡◌, true};
 ghost use Rattle.rules.specs.Layout.{decode};
 ghost use Rattle.rules.specs.Profile.{table_formed};

@@ -1,5 +1,7 @@
 // Numbers and parts in lent bytes: what every format of this project is made of. A number stands lowest byte first.
 // Each function asks only that the bytes it names are there; what it answers or leaves is one equation with a definition of specs/.
+#![tactic(auto)]
+
 ghost use Rattle.std.specs.Prelude.{◌≡◌, ◌+◌, ◌*◌, ◌/◌, ◌%◌, ◌^◌, ◌≤◌, ◌<◌, length};
 ghost use Rattle.fields.specs.Blocks.{zeros, all_zero};
 ghost use Rattle.fields.specs.Numbers.{nat_of, bytes_of};

@@ -1,4 +1,6 @@
 // What the definitions and the code of ticket 12 share: the answers, and where everything stands in the bytes of a lent grid. What it means stands in specs/.
+#![tactic(auto)]
+
 use rules::Refusal;
 
 pub mod layout;

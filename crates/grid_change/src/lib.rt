@@ -1,5 +1,7 @@
 // What changes a lent grid that is known to be good. Each function reads the two arrays of eight arrays into locals, works on them there, and `store` writes
 // them back.
+#![tactic(auto)]
+
 ghost use Rattle.std.specs.Prelude.{true, ◌≡◌, ◌≤◌, ◌<◌, length, take};
 ghost use Rattle.fields.specs.Blocks.{fit};
 ghost use Rattle.rules.specs.Sizes.{max_nodes};

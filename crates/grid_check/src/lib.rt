@@ -1,5 +1,7 @@
 // The check behind number 14 for a lent grid: whether bytes are those of a grid that obeys the rules, and whether its columns are the nodes of a table. The
 // rows are read into locals and looked at there.
+#![tactic(auto)]
+
 ghost use Rattle.std.specs.Prelude.{true, ◌≡◌, ◌≤◌, leb, eqb, length, take, drop};
 ghost use Rattle.fields.specs.Choice.{all, pick};
 ghost use Rattle.fields.specs.Blocks.{all_zero};

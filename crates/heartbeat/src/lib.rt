@@ -1,6 +1,8 @@
 // Heartbeats over a lent table. An offer stores a greater heartbeat and says whether it was news: yes, no, or refused with 14 or 2. A local beat raises
 // the node's own by one: 14, 2, 6. The rules on a header by value stand in the crate `heartbeat_header`. `offer_good` and `beat_good` do the same on a
 // table known to be good. A refused call changes no byte.
+#![tactic(auto)]
+
 ghost use Rattle.std.specs.Prelude.{◌≡◌, true};
 ghost use Rattle.rules.specs.Answers.{answer_told, offered_told};
 ghost use Rattle.rules.specs.Given.{Gives, Tells};

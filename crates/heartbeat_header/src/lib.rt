@@ -5,6 +5,8 @@
 // The rules stand in functions by value (`kept`, `told`, `risen`, `can_rise`). The thin functions on a header that is lent, `offer_heartbeat` and
 // `raise_heartbeat`, read the heartbeat, ask them, and store. `offered` and `raised` lend a header that the caller holds: the calls on a lent table go
 // through them, and so through the thin ones. A heartbeat is a `Heartbeat` throughout, so none is taken for a version.
+#![tactic(auto)]
+
 ghost use Rattle.std.specs.Prelude.{◌≡◌};
 ghost use Rattle.rules.specs.Given.{Gives};
 ghost use Rattle.rules.specs.Node.{offer_of};

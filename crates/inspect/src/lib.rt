@@ -2,6 +2,8 @@
 // is nothing to read; the one that ends in `_good` or `_known` does the same on a table known to be good, without the check. A place past the end is refused
 // with 8. Records are read by a party, in what it sees of the table: counts and places are those of a table with its own records alone. So many bytes further
 // back as `front` tells they stand in the lent table. The keys and values themselves are handed out by the crate `inspect_text`.
+#![tactic(auto)]
+
 ghost use Rattle.std.specs.Prelude.{◌≡◌, true, ◌≤◌, ◌<◌, ◌-◌};
 ghost use Rattle.std.proofs.Math.Option.{some};
 ghost use Rattle.fields.specs.Parts.{part};

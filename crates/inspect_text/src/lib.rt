@@ -2,6 +2,8 @@
 // it stands or why the call is refused, and `text_at` hands it out. Both take any bytes; `find_text_known` and `text_known` do the same on a table known to be
 // good, without the check. A place past the end is refused with 8. What is told are the places of a table with the party's own records alone: the bytes stand
 // further back by the front (`inspect::front`), and `text_at` hands out those.
+#![tactic(auto)]
+
 ghost use Rattle.std.specs.Prelude.{◌≡◌, true, ◌≤◌, length};
 ghost use Rattle.std.proofs.Math.Option.{some};
 ghost use Rattle.rules.specs.Given.{Says};

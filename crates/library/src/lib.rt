@@ -1,6 +1,8 @@
 // The library that a hub links: every call as a C function, for a caller in C or Rust. A slice is a pointer and a length, an answer a number or a struct by
 // value (crate `answers`). These take any bytes, and each promises what the call of its name promises, in the number and the values of its answer. The
 // functions of `good` are the same calls on a table that `kev_check` accepts, without the check. The header is include/kevdarosh.h.
+#![tactic(auto)]
+
 ghost use Rattle.std.specs.Prelude.{◌≡◌};
 ghost use Rattle.rules.specs.Answers.{party_of, answer_told, offered_told, remembered_told, listed_told, written_told, computed_told, read_told, applied_told};
 ghost use Rattle.rules.specs.Given.{Gives};

@@ -1,5 +1,7 @@
 // The listing of a delta, written into a lent buffer: a line for each operation and one for the end, or the one line of a refused delta. The
 // verdict and the length of the whole are known before the first byte is written.
+#![tactic(auto)]
+
 ghost use Rattle.std.specs.Prelude.{◌≤◌, length};
 ghost use Rattle.rules.specs.Answers.{written_told};
 ghost use Rattle.rules.specs.Given.{Gives, Tells};

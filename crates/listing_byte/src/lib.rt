@@ -1,4 +1,6 @@
 // A byte of a key or a value as the listing shows it: as itself, or as `%` with two capital hexadecimal digits.
+#![tactic(auto)]
+
 ghost use Rattle.std.specs.Prelude.{◌≡◌, ◌<◌, length};
 ghost use Rattle.rules.specs.Listing.{hex_digit, plain, shown_byte};
 

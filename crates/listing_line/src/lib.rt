@@ -1,5 +1,7 @@
 // One line of a listing, read as an operation, whose bytes are written. Each function is lent what is left of the line, and goes on with what stands
 // behind the piece that it reads: it answers how many bytes the operation has, or 0 where the line is none.
+#![tactic(auto)]
+
 ghost use Rattle.std.specs.Prelude.{◌≡◌, ◌≤◌, length, drop};
 ghost use Rattle.rules.specs.Delta.{NodeOp};
 ghost use Rattle.rules.specs.Sizes.{max_key, max_value};

@@ -1,5 +1,7 @@
 // A delta made from its whole listing, into lent memory: the steps of `delta_make` over memory of its own, and the delta copied at the end. So a call that is
 // refused leaves every byte as it was.
+#![tactic(auto)]
+
 ghost use Rattle.std.specs.Prelude.{◌≤◌, length, take};
 ghost use Rattle.rules.specs.Given.{Gives};
 ghost use Rattle.listing_make.specs.Make.{lent_make, placed};

@@ -1,4 +1,6 @@
 // The lines of a delta's operations in its listing: how long they are together, and the lines written one behind the other into a lent buffer.
+#![tactic(auto)]
+
 ghost use Rattle.std.specs.Prelude.{◌≡◌, ◌*◌, ◌≤◌, length};
 ghost use Rattle.rules.specs.Given.{Gives};
 ghost use Rattle.rules.specs.Sizes.{max_delta, max_key, max_value};

@@ -1,5 +1,7 @@
 // Texts written into a lent buffer as far as there is room, each from a place that may lie behind the buffer's end. The answer is the place behind the
 // whole text: with no room at all nothing is written, and the text is measured.
+#![tactic(auto)]
+
 ghost use Rattle.rules.specs.Given.{Gives};
 ghost use Rattle.rules.specs.Sizes.{max_value};
 ghost use Rattle.std.specs.Prelude.{length, ◌≤◌};

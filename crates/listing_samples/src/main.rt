@@ -1,5 +1,7 @@
 // Replays the folder of samples: for each that an argument names, the name, the listing, and what comes of reading that listing back. make.py says
 // how the samples, and what must be written for them, were made.
+#![tactic(auto)]
+
 use delta_make::Made;
 use rules::{Written, sizes};
 

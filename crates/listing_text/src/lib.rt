@@ -1,5 +1,7 @@
 // Texts in a lent buffer: decimal numbers, names, the bytes of a key or a value as they are shown. Each is written at a place where the caller
 // knows that there is room, and answers the place behind it.
+#![tactic(auto)]
+
 ghost use Rattle.std.specs.Prelude.{◌≡◌, ◌+◌, ◌/◌, ◌%◌, ◌≤◌, ◌<◌, length};
 ghost use Rattle.rules.specs.Given.{Gives};
 ghost use Rattle.rules.specs.Listing.{decimal, shown_byte, shown_bytes, status_text};

@@ -1,5 +1,7 @@
 // Reading what stands at the front of a line's rest: a decimal number, a key or a value. Each must stand there just as it is printed: without a leading
 // zero, below 2^64, with capital hexadecimal digits and no escape that is not needed. That is told by printing what was read, and comparing.
+#![tactic(auto)]
+
 ghost use Rattle.std.specs.Prelude.{◌≡◌, true, ◌*◌, ◌≤◌, ◌<◌, length};
 ghost use Rattle.fields.specs.Order.{same_bytes};
 ghost use Rattle.rules.specs.Listing.{decimal, shown_bytes};

@@ -4,6 +4,8 @@
 // any of the calls is refused with 19 straight behind 1 where the key is not the party's own, and 5 goes by the party's records; in other tables the party
 // is not looked at. A refused call changes no byte. A name with `known` in it is for a table known to be good, so that a caller need not pay for the check
 // again.
+#![tactic(auto)]
+
 ghost use Rattle.std.specs.Prelude.{◌≡◌, true};
 ghost use Rattle.rules.specs.Answers.{answer_told};
 ghost use Rattle.rules.specs.Given.{Gives, Tells};

@@ -1,5 +1,7 @@
 // What is granted to a local call on one node's bytes: 5, 6, or max rises by one and the key's record takes that version, at its place in the order of the
 // keys. A refused call changes no byte.
+#![tactic(auto)]
+
 ghost use Rattle.std.specs.Prelude.{◌≡◌, false, ◌≤◌, length};
 ghost use Rattle.rules.specs.Given.{Gives};
 ghost use Rattle.rules.specs.Sizes.{max_key, max_value};

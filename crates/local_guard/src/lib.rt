@@ -1,6 +1,8 @@
 // What a profile refuses of a local call, behind 2 and 1. The meter profile: a write out of form (17), and one to `total` that states a smaller number than the
 // unhidden record there (18). The shared profile: any call at a key that is not the party's own (19), and a write of a party's 17th key (5). What is let
 // through is document 01's call. It changes nothing. A free table pays one compare.
+#![tactic(auto)]
+
 ghost use Rattle.std.specs.Prelude.{◌≡◌, true, not, ◌&&◌, [], ◌≤◌, leb, ltb, length};
 ghost use Rattle.std.proofs.Math.Option.{none, some};
 ghost use Rattle.fields.specs.Choice.{pick};

@@ -2,6 +2,8 @@
 // 1, 3, nothing to change, 5, 6. What is granted is done by `local_grant`. A refused call changes no byte.
 //
 // `write_node` is all four; the functions above it are its parts. The calls on a whole table stand in the crate `local`.
+#![tactic(auto)]
+
 ghost use Rattle.std.specs.Prelude.{◌≡◌, true, ◌≤◌, ◌<◌, length};
 ghost use Rattle.rules.specs.Given.{Gives};
 ghost use Rattle.rules.specs.Sizes.{max_key, max_value};

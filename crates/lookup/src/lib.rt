@@ -3,6 +3,8 @@
 // check. A party that may not name the key is refused with 19, behind 2 and 1. What is told are the places of a table with the party's own records alone:
 // the bytes stand further back by the front (`inspect::front`), and `lookup` hands out those. `find_good` is the lookup without a party, in the area of a good
 // table, and `in_node` in one node's bytes.
+#![tactic(auto)]
+
 ghost use Rattle.std.specs.Prelude.{◌≡◌, true, ◌≤◌, ◌<◌, ◌-◌, length};
 ghost use Rattle.std.proofs.Math.Option.{some};
 ghost use Rattle.fields.specs.Parts.{part};

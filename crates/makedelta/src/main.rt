@@ -1,4 +1,6 @@
 // Reads a listing from standard input to its end and writes the bytes of its delta, or the one line that says why there is none.
+#![tactic(auto)]
+
 use libc::STDIN_FILENO;
 
 fn main() {

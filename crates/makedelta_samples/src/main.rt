@@ -1,5 +1,6 @@
 // Replays the folder of listings: for each that an argument names, the name and what comes of it, an accepted delta as it is listed. make.py says how
 // they, and what must be written for them, were made.
+#![tactic(auto)]
 
 // The listing that argument i names. Answers whether it could be read, and what comes of it be written.
 fn replay(i: usize) -> bool {

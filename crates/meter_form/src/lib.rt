@@ -1,4 +1,6 @@
 // The forms of the meter profile: which keys and values a record may have, and the number that digits state. It knows no table.
+#![tactic(auto)]
+
 ghost use Rattle.std.specs.Prelude.{◌≡◌, true, ◌&&◌, ◌*◌, ◌≤◌, ◌<◌, length};
 ghost use Rattle.fields.specs.Choice.{all};
 ghost use Rattle.rules.specs.Node.{scheduled};

@@ -1,1 +1,2 @@
 // Careful nets: definitions and theorems (specs/, proofs/). There is no code here.
+#![tactic(auto)]

@@ -1,1 +1,2 @@
 // Nets whose hubs keep grids: definitions and theorems (specs/, proofs/). There is no code here.
+#![tactic(auto)]

@@ -2,6 +2,8 @@
 // 14 and 2, and a node held already is left as it is. `new_table` asks only how long the slice is. `add_good` and `remove_good` do the same on the area of a
 // table known to be good. A removed node is remembered with its last heartbeat, until it is added again or sixteen others were removed after it;
 // `last_heartbeat` tells it. A refused call changes no byte.
+#![tactic(auto)]
+
 ghost use Rattle.std.specs.Prelude.{◌≡◌, true};
 ghost use Rattle.rules.specs.Answers.{answer_told, remembered_told};
 ghost use Rattle.rules.specs.Given.{Gives, Says, Tells};

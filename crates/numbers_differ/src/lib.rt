@@ -1,5 +1,7 @@
 // Numbers in a row: whether one stands among them, and whether all are different, as the versions of a node's records and the numbers of removed nodes must
 // be. That goes by their low bits, so that most are never compared.
+#![tactic(auto)]
+
 ghost use Rattle.std.specs.Prelude.{◌≡◌, ◌-◌, ◌%◌, ◌≤◌, ◌<◌, length, take, drop};
 ghost use Rattle.rules.specs.Table.{among, differ};
 

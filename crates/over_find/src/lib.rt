@@ -3,6 +3,8 @@
 // bytes. A party that may not name the key is refused with 19, behind 2 and 1, whatever the overrides have. A place in the table is told as that of a table
 // with the party's own records alone (crate `lookup`). A name with `known` in it is for overrides and a table known to be good, without the checks;
 // `find_over_good` is the lookup without a party, in the area of a good table.
+#![tactic(auto)]
+
 ghost use Rattle.std.specs.Prelude.{◌≡◌, true, length};
 ghost use Rattle.rules.specs.Given.{Says};
 ghost use Rattle.rules.specs.Layout.{decode_node, decode, valid};

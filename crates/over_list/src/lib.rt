@@ -2,6 +2,8 @@
 // hidden. A hit is a byte: the place of the record among those of the node that the party sees, or 128 and its place in the overrides. Over a shared table a
 // party is listed its own keys alone, of the overrides too. There are at most 64 hits. They are gathered before the first goes to the caller's list, so that
 // a call without room for them writes nothing. `list_over` takes any bytes, and `list_over_known` overrides and a table known to be good.
+#![tactic(auto)]
+
 ghost use Rattle.std.specs.Prelude.{◌≡◌, true, ◌+◌, ◌-◌, ◌≤◌, ◌<◌, length, take};
 ghost use Rattle.std.proofs.Math.Option.{some};
 ghost use Rattle.rules.specs.Given.{Gives, Tells};

@@ -1,6 +1,8 @@
 // Site overrides: a lent table of overrides, one node in form. A caretaker puts a label over a shared one, takes it back, and has the deleted ones removed, by
 // document 01's rules of a node. The entry points take any bytes and refuse with 14 first; a refused call changes no byte. How overrides are read together
 // with a node of a table stands in the crates `over_find` and `over_list`.
+#![tactic(auto)]
+
 ghost use Rattle.std.specs.Prelude.{◌≡◌, true};
 ghost use Rattle.rules.specs.Answers.{answer_told};
 ghost use Rattle.rules.specs.Given.{Gives, Tells};

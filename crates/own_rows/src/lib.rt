@@ -1,5 +1,7 @@
 // Which records of a node a party sees, as a piece of the node's rows. In a shared table `b/` sorts before `m/`, so the records of the building manager
 // stand first and those of the metering firm behind them. Where they part is sought by halves, on the first byte of the keys. Other tables show all.
+#![tactic(auto)]
+
 ghost use Rattle.std.specs.Prelude.{◌≡◌, true, length};
 ghost use Rattle.rules.specs.Table.{keys_rise};
 ghost use Rattle.rules.specs.Party.{own, of_keys};

@@ -1,4 +1,6 @@
 // How many records of a node are a party's own. It looks at the keys alone, so that it may be asked of a node that breaks a rule of its profile.
+#![tactic(auto)]
+
 ghost use Rattle.std.specs.Prelude.{◌≡◌, length};
 ghost use Rattle.rules.specs.Party.{own, of_keys};
 ghost use Rattle.table.specs.Tests.{recs_in};

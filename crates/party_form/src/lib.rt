@@ -1,4 +1,6 @@
 // Whose a key is in a shared table: the metering firm's keys begin `m/`, the building manager's `b/`. In other tables every key is everyone's.
+#![tactic(auto)]
+
 ghost use Rattle.std.specs.Prelude.{◌≡◌};
 ghost use Rattle.rules.specs.Party.{own, someones, sees};
 

@@ -2,6 +2,8 @@
 // lent table whose nodes are its columns. Nodes come and go through this crate, so that the columns stay the table's; a grid and a table that do not belong
 // together are refused with 14, as is either by itself. A careful removal takes what a plain one takes and every peer present has seen. A refused call changes
 // no byte of either.
+#![tactic(auto)]
+
 ghost use Rattle.std.specs.Prelude.{true, ◌≡◌, ℕ, ◌<◌, length, get_or};
 ghost use Rattle.rules.specs.Answers.{answer_told};
 ghost use Rattle.rules.specs.Given.{Gives, Says, Tells};

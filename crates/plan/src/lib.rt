@@ -1,5 +1,7 @@
 // Plans for the air time: a radio planner's list of node numbers, and how many stale records of each are to be sent. When a plan is accepted and what it sends
 // stands in specs/Plan; which line of it is at fault, and why, in specs/Faults. Here are the types that code and definitions share.
+#![tactic(auto)]
+
 ghost use Rattle.std.specs.Prelude.{◌≡◌};
 ghost use Rattle.plan.specs.Faults.{fault_code};
 

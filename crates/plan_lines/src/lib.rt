@@ -1,6 +1,8 @@
 // The lines of a plan, one after the other: whether each can be sent and in how many bytes, and then their operations, written into the lent datagram. A
 // first pass asks everything and sums the sizes; only what it accepts is written by the second. At most eight lines can pass, so that a list of any length ends
 // at its ninth line.
+#![tactic(auto)]
+
 ghost use Rattle.std.specs.Prelude.{◌≡◌, true, ◌-◌, ◌≤◌, ◌<◌, length, take};
 ghost use Rattle.rules.specs.Compute.{stale};
 ghost use Rattle.rules.specs.Delta.{KeyValueOp, delta_bytes, size_of};

@@ -3,6 +3,8 @@
 // and both ends of them are sought by halves, then brought into the piece of rows that the party sees. A prefix of another's keys lists nothing. Where the
 // list may be too short the hits are counted before the first is written, so that a call without room for them writes nothing. A name with `known` in it is
 // for a table known to be good, without the check.
+#![tactic(auto)]
+
 ghost use Rattle.std.specs.Prelude.{◌≡◌, true, not, ◌+◌, ◌≤◌, ◌<◌, length};
 ghost use Rattle.std.proofs.Math.Option.{some};
 ghost use Rattle.fields.specs.Order.{starts_with};

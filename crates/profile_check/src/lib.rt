@@ -1,4 +1,6 @@
 // The profile of a table, and whether its records obey it: a part of the check behind number 14. Of a free table no record is looked at.
+#![tactic(auto)]
+
 ghost use Rattle.std.specs.Prelude.{◌≡◌, ◌≤◌, length};
 ghost use Rattle.rules.specs.Sizes.{max_key, max_value};
 ghost use Rattle.rules.specs.Party.{roomy_each};

@@ -1,5 +1,7 @@
 // Whether the bytes of a node's records are those of records: lengths, version, status, and zeros behind key and value. It takes no way out of its long
 // loop, so that this runs many bytes at a time.
+#![tactic(auto)]
+
 ghost use Rattle.std.specs.Prelude.{◌≡◌, ◌+◌, ◌≤◌, length, drop};
 ghost use Rattle.fields.specs.Blocks.{all_blocks};
 ghost use Rattle.rules.specs.Sizes.{max_records, max_value};

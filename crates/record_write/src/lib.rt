@@ -1,5 +1,7 @@
 // A record of the table stored as an operation of a delta. Texts are copied eight bytes at a time; what comes with a text from behind its end lies within the
 // operation, and is written over by what follows there.
+#![tactic(auto)]
+
 ghost use Rattle.std.specs.Prelude.{◌≡◌, ◌+◌, ◌≤◌, length, ◌++◌};
 ghost use Rattle.fields.specs.Numbers.{bytes_of};
 ghost use Rattle.fields.specs.Parts.{part, put};

@@ -4,6 +4,8 @@
 //
 // `remove_scheduled` takes any bytes, and `remove_good` a table known to be good, without the check. `remove_within` is the same with a bound for each node:
 // a record goes only if its version is within the bound. The functions above them go from one record to one node.
+#![tactic(auto)]
+
 ghost use Rattle.std.specs.Prelude.{◌≡◌, true, not, ◌&&◌, ◌+◌, ◌≤◌, ◌<◌, max, leb, ltb};
 ghost use Rattle.rules.specs.Answers.{answer_told};
 ghost use Rattle.rules.specs.Given.{Tells};

@@ -1,5 +1,7 @@
 // The memory of removed nodes in a lent tail: asking for one, forgetting one, remembering one more. The longest remembered stands first, and free places are
 // zero.
+#![tactic(auto)]
+
 ghost use Rattle.std.specs.Prelude.{◌≡◌, [], ◌∷◌, ◌++◌, ◌≤◌, ◌<◌, length};
 ghost use Rattle.rules.specs.Sizes.{max_removed};
 ghost use Rattle.rules.specs.Memory as memory;

@@ -1,5 +1,7 @@
 // Answers the scripts of oracle/README.md, one line a call, by the port's own calls: the port's side of the comparison with the original. A line that is
 // none of the language is answered by `malformed`, without a checksum.
+#![tactic(auto)]
+
 mod lines;
 
 use lines::Source;

@@ -1,4 +1,6 @@
 // Four hubs' tables and grids, which hub is current, and what `@digest` and `@delta` stand for.
+#![tactic(auto)]
+
 use grid::layout as grid_layout;
 use replay_words::read::{Count, Numeral};
 use replay_words::{print, read, verbs};

@@ -1,4 +1,6 @@
 // The calls on one table that no peer has a part in. Where a word is none that the call takes, nothing is written.
+#![tactic(auto)]
+
 use lookup::Found;
 use replay_tell::marks;
 use replay_words::read::{Count, Numeral};

@@ -1,4 +1,6 @@
 // The calls on overrides, and the readings over overrides and a table. Where a word is none that the call takes, nothing is written.
+#![tactic(auto)]
+
 use over_find::FoundOver;
 use over_list::ListedOver;
 use overrides::Which;

@@ -1,5 +1,7 @@
 // The calls of an exchange: digests and deltas, written and read. Where a word is none that the call takes, nothing is written. Lent memory is marked
 // before a call; where a call wrote outside what it answers, the answer is `touched`.
+#![tactic(auto)]
+
 use digest_read::DigestRead;
 use replay_tell::marks;
 use replay_words::read::{Count, Numeral};

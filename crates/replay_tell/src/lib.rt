@@ -1,4 +1,6 @@
 // Answers to words, into the output from a place on. Each answers the place behind it.
+#![tactic(auto)]
+
 pub mod checksum;
 pub mod marks;
 

@@ -1,4 +1,6 @@
 // The calls on a hub's grid, which lies beside its table. Where a word is none that the call takes, nothing is written.
+#![tactic(auto)]
+
 use grid::{Least, Seen, layout};
 use replay_desk::Desk;
 use replay_words::read::{Count, Numeral};

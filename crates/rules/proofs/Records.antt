@@ -153,9 +153,9 @@ gc-below due g b (a ∷ l) h f = gc-below due (pick (goes due a) (max g a.kv.ver
     go false q = h
 
 -- what goes has a version up to last_gc
-pub gc-covers : (due : Rec → Bool) (g : ℕ) {x : Rec} {l : List Rec} → x ∈ l → goes due x ≡ true → x.kv.version ≤ last_gc_of due g l
+pub gc-covers : (due : Rec → Bool) {x : Rec} (g : ℕ) {l : List Rec} → x ∈ l → goes due x ≡ true → x.kv.version ≤ last_gc_of due g l
 unfolding last_gc_of
-gc-covers due g {x} (here {a = a} {l = l} e) q =
+gc-covers due {x} g (here {a = a} {l = l} e) q =
     let v : x.kv.version ≡ a.kv.version = ap (λ (y : Rec). y.kv.version) e in
     let h : max g a.kv.version ≤ last_gc_of due (max g a.kv.version) l = gc-rises due _ l in
     rw (sym (ap (goes due) e) ∙ q) (omega arith)

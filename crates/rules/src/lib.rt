@@ -1,4 +1,6 @@
 // The types of document 01 that code and definitions share. What they mean stands in specs/.
+#![tactic(auto)]
+
 ghost use Rattle.std.specs.Prelude.{◌≡◌};
 ghost use Rattle.rules.specs.Answers.{number_of, need_of, code_of, mode_of, profile_of, party_of};
 ghost use Rattle.rules.specs.Node.{fresh_header, offer_of};

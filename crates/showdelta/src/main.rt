@@ -1,4 +1,6 @@
 // Reads a delta from standard input to its end and writes its listing. One byte over the longest delta is enough to tell that it is too long.
+#![tactic(auto)]
+
 use libc::STDIN_FILENO;
 use rules::sizes;
 

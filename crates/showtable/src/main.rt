@@ -1,4 +1,6 @@
 // Reads a stored table from standard input to its end and writes its listing. Of a file that is longer than the room only that it is too long is told.
+#![tactic(auto)]
+
 use libc::STDIN_FILENO;
 use table_look::ROOM;
 

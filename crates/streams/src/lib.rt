@@ -1,5 +1,7 @@
 // Standard output written whole and input read to its end, and a line on standard error where that cannot be. The language has no exit status: a program
 // that fails here says so and ends, and `tools/run` then ends with 1.
+#![tactic(auto)]
+
 ghost use Rattle.io.specs.Counts.{IsPrefixLen};
 
 use libc::{STDERR_FILENO, STDOUT_FILENO};

@@ -1,4 +1,6 @@
 // The parts of a lent table: nodes, records, keys and values, each handed out as those very bytes.
+#![tactic(auto)]
+
 ghost use Rattle.std.specs.Prelude.{◌≡◌, ◌≤◌, ◌<◌, length};
 ghost use Rattle.fields.specs.Parts.{part};
 ghost use Rattle.rules.specs.Sizes.{max_nodes, max_records, max_key, max_value, max_removed};

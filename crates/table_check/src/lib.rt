@@ -1,5 +1,7 @@
 // The check behind number 14: whether lent bytes are a table that obeys the rules. It makes one pass over them: the records by `record_check`, their
 // versions by `numbers_differ`, the bytes behind the nodes by `tail_check`. Where the table has a profile, `profile_check` looks at its records once more.
+#![tactic(auto)]
+
 ghost use Rattle.std.specs.Prelude.{◌≡◌, true, ◌≤◌, length, take, drop};
 ghost use Rattle.fields.specs.Blocks.{all_blocks};
 ghost use Rattle.fields.specs.Order.{less_bytes};

@@ -1,5 +1,7 @@
 // The lines of a table's listing: of its kind, of its nodes with their records, of the nodes that were removed from it, of the end. Each is written as far as
 // there is room, and answers the place behind it.
+#![tactic(auto)]
+
 ghost use Rattle.std.specs.Prelude.{◌≡◌, ◌≤◌, length};
 ghost use Rattle.fields.specs.Blocks.{flat};
 ghost use Rattle.rules.specs.Given.{Gives};

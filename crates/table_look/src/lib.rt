@@ -1,5 +1,7 @@
 // Finds the table in a stored file, and writes its listing to standard output. The buffer has room for every listing
 // (table_show/proofs/Shown.antt), and nothing is written before the whole listing stands in it.
+#![tactic(auto)]
+
 ghost use Rattle.std.specs.Prelude.{◌≡◌};
 ghost use Rattle.table_look.specs.Stored.{table_in};
 

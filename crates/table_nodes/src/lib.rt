@@ -1,5 +1,7 @@
 // The nodes of a good table moved, one put in, one taken out. A node's place is 3,713 bytes long and most nodes use few of them, so of each node only the
 // bytes in use are moved; what was in use at its new place, and is not any more, is cleared.
+#![tactic(auto)]
+
 ghost use Rattle.std.specs.Prelude.{◌≡◌, ◌+◌, ◌*◌, ◌-◌, ◌≤◌, ◌<◌, length};
 ghost use Rattle.fields.specs.Parts.{part, put};
 ghost use Rattle.fields.specs.Blocks.{insert_at, remove_at};

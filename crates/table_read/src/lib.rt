@@ -1,4 +1,6 @@
 // Finding in a table: where a node or a record stands, or where it belongs, and what its bytes say. Whether a number is one of a lent list.
+#![tactic(auto)]
+
 ghost use Rattle.std.specs.Prelude.{◌≡◌, true, ◌+◌, ◌≤◌, ◌<◌, length};
 ghost use Rattle.rules.specs.Sizes.{max_nodes, max_key, max_value};
 ghost use Rattle.rules.specs.Table.{keys_rise, among};

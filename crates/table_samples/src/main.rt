@@ -1,5 +1,7 @@
 // Lists the folder of stored tables: for each that an argument names, the name and the listing. make.py says how the samples, and what must be written for
 // them, were made.
+#![tactic(auto)]
+
 use table_look::ROOM;
 
 // The sample that argument i names. Answers whether it could be read, and its listing be written.

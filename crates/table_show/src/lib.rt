@@ -1,5 +1,7 @@
 // The listing of a stored table, written into a lent buffer: a line for its kind, for each node, each record, each removed node and for the end, or the one
 // line of bytes that are no good table. It is measured first, with no room at all, so that nothing is written where there is too little.
+#![tactic(auto)]
+
 ghost use Rattle.std.specs.Prelude.{◌≡◌, true, ◌≤◌, length};
 ghost use Rattle.rules.specs.Answers.{written_told};
 ghost use Rattle.rules.specs.Given.{Gives, Tells};

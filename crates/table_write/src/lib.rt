@@ -1,5 +1,7 @@
 // Writing on a good table: a number of a node's header, a record, a fresh node. Each function leaves exactly the bytes of the changed node or row; room
 // that falls free is cleared, so that what is removed leaves no byte behind.
+#![tactic(auto)]
+
 ghost use Rattle.std.specs.Prelude.{◌≡◌, ◌++◌, ◌+◌, ◌≤◌, ◌<◌, length};
 ghost use Rattle.fields.specs.Numbers.{bytes_of};
 ghost use Rattle.fields.specs.Parts.{put};

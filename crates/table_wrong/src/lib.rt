@@ -1,5 +1,7 @@
 // The one line that is printed of bytes that are no good table: 14, and the first thing that is wrong where it has a name. It is written as far as there
 // is room.
+#![tactic(auto)]
+
 ghost use Rattle.std.specs.Prelude.{◌≡◌, ◌≤◌, drop, length};
 ghost use Rattle.rules.specs.Given.{Gives};
 ghost use Rattle.rules.specs.Sizes.{max_nodes};

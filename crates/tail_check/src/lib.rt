@@ -1,5 +1,7 @@
 // The check of what stands behind a table's area: the mode, the profile, and the memory of removed nodes. Where nothing is remembered, the memory costs no
 // more than its zeros.
+#![tactic(auto)]
+
 ghost use Rattle.std.specs.Prelude.{◌≡◌, ◌&&◌, ◌≤◌, ◌<◌, length, take};
 ghost use Rattle.rules.specs.Sizes.{max_nodes, max_removed};
 ghost use Rattle.rules.specs.Table.{differ, numbers_of};

@@ -1,0 +1,21 @@
+-- `compute::compute_good` meets its contract: 20, or the rule in an edition that there is. Assumes nothing.
+use mathlib.Core.Path.{sym, ◌∙◌}
+use Rattle.rules.specs.Layout.{decode}
+use Rattle.compute_write.proofs.Steps.{gives_as}
+use Rattle.compute.proofs.Calling.{in-edition, no-edition}
+use borrow.Author.Rules.{rules}
+use Rattle.compute.proofs.compute_good.Goals as goal
+
+pub returns-then-is_edition : goal.returns-then-is_edition
+returns-then-is_edition c =
+    let a = c.args in
+    gives_as
+    (in-edition a.edition a.excluded.now a.ties.now a.mtu a.place a.digest.now (decode a.table.now) a.datagram.now
+    (sym c.is_edition.ensures ∙ c.if-is_edition.true))
+    c.compute_known.ensures
+
+pub returns : goal.returns
+returns c =
+    let a = c.args in
+    no-edition a.edition a.excluded.now a.ties.now a.mtu a.place a.digest.now (decode a.table.now) a.datagram.now
+    (sym c.is_edition.ensures ∙ c.if-is_edition.false)

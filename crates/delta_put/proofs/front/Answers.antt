@@ -1,0 +1,16 @@
+-- `delta_put::front` meets its contract. Assumes nothing.
+use mathlib.Core.Path.{sym}
+use native.Mathlib.Omega.{arith}
+use lib.Seq.{length-take-le, take_all}
+use borrow.Author.Rules.{rules}
+use Rattle.delta_put.proofs.front.Goals as goal
+
+-- `delta_put::front` meets its contract. Assumes nothing.
+pub returns-then-bytes-n : goal.returns-then-bytes-n
+returns-then-bytes-n c =
+    let a = c.args in
+    sym (take_all a.n a.bytes.now (omega arith))
+
+pub slice_bounds-result-end : goal.slice_bounds-result-end
+slice_bounds-result-end c =
+    sym (length-take-le _ _ (omega arith))

@@ -1,0 +1,43 @@
+-- `fields::is_zero` meets its contract: the bytes passed and those that are left are all zero where the whole is. Assumes nothing.
+use Prim.Native.Nat.{ℕ, suc, ◌+◌, ◌-◌, ◌≤◌, ◌<◌}
+use mathlib.Core.Path.{◌≡◌, refl, sym, ap, ◌∙◌}
+use mathlib.Core.Bool.{Bool, ◌&&◌}
+use mathlib.Core.List.{List}
+use native.Mathlib.Omega.{arith}
+use native.Mathlib.Numerals.{add-one}
+use lib.Bits.{bit_or}
+use lib.Dec.{eqb}
+use lib.ListN.{length, get_or, drop, drop_of_length-le}
+use lib.Seq.{drop-cons}
+use Rattle.fields.specs.Blocks.{all_zero}
+use Rattle.fields.proofs.Bits.{or-none}
+use Rattle.fields.proofs.Choice.{and_assoc, and_last}
+use borrow.Author.Rules.{rules}
+use Rattle.fields.proofs.is_zero.Goals as goal
+
+-- one byte more is seen
+turn : (l : List ℕ) (i d : ℕ) (t : Bool) → i < length l → (eqb d 0 && all_zero (drop i l)) ≡ t
+    → (eqb (bit_or d (get_or l i 0)) 0 && all_zero (drop (i + 1) l)) ≡ t
+unfolding all_zero
+turn l i d t h e =
+    let x : ℕ = get_or l i 0 in
+    ap (λ (k : ℕ). eqb (bit_or d x) 0 && all_zero (drop k l)) (add-one i)
+    ∙ ap (λ (b : Bool). b && all_zero (drop (suc i) l)) (or-none d x)
+    ∙ and_assoc (eqb d 0) (eqb x 0) (all_zero (drop (suc i) l))
+    ∙ ap (λ (m : List ℕ). eqb d 0 && all_zero m) (sym (drop-cons l i 0 h))
+    ∙ e
+
+pub loop-i-init : goal.loop-i-init
+loop-i-init c =
+    (omega arith, refl)
+
+pub loop-i-preserved : goal.loop-i-preserved
+loop-i-preserved c =
+    let s = c.args.s.now in
+    (omega arith, turn s c.loop-i.i c.loop-i.seen (all_zero s) c.loop-i-test.true c.loop-i.invariant.1)
+
+pub returns : goal.returns
+unfolding all_zero
+returns c =
+    let none = drop_of_length-le c.args.s.now c.loop-i-test.false in
+    sym (and_last (eqb c.loop-i.seen 0)) ∙ (rw none at c.loop-i.invariant.1)

@@ -1,0 +1,33 @@
+-- `heartbeat::offer_heartbeat` meets its contract: 14, or the rule on a good table. Assumes nothing.
+use mathlib.Core.Path.{sym, ◌∙◌}
+use Rattle.rules.specs.Answers.{offered_told}
+use Rattle.rules.specs.Local.{offer}
+use Rattle.rules.specs.declared.Offered.TheVariants.{Refused}
+use Rattle.rules.specs.declared.Refusal.TheVariants.{BadTable}
+use Rattle.rules.proofs.Unique.{tells}
+use Rattle.table_check.proofs.Entry.{area-good, area-within, area-long, bad-table, good-table}
+use borrow.Author.Rules.{rules}
+use Rattle.heartbeat.proofs.offer_heartbeat.Goals as goal
+
+pub slice_bounds-offer_good-end : goal.slice_bounds-offer_good-end
+slice_bounds-offer_good-end c =
+    area-within _ c.check_table.ensures c.if-check_table.true
+
+pub slice_bounds-offer_good-end-then-check_table : goal.slice_bounds-offer_good-end-then-check_table
+slice_bounds-offer_good-end-then-check_table c =
+    area-long _ c.check_table.ensures c.if-check_table.true
+
+pub offer_good-requires : goal.offer_good-requires
+offer_good-requires c =
+    area-good _ c.check_table.ensures c.if-check_table.true
+
+pub returns-then-check_table : goal.returns-then-check_table
+returns-then-check_table c =
+    let a = c.args in
+    let w = c.offer_good in
+    tells offered_told (good-table (Refused BadTable) (offer a.number a.got) a.table.now (sym c.check_table.ensures ∙ c.if-check_table.true) w.result w.new.table w.ensures)
+
+pub returns : goal.returns
+returns c =
+    let a = c.args in
+    tells offered_told (bad-table (Refused BadTable) (offer a.number a.got) a.table.now (sym c.check_table.ensures ∙ c.if-check_table.false))

@@ -1,0 +1,23 @@
+-- `inspect::node_count` meets its contract: 14, or the reading on a good table. Assumes nothing.
+use mathlib.Core.Path.{ap}
+use Rattle.inspect.specs.Told.{count_told}
+use Rattle.table_read.proofs.Entry.{read-good, read-bad}
+use Rattle.table_check.proofs.Entry.{area-good, area-long}
+use borrow.Author.Rules.{rules}
+use Rattle.inspect.proofs.node_count.Goals as goal
+
+pub slice_bounds-node_count_good-end : goal.slice_bounds-node_count_good-end
+slice_bounds-node_count_good-end c =
+    area-long _ c.check_table.ensures c.if-check_table.true
+
+pub node_count_good-requires : goal.node_count_good-requires
+node_count_good-requires c =
+    area-good _ c.check_table.ensures c.if-check_table.true
+
+pub returns-then-check_table : goal.returns-then-check_table
+returns-then-check_table c =
+    ap count_told (search read-good)
+
+pub returns-else-check_table : goal.returns-else-check_table
+returns-else-check_table c =
+    ap count_told (search read-bad)

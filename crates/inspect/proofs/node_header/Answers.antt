@@ -1,0 +1,23 @@
+-- `inspect::node_header` meets its contract: 14, or the reading on a good table. Assumes nothing.
+use mathlib.Core.Path.{ap}
+use Rattle.inspect.specs.Told.{node_header_told}
+use Rattle.table_read.proofs.Entry.{read-good, read-bad}
+use Rattle.table_check.proofs.Entry.{area-good, area-long}
+use borrow.Author.Rules.{rules}
+use Rattle.inspect.proofs.node_header.Goals as goal
+
+pub slice_bounds-node_header_good-end : goal.slice_bounds-node_header_good-end
+slice_bounds-node_header_good-end c =
+    area-long _ c.check_table.ensures c.if-check_table.true
+
+pub node_header_good-requires : goal.node_header_good-requires
+node_header_good-requires c =
+    area-good _ c.check_table.ensures c.if-check_table.true
+
+pub returns-then-check_table : goal.returns-then-check_table
+returns-then-check_table c =
+    ap node_header_told (search read-good)
+
+pub returns-else-check_table : goal.returns-else-check_table
+returns-else-check_table c =
+    ap node_header_told (search read-bad)

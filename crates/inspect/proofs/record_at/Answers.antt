@@ -1,0 +1,18 @@
+-- `inspect::record_at` meets its contract: 14, or the reading on a good table. Assumes nothing.
+use mathlib.Core.Path.{ap, sym, ◌∙◌}
+use Rattle.inspect.specs.Told.{record_read_told}
+use Rattle.table_read.proofs.Entry.{read-good, read-bad}
+use borrow.Author.Rules.{rules}
+use Rattle.inspect.proofs.record_at.Goals as goal
+
+pub record_at_known-requires : goal.record_at_known-requires
+record_at_known-requires c =
+    sym c.check_table.ensures ∙ c.if-check_table.true
+
+pub returns-then-check_table : goal.returns-then-check_table
+returns-then-check_table c =
+    ap record_read_told (search read-good)
+
+pub returns-else-check_table : goal.returns-else-check_table
+returns-else-check_table c =
+    ap record_read_told (search read-bad)

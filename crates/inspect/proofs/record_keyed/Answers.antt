@@ -1,0 +1,57 @@
+-- `inspect::record_keyed` meets its contract: 1, 19, or what the search for the key says of the records that the party sees. Assumes nothing.
+use Prim.Native.Nat.{◌-◌, ◌≤◌}
+use mathlib.Core.Path.{◌≡◌, ap, sym, subst, ◌∙◌}
+use mathlib.Core.Bool.{true}
+use Rattle.rules.specs.Party.{sees}
+use Rattle.table.specs.Tests.{recs_in}
+use Rattle.table.proofs.Places.{rec_at}
+use Rattle.table_read.specs.Find.{find_key}
+use Rattle.table_read.specs.declared.Place.TheVariants.{At}
+use Rattle.table_read.proofs.Searched.{rec-in}
+use Rattle.own_rows.specs.declared.Sight.{Sight}
+use Rattle.own_rows.proofs.Keys.{own_behind}
+use Rattle.inspect.specs.Look.{read_rec}
+use Rattle.inspect.proofs.Keyed.{long-first, other-first, named-reads, key-there, key-nowhere}
+use borrow.Author.Rules.{rules}
+use Rattle.inspect.proofs.record_keyed.Goals as goal
+
+pub returns-then-key-gt-KEY : goal.returns-then-key-gt-KEY
+returns-then-key-gt-KEY c =
+    let a = c.args in long-first a.profile a.party a.key.now a.start _ c.if-key-gt-KEY.true
+
+pub placed-requires : goal.placed-requires
+placed-requires c =
+    let named : let a = c.args in sees a.profile a.party a.key.now ≡ true = sym c.may_name.ensures ∙ c.if-may_name.true in
+    let found : let a = c.args in find_key a.key.now (recs_in a.node.now) ≡ At c.in-At.j = sym c.search_key.ensures ∙ c.in-At.is in
+    let a = c.args in
+    let j = c.in-At.j in (
+      c.requires.0,
+      c.requires.3,
+      subst (λ (x : Sight). x.low ≤ j) (sym c.sight_of.ensures)
+          (own_behind a.profile a.party a.node.now c.requires.1 c.requires.2 a.key.now (named) j (found)),
+      rec-in a.node.now a.key.now j (found),
+    )
+
+pub returns-in-At : goal.returns-in-At
+returns-in-At c =
+    let named : let a = c.args in sees a.profile a.party a.key.now ≡ true = sym c.may_name.ensures ∙ c.if-may_name.true in
+    let found : let a = c.args in find_key a.key.now (recs_in a.node.now) ≡ At c.in-At.j = sym c.search_key.ensures ∙ c.in-At.is in
+    let a = c.args in
+    let j = c.in-At.j in
+    named-reads a.profile a.party a.key.now a.start _ c.if-key-gt-KEY.false c.may_name.ensures c.if-may_name.true _
+    (c.placed.ensures
+    ∙ ap (λ (x : Sight). read_rec a.start (j - x.low) (rec_at j a.node.now)) c.sight_of.ensures
+    ∙ key-there a.profile a.party a.key.now a.node.now a.start c.requires.1 c.requires.2 (named) j (found))
+
+pub returns-in-Free : goal.returns-in-Free
+returns-in-Free c =
+    let named : let a = c.args in sees a.profile a.party a.key.now ≡ true = sym c.may_name.ensures ∙ c.if-may_name.true in
+    let a = c.args in
+    named-reads a.profile a.party a.key.now a.start _ c.if-key-gt-KEY.false c.may_name.ensures c.if-may_name.true _
+    (key-nowhere a.profile a.party a.key.now a.node.now a.start c.requires.1 c.requires.2 (named) _
+    (sym c.search_key.ensures ∙ c.in-Free.is))
+
+pub returns-else-may_name : goal.returns-else-may_name
+returns-else-may_name c =
+    let a = c.args in
+    other-first a.profile a.party a.key.now a.start _ c.if-key-gt-KEY.false c.may_name.ensures c.if-may_name.false

@@ -1,0 +1,28 @@
+-- `inspect_text::text_at` meets its contract: nothing where the table is bad (14), or what is handed out of a good table. Assumes nothing.
+use mathlib.Core.Path.{refl, sym, ◌∙◌}
+use native.Mathlib.Nat.{add-zero}
+use Rattle.rules.specs.Whole.{decode_whole}
+use Rattle.table_read.proofs.Entry.{read-good, read-bad}
+use Rattle.lookup.specs.Lookup.{nothing_held}
+use Rattle.lookup.proofs.Values.{same-hands}
+use Rattle.inspect_text.specs.Texts.{text_part}
+use borrow.Author.Rules.{rules}
+use Rattle.inspect_text.proofs.text_at.Goals as goal
+
+pub text_known-requires : goal.text_known-requires
+text_known-requires c =
+    sym c.check_table.ensures ∙ c.if-check_table.true
+
+pub returns-then-check_table : goal.returns-then-check_table
+returns-then-check_table c =
+    let a = c.args in
+    let rule = text_part (decode_whole a.table.now).kind.profile a.party a.text a.number a.j in
+    same-hands (read-good nothing_held rule a.table.now c.check_table.ensures c.if-check_table.true _ refl) _ _ _
+    c.text_known.ensures
+
+pub returns-else-check_table : goal.returns-else-check_table
+returns-else-check_table c =
+    let a = c.args in
+    let rule = text_part (decode_whole a.table.now).kind.profile a.party a.text a.number a.j in
+    same-hands (read-bad nothing_held rule a.table.now c.check_table.ensures c.if-check_table.false) _ _ _
+    (refl, refl, sym (add-zero a.table.ptr.1))

@@ -1,0 +1,13 @@
+-- `library::good::kev_good_find` meets its contract: the call by the number's party on a good table, and what its answer tells. Assumes nothing.
+use mathlib.Core.Path.{ap, ◌∙◌}
+use Rattle.lookup.specs.Told.{found_told}
+use Rattle.lookup.specs.declared.Found.{Found}
+use Rattle.answers.specs.Shown.{found_shown}
+use Rattle.library.proofs.Accepted.{good-read}
+use borrow.Author.Rules.{rules}
+use Rattle.library.proofs.good.kev_good_find.Goals as goal
+
+pub returns : goal.returns
+returns c =
+    let e = rw c.of_number.ensures at c.find_known.ensures in
+    c.found.ensures ∙ ap (λ (a : Found). found_shown (found_told a)) (good-read _ _ c.args.table.now c.requires _ e)

@@ -1,0 +1,13 @@
+-- `library::good::kev_good_last_heartbeat` meets its contract: the call on a good table, and what its answer tells. Assumes nothing.
+use mathlib.Core.Path.{ap, ◌∙◌}
+use Rattle.rules.specs.Answers.{remembered_told}
+use Rattle.rules.specs.declared.Remembered.{Remembered}
+use Rattle.nodes.proofs.Remembering.{told}
+use Rattle.answers.specs.Shown.{heartbeat_shown}
+use borrow.Author.Rules.{rules}
+use Rattle.library.proofs.good.kev_good_last_heartbeat.Goals as goal
+
+pub returns : goal.returns
+returns c =
+    c.heartbeat.ensures
+    ∙ ap (λ (a : Remembered). heartbeat_shown (remembered_told a)) (c.last_heartbeat_known.ensures ∙ told c.args.table.now c.args.number c.requires)

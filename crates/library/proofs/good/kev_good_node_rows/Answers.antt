@@ -1,0 +1,13 @@
+-- `library::good::kev_good_node_rows` meets its contract: the call by the number's party on a good table, and what its answer tells. Assumes nothing.
+use mathlib.Core.Path.{ap, ◌∙◌}
+use Rattle.inspect.specs.Told.{rows_told}
+use Rattle.inspect.specs.declared.Rows.{Rows}
+use Rattle.answers.specs.Shown.{rows_shown}
+use Rattle.library.proofs.Accepted.{good-read}
+use borrow.Author.Rules.{rules}
+use Rattle.library.proofs.good.kev_good_node_rows.Goals as goal
+
+pub returns : goal.returns
+returns c =
+    let e = rw c.of_number.ensures at c.node_rows_known.ensures in
+    c.rows.ensures ∙ ap (λ (a : Rows). rows_shown (rows_told a)) (good-read _ _ c.args.table.now c.requires _ e)

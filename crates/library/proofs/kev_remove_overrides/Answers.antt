@@ -1,0 +1,9 @@
+-- `library::kev_remove_overrides` meets its contract: the call, and what its answer tells. Assumes nothing.
+use mathlib.Core.Path.{ap, ◌∙◌}
+use Rattle.answers.specs.Shown.{number_shown}
+use borrow.Author.Rules.{rules}
+use Rattle.library.proofs.kev_remove_overrides.Goals as goal
+
+pub returns : goal.returns
+returns c =
+    let e = c.remove_overrides.ensures in (c.number.ensures ∙ ap number_shown e.0, e.1)

@@ -1,0 +1,9 @@
+-- `library::kev_value_at` meets its contract: the call by the number's party, and what its answer tells. Assumes nothing.
+use mathlib.Core.Path.{ap, ◌∙◌}
+use Rattle.answers.specs.Shown.{found_shown}
+use borrow.Author.Rules.{rules}
+use Rattle.library.proofs.kev_value_at.Goals as goal
+
+pub returns : goal.returns
+returns c =
+    c.found.ensures ∙ ap found_shown (rw c.of_number.ensures at c.find_text.ensures)

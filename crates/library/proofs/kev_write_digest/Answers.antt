@@ -1,0 +1,10 @@
+-- `library::kev_write_digest` meets its contract: the call, and what its answer tells. Assumes nothing.
+use mathlib.Core.Path.{ap, ◌∙◌}
+use Rattle.answers.specs.Shown.{count_shown}
+use borrow.Author.Rules.{rules}
+use Rattle.library.proofs.kev_write_digest.Goals as goal
+
+pub returns : goal.returns
+returns c =
+    let e = c.write_digest.ensures in
+    (c.bytes.ensures ∙ ap count_shown e.0, e.1)

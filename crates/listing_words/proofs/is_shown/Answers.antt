@@ -1,0 +1,41 @@
+-- `listing_words::is_shown` meets its contract. Assumes nothing.
+use Prim.Native.Nat.{ℕ, ◌≤◌}
+use mathlib.Core.Path.{ap, sym, ◌∙◌}
+use mathlib.Core.List.{List}
+use native.Mathlib.Omega.{arith}
+use lib.ListN.{length, replicate, length-replicate}
+use lib.Seq.{length-take-le}
+use borrow.Author.Rules.{rules}
+use Rattle.fields.specs.Order.{same_bytes}
+use Rattle.rules.specs.Listing.{shown_bytes}
+use Rattle.listing_text.proofs.Texts.{shown-long}
+use Rattle.listing_words.proofs.Read.{put_front, put-within}
+use Rattle.listing_words.proofs.is_shown.Goals as goal
+
+-- `listing_words::is_shown` meets its contract. Assumes nothing.
+-- the buffer
+abbrev own : List ℕ
+own = replicate 192 0
+
+room : (t : List ℕ) → length t ≤ 64 → length (shown_bytes t) ≤ length own
+room t h = omega (arith, shown-long t, length-replicate {A = ℕ} 192 0)
+
+pub put_shown-n-requires : goal.put_shown-n-requires
+put_shown-n-requires c =
+    omega (arith, room c.args.text.now c.requires)
+
+pub slice_bounds-shown-end : goal.slice_bounds-shown-end
+slice_bounds-shown-end c =
+    let within : c.put_shown-n.result ≤ length c.put_shown-n.new.out = put-within (shown_bytes c.args.text.now) own _ _ (room c.args.text.now c.requires) c.put_shown-n.ensures in
+    within
+
+pub slice_bounds-is_same-end : goal.slice_bounds-is_same-end
+slice_bounds-is_same-end c =
+    let within : c.put_shown-n.result ≤ length c.put_shown-n.new.out = put-within (shown_bytes c.args.text.now) own _ _ (room c.args.text.now c.requires) c.put_shown-n.ensures in
+    sym (length-take-le _ _ (within))
+
+pub returns : goal.returns
+returns c =
+    let a = c.args in
+    c.is_same.ensures
+    ∙ ap (λ (x : List ℕ). same_bytes x a.piece.now) (put_front (shown_bytes a.text.now) own _ _ (room a.text.now c.requires) c.put_shown-n.ensures)

@@ -1,0 +1,18 @@
+-- `lookup::find` meets its contract: 14, or the lookup on a good table. Assumes nothing.
+use mathlib.Core.Path.{ap, sym, ◌∙◌}
+use Rattle.lookup.specs.Told.{found_told}
+use Rattle.table_read.proofs.Entry.{read-good, read-bad}
+use borrow.Author.Rules.{rules}
+use Rattle.lookup.proofs.find.Goals as goal
+
+pub find_known-requires : goal.find_known-requires
+find_known-requires c =
+    sym c.check_table.ensures ∙ c.if-check_table.true
+
+pub returns-then-check_table : goal.returns-then-check_table
+returns-then-check_table c =
+    ap found_told (search read-good)
+
+pub returns-else-check_table : goal.returns-else-check_table
+returns-else-check_table c =
+    ap found_told (search read-bad)

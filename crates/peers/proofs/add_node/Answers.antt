@@ -1,0 +1,41 @@
+-- `peers::add_node` meets its contract: 14, what the table says, and the column with it. Assumes nothing.
+use mathlib.Core.Path.{◌∙◌, refl, sym}
+use Rattle.rules.proofs.Unique.{tells}
+use Rattle.rules.specs.Answers.{answer_told}
+use Rattle.rules.specs.Lent.{add_whole}
+use Rattle.rules.specs.Whole.{decode_whole}
+use Rattle.rules.specs.declared.Answer.TheVariants.{Refused}
+use Rattle.rules.specs.declared.Refusal.TheVariants.{BadTable}
+use Rattle.grid.specs.Grid.{add_column}
+use Rattle.grid.specs.GridLayout.{decode_grid, encode_grid}
+use Rattle.grid.specs.LentGrid.{both, lent_column_in}
+use Rattle.peers.proofs.Watching.{both-grid, both-table, no, with-column, without-column}
+use borrow.Author.Rules.{rules}
+use Rattle.peers.proofs.add_node.Goals as goal
+
+pub add_known-requires : goal.add_known-requires
+add_known-requires c =
+    both-table c.args.grid.now c.args.table.now (sym c.check_both.ensures ∙ c.if-check_both.true)
+
+pub add_column-requires : goal.add_column-requires
+add_column-requires c =
+    both-grid c.args.grid.now c.args.table.now (sym c.check_both.ensures ∙ c.if-check_both.true)
+
+pub returns-in-Done : goal.returns-in-Done
+unfolding lent_column_in
+returns-in-Done c =
+    tells answer_told
+    (with-column c.args.grid.now c.args.table.now (sym c.check_both.ensures ∙ c.if-check_both.true) (add_whole c.args.number (decode_whole c.args.table.now)) (encode_grid (add_column c.args.number (decode_grid c.args.grid.now)))
+    c.add_known.result c.add_known.new.table c.add_known.ensures.0 c.add_known.ensures.1 c.in-Done.is c.add_column.new.grid c.add_column.ensures)
+
+pub returns-in-Refused : goal.returns-in-Refused
+unfolding lent_column_in
+returns-in-Refused c =
+    tells answer_told
+    (without-column c.args.grid.now c.args.table.now (sym c.check_both.ensures ∙ c.if-check_both.true) (add_whole c.args.number (decode_whole c.args.table.now)) (encode_grid (add_column c.args.number (decode_grid c.args.grid.now)))
+    c.add_known.result c.add_known.new.table c.add_known.ensures.0 c.add_known.ensures.1 _ c.in-Refused.is)
+
+pub returns-else-check_both : goal.returns-else-check_both
+unfolding lent_column_in
+returns-else-check_both c =
+    tells answer_told (no _ _ _ (sym c.check_both.ensures ∙ c.if-check_both.false) (Refused BadTable) (both c.args.grid.now c.args.table.now) (refl, refl))

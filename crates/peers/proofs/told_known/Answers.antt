@@ -1,0 +1,66 @@
+-- `peers::told_known` meets its contract: 21, 2, the pair, or absent. Assumes nothing.
+use Prim.Native.Nat.{ℕ}
+use mathlib.Core.List.{List, []}
+use mathlib.Core.Path.{◌∙◌, ap, ap₂}
+use native.Mathlib.Omega.{arith}
+use lib.ListN.{get_or}
+use Rattle.fields.proofs.Lent.{seen}
+use Rattle.grid.specs.GridLayout.{row_in, row_width, rows_in, rows_width}
+use Rattle.grid.specs.declared.Seen.TheVariants as answer
+use Rattle.grid.proofs.GridBytes.{good-grid}
+use Rattle.grid_change.proofs.Storing.{few}
+use Rattle.peers.proofs.Watching.{no-column, no-peer, pair-absent, pair-there}
+use borrow.Author.Rules.{rules}
+use Rattle.peers.proofs.told_known.Goals as goal
+
+-- `peers::told_known` meets its contract: 21, 2, the pair, or absent. Assumes nothing.
+pub returns-then-peer-ge8 : goal.returns-then-peer-ge8
+returns-then-peer-ge8 c =
+    no-peer c.args.grid.now c.args.peer c.args.number c.if-peer-ge8.true
+
+pub byte_at-n-requires : goal.byte_at-n-requires
+byte_at-n-requires c =
+    omega (arith, (good-grid c.args.grid.now c.requires).long)
+
+pub slice_bounds-read_row-end : goal.slice_bounds-read_row-end
+slice_bounds-read_row-end c =
+    omega (arith, (good-grid c.args.grid.now c.requires).long)
+
+pub place_of-j-requires : goal.place_of-j-requires
+place_of-j-requires c =
+    few c.args.grid.now c.requires c.byte_at-n.result c.read_row-numbers.result c.byte_at-n.ensures.0 (c.read_row-numbers.ensures ∙ ap row_in (seen 1 row_width c.args.grid.now))
+
+pub returns-then-n-j : goal.returns-then-n-j
+returns-then-n-j c =
+    no-column c.args.grid.now c.requires c.byte_at-n.result c.read_row-numbers.result c.byte_at-n.ensures.0 (c.read_row-numbers.ensures ∙ ap row_in (seen 1 row_width c.args.grid.now)) c.args.number c.place_of-j.result c.place_of-j.ensures c.args.peer (omega (arith, c.if-peer-ge8.false)) c.if-n-j.true
+
+pub bounds-grid-x : goal.bounds-grid-x
+bounds-grid-x c =
+    omega (arith, (good-grid c.args.grid.now c.requires).long, c.if-peer-ge8.false)
+
+pub slice_bounds-read_rows-end : goal.slice_bounds-read_rows-end
+slice_bounds-read_rows-end c =
+    omega (arith, (good-grid c.args.grid.now c.requires).long)
+
+pub slice_bounds-read_rows-end-then-grid-x-eq1 : goal.slice_bounds-read_rows-end-then-grid-x-eq1
+slice_bounds-read_rows-end-then-grid-x-eq1 c =
+    omega (arith, (good-grid c.args.grid.now c.requires).long)
+
+pub bounds-gcs-j : goal.bounds-gcs-j
+bounds-gcs-j c =
+    omega (arith, c.if-n-j.false, few c.args.grid.now c.requires c.byte_at-n.result c.read_row-numbers.result c.byte_at-n.ensures.0 (c.read_row-numbers.ensures ∙ ap row_in (seen 1 row_width c.args.grid.now)))
+
+pub bounds-maxes-j : goal.bounds-maxes-j
+bounds-maxes-j c =
+    omega (arith, c.if-n-j.false, few c.args.grid.now c.requires c.byte_at-n.result c.read_row-numbers.result c.byte_at-n.ensures.0 (c.read_row-numbers.ensures ∙ ap row_in (seen 1 row_width c.args.grid.now)))
+
+pub returns-then-grid-x-eq1 : goal.returns-then-grid-x-eq1
+returns-then-grid-x-eq1 c =
+    let gs = c.read_rows-gcs.ensures ∙ ap rows_in (seen 73 rows_width c.args.grid.now) in
+    let ms = c.read_rows-maxes.ensures ∙ ap rows_in (seen 585 rows_width c.args.grid.now) in
+    ap₂ (λ (x y : List (List ℕ)). answer.Pair (get_or (get_or x c.args.peer []) c.place_of-j.result 0) (get_or (get_or y c.args.peer []) c.place_of-j.result 0)) gs ms
+    ∙ pair-there c.args.grid.now c.requires c.byte_at-n.result c.read_row-numbers.result c.byte_at-n.ensures.0 (c.read_row-numbers.ensures ∙ ap row_in (seen 1 row_width c.args.grid.now)) c.args.number c.place_of-j.result c.place_of-j.ensures c.args.peer (omega (arith, c.if-peer-ge8.false)) (omega (arith, c.if-n-j.false)) c.if-grid-x-eq1.true
+
+pub returns : goal.returns
+returns c =
+    pair-absent c.args.grid.now c.requires c.byte_at-n.result c.read_row-numbers.result c.byte_at-n.ensures.0 (c.read_row-numbers.ensures ∙ ap row_in (seen 1 row_width c.args.grid.now)) c.args.number c.place_of-j.result c.place_of-j.ensures c.args.peer (omega (arith, c.if-peer-ge8.false)) (omega (arith, c.if-n-j.false)) c.if-grid-x-eq1.false

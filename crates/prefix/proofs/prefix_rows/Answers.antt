@@ -1,0 +1,18 @@
+-- `prefix::prefix_rows` meets its contract: 14, or the reading on a good table. Assumes nothing.
+use mathlib.Core.Path.{ap, sym, ◌∙◌}
+use Rattle.inspect.specs.Told.{rows_told}
+use Rattle.table_read.proofs.Entry.{read-bad}
+use borrow.Author.Rules.{rules}
+use Rattle.prefix.proofs.prefix_rows.Goals as goal
+
+pub prefix_rows_known-requires : goal.prefix_rows_known-requires
+prefix_rows_known-requires c =
+    sym c.check_table.ensures ∙ c.if-check_table.true
+
+pub returns-then-check_table : goal.returns-then-check_table
+returns-then-check_table c =
+    ap rows_told c.prefix_rows_known.ensures
+
+pub returns-else-check_table : goal.returns-else-check_table
+returns-else-check_table c =
+    ap rows_told (search read-bad)

@@ -1,0 +1,36 @@
+-- `profile_check::check_forms` meets its contract: the nodes that are left decide. Assumes nothing.
+use Prim.Native.Nat.{◌-◌, ◌≤◌}
+use mathlib.Core.Path.{◌≡◌, ◌∙◌, refl, sym, subst}
+use native.Mathlib.Omega.{arith}
+use lib.ListN.{drop}
+use borrow.Author.Rules.{rules}
+use Rattle.rules.specs.Layout.{decode}
+use Rattle.rules.specs.Profile.{recs_formed, table_formed}
+use Rattle.table.specs.Fits.{LaidNode}
+use Rattle.table.proofs.Laid.{laid-at}
+use Rattle.profile_check.proofs.Formed.{each, no_node, node-on, node-stop}
+use Rattle.profile_check.proofs.check_forms.Goals as goal
+
+pub loop-i-init : goal.loop-i-init
+unfolding table_formed
+loop-i-init c =
+    (omega arith, refl)
+
+pub node_formed-requires : goal.node_formed-requires
+node_formed-requires c =
+    subst LaidNode (sym c.node_of.ensures) (laid-at c.args.area.now c.requires c.loop-i.i (omega arith))
+
+pub loop-i-preserved : goal.loop-i-preserved
+loop-i-preserved c =
+    let a = c.args in
+    (omega arith, node-on (recs_formed a.profile) a.area.now c.loop-i.i (omega arith) _ c.node_of.ensures c.node_formed.ensures c.if-node_formed.true ∙ c.loop-i.invariant.1)
+
+pub returns-else-node_formed : goal.returns-else-node_formed
+returns-else-node_formed c =
+    let a = c.args in
+    sym (node-stop (recs_formed a.profile) a.area.now c.loop-i.i (omega arith) _ c.node_of.ensures c.node_formed.ensures c.if-node_formed.false) ∙ c.loop-i.invariant.1
+
+pub returns : goal.returns
+returns c =
+    let a = c.args in
+    sym (no_node (recs_formed a.profile) a.area.now c.loop-i.i (omega arith)) ∙ c.loop-i.invariant.1

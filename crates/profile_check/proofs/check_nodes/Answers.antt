@@ -1,0 +1,36 @@
+-- `profile_check::check_nodes` meets its contract: the nodes that are left decide. Assumes nothing.
+use Prim.Native.Nat.{◌-◌, ◌≤◌}
+use mathlib.Core.Path.{◌≡◌, ◌∙◌, refl, sym, subst}
+use native.Mathlib.Omega.{arith}
+use lib.ListN.{drop}
+use borrow.Author.Rules.{rules}
+use Rattle.rules.specs.Layout.{decode}
+use Rattle.rules.specs.Profile.{profile_obeys, recs_obey}
+use Rattle.table.specs.Fits.{LaidNode}
+use Rattle.table.proofs.Laid.{laid-at}
+use Rattle.profile_check.proofs.Formed.{each, no_node, node-on, node-stop}
+use Rattle.profile_check.proofs.check_nodes.Goals as goal
+
+pub loop-i-init : goal.loop-i-init
+unfolding profile_obeys
+loop-i-init c =
+    (omega arith, refl)
+
+pub node_obeys-requires : goal.node_obeys-requires
+node_obeys-requires c =
+    subst LaidNode (sym c.node_of.ensures) (laid-at c.args.area.now c.requires c.loop-i.i (omega arith))
+
+pub loop-i-preserved : goal.loop-i-preserved
+loop-i-preserved c =
+    let a = c.args in
+    (omega arith, node-on (recs_obey a.profile) a.area.now c.loop-i.i (omega arith) _ c.node_of.ensures c.node_obeys.ensures c.if-node_obeys.true ∙ c.loop-i.invariant.1)
+
+pub returns-else-node_obeys : goal.returns-else-node_obeys
+returns-else-node_obeys c =
+    let a = c.args in
+    sym (node-stop (recs_obey a.profile) a.area.now c.loop-i.i (omega arith) _ c.node_of.ensures c.node_obeys.ensures c.if-node_obeys.false) ∙ c.loop-i.invariant.1
+
+pub returns : goal.returns
+returns c =
+    let a = c.args in
+    sym (no_node (recs_obey a.profile) a.area.now c.loop-i.i (omega arith)) ∙ c.loop-i.invariant.1

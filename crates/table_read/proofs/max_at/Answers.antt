@@ -1,0 +1,20 @@
+-- `table_read::max_at` meets its contract: the node's max stands in its bytes. Assumes nothing.
+use mathlib.Core.Path.{ap, ◌∙◌}
+use native.Mathlib.Omega.{arith}
+use lib.ListN.{length}
+use Rattle.fields.proofs.Parts.{length_part}
+use Rattle.rules.specs.Layout.{node_width, node_place}
+use Rattle.table_read.proofs.Located.{max-is}
+use borrow.Author.Rules.{rules}
+use Rattle.table_read.proofs.max_at.Goals as goal
+
+pub read_u64-requires : goal.read_u64-requires
+read_u64-requires c =
+    let a = c.args in
+    let e = ap length c.node_of.ensures ∙ length_part (node_place a.p) node_width a.table.now (omega arith) in
+    omega arith
+
+pub returns : goal.returns
+returns c =
+    let a = c.args in
+    max-is a.table.now _ a.p _ (omega arith) c.node_of.ensures c.read_u64.ensures

@@ -1,0 +1,14 @@
+-- `table_write::set_heartbeat` meets its contract. Assumes nothing.
+use mathlib.Core.Path.{ap, sym, ◌∙◌}
+use Rattle.fields.specs.Numbers.{bytes_of}
+use Rattle.fields.specs.Parts.{put}
+use Rattle.fields.specs.Widths.{offset}
+use Rattle.rules.specs.Layout.{node_widths, decode_node}
+use Rattle.table.proofs.Changed.{put-beat}
+use borrow.Author.Rules.{rules}
+use Rattle.table_write.proofs.set_heartbeat.Goals as goal
+
+pub returns : goal.returns
+returns c =
+    let a = c.args in
+    c.write_u64.ensures ∙ ap (put (offset node_widths 1) (bytes_of 8 a.heartbeat.0)) (sym c.requires.is) ∙ put-beat (decode_node a.node.now) a.heartbeat.0
