@@ -32,7 +32,7 @@ use Rattle.delta_form.proofs.Formed.{as-good}
 use Rattle.delta_read.specs.declared.Heads.{Heads}
 use Rattle.delta_read.specs.NodeDeltas.{parts_from, AllHeads}
 use Rattle.apply_parts.proofs.Applying as parts
-use Rattle.apply_parts.specs.Applying.{parts_applied, Accepted, HeadsFound}
+use Rattle.apply_parts.specs.Applying.{parts_leaving, Accepted, HeadsFound}
 
 -- ---- an accepted delta
 
@@ -128,7 +128,7 @@ module _ (own delta : List ℕ) (clock : ℕ) (list l : List ℕ) where
 
       -- the area came back as s
       pub applied-all : nodes ≤ length list → (mode : Mode) → mode ≡ k.mode → (profile : Profile) → profile ≡ k.profile → (s list' : List ℕ)
-          → both s list' ≡ parts_applied own (kind mode profile) clock (parts_from delta 0) list (area_of l)
+          → both s list' ≡ parts_leaving own (kind mode profile) clock (parts_from delta 0) list (area_of l)
           → Outcome (Nodes nodes) (s ++ drop table_width l) list'
       unfolding lent_leaving_as
       applied-all h mode m profile f s list' p =
@@ -138,8 +138,8 @@ module _ (own delta : List ℕ) (clock : ℕ) (list l : List ℕ) where
           let after : Stream = leaving_each own (apply_node ways clock) (rule.parts_of a.0) (decode_whole l).table in
           let e : both s list' ≡ both (encode after.table) (put 0 (codes after.answers) list) =
           p
-          ∙ ap₂ (λ (x : Mode) (y : Profile). parts_applied own (kind x y) clock (parts_from delta 0) list (area_of l)) m f
-          ∙ ap (λ (xs : List rule.Part). parts_applied own k clock xs list (area_of l)) same in
+          ∙ ap₂ (λ (x : Mode) (y : Profile). parts_leaving own (kind x y) clock (parts_from delta 0) list (area_of l)) m f
+          ∙ ap (λ (xs : List rule.Part). parts_leaving own k clock xs list (area_of l)) same in
           let t : s ++ drop table_width l ≡ encode_whole (with_table after.table (decode_whole l)) =
           area-back l v after.table s (ap (λ (x : TableAndList). x.table) e) in
           (rw (lent_leaving_as, v, by-ops own ways delta clock (decode_whole l).table list, q, n) (ap Nodes count), rw (lent_leaving_as, v, by-ops own ways delta clock (decode_whole l).table list, q, n) (ap₂ both t (ap (λ (x : TableAndList). x.list) e)))

@@ -47,7 +47,7 @@ pub fn leaving_known(
                 };
             }
             let mode = mode_of(table);
-            apply_parts::apply_each(
+            apply_parts::apply_each_leaving(
                 &mut table[..layout::AREA],
                 own,
                 mode,

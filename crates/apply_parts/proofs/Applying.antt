@@ -50,7 +50,7 @@ use Rattle.table.proofs.Tables.{length-table, decode-encode, valid-encode, encod
 use Rattle.delta_read.specs.NodeDeltas.{parts_from, delta_of, no_part}
 use Rattle.apply_node.specs.Taking.{Rising}
 use Rattle.apply_grow.specs.Growing.{begun, grown, Stored}
-use Rattle.apply_parts.specs.Applying.{leaves, resets, answer_as, node_taken, node_applied, on_held, part_applied, parts_applied, Accepted}
+use Rattle.apply_parts.specs.Applying.{leaves, resets, answer_as, node_taken, node_applied, on_held_by, part_leaving, parts_leaving, Accepted}
 
 -- ---- a node's answer, by the status
 
@@ -114,9 +114,9 @@ numbers-read k clock s gc gc' from from' max at p q b r b' t = rw (p, q) at t
 -- ---- one node delta on a table
 
 module _ (own : List ℕ) (k : Kind) (l : List ℕ) (v : valid l ≡ true) (clock : ℕ) (x : rule.Part) where
-  pub part-missing : span_in x.number l ≡ Missing → Gives (stored (part_applied own k clock x (decode l))) node.Unknown l
+  pub part-missing : span_in x.number l ≡ Missing → Gives (stored (part_leaving own k clock x (decode l))) node.Unknown l
   part-missing e =
-      stays-gives x.number l v (part_applied own k clock x (decode l)) node.Unknown (ap (λ (o : Option Node). on_held (leaving own (apply_node (ways_in k) clock) x.number) x o (decode l)) (missing-node x.number l v e))
+      stays-gives x.number l v (part_leaving own k clock x (decode l)) node.Unknown (ap (λ (o : Option Node). on_held_by (leaving own (apply_node (ways_in k) clock) x.number) x o (decode l)) (missing-node x.number l v e))
 
   module _ {start end : ℕ} (e : span_in x.number l ≡ Held start end) where
     -- what is lent to the node's rule
@@ -130,37 +130,37 @@ module _ (own : List ℕ) (k : Kind) (l : List ℕ) (v : valid l ≡ true) (cloc
     lent-rising = subst Rising (sym is-node) (record { laid = held-laid x.number l v e; keys = held-rises x.number l v e })
 
     -- one of its own
-    pub part_left : among x.number own ≡ true → Gives (stored (part_applied own k clock x (decode l))) node.Reject l
+    pub part_left : among x.number own ≡ true → Gives (stored (part_leaving own k clock x (decode l))) node.Reject l
     part_left a =
         let n : Node = (decode_node (part start node_width l)).node in
         let q : node_of x.number (decode l) ≡ some n = held-node x.number l v e in
-        stays-gives x.number l v (part_applied own k clock x (decode l)) node.Reject
-        (ap (λ (o : Option Node). on_held (leaving own (apply_node (ways_in k) clock) x.number) x o (decode l)) q
-        ∙ ap (λ (b : Bool). on_held (pick b left_alone (apply_node (ways_in k) clock)) x (some n) (decode l)) a
+        stays-gives x.number l v (part_leaving own k clock x (decode l)) node.Reject
+        (ap (λ (o : Option Node). on_held_by (leaving own (apply_node (ways_in k) clock) x.number) x o (decode l)) q
+        ∙ ap (λ (b : Bool). on_held_by (pick b left_alone (apply_node (ways_in k) clock)) x (some n) (decode l)) a
         ∙ ap (gives node.Reject) (set_same x.number n (decode l) q))
 
-    pub part_held : among x.number own ≡ false → (r : NodeAnswer) (ys : List ℕ) → Gives (node_applied k clock x.delta lent) r ys → Gives (stored (part_applied own k clock x (decode l))) r (put_mid start (end - start) l ys)
+    pub part_held : among x.number own ≡ false → (r : NodeAnswer) (ys : List ℕ) → Gives (node_applied k clock x.delta lent) r ys → Gives (stored (part_leaving own k clock x (decode l))) r (put_mid start (end - start) l ys)
     part_held a r ys g =
         let b : List ℕ = part start node_width l in
         let n : Node = (apply_node (ways_in k) clock x.delta (decode_node b).node).node in
         let w : Gives (node_applied k clock x.delta b) r ys = subst (λ (y : List ℕ). Gives (node_applied k clock x.delta y) r ys) is-node g in
-        held_gives x.number l v e (part_applied own k clock x (decode l)) r n ys
-        (ap (λ (c : Bool). on_held (pick c left_alone (apply_node (ways_in k) clock)) x (node_of x.number (decode l)) (decode l)) a
-        ∙ ap (λ (o : Option Node). on_held (apply_node (ways_in k) clock) x o (decode l)) (held-node x.number l v e)
+        held_gives x.number l v e (part_leaving own k clock x (decode l)) r n ys
+        (ap (λ (c : Bool). on_held_by (pick c left_alone (apply_node (ways_in k) clock)) x (node_of x.number (decode l)) (decode l)) a
+        ∙ ap (λ (o : Option Node). on_held_by (apply_node (ways_in k) clock) x o (decode l)) (held-node x.number l v e)
         ∙ ap (λ (a : NodeAnswer). gives a (set_node x.number n (decode l))) (sym w.0))
         w.1
 
 each-cons : (own : List ℕ) (k : Kind) (clock : ℕ) (x : rule.Part) (xs : List rule.Part) (t : Table)
-    → leaving_each own (apply_node (ways_in k) clock) (x ∷ xs) t ≡ answering (part_applied own k clock x t).answer (leaving_each own (apply_node (ways_in k) clock) xs (part_applied own k clock x t).table)
+    → leaving_each own (apply_node (ways_in k) clock) (x ∷ xs) t ≡ answering (part_leaving own k clock x t).answer (leaving_each own (apply_node (ways_in k) clock) xs (part_leaving own k clock x t).table)
 unfolding leaving_each
 each-cons own k clock x xs t = go (node_of x.number t)
   where
-    go : (o : Option Node) → on_node (leaving own (apply_node (ways_in k) clock) x.number) x o t (leaving_each own (apply_node (ways_in k) clock) xs) ≡ answering (on_held (leaving own (apply_node (ways_in k) clock) x.number) x o t).answer (leaving_each own (apply_node (ways_in k) clock) xs (on_held (leaving own (apply_node (ways_in k) clock) x.number) x o t).table)
+    go : (o : Option Node) → on_node (leaving own (apply_node (ways_in k) clock) x.number) x o t (leaving_each own (apply_node (ways_in k) clock) xs) ≡ answering (on_held_by (leaving own (apply_node (ways_in k) clock) x.number) x o t).answer (leaving_each own (apply_node (ways_in k) clock) xs (on_held_by (leaving own (apply_node (ways_in k) clock) x.number) x o t).table)
     go none = refl
     go (some n) = refl
 
 -- a table that obeys still does
-part-ok : (own : List ℕ) (k : Kind) (clock : ℕ) → clock < numbers → (x : rule.Part) (t : Table) → OkDelta x.delta → OkTable t → OkTable (part_applied own k clock x t).table
+part-ok : (own : List ℕ) (k : Kind) (clock : ℕ) → clock < numbers → (x : rule.Part) (t : Table) → OkDelta x.delta → OkTable t → OkTable (part_leaving own k clock x t).table
 unfolding leaving_each
 part-ok own k clock h x t d ok =
     subst OkTable (ap (λ (y : Stream). y.table) (each-cons own k clock x [] t))
@@ -205,7 +205,7 @@ module _ (own : List ℕ) (k : Kind) (clock : ℕ) (s t₀ l₀ : List ℕ) wher
 
   module _ (i : ℕ) (t l : List ℕ) (inv : Stands own k clock s t₀ l₀ i t l) where
     pub stands-last : length (parts_from s 0) ≤ i
-        → both t l ≡ parts_applied own k clock (parts_from s 0) l₀ t₀
+        → both t l ≡ parts_leaving own k clock (parts_from s 0) l₀ t₀
     unfolding leaving_each codes
     stands-last h =
         let e : drop i (parts_from s 0) ≡ [] = drop_of_length-le (parts_from s 0) {i = i} h in
@@ -218,13 +218,13 @@ module _ (own : List ℕ) (k : Kind) (clock : ℕ) (s t₀ l₀ : List ℕ) wher
       x = get_or (parts_from s 0) i no_part
 
       u : Table
-      u = (part_applied own k clock x (decode t)).table
+      u = (part_leaving own k clock x (decode t)).table
 
       left : drop i (parts_from s 0) ≡ x ∷ drop (i + 1) (parts_from s 0)
       unfolding x
       left = drop-cons (parts_from s 0) i no_part h ∙ ap (λ (j : ℕ). get_or (parts_from s 0) i no_part ∷ drop j (parts_from s 0)) (sym (add-one i))
 
-      pub stands-next : clock < numbers → Accepted s → AreBytes s → (r : NodeAnswer) (t' l' : List ℕ) → Gives (stored (part_applied own k clock (get_or (parts_from s 0) i no_part) (decode t))) r t' → l' ≡ set l i (code_of r)
+      pub stands-next : clock < numbers → Accepted s → AreBytes s → (r : NodeAnswer) (t' l' : List ℕ) → Gives (stored (part_leaving own k clock (get_or (parts_from s 0) i no_part) (decode t))) r t' → l' ≡ set l i (code_of r)
           → Stands own k clock s t₀ l₀ (i + 1) t' l'
       unfolding x u codes
       stands-next small acc bytes r t' l' w q =
@@ -232,7 +232,7 @@ module _ (own : List ℕ) (k : Kind) (clock : ℕ) (s t₀ l₀ : List ℕ) wher
           let ok-u : OkTable u = part-ok own k clock small x (decode t) (all-ok s acc bytes x (in-at (parts_from s 0) i no_part h)) (table-facts (decode t) (valid-obeys t inv.good)) in
           let obeys-u : obeys u ≡ true = facts-table u ok-u in
           let d : decode t' ≡ u = ap decode w.1 ∙ decode-encode u obeys-u in
-          let a : NodeAnswer = (part_applied own k clock x (decode t)).answer in
+          let a : NodeAnswer = (part_leaving own k clock x (decode t)).answer in
           let p : leaving_each own (apply_node (ways_in k) clock) (drop i (parts_from s 0)) (decode t) ≡ answering a (leaving_each own (apply_node (ways_in k) clock) rest (decode t')) =
           ap (λ (xs : List rule.Part). leaving_each own (apply_node (ways_in k) clock) xs (decode t)) left
           ∙ each-cons own k clock x rest (decode t)

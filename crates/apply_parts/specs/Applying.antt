@@ -11,7 +11,7 @@ use Rattle.rules.specs.Table.{Table, node_of, set_node}
 use Rattle.rules.specs.Local.{Outcome, gives}
 use Rattle.rules.specs.Delta.{Op, Good, NodeDelta, Part, read_delta}
 use Rattle.rules.specs.Profile.{Kind}
-use Rattle.rules.specs.Apply.{Taken, Taking, Stream, ways_in, apply_node, codes}
+use Rattle.rules.specs.Apply.{Taken, Taking, Stream, ways_in, apply_node, apply_each, codes}
 use Rattle.rules.specs.Layout.{encode_node, decode_node, encode, decode}
 use Rattle.rules.specs.Lent.{TableAndList, both}
 use Rattle.rules.specs.declared.NodeAnswer.{NodeAnswer}
@@ -56,20 +56,33 @@ node_applied k clock d b = node_taken (apply_node (ways_in k) clock d (decode_no
 -- ---- a table
 
 -- a node missing in the table answers Unknown and is never made
-abbrev pub on_held : (take : Taking) (came : Part) (held : Option Node) (table : Table) → Outcome NodeAnswer
-on_held take x none t = gives node.Unknown t
-on_held take x (some n) t = gives (take x.delta n).answer (set_node x.number (take x.delta n).node t)
+abbrev pub on_held : (kind : Kind) (clock : ℕ) (came : Part) (held : Option Node) (table : Table) → Outcome NodeAnswer
+on_held k clock x none t = gives node.Unknown t
+on_held k clock x (some n) t = gives (apply_node (ways_in k) clock x.delta n).answer (set_node x.number (apply_node (ways_in k) clock x.delta n).node t)
+
+-- what a table answers to one node delta, and the table afterwards
+abbrev pub part_applied : (kind : Kind) (clock : ℕ) (came : Part) (table : Table) → Outcome NodeAnswer
+part_applied k clock x t = on_held k clock x (node_of x.number t) t
+
+-- the same by any way to take a node delta
+abbrev pub on_held_by : (take : Taking) (came : Part) (held : Option Node) (table : Table) → Outcome NodeAnswer
+on_held_by take x none t = gives node.Unknown t
+on_held_by take x (some n) t = gives (take x.delta n).answer (set_node x.number (take x.delta n).node t)
 
 -- what a table answers to one node delta, its own nodes left alone, and the table afterwards
-abbrev pub part_applied : (own : List ℕ) (kind : Kind) (clock : ℕ) (came : Part) (table : Table) → Outcome NodeAnswer
-part_applied own k clock x t = on_held (leaving own (apply_node (ways_in k) clock) x.number) x (node_of x.number t) t
+abbrev pub part_leaving : (own : List ℕ) (kind : Kind) (clock : ℕ) (came : Part) (table : Table) → Outcome NodeAnswer
+part_leaving own k clock x t = on_held_by (leaving own (apply_node (ways_in k) clock) x.number) x (node_of x.number t) t
 
 abbrev pub stored_stream : (stream : Stream) (list : Bytes) → TableAndList
 stored_stream s list = both (encode s.table) (put 0 (codes s.answers) list)
 
 -- the bytes of a good table and the list of answers, after all of these node deltas
-abbrev pub parts_applied : (own : List ℕ) (kind : Kind) (clock : ℕ) (came : List Part) (list table : Bytes) → TableAndList
-parts_applied own k clock xs list table = stored_stream (leaving_each own (apply_node (ways_in k) clock) xs (decode table)) list
+abbrev pub parts_leaving : (own : List ℕ) (kind : Kind) (clock : ℕ) (came : List Part) (list table : Bytes) → TableAndList
+parts_leaving own k clock xs list table = stored_stream (leaving_each own (apply_node (ways_in k) clock) xs (decode table)) list
+
+-- the same where no node is left alone
+abbrev pub parts_applied : (kind : Kind) (clock : ℕ) (came : List Part) (list table : Bytes) → TableAndList
+parts_applied k clock xs list table = stored_stream (apply_each (apply_node (ways_in k) clock) xs (decode table)) list
 
 -- a delta without a fault
 abbrev pub Accepted : (delta : Bytes) → Type 0

@@ -11,7 +11,7 @@ ghost use Rattle.delta_op.specs.Plain.{recs_from};
 ghost use Rattle.delta_read.specs.NodeDeltas.{parts_from, delta_of, behind_node, node_delta_at};
 ghost use Rattle.apply_node.specs.Taking.{Rising};
 ghost use Rattle.apply_parts.specs.Applying.{leaves, resets, answer_as};
-ghost use Rattle.apply_parts.specs.Applying.{node_applied, part_applied, parts_applied, Accepted, HeadsFound};
+ghost use Rattle.apply_parts.specs.Applying.{node_applied, part_leaving, parts_applied, parts_leaving, Accepted, HeadsFound};
 
 use delta_read::Heads;
 use rules::{DeltaStatus, Mode, NodeAnswer, Profile, wire};
@@ -118,7 +118,7 @@ fn apply_part(
     requires { (valid table.old ≡ true)
         × (behind_node at ≤ length delta.now) × (length (recs_from delta.now (behind_node at)) ≤ count) }
     ensures { Gives
-        (stored (part_applied own.now (kind mode profile) clock (node_delta_at delta.now at max) (decode table.old)))
+        (stored (part_leaving own.now (kind mode profile) clock (node_delta_at delta.now at max) (decode table.old)))
         result table.new }
 {
     let number = fields::read_u64(delta, at + wire::NODE_NUMBER);
@@ -147,7 +147,7 @@ fn apply_part(
 }
 
 // Applies the node deltas that were found in an accepted delta to a good table, one answer for each, and leaves the nodes of `own` alone.
-pub fn apply_each(
+pub fn apply_each_leaving(
     table: &mut [u8],
     own: &[u64],
     mode: Mode,
@@ -158,9 +158,10 @@ pub fn apply_each(
     clock: u64,
     answers: &mut [u8],
 )
-    requires { (valid table.old ≡ true) × Accepted delta.now × HeadsFound delta.now nodes heads × (nodes ≤ length answers.old) }
+    requires { (valid table.old ≡ true) × Accepted delta.now
+        × HeadsFound delta.now nodes heads × (nodes ≤ length answers.old) }
     ensures { both table.new answers.new
-        ≡ parts_applied own.now (kind mode profile) clock (parts_from delta.now 0) answers.old table.old }
+        ≡ parts_leaving own.now (kind mode profile) clock (parts_from delta.now 0) answers.old table.old }
 {
     let places = heads.at;
     let counts = heads.count;
@@ -173,4 +174,33 @@ pub fn apply_each(
         answers[i] = answer.code();
         i += 1;
     }
+}
+
+// The same where no node is left alone.
+pub fn apply_each(
+    table: &mut [u8],
+    mode: Mode,
+    profile: Profile,
+    delta: &[u8],
+    heads: Heads,
+    nodes: usize,
+    clock: u64,
+    answers: &mut [u8],
+)
+    requires { (valid table.old ≡ true) × Accepted delta.now × HeadsFound delta.now nodes heads × (nodes ≤ length answers.old) }
+    ensures { both table.new answers.new
+        ≡ parts_applied (kind mode profile) clock (parts_from delta.now 0) answers.old table.old }
+{
+    let none = [0u64; 1];
+    apply_each_leaving(
+        table,
+        &none[..0],
+        mode,
+        profile,
+        delta,
+        heads,
+        nodes,
+        clock,
+        answers,
+    )
 }

@@ -3,8 +3,10 @@
 
 ghost use Rattle.std.specs.Prelude.{◌≡◌, ◌<◌, take};
 
+use anyhow::Result;
 use delta_make::{Made, Making};
 use rules::sizes;
+use std::io::{Read, Write};
 
 // Room for a delta, and one byte more: `listing_show` lists a delta that is too long by its length alone.
 pub const ROOM: usize = sizes::LONGEST_DELTA + 1;
@@ -15,7 +17,7 @@ const PIECE: usize = 4096;
 // So many whole pieces have fewer than 2^64 bytes, as far as `delta_make` counts.
 const PIECES: u64 = 4503599627370495;
 
-// What was taken in, and whether the input could be read to its end.
+// What was taken in, and whether the input was read to its end.
 #[derive(Clone, Copy)]
 pub struct Taken {
     pub making: Making,
@@ -52,45 +54,45 @@ fn pieces_left(left: u64, n: usize) -> u64
 }
 
 // Takes in all that can be read.
-pub fn take_all(fd: i32, delta: &mut [u8]) -> Taken {
+pub fn take_all<R: Read>(input: &mut R, delta: &mut [u8]) -> Result<Taken> {
     let mut line = [0u8; delta_make::LONGEST_LINE];
     let mut piece = [0u8; PIECE];
     let mut making = delta_make::start();
     let mut left: u64 = PIECES;
     let mut ended = false;
     while 0 < left {
-        let filled = streams::fill(fd, &mut piece);
+        let filled = streams::fill(input, &mut piece)?;
         let n = filled.len;
         making = delta_make::take_in(making, front(&piece, n), &mut line, delta);
         ended = filled.ended;
         left = pieces_left(left, n);
     }
-    Taken { making, ended }
+    Ok(Taken { making, ended })
 }
 
 // The line that says which line is not in its form.
-fn tell_line(line: usize) -> bool {
-    let mut out = [0u8; delta_make::LONGEST_REFUSED];
-    let n = delta_make::put_bad_line(&mut out, line);
-    streams::put(front(&out, n))
+fn tell_line<W: Write>(out: &mut W, line: usize) -> Result<()> {
+    let mut text = [0u8; delta_make::LONGEST_REFUSED];
+    let n = delta_make::put_bad_line(&mut text, line);
+    streams::put(out, front(&text, n))
 }
 
-// Writes the delta's bytes, or the one line of a refusal, and answers whether it was written.
-pub fn put(making: Making, delta: &[u8]) -> bool {
+// Writes the delta's bytes, or the one line of a refusal.
+pub fn put<W: Write>(out: &mut W, making: Making, delta: &[u8]) -> Result<()> {
     let made = delta_make::finish(making, delta);
     match made {
-        Made::Bytes(n) => streams::put(front(delta, n)),
-        Made::BadLine(n) => tell_line(n),
-        Made::Refused { why: _, at: _ } => listing_show::show(front(delta, making.bytes)),
+        Made::Bytes(n) => streams::put(out, front(delta, n)),
+        Made::BadLine(n) => tell_line(out, n),
+        Made::Refused { why: _, at: _ } => listing_show::show(out, front(delta, making.bytes)),
     }
 }
 
 // The same, but an accepted delta is listed.
-pub fn show(making: Making, delta: &[u8]) -> bool {
+pub fn show<W: Write>(out: &mut W, making: Making, delta: &[u8]) -> Result<()> {
     let made = delta_make::finish(making, delta);
     match made {
-        Made::Bytes(n) => listing_show::show(front(delta, n)),
-        Made::BadLine(n) => tell_line(n),
-        Made::Refused { why: _, at: _ } => listing_show::show(front(delta, making.bytes)),
+        Made::Bytes(n) => listing_show::show(out, front(delta, n)),
+        Made::BadLine(n) => tell_line(out, n),
+        Made::Refused { why: _, at: _ } => listing_show::show(out, front(delta, making.bytes)),
     }
 }

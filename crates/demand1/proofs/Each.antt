@@ -21,7 +21,7 @@ use Rattle.rules.specs.Apply.{apply, ways_in}
 use Rattle.rules.specs.Compute as computing
 use Rattle.rules.specs.Compute.{told_of}
 use Rattle.rules.specs.Delta.{Good, KeyValueOp, NodeOp, Op, SetMaxVersionOp, delta_bytes, delta_read, follow, op_bytes, parts_of, read_delta, read_key_value, read_node, read_op, read_ops, read_set_max_version, size_of, text_bytes}
-use Rattle.rules.specs.Digest.{digest_bytes, digest_of, head_width, read_digest, read_entries, tell, tell_all, write_bytes, write_digest}
+use Rattle.rules.specs.Digest.{digest_bytes, digest_of, head_width, read_digest, read_entries, tell, tell_all, write_digest}
 use Rattle.rules.specs.Given.{Given, given}
 use Rattle.rules.specs.Layout.{node_width, encode_node, decode_node, decode, encode}
 use Rattle.rules.specs.Memory.{apart, heartbeat_of, memory_obeys, removed_numbers}
@@ -54,7 +54,6 @@ use Rattle.rules.specs.declared.Written.TheVariants as written
 use Rattle.rules.proofs.Calls.{none-obeys}
 use Rattle.rules.proofs.Formed.{empty-formed, free-formed}
 use Rattle.rules.proofs.Obeys.{among_in}
-use Rattle.leaving.proofs.Lent.{lent-answer}
 use Rattle.table.proofs.Encoded.{apply-whole, from-whole, on-whole, whole-whole}
 use Rattle.table.proofs.Wholes.{decode-encode-whole, length_whole, valid-encode-whole, without-memory}
 use Rattle.table.specs.Changes.{fresh_entry}
@@ -101,8 +100,6 @@ use Rattle.digest_read.specs.Held.{digest_in}
 use Rattle.digest_read.specs.Told.{digest_told}
 use Rattle.listing_read.specs.Unlist.{front, read_line, read_lines, unlist, value_from}
 use Rattle.listing_make.specs.Make.{made_told, placed}
-use Rattle.table_listing.specs.TableListing.{table_listing, whole_text, wrong_line, wrong_text}
-use Rattle.delta_names.specs.Names.{delta_nodes, numbers_in}
 use Rattle.answers.specs.Shown.{entry_told}
 use Rattle.compute.specs.Asking.{asked_of}
 use Rattle.exchange.specs.Exchanging.{Lending, after_asking, exchanged_told, lending, lent_exchange, rooms_of}
@@ -902,16 +899,6 @@ applies =
     and (calls.apply (lent []) (received (delta_bytes (NodeOp 7 0 0 ∷ [])) refl) [] seven, applying (received (delta_bytes (NodeOp 7 0 0 ∷ [])) refl) [] 8 refl)
     and no_more
 
--- the same calls with a node left alone answer the same
-leave-all : (ns : List ℕ) → AllShown calls.Apply ns → AllShown calls.ApplyLeaving ns
-unfolding applied_told calls.leaves
-leave-all [] no_more = no_more
-leave-all (n ∷ ns) (a and as-well) = left a.0 a.1 and leave-all ns as-well
-  where
-    left : (c : calls.Call calls.Apply) → (calls.leaves c).answer.number ≡ n → Shown calls.ApplyLeaving n
-    left (calls.apply t delta answers now) e =
-        (calls.apply-leaving t (7 ∷ []) delta answers now, ap (λ (a : Applied). (applied_told a).number) (lent-answer (7 ∷ []) (ways_in (decode_whole t).kind) delta.bytes now.value answers t) ∙ e)
-
 shows : AllShown calls.ListDelta (0 ∷ 8 ∷ [])
 unfolding calls.leaves written_told listing listing_of decimal digits read_delta read_ops zeros flat
 shows =
@@ -932,34 +919,6 @@ makes =
     and (calls.make-delta (telling (SetMaxVersionOp 0 ∷ [])) [], refl)
     and (calls.make-delta (telling (NodeOp 7 0 0 ∷ NodeOp 7 0 0 ∷ [])) [], refl)
     and (calls.make-delta (telling (NodeOp 7 0 0 ∷ [])) [], refl)
-    and no_more
-
--- the line of no bytes: their length
-bad-listing : table_listing [] ≡ wrong_text []
-unfolding table_listing
-bad-listing = ap (λ (b : Bool). pick b (whole_text (decode_whole [])) (wrong_text [])) none-valid
-
-listed_in : (out : Bytes) (n : ℕ) → (written_told (write_bytes (wrong_text []) 0 out).answer).number ≡ n → (written_told (write_bytes (table_listing []) 0 out).answer).number ≡ n
-listed_in out n e = ap (λ (text : Bytes). (written_told (write_bytes text 0 out).answer).number) bad-listing ∙ e
-
-tables-listed : AllShown calls.ListTable (0 ∷ 8 ∷ [])
-unfolding calls.leaves written_told wrong_text wrong_line decimal digits zeros
-tables-listed =
-    (calls.list-table [] (zeros 100), listed_in (zeros 100) 0 refl)
-    and (calls.list-table [] [], listed_in [] 8 refl)
-    and no_more
-
-names : AllShown calls.DeltaNodes (0 ∷ 13 ∷ 9 ∷ 1 ∷ 10 ∷ 11 ∷ 12 ∷ 8 ∷ [])
-unfolding calls.leaves applied_told delta_nodes numbers_in read_delta read_ops read_op read_node read_key_value read_set_max_version follow nat_of among zeros delta_bytes op_bytes flat bytes_of ninth parts_of
-names =
-    (calls.delta-nodes [] [], refl)
-    and (calls.delta-nodes (delta_bytes (ninth 9)) [], refl)
-    and (calls.delta-nodes (0 ∷ []) [], refl)
-    and (calls.delta-nodes (1 ∷ 33 ∷ 0 ∷ []) [], refl)
-    and (calls.delta-nodes (3 ∷ []) [], refl)
-    and (calls.delta-nodes (2 ∷ zeros 8) [], refl)
-    and (calls.delta-nodes (delta_bytes (NodeOp 7 0 0 ∷ NodeOp 7 0 0 ∷ [])) [], refl)
-    and (calls.delta-nodes (delta_bytes (NodeOp 7 0 0 ∷ [])) [], refl)
     and no_more
 
 -- ---- exchanges
@@ -1081,11 +1040,8 @@ all_shown calls.ComputePlan = (_, plans, refl)
 all_shown calls.PlanFault = (_, judges, refl)
 all_shown calls.ReadDelta = (_, delta-reads, refl)
 all_shown calls.Apply = (_, applies, refl)
-all_shown calls.ApplyLeaving = (_, leave-all _ applies, refl)
 all_shown calls.ListDelta = (_, shows, refl)
 all_shown calls.MakeDelta = (_, makes, refl)
-all_shown calls.ListTable = (_, tables-listed, refl)
-all_shown calls.DeltaNodes = (_, names, refl)
 all_shown calls.Exchange = (_, exchanges, refl)
 
 pub each : (k : calls.Kind) (n : ℕ) → among n (calls.possible k) ≡ true → (c : calls.Call k) × ((calls.leaves c).answer.number ≡ n)

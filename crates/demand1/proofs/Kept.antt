@@ -6,7 +6,7 @@ use mathlib.Core.Path.{◌≡◌, ◌∙◌, ap, refl, subst, sym}
 use lib.Dec.{eqb}
 use lib.ListN.{length}
 use Rattle.fields.specs.Choice.{pick, ◌∈◌}
-use Rattle.fields.specs.Numbers.{AreBytes, Bytes}
+use Rattle.fields.specs.Numbers.{Bytes}
 use Rattle.fields.proofs.Choice.{and_intro, and_left, and_right}
 use Rattle.rules.specs.Apply.{Ways, apply, apply_node, ways_in}
 use Rattle.rules.specs.Delta.{Good, Op, Part, nothing_read, parts_of, read_delta}
@@ -38,9 +38,6 @@ use Rattle.rules.proofs.Writing.{call-as, write_as_lem}
 use Rattle.table.proofs.Tables.{valid-obeys}
 use Rattle.table.proofs.Wholes.{area-valid, valid-encode-whole, without-memory}
 use Rattle.table.proofs.Wholes as valid
-use Rattle.leaving.specs.Leaving.{apply_leaving, lent_leaving, lent_leaving_as}
-use Rattle.leaving.proofs.Left.{numbers-leaving}
-use Rattle.leaving.proofs.Keeps.{leaving-keeps, leaving-formed}
 use Rattle.profiles.proofs.Kept.{apply-formed, beat-formed, call-formed, gc-formed, offer-formed, write-formed}
 use Rattle.profiles.proofs.Lawful.{kind-lawful}
 use Rattle.nodes.specs.New.{lent_made}
@@ -134,16 +131,6 @@ applying delta now answers l v f =
     ∙ stays l v o.table (f (whole-obeys l v))
     (apply-formed (decode_whole l).kind delta now (decode_whole l).table answers (whole-profile (decode_whole l) (valid.whole-obeys l v)))
     (numbers-apply (ways_in (decode_whole l).kind) delta now (decode_whole l).table answers)
-
-applying-leaving : (own delta : Bytes) → AreBytes delta → (now : ℕ) → now < numbers → (answers l : Bytes) → valid_whole l ≡ true → valid_whole (lent_leaving own delta now answers l).lent.table ≡ true
-unfolding lent_leaving_as
-applying-leaving own delta are now fits answers l v =
-    let k = (decode_whole l).kind in
-    let o = apply_leaving own (ways_in k) delta now (decode_whole l).table answers in
-    ap (λ (b : Bool). valid_whole (pick b (stored_apply (decode_whole l) o) (given (applied.Refused BadTable 0) (both l answers))).lent.table) v
-    ∙ stays l v o.table (leaving-keeps own (ways_in k) (kind-lawful k) delta now (decode_whole l).table answers are fits (whole-obeys l v))
-    (leaving-formed own k delta now (decode_whole l).table answers (whole-profile (decode_whole l) (valid.whole-obeys l v)))
-    (numbers-leaving own (ways_in k) delta now (decode_whole l).table answers)
 
 -- ---- grids
 
@@ -300,10 +287,7 @@ obeying (calls.read-delta delta) = λ e. e
 obeying (calls.apply t delta answers now) =
     one t _
     (λ v. applying delta.bytes now.value answers t v (apply-keeps (ways_in (decode_whole t).kind) (kind-lawful (decode_whole t).kind) delta.bytes now.value (decode_whole t).table answers delta.are now.fits))
-obeying (calls.apply-leaving t own delta answers now) = one t _ (applying-leaving own delta.bytes delta.are now.value now.fits answers t)
 obeying (calls.list-delta delta out) = λ e. e
 obeying (calls.make-delta text out) = λ e. e
-obeying (calls.list-table t out) = λ e. e
-obeying (calls.delta-nodes delta list) = λ e. e
 obeying (calls.exchange publisher follower edition unasked unsent ties digest delta answers mtu now) =
     two publisher follower _ (exchanged (lending edition unasked unsent ties mtu now.value digest delta answers) publisher follower now.fits)

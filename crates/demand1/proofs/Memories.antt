@@ -13,7 +13,6 @@ use Rattle.rules.specs.Memory.{Memory}
 use Rattle.rules.specs.Node.{Deleting, DeletingAfterTtl, beats}
 use Rattle.rules.specs.Table.{Table}
 use Rattle.rules.specs.Whole.{decode_memory, decode_whole, encode_whole, tail_of, valid_whole, with_table}
-use Rattle.leaving.specs.Leaving.{apply_leaving, lent_leaving, lent_leaving_as}
 use Rattle.rules.specs.Lent.{both, lent_apply, lent_apply_as, on_table, stored_apply, stored_in}
 use Rattle.rules.specs.declared.Answer.TheVariants as plain
 use Rattle.rules.specs.declared.Applied.TheVariants as applied
@@ -52,15 +51,6 @@ on-table {A} bad rule l = go (valid_whole l) refl
   where
     go : (b : Bool) → valid_whole l ≡ b → memory_in (pick b (stored_in (decode_whole l) (rule (decode_whole l).table)) (given bad l)).lent ≡ memory_in l
     go true v = tail-stays l v (rule (decode_whole l).table).table
-    go false v = refl
-
-applying-leaving : (own delta : Bytes) (now : ℕ) (answers l : Bytes) → memory_in (lent_leaving own delta now answers l).lent.table ≡ memory_in l
-unfolding lent_leaving_as
-applying-leaving own delta now answers l = go (valid_whole l) refl
-  where
-    go : (b : Bool) → valid_whole l ≡ b
-        → memory_in (pick b (stored_apply (decode_whole l) (apply_leaving own (ways_in (decode_whole l).kind) delta now (decode_whole l).table answers)) (given (applied.Refused BadTable 0) (both l answers))).lent.table ≡ memory_in l
-    go true v = tail-stays l v _
     go false v = refl
 
 applying : (delta : Bytes) (now : ℕ) (answers l : Bytes) → memory_in (lent_apply delta now answers l).lent.table ≡ memory_in l
@@ -157,10 +147,7 @@ remembered (calls.compute-plan t edition digest excluded nodes counts datagram m
 remembered (calls.plan-fault t edition digest excluded nodes counts mtu) e = refl
 remembered (calls.read-delta delta) e = refl
 remembered (calls.apply t delta answers now) e = one t _ (applying delta.bytes now.value answers t)
-remembered (calls.apply-leaving t own delta answers now) e = one t _ (applying-leaving own delta.bytes now.value answers t)
 remembered (calls.list-delta delta out) e = refl
 remembered (calls.make-delta text out) e = refl
-remembered (calls.list-table t out) e = refl
-remembered (calls.delta-nodes delta list) e = refl
 remembered (calls.exchange publisher follower edition unasked unsent ties digest delta answers mtu now) e =
     two publisher follower _ (exchanged (lending edition unasked unsent ties mtu now.value digest delta answers) publisher follower)

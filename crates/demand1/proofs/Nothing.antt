@@ -1,7 +1,7 @@
 -- A refused call leaves everything that was lent to it as it was. A refusal is known by its number, which is not 0. Assumes nothing.
 use Prim.Native.Nat.{ℕ}
 use mathlib.Core.Bool.{Bool, false, true, ◌&&◌}
-use mathlib.Core.List.{List, [], ◌∷◌}
+use mathlib.Core.List.{[], ◌∷◌}
 use mathlib.Core.Option.{Option, none, some}
 use mathlib.Core.Path.{◌≡◌, ◌∙◌, ap, ap₂, refl}
 use lib.Dec.{eqb, leb, ltb}
@@ -17,8 +17,7 @@ use Rattle.rules.specs.Given.{Given, given}
 use Rattle.rules.specs.Whole.{Whole, decode_whole, encode_whole, valid_whole, whole_width, with_table}
 use Rattle.rules.specs.Lent.{add_whole, from_table, lent_new, on_table, remove_whole}
 use Rattle.rules.specs.Listing.{listing}
-use Rattle.rules.specs.Delta as deltas
-use Rattle.rules.specs.Delta.{Good, Ops, parts_of, read_delta, status_byte}
+use Rattle.rules.specs.Delta.{status_byte}
 use Rattle.rules.specs.Layout.{node_width, encode_node, decode_node}
 use Rattle.rules.specs.Sizes.{max_key}
 use Rattle.rules.specs.Local.{Outcome, answer_of, call_as, gc, local_beat, offer, prefixed_as, write_as}
@@ -43,7 +42,6 @@ use Rattle.rules.specs.declared.Refusal.TheVariants.{BadPeer, BadTable, BadTag, 
 use Rattle.rules.specs.declared.Status.TheVariants.{Set, Ttl}
 use Rattle.rules.specs.declared.Written.{Written}
 use Rattle.rules.specs.declared.Written.TheVariants as written
-use Rattle.leaving.proofs.Lent.{lent-leaving-refused}
 use Rattle.rules.proofs.Refusing.{beat-refused, call-as-refused, compute-refused, digest-refused, lent-apply-refused, lent-refused, offer-refused, prefixed-refused, whole-bytes, write-as-refused}
 use Rattle.rules.proofs.Memories.{add-whole-refused, remove-whole-refused, whole-refused}
 use Rattle.nodes.specs.New.{lent_made}
@@ -65,8 +63,6 @@ use Rattle.grid_kept.proofs.LentKept.{both-table}
 use Rattle.delta_make.specs.declared.Made.TheVariants as making
 use Rattle.listing_read.specs.Unlist.{Delta, Faulty, NotInForm, Unlisted, unlist}
 use Rattle.listing_make.specs.Make.{lent_make, lent_unlisted, made_told, placed}
-use Rattle.table_listing.specs.TableListing.{table_listing}
-use Rattle.delta_names.specs.Names.{delta_nodes, nodes_on, numbers_in}
 use Rattle.plan.proofs.Refusing.{plan-refused}
 use Rattle.plan.specs.Plan.{compute_plan}
 use Rattle.exchange.specs.Exchanging.{ExchangeLent, Lending, after_asking, all_four, exchanged_told, lending, lent_exchange, rooms_of}
@@ -359,20 +355,6 @@ exchanged g publisher follower = go (ready_for g.edition g.unasked (rooms_of g) 
     go ready.Yes e h = absurd (h (ap (λ (a : Exchanged). (exchanged_told a).number) (ready-done g publisher follower (is-ready g publisher follower e))))
     go (ready.No s r) e h = refl
 
--- the numbers of a delta's nodes, where it is read and they have room
-named : (delta : Bytes) (list : List ℕ) → Refuses (applied_told (delta_nodes delta list).answer) → (delta_nodes delta list).lent ≡ list
-unfolding delta_nodes applied_told
-named delta list = go (read_delta delta)
-  where
-    room : (ns : List ℕ) (b : Bool) → Refuses (applied_told (pick b (given (applied.Nodes (length ns)) (put 0 ns list)) (given (applied.Refused NoPlace 0) list)).answer)
-        → (pick b (given (applied.Nodes (length ns)) (put 0 ns list)) (given (applied.Refused NoPlace 0) list)).lent ≡ list
-    room ns true h = absurd (h refl)
-    room ns false h = refl
-
-    go : (x : Ops) → Refuses (applied_told (nodes_on x list).answer) → (nodes_on x list).lent ≡ list
-    go (Good ops) h = room (numbers_in (parts_of ops)) (leb (length (numbers_in (parts_of ops))) (length list)) h
-    go (deltas.Faulty r at) h = refl
-
 -- a listing by a party: that of what it sees
 listed-refused : (p : Profile) (q : Party) (i : ℕ) (k : Bytes) (t : Table) (l : Bytes) (r : Refusal) → (prefixed_as p q i k t l).answer ≡ listed.Refused r
     → (prefixed_as p q i k t l).lent ≡ l
@@ -471,14 +453,8 @@ nothing (calls.apply t delta answers now) h =
     let x = by-applied _ h in
     let s = lent-apply-refused (ways_in (decode_whole t).kind) delta.bytes now.value answers t x.0 x.1 x.2 in
     ap₂ (λ (u m : Bytes). u ∷ delta.bytes ∷ m ∷ []) s.0 s.1
-nothing (calls.apply-leaving t own delta answers now) h =
-    let x = by-applied _ h in
-    let s = lent-leaving-refused own (ways_in (decode_whole t).kind) delta.bytes now.value answers t x.0 x.1 x.2 in
-    ap₂ (λ (u m : Bytes). u ∷ own ∷ delta.bytes ∷ m ∷ []) s.0 s.1
 nothing (calls.list-delta delta out) h = ap (λ (u : Bytes). delta ∷ u ∷ []) (shown (listing delta) out h)
 nothing (calls.make-delta text out) h = ap (λ (u : Bytes). text ∷ u ∷ []) (made-delta text out h)
-nothing (calls.list-table t out) h = ap (λ (u : Bytes). t ∷ u ∷ []) (shown (table_listing t) out h)
-nothing (calls.delta-nodes delta list) h = ap (λ (u : Bytes). delta ∷ u ∷ []) (named delta list h)
 nothing (calls.exchange publisher follower edition unasked unsent ties digest delta answers mtu now) h =
     ap (λ (u : ExchangeLent). publisher ∷ u.follower ∷ unasked ∷ unsent ∷ ties ∷ u.digest ∷ u.delta ∷ u.answers ∷ [])
     (exchanged (lending edition unasked unsent ties mtu now.value digest delta answers) publisher follower h)

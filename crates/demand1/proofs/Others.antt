@@ -20,8 +20,6 @@ use Rattle.rules.specs.Digest as digest
 use Rattle.rules.specs.Given.{Given, given}
 use Rattle.rules.specs.Memory.{heartbeat_of}
 use Rattle.rules.specs.Whole.{Whole, decode_whole, encode_whole, valid_whole, whole_width, with_table}
-use Rattle.leaving.specs.Leaving.{lent_leaving}
-use Rattle.leaving.proofs.Lent.{lent-answer}
 use Rattle.rules.specs.Lent.{add_whole, both, from_table, lent_apply, lent_apply_as, lent_new, lent_removed, on_table, on_whole, remembered_as, remove_whole, stored_in, stored_apply}
 use Rattle.rules.specs.Listing.{listing}
 use Rattle.rules.specs.Local.{Outcome, add, answer_of, beat_on, call, call_as, call_on, gc, gives, list_into, local_beat, offer, offer_on, prefix_on, prefixed, prefixed_as, remove_node, unless_guarded, write_as, yes_no}
@@ -35,7 +33,6 @@ use Rattle.rules.specs.declared.Answer.{Answer}
 use Rattle.rules.specs.declared.Answer.TheVariants as plain
 use Rattle.rules.specs.declared.Heartbeat.{Heartbeat}
 use Rattle.rules.specs.declared.Remembered.TheVariants as remembered
-use Rattle.rules.specs.declared.Applied.{Applied}
 use Rattle.rules.specs.declared.Applied.TheVariants as applied
 use Rattle.rules.specs.declared.Computed.{Computed}
 use Rattle.rules.specs.declared.Computed.TheVariants as computed
@@ -106,8 +103,6 @@ use Rattle.rules.proofs.Writing.{ByProfile, call-as, form, full, party, total, w
 use Rattle.exchange.proofs.Refusing.{is-ready, ready-done}
 use Rattle.listing_make.specs.Make.{lent_make, made_told}
 use Rattle.listing_make.proofs.Numbers.{made-numbers}
-use Rattle.table_listing.specs.TableListing.{table_listing}
-use Rattle.delta_names.specs.Names.{delta_nodes, nodes_on, numbers_in}
 use Rattle.answers.specs.Shown.{entry_told, place_told}
 use Rattle.demand1.specs.Calls as calls
 use Rattle.plan.proofs.Judging.{is_accepted, said-number}
@@ -872,12 +867,6 @@ applies delta now answers l = start (valid_whole l)
     start true = go ((ways_in (decode_whole l).kind).reads delta) (delta-as F refl (λ n. refl) refl refl refl refl (decode_whole l).kind.profile refl refl delta)
     start false = refl
 
--- the same numbers where nodes are left alone
-leaves-alone : (own delta : Bytes) (now : ℕ) (answers l : Bytes) → Of calls.ApplyLeaving (applied_told (lent_leaving own delta now answers l).answer)
-unfolding calls.refusals
-leaves-alone own delta now answers l =
-    subst (λ (a : Applied). Of calls.Apply (applied_told a)) (sym (lent-answer own (ways_in (decode_whole l).kind) delta now answers l)) (applies delta now answers l)
-
 shows : (delta out : Bytes) → Of calls.ListDelta (written_told (digest.write_bytes (listing delta) 0 out).answer)
 unfolding written_told among calls.refusals
 shows delta out = writes calls.ListDelta (listing delta) 0 out refl (λ n. refl)
@@ -885,25 +874,6 @@ shows delta out = writes calls.ListDelta (listing delta) 0 out refl (λ n. refl)
 makes : (text out : Bytes) → Of calls.MakeDelta (made_told (lent_make text out).answer)
 unfolding calls.refusals
 makes text out = in-among (made-numbers text out)
-
-lists-table : (t out : Bytes) → Of calls.ListTable (written_told (digest.write_bytes (table_listing t) 0 out).answer)
-unfolding written_told among calls.refusals
-lists-table t out = writes calls.ListTable (table_listing t) 0 out refl (λ n. refl)
-
-names : (delta : Bytes) (list : List ℕ) → Of calls.DeltaNodes (applied_told (delta_nodes delta list).answer)
-unfolding delta_nodes applied_told among calls.refusals
-names delta list = go (read_delta delta) (delta-comes F refl (λ n. refl) refl refl refl refl delta)
-  where
-    F : Refusal → Type 0
-    F r = among (number_of r) (calls.possible calls.DeltaNodes) ≡ true
-
-    room : (ns : List ℕ) (b : Bool) → Of calls.DeltaNodes (applied_told (pick b (given (applied.Nodes (length ns)) (put 0 ns list)) (given (applied.Refused NoPlace 0) list)).answer)
-    room ns true = refl
-    room ns false = refl
-
-    go : (x : Ops) → OpsSo F refl (λ n. refl) refl refl refl refl x → Of calls.DeltaNodes (applied_told (nodes_on x list).answer)
-    go (Good ops) h = room (numbers_in (parts_of ops)) (leb (length (numbers_in (parts_of ops))) (length list))
-    go (Faulty r at) h = h
 
 -- ---- an exchange
 
@@ -1011,10 +981,7 @@ no_other (calls.compute-plan t edition digest excluded nodes counts datagram mtu
 no_other (calls.plan-fault t edition digest excluded nodes counts mtu) = judges edition excluded nodes counts mtu digest t
 no_other (calls.read-delta delta) = delta-reads delta
 no_other (calls.apply t delta answers now) = applies delta.bytes now.value answers t
-no_other (calls.apply-leaving t own delta answers now) = leaves-alone own delta.bytes now.value answers t
 no_other (calls.list-delta delta out) = shows delta out
 no_other (calls.make-delta text out) = makes text out
-no_other (calls.list-table t out) = lists-table t out
-no_other (calls.delta-nodes delta list) = names delta list
 no_other (calls.exchange publisher follower edition unasked unsent ties digest delta answers mtu now) =
     exchanges (lending edition unasked unsent ties mtu now.value digest delta answers) publisher follower

@@ -9,7 +9,6 @@ use Rattle.rules.specs.Node.{Deleting, DeletingAfterTtl, beats}
 use Rattle.rules.specs.Delta.{delta_read}
 use Rattle.rules.specs.Listing.{list_delta}
 use Rattle.rules.specs.Lent.{lent_add, lent_remove_node, lent_removed, lent_call, lent_write, lent_gc, lent_offer, lent_beat, lent_prefixed, lent_digest, lent_compute, lent_apply}
-use Rattle.leaving.specs.Leaving.{lent_leaving}
 use Rattle.rules.specs.Profile.{kind}
 use Rattle.rules.specs.Whole.{valid_whole}
 use Rattle.rules.specs.declared.Mode.{Mode}
@@ -33,8 +32,6 @@ use Rattle.inspect_text.specs.declared.Text.{Text}
 use Rattle.digest_read.specs.Held.{digest_in}
 use Rattle.digest_read.specs.Told.{digest_told}
 use Rattle.listing_make.specs.Make.{lent_make, made_told}
-use Rattle.table_listing.specs.TableListing.{list_table}
-use Rattle.delta_names.specs.Names.{delta_nodes}
 use Rattle.answers.specs.Shown.{entry_told}
 use Rattle.plan.specs.Faults.{judged_told, lent_judge}
 use Rattle.plan.specs.Plan.{lent_compute_plan}
@@ -100,11 +97,8 @@ pub data Kind : Type 0 where
   PlanFault : Kind
   ReadDelta : Kind
   Apply : Kind
-  ApplyLeaving : Kind
   ListDelta : Kind
   MakeDelta : Kind
-  ListTable : Kind
-  DeltaNodes : Kind
   Exchange : Kind
 
 -- one call of an entry point: what is lent comes first, tables before all else, and what has other rules before what has none
@@ -158,11 +152,8 @@ pub data Call : Kind → Type 0 where
   plan-fault : (table : Bytes) (edition : ℕ) (digest : Bytes) (excluded nodes counts : List ℕ) (mtu : ℕ) → Call PlanFault
   read-delta : (delta : Bytes) → Call ReadDelta
   apply : (table : Bytes) (delta : Received) (answers : Bytes) (clock : U64) → Call Apply
-  apply-leaving : (table : Bytes) (own : List ℕ) (delta : Received) (answers : Bytes) (clock : U64) → Call ApplyLeaving
   list-delta : (delta out : Bytes) → Call ListDelta
   make-delta : (text out : Bytes) → Call MakeDelta
-  list-table : (table out : Bytes) → Call ListTable
-  delta-nodes : (delta : Bytes) (list : List ℕ) → Call DeltaNodes
   exchange : (publisher follower : Bytes) (edition : ℕ) (unasked unsent ties : List ℕ) (digest delta answers : Bytes) (mtu : ℕ) (clock : U64) → Call Exchange
 
 -- everything lent to a call
@@ -213,11 +204,8 @@ lent_to (compute-plan t edition digest excluded nodes counts datagram mtu place)
 lent_to (plan-fault t edition digest excluded nodes counts mtu) = t ∷ digest ∷ excluded ∷ nodes ∷ counts ∷ []
 lent_to (read-delta delta) = delta ∷ []
 lent_to (apply t delta answers now) = t ∷ delta.bytes ∷ answers ∷ []
-lent_to (apply-leaving t own delta answers now) = t ∷ own ∷ delta.bytes ∷ answers ∷ []
 lent_to (list-delta delta out) = delta ∷ out ∷ []
 lent_to (make-delta text out) = text ∷ out ∷ []
-lent_to (list-table t out) = t ∷ out ∷ []
-lent_to (delta-nodes delta list) = delta ∷ list ∷ []
 lent_to (exchange publisher follower edition unasked unsent ties digest delta answers mtu now) =
     publisher ∷ follower ∷ unasked ∷ unsent ∷ ties ∷ digest ∷ delta ∷ answers ∷ []
 
@@ -269,11 +257,8 @@ checks ComputePlan = valid_whole ∷ []
 checks PlanFault = valid_whole ∷ []
 checks ReadDelta = []
 checks Apply = valid_whole ∷ []
-checks ApplyLeaving = valid_whole ∷ []
 checks ListDelta = []
 checks MakeDelta = []
-checks ListTable = valid_whole ∷ []
-checks DeltaNodes = []
 checks Exchange = valid_whole ∷ valid_whole ∷ []
 
 -- how many of them, the first ones, are tables
@@ -324,11 +309,8 @@ tables ComputePlan = 1
 tables PlanFault = 1
 tables ReadDelta = 0
 tables Apply = 1
-tables ApplyLeaving = 1
 tables ListDelta = 0
 tables MakeDelta = 0
-tables ListTable = 1
-tables DeltaNodes = 0
 tables Exchange = 2
 
 -- ---- what a call gives
@@ -388,11 +370,8 @@ leaves (plan-fault t edition digest excluded nodes counts mtu) =
     given (judged_told (lent_judge edition excluded nodes counts mtu digest t)) (t ∷ digest ∷ excluded ∷ nodes ∷ counts ∷ [])
 leaves (read-delta delta) = given (read_told (delta_read delta)) (delta ∷ [])
 leaves (apply t delta answers now) = as_told applied_told (λ u. u.table ∷ delta.bytes ∷ u.list ∷ []) (lent_apply delta.bytes now.value answers t)
-leaves (apply-leaving t own delta answers now) = as_told applied_told (λ u. u.table ∷ own ∷ delta.bytes ∷ u.list ∷ []) (lent_leaving own delta.bytes now.value answers t)
 leaves (list-delta delta out) = as_told written_told (λ u. delta ∷ u ∷ []) (list_delta delta out)
 leaves (make-delta text out) = as_told made_told (λ u. text ∷ u ∷ []) (lent_make text out)
-leaves (list-table t out) = as_told written_told (λ u. t ∷ u ∷ []) (list_table t out)
-leaves (delta-nodes delta list) = as_told applied_told (λ u. delta ∷ u ∷ []) (delta_nodes delta list)
 leaves (exchange publisher follower edition unasked unsent ties digest delta answers mtu now) =
     as_told exchanged_told (λ u. publisher ∷ u.follower ∷ unasked ∷ unsent ∷ ties ∷ u.digest ∷ u.delta ∷ u.answers ∷ [])
     (lent_exchange (lending edition unasked unsent ties mtu now.value digest delta answers) publisher follower)
@@ -446,11 +425,8 @@ refusals ComputePlan = 14 ∷ 20 ∷ 7 ∷ 8 ∷ 9 ∷ 13 ∷ 23 ∷ []
 refusals PlanFault = 14 ∷ 20 ∷ 7 ∷ 9 ∷ 13 ∷ 23 ∷ []
 refusals ReadDelta = 13 ∷ 9 ∷ 1 ∷ 10 ∷ 11 ∷ 12 ∷ []
 refusals Apply = 14 ∷ 13 ∷ 9 ∷ 1 ∷ 10 ∷ 11 ∷ 17 ∷ 19 ∷ 12 ∷ 8 ∷ []
-refusals ApplyLeaving = 14 ∷ 13 ∷ 9 ∷ 1 ∷ 10 ∷ 11 ∷ 17 ∷ 19 ∷ 12 ∷ 8 ∷ []
 refusals ListDelta = 8 ∷ []
 refusals MakeDelta = 16 ∷ 13 ∷ 11 ∷ 12 ∷ 8 ∷ []
-refusals ListTable = 8 ∷ []
-refusals DeltaNodes = 13 ∷ 9 ∷ 1 ∷ 10 ∷ 11 ∷ 12 ∷ 8 ∷ []
 refusals Exchange = 14 ∷ 20 ∷ 8 ∷ 7 ∷ 15 ∷ 17 ∷ 19 ∷ []
 
 -- ---- the calls that may change what is remembered
@@ -502,11 +478,8 @@ remembers ComputePlan = false
 remembers PlanFault = false
 remembers ReadDelta = false
 remembers Apply = false
-remembers ApplyLeaving = false
 remembers ListDelta = false
 remembers MakeDelta = false
-remembers ListTable = false
-remembers DeltaNodes = false
 remembers Exchange = false
 
 -- 0 where the call is accepted

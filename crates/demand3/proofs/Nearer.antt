@@ -38,9 +38,9 @@ unfolding sum
 sum-le f g [] h = omega arith
 sum-le f g (i ∷ is) h = let a = h i in let b = sum-le f g is h in omega arith
 
-pub sum_lt : (f g : ℕ → ℕ) {is : List ℕ} → ((i : ℕ) → f i ≤ g i) → {j : ℕ} → j ∈ is → f j < g j → sum f is < sum g is
+pub sum_lt : (f g : ℕ → ℕ) {j : ℕ} {is : List ℕ} → ((i : ℕ) → f i ≤ g i) → j ∈ is → f j < g j → sum f is < sum g is
 unfolding sum
-sum_lt f g h {j} (here {a = i} {l = is} q) k =
+sum_lt f g {j} h (here {a = i} {l = is} q) k =
     let a = subst (λ (n : ℕ). f n < g n) q k in
     let b = sum-le f g is h in
     omega arith
@@ -56,9 +56,9 @@ sum-some f (i ∷ is) h = go (leb 1 (f i)) refl (sum-some f is)
     go true q ih = (i, here refl, leb-true 1 (f i) q)
     go false q ih = let z = leb-false 1 (f i) q in let x = ih (omega arith) in (x.0, later x.1, x.2)
 
-pub sum-none : (f : ℕ → ℕ) {is : List ℕ} → sum f is ≡ 0 → {i : ℕ} → i ∈ is → f i ≡ 0
+pub sum-none : (f : ℕ → ℕ) {i : ℕ} {is : List ℕ} → sum f is ≡ 0 → i ∈ is → f i ≡ 0
 unfolding sum
-sum-none f h {i} (here {a = j} {l = is} q) = let a : f i ≡ f j = ap f q in omega arith
+sum-none f {i} h (here {a = j} {l = is} q) = let a : f i ≡ f j = ap f q in omega arith
 sum-none f h (later {a = j} {l = is} m) = sum-none f (omega arith) m
 
 -- ---- the digest
@@ -82,12 +82,12 @@ told-held i (a ∷ t) f e = go (eqb i a.number) refl e (told-held i t f)
 -- ---- the queue
 
 -- a node that is behind is in it
-stale-in-table : (l : List NodeDigest) (ties : List ℕ) {t : Table} {e : Entry} → e ∈ t → (told_of e.number l).max < e.node.max → (o : StaleNode) × (o ∈ stale_nodes [] l ties t)
+stale-in-table : (l : List NodeDigest) {e : Entry} (ties : List ℕ) {t : Table} → e ∈ t → (told_of e.number l).max < e.node.max → (o : StaleNode) × (o ∈ stale_nodes [] l ties t)
 unfolding stale_nodes among
-stale-in-table l ties {e = e} (here {a = a} {l = t} q) h =
+stale-in-table l {e = e} ties (here {a = a} {l = t} q) h =
     let k : (told_of a.number l).max < a.node.max = subst (λ (y : Entry). (told_of y.number l).max < y.node.max) q h in
     (stale_node (first_tie ties) (told_of a.number l) a, rw (lt-ltb _ _ k) (here refl))
-stale-in-table l ties {e = e} (later {a = a} {l = t} m) h = go (ltb (told_of a.number l).max a.node.max) (stale-in-table l (other_ties ties) m h)
+stale-in-table l {e = e} ties (later {a = a} {l = t} m) h = go (ltb (told_of a.number l).max a.node.max) (stale-in-table l (other_ties ties) m h)
   where
     go : (b : Bool) → (o : StaleNode) × (o ∈ stale_nodes [] l (other_ties ties) t) → (o : StaleNode) × (o ∈ pick b (stale_node (first_tie ties) (told_of a.number l) a ∷ stale_nodes [] l (other_ties ties) t) (stale_nodes [] l (other_ties ties) t))
     go true x = (x.0, later x.1)

@@ -5,6 +5,7 @@ use crate::{meeting, say};
 use exchange::Exchanged;
 use lookup::Found;
 use rules::{Applied, Computed, Mode, Party, Profile, Status, Written, wire};
+use std::io;
 use table::layout;
 
 // The number of the meter.
@@ -19,13 +20,13 @@ const DIGEST: usize = wire::COUNT_WIDTH + wire::ENTRY_WIDTH;
 // The delta that is held back: a Node, and a record of 14 bytes with a key of 6 and a value of 5.
 const LATE: usize = wire::NODE_WIDTH + 25;
 
-fn open(hub: &mut [u8], mode: Mode) {
-    say::done(nodes::new_table(hub, mode, Profile::Free));
-    say::done(nodes::add_node(hub, METER));
+fn open(rt: &impl Print, hub: &mut [u8], mode: Mode) -> io::Result<()> {
+    say::done(rt, nodes::new_table(hub, mode, Profile::Free))?;
+    say::done(rt, nodes::add_node(hub, METER))
 }
 
 // One exchange at the least MTU.
-fn meet(publisher: &[u8], follower: &mut [u8]) {
+fn meet(rt: &impl Print, publisher: &[u8], follower: &mut [u8]) -> io::Result<()> {
     let mut answers = [0u8; 1];
     let ties = [0u64; 1];
     let e = meeting::hear(publisher, follower, wire::V0, MTU, &ties, 0, &mut answers);
@@ -35,28 +36,30 @@ fn meet(publisher: &[u8], follower: &mut [u8]) {
             bytes: _,
             nodes: _,
         } => {
-            say::text(b"  exchange:");
-            say::answer(answers[0]);
-            say::text(b"\n");
+            say::text(rt, b"  exchange:")?;
+            say::answer(rt, answers[0])?;
+            say::text(rt, b"\n")
         }
-        Exchanged::Refused { step: _, why } => say::number(b"refused ", why.number()),
+        Exchanged::Refused { step: _, why } => say::number(rt, b"refused ", why.number()),
     }
 }
 
 // The delta that the follower's digest asks for. It goes on its way.
-fn send(publisher: &[u8], follower: &[u8], delta: &mut [u8]) {
+fn send(rt: &impl Print, publisher: &[u8], follower: &[u8], delta: &mut [u8]) -> io::Result<()> {
     let mut digest = [0u8; DIGEST];
     let none = [0u64; 0];
     let ties = [0u64; 1];
     match digest_write::write_digest(follower, wire::V0, &none, &mut digest, 0) {
         Written::Bytes(_) => {}
-        Written::Refused(r) => say::number(b"refused ", r.number()),
+        Written::Refused(r) => say::number(rt, b"refused ", r.number())?,
     }
     match compute::compute(publisher, wire::V0, &digest, MTU, &none, &ties, delta, 0) {
-        Computed::Delta { ops: _, bytes } => say::number(b"  held back: a delta of ", bytes as u64),
-        Computed::Refused(r) => say::number(b"refused ", r.number()),
+        Computed::Delta { ops: _, bytes } => {
+            say::number(rt, b"  held back: a delta of ", bytes as u64)?
+        }
+        Computed::Refused(r) => say::number(rt, b"refused ", r.number())?,
     }
-    say::text(b" bytes\n");
+    say::text(rt, b" bytes\n")
 }
 
 // The delta's bytes, of the room that was lent for it.
@@ -67,73 +70,85 @@ fn front(room: &[u8]) -> &[u8] {
     &room[0..LATE]
 }
 
-fn deliver(follower: &mut [u8], delta: &[u8]) {
+fn deliver(rt: &impl Print, follower: &mut [u8], delta: &[u8]) -> io::Result<()> {
     let mut answers = [0u8; 1];
     match apply::apply(follower, delta, 0, &mut answers) {
         Applied::Nodes(_) => {
-            say::text(b"  delivered late:");
-            say::answer(answers[0]);
-            say::text(b"\n");
+            say::text(rt, b"  delivered late:")?;
+            say::answer(rt, answers[0])?;
+            say::text(rt, b"\n")
         }
-        Applied::Refused { why, at: _ } => say::number(b"refused ", why.number()),
+        Applied::Refused { why, at: _ } => say::number(rt, b"refused ", why.number()),
     }
 }
 
-fn say_tariff(name: &[u8], hub: &[u8]) {
-    say::text(name);
+fn say_tariff(rt: &impl Print, name: &[u8], hub: &[u8]) -> io::Result<()> {
+    say::text(rt, name)?;
     match lookup::find(hub, Party::Nobody, METER, b"tariff") {
-        Found::At { start: _, len: _ } => say::text(b" has a tariff\n"),
-        Found::Nothing => say::text(b" has no tariff\n"),
-        Found::Refused(r) => say::number(b"refused ", r.number()),
+        Found::At { start: _, len: _ } => say::text(rt, b" has a tariff\n"),
+        Found::Nothing => say::text(rt, b" has no tariff\n"),
+        Found::Refused(r) => say::number(rt, b"refused ", r.number()),
     }
 }
 
-fn set(hub: &mut [u8], key: &[u8], value: &[u8]) {
-    say::done(local::write(hub, Party::Nobody, METER, key, value, Status::Set, 0));
+fn set(rt: &impl Print, hub: &mut [u8], key: &[u8], value: &[u8]) -> io::Result<()> {
+    say::done(
+        rt,
+        local::write(hub, Party::Nobody, METER, key, value, Status::Set, 0),
+    )
 }
 
 // Up to the delta that is held back.
-fn hold_back(publisher: &mut [u8], follower: &mut [u8], late: &mut [u8]) {
-    set(publisher, b"total", b"4127");
-    meet(publisher, follower);
-    set(publisher, b"tariff", b"night");
-    send(publisher, follower, late);
+fn hold_back(
+    rt: &impl Print,
+    publisher: &mut [u8],
+    follower: &mut [u8],
+    late: &mut [u8],
+) -> io::Result<()> {
+    set(rt, publisher, b"total", b"4127")?;
+    meet(rt, publisher, follower)?;
+    set(rt, publisher, b"tariff", b"night")?;
+    send(rt, publisher, follower, late)
 }
 
 // While it is on its way.
-fn go_on(publisher: &mut [u8], follower: &mut [u8]) {
-    say::done(local::delete(publisher, Party::Nobody, METER, b"tariff", 0));
-    say::done(removal::remove_scheduled(publisher, 0, 0));
+fn go_on(rt: &impl Print, publisher: &mut [u8], follower: &mut [u8]) -> io::Result<()> {
+    say::done(
+        rt,
+        local::delete(publisher, Party::Nobody, METER, b"tariff", 0),
+    )?;
+    say::done(rt, removal::remove_scheduled(publisher, 0, 0))?;
     set(
+        rt,
         publisher,
         b"note",
         b"the meter was exchanged on the first of May",
-    );
-    meet(publisher, follower);
+    )?;
+    meet(rt, publisher, follower)
 }
 
 // It arrives, and one exchange later every max is equal.
-fn arrive(publisher: &[u8], follower: &mut [u8], late: &[u8]) {
-    deliver(follower, front(late));
-    meet(publisher, follower);
-    say_tariff(b"  the publisher", publisher);
-    say_tariff(b"  the follower", follower);
+fn arrive(rt: &impl Print, publisher: &[u8], follower: &mut [u8], late: &[u8]) -> io::Result<()> {
+    deliver(rt, follower, front(late))?;
+    meet(rt, publisher, follower)?;
+    say_tariff(rt, b"  the publisher", publisher)?;
+    say_tariff(rt, b"  the follower", follower)
 }
 
-fn story(mode: Mode) {
+fn story(rt: &impl Print, mode: Mode) -> io::Result<()> {
     let mut publisher = [0u8; layout::TABLE];
     let mut follower = [0u8; layout::TABLE];
     let mut late = [0u8; MTU];
-    open(&mut publisher, Mode::Plain);
-    open(&mut follower, mode);
-    hold_back(&mut publisher, &mut follower, &mut late);
-    go_on(&mut publisher, &mut follower);
-    arrive(&publisher, &mut follower, &late);
+    open(rt, &mut publisher, Mode::Plain)?;
+    open(rt, &mut follower, mode)?;
+    hold_back(rt, &mut publisher, &mut follower, &mut late)?;
+    go_on(rt, &mut publisher, &mut follower)?;
+    arrive(rt, &publisher, &mut follower, &late)
 }
 
-pub fn tell() {
-    say::text(b"a plain follower\n");
-    story(Mode::Plain);
-    say::text(b"a fenced follower\n");
-    story(Mode::Fenced);
+pub fn tell(rt: &impl Print) -> io::Result<()> {
+    say::text(rt, b"a plain follower\n")?;
+    story(rt, Mode::Plain)?;
+    say::text(rt, b"a fenced follower\n")?;
+    story(rt, Mode::Fenced)
 }

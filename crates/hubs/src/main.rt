@@ -8,8 +8,10 @@ mod say;
 mod triangle;
 mod two_days;
 
-fn main() {
-    two_days::tell();
-    held_back::tell();
-    triangle::tell();
+use std::io;
+
+fn main(rt: HostRuntime) -> io::Result<()> {
+    two_days::tell(&rt)?;
+    held_back::tell(&rt)?;
+    triangle::tell(&rt)
 }

@@ -1,37 +1,37 @@
 // What the stories print.
-use libc::STDOUT_FILENO;
 use rules::Answer;
+use std::io;
 
-pub fn text(line: &[u8]) {
-    io::write_all(STDOUT_FILENO, line);
+pub fn text(rt: &impl Print, line: &[u8]) -> io::Result<()> {
+    rt.write_all(line)
 }
 
-pub fn number(name: &[u8], n: u64) {
-    text(name);
-    io::print_decimal(STDOUT_FILENO, n);
+pub fn number(rt: &impl Print, name: &[u8], n: u64) -> io::Result<()> {
+    text(rt, name)?;
+    rt.print(n)
 }
 
 // A refused call would be told; none here is.
-pub fn done(a: Answer) {
+pub fn done(rt: &impl Print, a: Answer) -> io::Result<()> {
     match a {
-        Answer::Done => {}
-        Answer::Refused(r) => number(b"refused ", r.number()),
+        Answer::Done => Ok(()),
+        Answer::Refused(r) => number(rt, b"refused ", r.number()),
     }
 }
 
 // What a node answered to its part of a delta.
-pub fn answer(code: u8) {
+pub fn answer(rt: &impl Print, code: u8) -> io::Result<()> {
     if code == 0 {
-        text(b" reject");
+        text(rt, b" reject")
     } else if code == 1 {
-        text(b" apply");
+        text(rt, b" apply")
     } else if code == 2 {
-        text(b" reset");
+        text(rt, b" reset")
     } else if code == 3 {
-        text(b" room");
+        text(rt, b" room")
     } else if code == 4 {
-        text(b" unknown");
+        text(rt, b" unknown")
     } else {
-        text(b" fenced");
+        text(rt, b" fenced")
     }
 }

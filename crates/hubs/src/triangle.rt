@@ -6,6 +6,7 @@ use exchange::Exchanged;
 use inspect::{NodeHeader, RecordRead};
 use inspect_text::Text;
 use rules::{Mode, Party, Profile, Status, wire};
+use std::io;
 use table::layout;
 
 // The number of the meter.
@@ -14,109 +15,113 @@ const METER: u64 = 7;
 // Nothing is cut.
 const MTU: usize = 1000;
 
-fn open(hub: &mut [u8], mode: Mode) {
-    say::done(nodes::new_table(hub, mode, Profile::Free));
-    say::done(nodes::add_node(hub, METER));
+fn open(rt: &impl Print, hub: &mut [u8], mode: Mode) -> io::Result<()> {
+    say::done(rt, nodes::new_table(hub, mode, Profile::Free))?;
+    say::done(rt, nodes::add_node(hub, METER))
 }
 
 // ---- what a hub holds
 
 // A record's key and version.
-fn say_record(hub: &[u8], j: usize) {
+fn say_record(rt: &impl Print, hub: &[u8], j: usize) -> io::Result<()> {
     if let RecordRead::Is {
         key: _,
         value: _,
         record: r,
     } = inspect::record_at(hub, Party::Nobody, METER, j)
     {
-        say::text(b" ");
-        say::text(inspect_text::text_at(hub, Party::Nobody, METER, j, Text::Key));
-        say::number(b"@", r.version);
+        say::text(rt, b" ")?;
+        say::text(rt, inspect_text::text_at(hub, Party::Nobody, METER, j, Text::Key))?;
+        say::number(rt, b"@", r.version)?;
     }
+    Ok(())
 }
 
 // last_gc and max, and the two records that it may have.
-fn say_hub(name: &[u8], hub: &[u8]) {
-    say::text(name);
+fn say_hub(rt: &impl Print, name: &[u8], hub: &[u8]) -> io::Result<()> {
+    say::text(rt, name)?;
     if let NodeHeader::Is(h) = inspect::node_header(hub, METER) {
-        say::number(b" (", h.last_gc);
-        say::number(b",", h.max);
-        say::text(b")");
+        say::number(rt, b" (", h.last_gc)?;
+        say::number(rt, b",", h.max)?;
+        say::text(rt, b")")?;
     }
-    say_record(hub, 0);
-    say_record(hub, 1);
-    say::text(b"\n");
+    say_record(rt, hub, 0)?;
+    say_record(rt, hub, 1)?;
+    say::text(rt, b"\n")
 }
 
 // ---- the exchanges
 
-fn hear(name: &[u8], other: &[u8], hub: &mut [u8]) {
+fn hear(rt: &impl Print, name: &[u8], other: &[u8], hub: &mut [u8]) -> io::Result<()> {
     let mut answers = [0u8; 1];
     let ties = [0u64; 1];
     let e = meeting::hear(other, hub, wire::V0, MTU, &ties, 0, &mut answers);
-    say::text(name);
+    say::text(rt, name)?;
     match e {
         Exchanged::Done {
             ops: _,
             bytes: _,
             nodes: _,
         } => {
-            say::answer(answers[0]);
-            say::text(b"\n");
+            say::answer(rt, answers[0])?;
+            say::text(rt, b"\n")
         }
-        Exchanged::Refused { step: _, why } => say::number(b" refused ", why.number()),
+        Exchanged::Refused { step: _, why } => say::number(rt, b" refused ", why.number()),
     }
 }
 
 // ---- the story
 
-fn set(hub: &mut [u8], key: &[u8], value: &[u8]) {
-    say::done(local::write(hub, Party::Nobody, METER, key, value, Status::Set, 0));
+fn set(rt: &impl Print, hub: &mut [u8], key: &[u8], value: &[u8]) -> io::Result<()> {
+    say::done(
+        rt,
+        local::write(hub, Party::Nobody, METER, key, value, Status::Set, 0),
+    )
 }
 
 // F has both records.
-fn begin(p: &mut [u8], f: &mut [u8]) {
-    set(p, b"total", b"4127");
-    set(p, b"tariff", b"night");
-    hear(b"  F hears P:", p, f);
+fn begin(rt: &impl Print, p: &mut [u8], f: &mut [u8]) -> io::Result<()> {
+    set(rt, p, b"total", b"4127")?;
+    set(rt, p, b"tariff", b"night")?;
+    hear(rt, b"  F hears P:", p, f)
 }
 
 // The tariff is deleted, and its tombstone removed.
-fn go_on(p: &mut [u8]) {
-    say::done(local::delete(p, Party::Nobody, METER, b"tariff", 0));
-    say::done(removal::remove_scheduled(p, 0, 0));
+fn go_on(rt: &impl Print, p: &mut [u8]) -> io::Result<()> {
+    say::done(rt, local::delete(p, Party::Nobody, METER, b"tariff", 0))?;
+    say::done(rt, removal::remove_scheduled(p, 0, 0))
 }
 
-fn catch_up(p: &[u8], f: &[u8], g: &mut [u8]) {
-    hear(b"  G hears P:", p, g);
-    hear(b"  G hears F:", f, g);
-    hear(b"  G hears P:", p, g);
+fn catch_up(rt: &impl Print, p: &[u8], f: &[u8], g: &mut [u8]) -> io::Result<()> {
+    hear(rt, b"  G hears P:", p, g)?;
+    hear(rt, b"  G hears F:", f, g)?;
+    hear(rt, b"  G hears P:", p, g)
 }
 
-fn tell_hubs(p: &[u8], f: &[u8], g: &[u8]) {
-    say_hub(b"  P", p);
-    say_hub(b"  F", f);
-    say_hub(b"  G", g);
+fn tell_hubs(rt: &impl Print, p: &[u8], f: &[u8], g: &[u8]) -> io::Result<()> {
+    say_hub(rt, b"  P", p)?;
+    say_hub(rt, b"  F", f)?;
+    say_hub(rt, b"  G", g)
 }
 
-fn story(mode: Mode) {
+fn story(rt: &impl Print, mode: Mode) -> io::Result<()> {
     let mut p = [0u8; layout::TABLE];
     let mut f = [0u8; layout::TABLE];
     let mut g = [0u8; layout::TABLE];
-    open(&mut p, mode);
-    open(&mut f, mode);
-    open(&mut g, mode);
-    begin(&mut p, &mut f);
-    go_on(&mut p);
-    catch_up(&p, &f, &mut g);
-    tell_hubs(&p, &f, &g);
+    open(rt, &mut p, mode)?;
+    open(rt, &mut f, mode)?;
+    open(rt, &mut g, mode)?;
+    begin(rt, &mut p, &mut f)?;
+    go_on(rt, &mut p)?;
+    catch_up(rt, &p, &f, &mut g)?;
+    tell_hubs(rt, &p, &f, &g)
 }
 
-pub fn tell() {
-    say::text(b"plain hubs\n");
-    story(Mode::Plain);
-    say::text(b"fenced hubs\n");
-    story(Mode::Fenced);
-    say::text(b"guarded hubs\n");
-    story(Mode::Guarded);
+pub fn tell(rt: &impl Print) -> io::Result<()> {
+    say::text(rt, b"plain hubs\n")?;
+    story(rt, Mode::Plain)?;
+    say::text(rt, b"fenced hubs\n")?;
+    story(rt, Mode::Fenced)?;
+    say::text(rt, b"guarded hubs\n")?;
+    story(rt, Mode::Guarded)
 }

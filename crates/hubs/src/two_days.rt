@@ -7,6 +7,7 @@ use exchange_ask::Step;
 use inspect::{Count, NodeHeader, RecordRead};
 use inspect_text::Text;
 use rules::{Header, Mode, Party, Profile, Refusal, Status, sizes, wire};
+use std::io;
 use table::layout;
 
 // The numbers of the two meters.
@@ -19,48 +20,67 @@ const MTU: usize = 135;
 
 // ---- the first hub's readings
 
-fn open(hub: &mut [u8]) {
-    say::done(nodes::new_table(hub, Mode::Plain, Profile::Free));
-    say::done(nodes::add_node(hub, POWER));
-    say::done(nodes::add_node(hub, WATER));
+fn open(rt: &impl Print, hub: &mut [u8]) -> io::Result<()> {
+    say::done(rt, nodes::new_table(hub, Mode::Plain, Profile::Free))?;
+    say::done(rt, nodes::add_node(hub, POWER))?;
+    say::done(rt, nodes::add_node(hub, WATER))
 }
 
 // A reading that stays until another takes its place.
-fn read_off(hub: &mut [u8], number: u64, key: &[u8], value: &[u8]) {
-    say::done(local::write(hub, Party::Nobody, number, key, value, Status::Set, 0));
+fn read_off(
+    rt: &impl Print,
+    hub: &mut [u8],
+    number: u64,
+    key: &[u8],
+    value: &[u8],
+) -> io::Result<()> {
+    say::done(
+        rt,
+        local::write(hub, Party::Nobody, number, key, value, Status::Set, 0),
+    )
 }
 
-fn first_day_power(hub: &mut [u8]) {
-    read_off(hub, POWER, b"total", b"004127.3 k_wh");
+fn first_day_power(rt: &impl Print, hub: &mut [u8]) -> io::Result<()> {
+    read_off(rt, hub, POWER, b"total", b"004127.3 kWh")?;
     read_off(
+        rt,
         hub,
         POWER,
         b"load",
         b"0.4 0.3 0.3 0.2 0.9 1.7 2.2 1.1 0.8 0.7 0.6 1.3",
-    );
-    read_off(hub, POWER, b"tariff", b"night");
+    )?;
+    read_off(rt, hub, POWER, b"tariff", b"night")
 }
 
-fn first_day_water(hub: &mut [u8]) {
-    read_off(hub, WATER, b"total", b"000088.031 m3");
-    read_off(hub, WATER, b"flow", b"0 0 0 3 11 4 2 0 0 6 9 1");
-    say::done(local::write(
-        hub,
-        Party::Nobody,
-        WATER,
-        b"valve",
-        b"open",
-        Status::Ttl,
-        1000,
-    ));
+fn first_day_water(rt: &impl Print, hub: &mut [u8]) -> io::Result<()> {
+    read_off(rt, hub, WATER, b"total", b"000088.031 m3")?;
+    read_off(rt, hub, WATER, b"flow", b"0 0 0 3 11 4 2 0 0 6 9 1")?;
+    say::done(
+        rt,
+        local::write(
+            hub,
+            Party::Nobody,
+            WATER,
+            b"valve",
+            b"open",
+            Status::Ttl,
+            1000,
+        ),
+    )
 }
 
 // The tariff is deleted, and the valve's time has come: the removal takes both. The flow is to go later.
-fn second_day(hub: &mut [u8]) {
-    read_off(hub, POWER, b"total", b"004139.0 k_wh");
-    say::done(local::delete(hub, Party::Nobody, POWER, b"tariff", 50000));
-    say::done(local::delete_after_ttl(hub, Party::Nobody, WATER, b"flow", 80000));
-    say::done(removal::remove_scheduled(hub, 90000, 30000));
+fn second_day(rt: &impl Print, hub: &mut [u8]) -> io::Result<()> {
+    read_off(rt, hub, POWER, b"total", b"004139.0 kWh")?;
+    say::done(
+        rt,
+        local::delete(hub, Party::Nobody, POWER, b"tariff", 50000),
+    )?;
+    say::done(
+        rt,
+        local::delete_after_ttl(hub, Party::Nobody, WATER, b"flow", 80000),
+    )?;
+    say::done(rt, removal::remove_scheduled(hub, 90000, 30000))
 }
 
 // ---- what a hub holds
@@ -99,7 +119,7 @@ fn agree(a: &[u8], b: &[u8]) -> bool {
 // ---- what is printed
 
 // A Set record, as node, key, value and version.
-fn say_record(hub: &[u8], number: u64, j: usize) {
+fn say_record(rt: &impl Print, hub: &[u8], number: u64, j: usize) -> io::Result<()> {
     if let RecordRead::Is {
         key: _,
         value: _,
@@ -108,70 +128,78 @@ fn say_record(hub: &[u8], number: u64, j: usize) {
     {
         let status = r.status;
         if let Status::Set = status {
-            say::number(b"  ", number);
-            say::text(b" ");
-            say::text(inspect_text::text_at(hub, Party::Nobody, number, j, Text::Key));
-            say::text(b" = ");
-            say::text(inspect_text::text_at(hub, Party::Nobody, number, j, Text::Value));
-            say::number(b" at version ", r.version);
-            say::text(b"\n");
+            say::number(rt, b"  ", number)?;
+            say::text(rt, b" ")?;
+            say::text(rt, inspect_text::text_at(hub, Party::Nobody, number, j, Text::Key))?;
+            say::text(rt, b" = ")?;
+            say::text(rt, inspect_text::text_at(hub, Party::Nobody, number, j, Text::Value))?;
+            say::number(rt, b" at version ", r.version)?;
+            say::text(rt, b"\n")?;
         }
     }
+    Ok(())
 }
 
-fn say_node(hub: &[u8], number: u64) {
+fn say_node(rt: &impl Print, hub: &[u8], number: u64) -> io::Result<()> {
     let mut j = 0;
     while j < Header::RECORDS {
-        say_record(hub, number, j);
+        say_record(rt, hub, number, j)?;
         j += 1;
     }
+    Ok(())
 }
 
-fn say_hub(name: &[u8], hub: &[u8]) {
-    say::text(name);
-    say::text(b" holds\n");
-    say_node(hub, POWER);
-    say_node(hub, WATER);
+fn say_hub(rt: &impl Print, name: &[u8], hub: &[u8]) -> io::Result<()> {
+    say::text(rt, name)?;
+    say::text(rt, b" holds\n")?;
+    say_node(rt, hub, POWER)?;
+    say_node(rt, hub, WATER)
 }
 
-fn say_answers(answers: &[u8], n: usize) {
+fn say_answers(rt: &impl Print, answers: &[u8], n: usize) -> io::Result<()> {
     let mut i = 0;
     while i < answers.len() {
         if i < n {
-            say::answer(answers[i]);
+            say::answer(rt, answers[i])?;
         }
         i += 1;
     }
-    say::text(b"\n");
+    say::text(rt, b"\n")
 }
 
-fn say_refused(step: Step, why: Refusal) {
+fn say_refused(rt: &impl Print, step: Step, why: Refusal) -> io::Result<()> {
     match step {
-        Step::Digest => say::text(b": the digest is"),
-        Step::Delta => say::text(b": the delta is"),
-        Step::Applying => say::text(b": applying is"),
+        Step::Digest => say::text(rt, b": the digest is")?,
+        Step::Delta => say::text(rt, b": the delta is")?,
+        Step::Applying => say::text(rt, b": applying is")?,
     }
-    say::number(b" refused with ", why.number());
-    say::text(b"\n");
+    say::number(rt, b" refused with ", why.number())?;
+    say::text(rt, b"\n")
 }
 
-fn say_exchange(i: u64, e: Exchanged, answers: &[u8]) {
-    say::number(b"exchange ", i);
+fn say_exchange(rt: &impl Print, i: u64, e: Exchanged, answers: &[u8]) -> io::Result<()> {
+    say::number(rt, b"exchange ", i)?;
     match e {
         Exchanged::Done { ops, bytes, nodes } => {
-            say::number(b": ops=", ops as u64);
-            say::number(b" bytes=", bytes as u64);
-            say::text(b" answers:");
-            say_answers(answers, nodes);
+            say::number(rt, b": ops=", ops as u64)?;
+            say::number(rt, b" bytes=", bytes as u64)?;
+            say::text(rt, b" answers:")?;
+            say_answers(rt, answers, nodes)
         }
-        Exchanged::Refused { step, why } => say_refused(step, why),
+        Exchanged::Refused { step, why } => say_refused(rt, step, why),
     }
 }
 
 // ---- the exchanges
 
 // One exchange: the digest is of the second edition, and the nodes go by their numbers.
-fn step(i: u64, publisher: &[u8], follower: &mut [u8], clock: u64) {
+fn step(
+    rt: &impl Print,
+    i: u64,
+    publisher: &[u8],
+    follower: &mut [u8],
+    clock: u64,
+) -> io::Result<()> {
     let mut answers = [0u8; sizes::NODES];
     let ties = [0u64; 2];
     let e = meeting::hear(
@@ -183,55 +211,66 @@ fn step(i: u64, publisher: &[u8], follower: &mut [u8], clock: u64) {
         clock,
         &mut answers,
     );
-    say_exchange(i, e, &answers);
+    say_exchange(rt, i, e, &answers)
 }
 
 // Exchanges until every max is equal; how many there were.
-fn catch_up(publisher: &[u8], follower: &mut [u8], clock: u64, most: u64) -> u64 {
+fn catch_up(
+    rt: &impl Print,
+    publisher: &[u8],
+    follower: &mut [u8],
+    clock: u64,
+    most: u64,
+) -> io::Result<u64> {
     let mut i: u64 = 0;
     while i < most {
         if agree(publisher, follower) {
-            return i;
+            return Ok(i);
         }
         i += 1;
-        step(i, publisher, follower, clock);
+        step(rt, i, publisher, follower, clock)?;
     }
-    i
+    Ok(i)
 }
 
-fn meet(publisher: &[u8], follower: &mut [u8], clock: u64) {
+fn meet(
+    rt: &impl Print,
+    publisher: &[u8],
+    follower: &mut [u8],
+    clock: u64,
+) -> io::Result<()> {
     let most = holdings(publisher);
-    let n = catch_up(publisher, follower, clock, most);
+    let n = catch_up(rt, publisher, follower, clock, most)?;
     if agree(publisher, follower) {
-        say::number(b"every max is equal after ", n);
+        say::number(rt, b"every max is equal after ", n)?;
     } else {
-        say::number(b"not yet equal after ", n);
+        say::number(rt, b"not yet equal after ", n)?;
     }
-    say::number(b" exchanges; records and nodes: ", most);
-    say::text(b"\n");
+    say::number(rt, b" exchanges; records and nodes: ", most)?;
+    say::text(rt, b"\n")
 }
 
 // ---- the two days
 
-fn follow_first_day(first: &mut [u8], second: &mut [u8]) {
-    first_day_power(first);
-    first_day_water(first);
-    meet(first, second, 2000);
-    say_hub(b"the second hub", second);
+fn follow_first_day(rt: &impl Print, first: &mut [u8], second: &mut [u8]) -> io::Result<()> {
+    first_day_power(rt, first)?;
+    first_day_water(rt, first)?;
+    meet(rt, first, second, 2000)?;
+    say_hub(rt, b"the second hub", second)
 }
 
-fn follow_second_day(first: &mut [u8], second: &mut [u8]) {
-    second_day(first);
-    meet(first, second, 91000);
-    say_hub(b"the first hub", first);
-    say_hub(b"the second hub", second);
+fn follow_second_day(rt: &impl Print, first: &mut [u8], second: &mut [u8]) -> io::Result<()> {
+    second_day(rt, first)?;
+    meet(rt, first, second, 91000)?;
+    say_hub(rt, b"the first hub", first)?;
+    say_hub(rt, b"the second hub", second)
 }
 
-pub fn tell() {
+pub fn tell(rt: &impl Print) -> io::Result<()> {
     let mut first = [0u8; layout::TABLE];
     let mut second = [0u8; layout::TABLE];
-    open(&mut first);
-    open(&mut second);
-    follow_first_day(&mut first, &mut second);
-    follow_second_day(&mut first, &mut second);
+    open(rt, &mut first)?;
+    open(rt, &mut second)?;
+    follow_first_day(rt, &mut first, &mut second)?;
+    follow_second_day(rt, &mut first, &mut second)
 }

@@ -2,19 +2,23 @@
 // how the samples, and what must be written for them, were made.
 #![tactic(auto)]
 
+use anyhow::{Context, Result};
 use delta_make::Made;
 use rules::{Written, sizes};
+use std::io::Write;
+use std::rt::Files;
+use std::{env, fs};
 
 // Whether the delta that was made is the one that was listed.
-fn tell(same: bool) -> bool {
+fn tell<W: Write>(out: &mut W, same: bool) -> Result<()> {
     if same {
-        return streams::put(b"made=same\n");
+        return streams::put(out, b"made=same\n");
     }
-    streams::put(b"made=other\n")
+    streams::put(out, b"made=other\n")
 }
 
 // What comes of the delta's listing, cut into two pieces.
-fn read_back(delta: &[u8], text: &[u8]) -> bool {
+fn read_back<W: Write>(out: &mut W, delta: &[u8], text: &[u8]) -> Result<()> {
     let mut line = [0u8; delta_make::LONGEST_LINE];
     let mut room = [0u8; delta_put::ROOM];
     let first = delta_put::front(text, 100);
@@ -23,47 +27,38 @@ fn read_back(delta: &[u8], text: &[u8]) -> bool {
     let making = delta_make::take_in(begun, rest, &mut line, &mut room);
     let made = delta_make::finish(making, &room);
     match made {
-        Made::Bytes(n) => tell(fields::same(delta_put::front(&room, n), delta)),
-        Made::BadLine(_) => delta_put::put(making, &room),
-        Made::Refused { why: _, at: _ } => delta_put::put(making, &room),
+        Made::Bytes(n) => tell(out, fields::same(delta_put::front(&room, n), delta)),
+        Made::BadLine(_) => delta_put::put(out, making, &room),
+        Made::Refused { why: _, at: _ } => delta_put::put(out, making, &room),
     }
 }
 
 // The delta's listing, read back.
-fn back(delta: &[u8]) -> bool {
+fn back<W: Write>(out: &mut W, delta: &[u8]) -> Result<()> {
     let mut text = [0u8; listing::LONGEST];
     let listed = listing::list_delta(delta, &mut text);
     match listed {
-        Written::Bytes(n) => read_back(delta, delta_put::front(&text, n)),
-        Written::Refused(_) => false,
+        Written::Bytes(n) => read_back(out, delta, delta_put::front(&text, n)),
+        Written::Refused(_) => unreachable!(),
     }
 }
 
-// The sample that argument i names. Answers whether it could be read, and its listing be written.
-fn replay(i: usize) -> bool {
-    let mut path = io::buffer();
-    let len = os::arg(i, &mut path);
-    let file = os::open_read(&path[..len]);
-    if file < 0 {
-        os::fail(&path[..len]);
-        return false;
-    }
-    streams::put(&path[..len]);
-    streams::put(b"\n");
+// The sample of this name.
+fn replay<R: Files, W: Write>(rt: &R, out: &mut W, name: &str) -> Result<()> {
+    let mut file = fs::open(rt, name).context(format_args!("{name}"))?;
+    streams::put(out, name.as_bytes())?;
+    streams::put(out, b"\n")?;
     let mut input = [0u8; sizes::LONGEST_DELTA + 1];
-    let filled = streams::fill(file, &mut input);
-    let n = filled.len;
-    if n <= sizes::LONGEST_DELTA && !filled.ended {
-        return false;
-    }
-    libc::close(file);
-    listing_show::show(delta_put::front(&input, n)) && back(delta_put::front(&input, n))
+    let filled = streams::fill(&mut file, &mut input)?;
+    let delta = delta_put::front(&input, filled.len);
+    listing_show::show(out, delta)?;
+    back(out, delta)
 }
 
-fn main() {
-    let most = os::arg_count();
-    let mut i: usize = 1;
-    while i < most && replay(i) {
-        i += 1;
+fn main(rt: HostRuntime) -> Result<()> {
+    let mut out = rt.stdout();
+    for name in env::args(&rt)?.skip(1) {
+        replay(&rt, &mut out, name.as_str())?;
     }
+    Ok(())
 }

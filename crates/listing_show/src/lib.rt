@@ -1,17 +1,22 @@
-// Writes the listing of a delta to standard output. The buffer has room for every listing (listing/proofs/Lines.antt), and nothing is written
-// before the whole listing stands in it. Answers whether it was written.
+// Writes the listing of a delta. The buffer has room for every listing (listing/proofs/Lines.antt), and nothing is written before the whole listing
+// stands in it.
 #![tactic(auto)]
 
-use rules::Written;
+ghost use Rattle.std.specs.Prelude.{OnOk};
+ghost use Rattle.std.specs.Io.KnownBytes.{Appends};
+ghost use Rattle.rules.specs.Listing.{listing};
 
-pub fn show(delta: &[u8]) -> bool {
+use anyhow::Result;
+use rules::Written;
+use std::io::Write;
+
+pub fn show<W: Write>(out: &mut W, delta: &[u8]) -> Result<()>
+    ensures { OnOk result (Appends (W.contents out.old) (W.contents out.new) (listing delta.now)) }
+{
     let mut output = [0u8; listing::LONGEST];
     let listed = listing::list_delta(delta, &mut output);
     match listed {
-        Written::Bytes(n) => streams::put(&output[..n]),
-        Written::Refused(_) => {
-            check::expect(false);
-            false
-        }
+        Written::Bytes(n) => streams::put(out, &output[..n]),
+        Written::Refused(_) => unreachable!(),
     }
 }

@@ -1,12 +1,13 @@
 // Reads a listing from standard input to its end and writes the bytes of its delta, or the one line that says why there is none.
 #![tactic(auto)]
 
-use libc::STDIN_FILENO;
+use anyhow::Result;
 
-fn main() {
+fn main(rt: HostRuntime) -> Result<()> {
     let mut delta = [0u8; delta_put::ROOM];
-    let taken = delta_put::take_all(STDIN_FILENO, &mut delta);
+    let taken = delta_put::take_all(&mut rt.stdin(), &mut delta)?;
     if taken.ended {
-        delta_put::put(taken.making, &delta);
+        delta_put::put(&mut rt.stdout(), taken.making, &delta)?;
     }
+    Ok(())
 }

@@ -2,27 +2,30 @@
 // they, and what must be written for them, were made.
 #![tactic(auto)]
 
-// The listing that argument i names. Answers whether it could be read, and what comes of it be written.
-fn replay(i: usize) -> bool {
-    let mut path = io::buffer();
-    let len = os::arg(i, &mut path);
-    let file = os::open_read(&path[..len]);
-    if file < 0 {
-        os::fail(&path[..len]);
-        return false;
-    }
-    streams::put(&path[..len]);
-    streams::put(b"\n");
+use anyhow::{Context, Result};
+use std::io::Write;
+use std::rt::Files;
+use std::{env, fs};
+
+// The listing of this name. Answers whether it was read to its end.
+fn replay<R: Files, W: Write>(rt: &R, out: &mut W, name: &str) -> Result<bool> {
+    let mut file = fs::open(rt, name).context(format_args!("{name}"))?;
+    streams::put(out, name.as_bytes())?;
+    streams::put(out, b"\n")?;
     let mut delta = [0u8; delta_put::ROOM];
-    let taken = delta_put::take_all(file, &mut delta);
-    libc::close(file);
-    taken.ended && delta_put::show(taken.making, &delta)
+    let taken = delta_put::take_all(&mut file, &mut delta)?;
+    if taken.ended {
+        delta_put::show(out, taken.making, &delta)?;
+    }
+    Ok(taken.ended)
 }
 
-fn main() {
-    let most = os::arg_count();
-    let mut i: usize = 1;
-    while i < most && replay(i) {
-        i += 1;
+fn main(rt: HostRuntime) -> Result<()> {
+    let mut out = rt.stdout();
+    for name in env::args(&rt)?.skip(1) {
+        if !replay(&rt, &mut out, name.as_str())? {
+            break;
+        }
     }
+    Ok(())
 }

@@ -27,7 +27,7 @@ use Rattle.demand3.proofs.Nearer.{Stirs}
 use Rattle.demand3.specs.Demand3.{least_width}
 
 -- a node that is behind and not excluded stands in line
-stands-in-line : (excluded : List ℕ) (l : List NodeDigest) (ties : List ℕ) {t : Table} {e : Entry} → e ∈ t → among e.number excluded ≡ false → (told_of e.number l).max < e.node.max → (s : StaleNode) × (s ∈ stale_nodes excluded l ties t)
+stands-in-line : (excluded : List ℕ) (l : List NodeDigest) {e : Entry} (ties : List ℕ) {t : Table} → e ∈ t → among e.number excluded ≡ false → (told_of e.number l).max < e.node.max → (s : StaleNode) × (s ∈ stale_nodes excluded l ties t)
 unfolding stale_nodes
 stands-in-line excluded l ties (here {a = a} {l = t} q) free h =
     let f : among a.number excluded ≡ false = subst (λ (y : Entry). among y.number excluded ≡ false) q free in

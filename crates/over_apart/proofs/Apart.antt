@@ -15,7 +15,6 @@ use Rattle.rules.specs.Compute as computing
 use Rattle.rules.specs.Digest.{write_digest}
 use Rattle.rules.specs.Given.{Given, given}
 use Rattle.rules.specs.Lent.{both, from_table, lent_apply_as, stored_apply}
-use Rattle.leaving.specs.Leaving.{apply_leaving, lent_leaving_as}
 use Rattle.rules.specs.Whole.{decode_whole, valid_whole}
 use Rattle.rules.specs.declared.Applied.TheVariants as applied
 use Rattle.rules.specs.declared.Computed.{Computed}
@@ -72,7 +71,7 @@ not-exchanged g publisher follower h = go (valid_whole follower) refl (valid_who
     go true q true w (inr e) = absurd (true≢false e)
 
 fourteen : (k : Kind) → Gossips k → (c : Call k) (o : Bytes) → valid_node o ≡ true → o ∈ take (tables k) (lent_to c) → (leaves c).answer.number ≡ 14
-unfolding leaves lent_to from_table lent_apply_as lent_leaving_as written_told computed_told applied_told
+unfolding leaves lent_to from_table lent_apply_as written_told computed_told applied_told
 fourteen k writes_digest (calls.write-digest t edition excluded datagram place) o v m =
     ap (λ (b : Bool). (written_told (pick {X = Given Written Bytes} b (write_digest edition excluded place (decode_whole t).table datagram) (given (written.Refused BadTable) datagram)).answer).number)
     (no_table o t v (only o t m))
@@ -84,9 +83,6 @@ fourteen k plans (calls.compute-plan t edition digest excluded nodes counts data
     (no_table o t v (only o t m))
 fourteen k applies (calls.apply t delta answers now) o v m =
     ap (λ (b : Bool). (applied_told (pick b (stored_apply (decode_whole t) (apply (ways_in (decode_whole t).kind) delta.bytes now.value (decode_whole t).table answers)) (given (applied.Refused BadTable 0) (both t answers))).answer).number)
-    (no_table o t v (only o t m))
-fourteen k leaves-alone (calls.apply-leaving t own delta answers now) o v m =
-    ap (λ (b : Bool). (applied_told (pick b (stored_apply (decode_whole t) (apply_leaving own (ways_in (decode_whole t).kind) delta.bytes now.value (decode_whole t).table answers)) (given (applied.Refused BadTable 0) (both t answers))).answer).number)
     (no_table o t v (only o t m))
 fourteen k exchanges (calls.exchange publisher follower edition unasked unsent ties digest delta answers mtu now) o v m =
     not-exchanged (lending edition unasked unsent ties mtu now.value digest delta answers) publisher follower (which (either o publisher follower m))

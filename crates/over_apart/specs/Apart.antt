@@ -13,7 +13,6 @@ pub data Gossips : Kind → Type 0 where
   computes : Gossips calls.Compute
   plans : Gossips calls.ComputePlan
   applies : Gossips calls.Apply
-  leaves-alone : Gossips calls.ApplyLeaving
   exchanges : Gossips calls.Exchange
 
 -- whichever of the call's tables they are lent for, in an exchange the publisher's or the follower's

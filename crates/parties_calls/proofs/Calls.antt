@@ -91,11 +91,8 @@ call-does p (calls.compute-plan t edition digest excluded nodes counts datagram 
 call-does p (calls.plan-fault t edition digest excluded nodes counts mtu) = tt
 call-does p (calls.read-delta delta) = tt
 call-does p (calls.apply t delta answers now) = tt
-call-does p (calls.apply-leaving t own delta answers now) = tt
 call-does p (calls.list-delta delta out) = tt
 call-does p (calls.make-delta text out) = tt
-call-does p (calls.list-table t out) = tt
-call-does p (calls.delta-nodes delta list) = tt
 call-does p (calls.exchange publisher follower edition unasked unsent ties digest delta answers mtu now) = tt
 
 step-does : (p : Party) (s : Step) → IsCall p s → Does s

@@ -1,6 +1,6 @@
 -- The two runs of the calls as they are linked: each step of a run is a call of an entry point (`demand1: Calls`), lent the bytes that the step before it left.
 -- `step_of` says what event of the two runs a call is; the calls of digests, deltas, exchanges, grids and overrides are none, nor is the call that tells the
--- front, which is an address, nor the listing of a table, which shows everyone's records. The theorem is in proofs/Calls.
+-- front, which is an address. The theorem is in proofs/Calls.
 use Rattle.std.specs.Prelude.{ℕ, ◌≡◌, true, List, [], ◌∷◌, set, take}
 use Rattle.std.proofs.Math.Option.{Option, none, some}
 use Rattle.fields.specs.Choice.{pick}
@@ -93,11 +93,8 @@ step_of p (calls.compute-plan t edition digest excluded nodes counts datagram mt
 step_of p (calls.plan-fault t edition digest excluded nodes counts mtu) = none
 step_of p (calls.read-delta delta) = none
 step_of p (calls.apply t delta answers now) = none
-step_of p (calls.apply-leaving t own delta answers now) = none
 step_of p (calls.list-delta delta out) = none
 step_of p (calls.make-delta text out) = none
-step_of p (calls.list-table t out) = none
-step_of p (calls.delta-nodes delta list) = none
 step_of p (calls.exchange publisher follower edition unasked unsent ties digest delta answers mtu now) = none
 
 -- the call is the event: it tells and leaves what the event says and leaves

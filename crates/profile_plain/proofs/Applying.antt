@@ -10,10 +10,10 @@ use lib.ListN.{length}
 use Rattle.fields.specs.Choice.{pick}
 use Rattle.rules.specs.Sizes.{max_delta}
 use Rattle.rules.specs.Answers.{applied_told}
-use Rattle.rules.specs.Apply.{ApplyOutcome, Taking, apply_node, ways_in}
+use Rattle.rules.specs.Apply.{ApplyOutcome, Taking, apply, apply_node, apply_ops, ways_in}
 use Rattle.rules.specs.Delta.{Bad, Fault, Faulty, Followed, Got, Next, Op, OpRead, Ops, Reading, and_then, follow, nothing_read, on_followed, on_read, read_delta, read_op, read_ops}
 use Rattle.rules.specs.Given.{Given, given}
-use Rattle.rules.specs.Lent.{TableAndList, both, lent_apply, lent_apply_as, stored_apply}
+use Rattle.rules.specs.Lent.{TableAndList, both, lent_apply, stored_apply}
 use Rattle.rules.specs.Node.{Rec}
 use Rattle.rules.specs.Profile.{Kind, and_form, kind, on_read_as, op_in_form, read_delta_as, read_ops_as, roomy_in}
 use Rattle.rules.specs.Table.{Table}
@@ -25,9 +25,7 @@ use Rattle.rules.specs.declared.Refusal.TheVariants.{BadForm, TooMany}
 use Rattle.rules.proofs.Refusing.{whole-bytes}
 use Rattle.profiles.proofs.Lawful.{taken_as_lem}
 use Rattle.profiles.proofs.Reading.{free-reads}
-use Rattle.leaving.specs.Leaving.{leaving_ops, apply_leaving, lent_leaving, lent_leaving_as}
-use Rattle.leaving.proofs.Left.{by-ops}
-use Rattle.leaving.proofs.Lent.{leaving-encoded}
+use Rattle.table.proofs.Encoded.{apply-whole}
 use Rattle.table.proofs.Wholes.{whole-obeys}
 use Rattle.profile_plain.specs.Plain.{freed, unshared}
 use Rattle.profile_plain.proofs.Freed.{as-free, free, free-obeys, freed-bytes, freed-is}
@@ -84,33 +82,29 @@ taken_free k o now = λ z d n. taken_as_lem (kind k.mode Free) k refl room now d
     room : (l : List Rec) → roomy_in Free l ≡ roomy_in k.profile l
     room l = as-free k.profile o (λ p. roomy_in p l) refl
 
--- whichever nodes it leaves alone
-applied-free : (own : List ℕ) (k : Kind) → unshared k.profile ≡ true → (delta : List ℕ) (now : ℕ) (t : Table) (list : List ℕ) → ((applied_told (apply_leaving own (ways_in k) delta now t list).answer).number ≡ 17 → ⊥)
-    → apply_leaving own (ways_in (kind k.mode Free)) delta now t list ≡ apply_leaving own (ways_in k) delta now t list
-unfolding applied_told
-applied-free own k o delta now t list h =
-    by-ops own (ways_in (kind k.mode Free)) delta now t list
-    ∙ ap (λ (x : Ops). leaving_ops own (apply_node (ways_in (kind k.mode Free)) now) x t list) (free-reads delta)
-    ∙ ap (λ (f : Taking). leaving_ops own f (read_delta delta) t list) (taken_free k o now)
-    ∙ sym (ap (λ (x : Ops). leaving_ops own (apply_node (ways_in k) now) x t list) (go (delta-read k.profile o delta)))
-    ∙ sym (by-ops own (ways_in k) delta now t list)
+applied-free : (k : Kind) → unshared k.profile ≡ true → (delta : List ℕ) (now : ℕ) (t : Table) (list : List ℕ) → ((applied_told (apply (ways_in k) delta now t list).answer).number ≡ 17 → ⊥)
+    → apply (ways_in (kind k.mode Free)) delta now t list ≡ apply (ways_in k) delta now t list
+unfolding apply applied_told
+applied-free k o delta now t list h =
+    ap (λ (x : Ops). apply_ops (apply_node (ways_in (kind k.mode Free)) now) x t list) (free-reads delta)
+    ∙ ap (λ (f : Taking). apply_ops f (read_delta delta) t list) (taken_free k o now)
+    ∙ sym (ap (λ (x : Ops). apply_ops (apply_node (ways_in k) now) x t list) (go (delta-read k.profile o delta)))
   where
     go : Reads (read_delta_as k.profile delta) (read_delta delta) → read_delta_as k.profile delta ≡ read_delta delta
     go (inl e) = e
-    go (inr f) =
-        absurd (h (ap (λ (x : ApplyOutcome). (applied_told x.answer).number) (by-ops own (ways_in k) delta now t list) ∙ ap (λ (x : Ops). (applied_told (leaving_ops own (apply_node (ways_in k) now) x t list).answer).number) f.1))
+    go (inr f) = absurd (h (ap (λ (x : Ops). (applied_told (apply_ops (apply_node (ways_in k) now) x t list).answer).number) f.1))
 
 -- ---- its bytes
 
 abbrev pub freed_both : Given Applied TableAndList → Given Applied TableAndList
 freed_both o = given o.answer (both (freed o.lent.table) o.lent.list)
 
-pub leaving-freed : (own l : List ℕ) → valid_whole l ≡ true → unshared (decode_whole l).kind.profile ≡ true → (delta : List ℕ) (now : ℕ) (list : List ℕ)
-    → ((applied_told (lent_leaving own delta now list l).answer).number ≡ 17 → ⊥) → lent_leaving own delta now list (freed l) ≡ freed_both (lent_leaving own delta now list l)
-leaving-freed own l v o delta now list h =
-    ap (lent_leaving own delta now list) (freed-is l v)
-    ∙ leaving-encoded own (free w) (free-obeys w ok) delta now list
-    ∙ ap (stored_apply (free w)) (applied-free own w.kind o delta now w.table list (λ e. h (ap (λ (o : Given Applied TableAndList). (applied_told o.answer).number) here ∙ e)))
+pub apply-freed : (l : List ℕ) → valid_whole l ≡ true → unshared (decode_whole l).kind.profile ≡ true → (delta : List ℕ) (now : ℕ) (list : List ℕ) → ((applied_told (lent_apply delta now list l).answer).number ≡ 17 → ⊥)
+    → lent_apply delta now list (freed l) ≡ freed_both (lent_apply delta now list l)
+apply-freed l v o delta now list h =
+    ap (lent_apply delta now list) (freed-is l v)
+    ∙ apply-whole (free w) (free-obeys w ok) delta now list
+    ∙ ap (stored_apply (free w)) (applied-free w.kind o delta now w.table list (λ e. h (ap (λ (o : Given Applied TableAndList). (applied_told o.answer).number) here ∙ e)))
     ∙ ap (λ (b : List ℕ). given out.answer (both b out.list)) (sym (freed-bytes (with_table out.table w)))
     ∙ sym (ap freed_both here)
   where
@@ -121,12 +115,7 @@ leaving-freed own l v o delta now list h =
     ok = whole-obeys l v
 
     out : ApplyOutcome
-    out = apply_leaving own (ways_in w.kind) delta now w.table list
+    out = apply (ways_in w.kind) delta now w.table list
 
-    here : lent_leaving own delta now list l ≡ stored_apply w out
-    here = ap (lent_leaving own delta now list) (sym (whole-bytes l v)) ∙ leaving-encoded own w ok delta now list
-
-pub apply-freed : (l : List ℕ) → valid_whole l ≡ true → unshared (decode_whole l).kind.profile ≡ true → (delta : List ℕ) (now : ℕ) (list : List ℕ) → ((applied_told (lent_apply delta now list l).answer).number ≡ 17 → ⊥)
-    → lent_apply delta now list (freed l) ≡ freed_both (lent_apply delta now list l)
-unfolding lent_apply_as lent_leaving_as apply_leaving
-apply-freed l v o delta now list h = leaving-freed [] l v o delta now list h
+    here : lent_apply delta now list l ≡ stored_apply w out
+    here = ap (lent_apply delta now list) (sym (whole-bytes l v)) ∙ apply-whole w ok delta now list

@@ -68,7 +68,7 @@ use Rattle.exchange.specs.declared.Exchanged.{Exchanged}
 use Rattle.demand1.specs.Calls as calls
 use Rattle.demand1.specs.Calls.{Call, Kind, as_told, leaves, lent_to, tables}
 use Rattle.profile_plain.specs.Plain.{AsPlain, Demand2, freed, freed_call, freed_first, unshared, valid_unshared}
-use Rattle.profile_plain.proofs.Applying.{apply-freed, leaving-freed}
+use Rattle.profile_plain.proofs.Applying.{apply-freed}
 use Rattle.profile_plain.proofs.Exchanging.{exchange-freed}
 use Rattle.profile_plain.proofs.Freed.{freed-back, freed-valid, from-freed, on-freed, seen-freed, whole-freed}
 use Rattle.profile_plain.proofs.Grids.{careful-freed, in-freed, made-freed, out-freed}
@@ -155,10 +155,10 @@ no_front q i = λ j t. on (node_of i t) j
 
 -- ---- all calls
 
-plainly : {k : Kind} (c : Call k) → (k ≡ calls.NewTable → ⊥) × (k ≡ calls.ListTable → ⊥) → all valid_unshared (take (tables k) (lent_to c)) ≡ true
+plainly : {k : Kind} (c : Call k) → (k ≡ calls.NewTable → ⊥) → all valid_unshared (take (tables k) (lent_to c)) ≡ true
     → ((leaves c).answer.number ≡ 17 → ⊥) → ((leaves c).answer.number ≡ 18 → ⊥) → AsPlain c
 unfolding leaves lent_to freed_call freed_first prefixed_as
-plainly (calls.new-table t m p) n v f s = absurd (n.0 refl)
+plainly (calls.new-table t m p) n v f s = absurd (n refl)
 plainly (calls.add-node t i) n v f s = added t v i.value
 plainly (calls.remove-node t i) n v f s = removed t v i.value
 plainly (calls.last-heartbeat t i) n v f s = ap (λ (a : Remembered). given (remembered_told a) (freed t ∷ [])) (asked-for t v i.value)
@@ -219,12 +219,8 @@ plainly (calls.plan-fault t edition digest excluded nodes counts mtu) n v f s =
 plainly (calls.read-delta delta) n v f s = refl
 plainly (calls.apply t delta answers now) n v f s =
     ap (λ (o : Given Applied TableAndList). as_told applied_told (λ u. u.table ∷ delta.bytes ∷ u.list ∷ []) o) (apply-freed t (ok t v) (lone t v) delta.bytes now.value answers f)
-plainly (calls.apply-leaving t own delta answers now) n v f s =
-    ap (λ (o : Given Applied TableAndList). as_told applied_told (λ u. u.table ∷ own ∷ delta.bytes ∷ u.list ∷ []) o) (leaving-freed own t (ok t v) (lone t v) delta.bytes now.value answers f)
 plainly (calls.list-delta delta out) n v f s = refl
 plainly (calls.make-delta text out) n v f s = refl
-plainly (calls.list-table t out) n v f s = absurd (n.1 refl)
-plainly (calls.delta-nodes delta list) n v f s = refl
 plainly (calls.exchange publisher follower edition unasked unsent ties digest delta answers mtu now) n v f s =
     ap (λ (o : Given Exchanged ExchangeLent). as_told exchanged_told (λ u. freed publisher ∷ u.follower ∷ unasked ∷ unsent ∷ ties ∷ u.digest ∷ u.delta ∷ u.answers ∷ []) o)
     (exchange-freed publisher follower (good publisher (first publisher (follower ∷ []) v)) (good follower (second publisher follower [] v)) (alone follower (second publisher follower [] v)) (lending edition unasked unsent ties mtu now.value digest delta answers) f)

@@ -5,4 +5,3 @@ pub mod Applying
 pub mod Exchanging
 pub mod Demand2
 pub mod Differs
-pub mod Listed

@@ -1,7 +1,7 @@
 -- Ticket 8's demand 2: equal to the plain table on every call not refused by it. `freed` is the same table in the free profile: the same bytes with 0 where the
--- profile stands. Of every call of `demand1` but the making of a table and its listing, which has a word for the profile (proofs/Listed), whose tables are valid and
--- not shared and which is answered neither 17 nor 18: on the freed tables it tells the same and leaves the same lists, and the tables that it leaves are those
--- freed. So other refusals are the same too. What else is lent may be anything. Three stronger readings are false (proofs/Differs): without "valid", that a call which is 17 here is accepted there, and of a shared table too, since
+-- profile stands. Of every call of `demand1` but the making of a table, whose tables are valid and not shared and which is answered neither 17 nor 18: on the freed
+-- tables it tells the same and leaves the same lists, and the tables that it leaves are those freed. So other refusals are the same too. What else is lent may be
+-- anything. Three stronger readings are false (proofs/Differs): without "valid", that a call which is 17 here is accepted there, and of a shared table too, since
 -- freed it shows everyone all of it.
 use Rattle.std.specs.Prelude.{ℕ, zero, suc, ◌+◌, ◌≡◌, Bool, true, false, ◌&&◌, List, [], ◌∷◌, take}
 use Rattle.fields.specs.Choice.{all}
@@ -72,11 +72,8 @@ freed_call (calls.compute-plan t edition digest excluded nodes counts datagram m
 freed_call (calls.plan-fault t edition digest excluded nodes counts mtu) = calls.plan-fault (freed t) edition digest excluded nodes counts mtu
 freed_call (calls.read-delta delta) = calls.read-delta delta
 freed_call (calls.apply t delta answers now) = calls.apply (freed t) delta answers now
-freed_call (calls.apply-leaving t own delta answers now) = calls.apply-leaving (freed t) own delta answers now
 freed_call (calls.list-delta delta out) = calls.list-delta delta out
 freed_call (calls.make-delta text out) = calls.make-delta text out
-freed_call (calls.list-table t out) = calls.list-table (freed t) out
-freed_call (calls.delta-nodes delta list) = calls.delta-nodes delta list
 freed_call (calls.exchange publisher follower edition unasked unsent ties digest delta answers mtu now) =
     calls.exchange (freed publisher) (freed follower) edition unasked unsent ties digest delta answers mtu now
 
@@ -95,5 +92,5 @@ AsPlain {k} c = leaves (freed_call c) ≡ given (leaves c).answer (freed_first (
 
 -- and of all of them
 abbrev pub Demand2 : Type 0
-Demand2 = (k : Kind) (c : Call k) → (k ≡ calls.NewTable → ⊥) × (k ≡ calls.ListTable → ⊥) → all valid_unshared (take (tables k) (lent_to c)) ≡ true
+Demand2 = (k : Kind) (c : Call k) → (k ≡ calls.NewTable → ⊥) → all valid_unshared (take (tables k) (lent_to c)) ≡ true
     → ((leaves c).answer.number ≡ 17 → ⊥) → ((leaves c).answer.number ≡ 18 → ⊥) → AsPlain c

@@ -1,5 +1,6 @@
-// Lines of standard input, read by the chunk.
-use libc::STDIN_FILENO;
+// Lines of the input, read by the chunk.
+use anyhow::Result;
+use std::io::Read;
 
 // Room for a line: one byte more than the longest that is taken. A line that fills it is too long.
 pub const LINE: usize = 59938;
@@ -63,9 +64,13 @@ fn move_line(chunk: &[u8], source: Source, line: &mut [u8]) -> Source {
     }
 }
 
-// The next line: closed by a line feed or by the input's end. It is the last where it is not closed, and none where it is empty too, or where the
-// input cannot be read.
-pub fn next(chunk: &mut [u8; CHUNK], before: Source, line: &mut [u8; LINE]) -> Source {
+// The next line: closed by a line feed or by the input's end. It is the last where it is not closed, and none where it is empty too.
+pub fn next<R: Read>(
+    input: &mut R,
+    chunk: &mut [u8; CHUNK],
+    before: Source,
+    line: &mut [u8; LINE],
+) -> Result<Source> {
     let mut source = Source {
         at: before.at,
         end: before.end,
@@ -76,21 +81,18 @@ pub fn next(chunk: &mut [u8; CHUNK], before: Source, line: &mut [u8; LINE]) -> S
     while 0 < left {
         source = move_line(chunk, source, line);
         if source.closed {
-            return source;
+            return Ok(source);
         }
-        let got = libc::read(STDIN_FILENO, chunk);
-        let n = io::count(got, chunk);
-        if got < 0 {
-            streams::unreadable();
-            source.len = 0;
-            return source;
-        }
+        let n = match input.read(chunk) {
+            Ok(n) => n,
+            Err(e) => return Err(streams::unreadable(e)),
+        };
         if n == 0 {
-            return source;
+            return Ok(source);
         }
         source.at = 0;
         source.end = n;
         left -= 1;
     }
-    source
+    Ok(source)
 }

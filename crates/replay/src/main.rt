@@ -4,6 +4,7 @@
 
 mod lines;
 
+use anyhow::Result;
 use lines::Source;
 use replay_desk::Desk;
 use replay_peers::Kept;
@@ -11,6 +12,7 @@ use replay_tell::checksum;
 use replay_words::read::Count;
 use replay_words::{print, read, verbs};
 use rules::Party;
+use std::io::Write;
 
 // Room for output. It is written once it holds ENOUGH; the longest answer, a digest in the longest datagram, has 65,555 bytes and fits behind.
 const OUT: usize = 131072;
@@ -244,20 +246,18 @@ fn closed(
     after.with_out(print::byte(out, next, b'\n'))
 }
 
-// Writes the output so far. Where it cannot be written, it stays.
-fn write_out(desk: Desk, out: &[u8; OUT]) -> Desk {
-    if streams::put(read::front(out, desk.out)) {
-        return desk.with_out(0);
-    }
-    desk
+// Writes the output so far.
+fn write_out<W: Write>(desk: Desk, stdout: &mut W, out: &[u8; OUT]) -> Result<Desk> {
+    streams::put(stdout, read::front(out, desk.out))?;
+    Ok(desk.with_out(0))
 }
 
 // Writes the output once there is enough of it.
-fn flushed(desk: Desk, out: &[u8; OUT]) -> Desk {
+fn flushed<W: Write>(desk: Desk, stdout: &mut W, out: &[u8; OUT]) -> Result<Desk> {
     if desk.out < ENOUGH {
-        return desk;
+        return Ok(desk);
     }
-    write_out(desk, out)
+    write_out(desk, stdout, out)
 }
 
 // The line's first bytes; none where it is too long.
@@ -286,11 +286,10 @@ fn on_line(
     let table = desk.room(tables);
     let grid = desk.grid_room(grids);
     let after = answered(seen, verb, table, grid, digest, delta, line, out);
-    let told = closed(desk, after, verb, table, grid, out);
-    flushed(told, out)
+    closed(desk, after, verb, table, grid, out)
 }
 
-fn main() {
+fn main(rt: HostRuntime) -> Result<()> {
     let mut tables = [0u8; replay_desk::TABLES];
     let mut grids = [0u8; replay_desk::GRIDS];
     let mut digest = [0u8; DIGEST];
@@ -298,15 +297,24 @@ fn main() {
     let mut chunk = [0u8; lines::CHUNK];
     let mut room = [0u8; lines::LINE];
     let mut out = [0u8; OUT];
+    let mut stdin = rt.stdin();
+    let mut stdout = rt.stdout();
     let mut desk = Desk::new();
     let mut source = Source::new();
     let mut left: u64 = 1099511627776;
     while 0 < left {
-        source = lines::next(&mut chunk, source, &mut room);
+        source = match lines::next(&mut stdin, &mut chunk, source, &mut room) {
+            Ok(next) => next,
+            Err(e) => {
+                // What was answered before the input failed is written all the same.
+                write_out(desk, &mut stdout, &out)?;
+                return Err(e);
+            }
+        };
         if source.len == 0 && !source.closed {
             break;
         }
-        desk = on_line(
+        let told = on_line(
             desk,
             &mut tables,
             &mut grids,
@@ -316,10 +324,9 @@ fn main() {
             source.len,
             &mut out,
         );
-        if ENOUGH <= desk.out {
-            return;
-        }
+        desk = flushed(told, &mut stdout, &out)?;
         left -= 1;
     }
-    write_out(desk, &out);
+    write_out(desk, &mut stdout, &out)?;
+    Ok(())
 }

@@ -1,23 +1,25 @@
-// Standard output written whole and input read to its end, and a line on standard error where that cannot be. The language has no exit status: a program
-// that fails here says so and ends, and `tools/run` then ends with 1.
+// Output written whole and input read to its end, for the programs. Where that cannot be, the answer is an error that says so, with which a program ends.
 #![tactic(auto)]
 
-ghost use Rattle.io.specs.Counts.{IsPrefixLen};
+ghost use Rattle.std.specs.Prelude.{◌≡◌, true, false, length, take, IfOk, OnOk};
+ghost use Rattle.std.specs.Counts.{IsPrefixLen};
+ghost use Rattle.std.specs.Io.KnownBytes.{Appends, Consumes, IsAtEnd};
 
-use libc::{STDERR_FILENO, STDOUT_FILENO};
+use anyhow::{Context, Error, Result};
+use std::io;
+use std::io::{Read, Write};
 
-// Writes all of it, and answers whether it was written.
-pub fn put(bytes: &[u8]) -> bool {
-    if io::write_all(STDOUT_FILENO, bytes) {
-        return true;
-    }
-    io::write_all(STDERR_FILENO, b"standard output cannot be written\n");
-    false
+// Writes all of it.
+pub fn put<W: Write>(out: &mut W, bytes: &[u8]) -> Result<()>
+    ensures { OnOk result (Appends (W.contents out.old) (W.contents out.new) bytes.now) }
+{
+    out.write_all(bytes)
+        .context("standard output cannot be written")
 }
 
 // Says that a read failed.
-pub fn unreadable() {
-    io::write_all(STDERR_FILENO, b"input cannot be read\n");
+pub fn unreadable(e: io::Error) -> Error {
+    Error::from(e).context("input cannot be read")
 }
 
 // How many bytes were put at the front, and whether the input ended there.
@@ -27,23 +29,24 @@ pub struct Filled {
     pub ended: bool,
 }
 
-// Reads until the room is full, the input ends or a read fails, of which it says so. The first read that fails counts: a connection that is reset tells it
-// once, and every read behind that finds the end.
-pub fn fill(fd: i32, room: &mut [u8]) -> Filled
-    ensures { IsPrefixLen result.len room.new }
+// Reads until the room is full or the input ends. The first read that fails counts: a connection that is reset tells it once, and every read behind that
+// finds the end.
+pub fn fill<R: Read>(input: &mut R, room: &mut [u8]) -> Result<Filled>
+    ensures front { IfOk result (λ f. IsPrefixLen f.len room.new) }
+    ensures bytes { IfOk result (λ f. Consumes (R.remaining input.old) (R.remaining input.new) (take f.len room.new)) }
+    ensures ended { IfOk result (λ f. f.ended ≡ true → IsAtEnd (R.remaining input.new)) }
+    ensures full { IfOk result (λ f. f.ended ≡ false → f.len ≡ length room.new) }
 {
     let mut len: usize = 0;
     while len < room.len() {
-        let got = libc::read(fd, &mut room[len..]);
-        if got < 0 {
-            unreadable();
-            return Filled { len, ended: false };
-        }
-        let more = io::count(got, &room[len..]);
+        let more = match input.read(&mut room[len..]) {
+            Ok(n) => n,
+            Err(e) => return Err(unreadable(e)),
+        };
         if more == 0 {
-            return Filled { len, ended: true };
+            return Ok(Filled { len, ended: true });
         }
         len += more;
     }
-    Filled { len, ended: false }
+    Ok(Filled { len, ended: false })
 }

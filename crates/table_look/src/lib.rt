@@ -1,11 +1,15 @@
-// Finds the table in a stored file, and writes its listing to standard output. The buffer has room for every listing
-// (table_show/proofs/Shown.antt), and nothing is written before the whole listing stands in it.
+// Finds the table in a stored file, and writes its listing. The buffer has room for every listing (table_show/proofs/Shown.antt), and nothing is written
+// before the whole listing stands in it.
 #![tactic(auto)]
 
-ghost use Rattle.std.specs.Prelude.{◌≡◌};
+ghost use Rattle.std.specs.Prelude.{◌≡◌, OnOk};
+ghost use Rattle.std.specs.Io.KnownBytes.{Appends};
+ghost use Rattle.table_listing.specs.TableListing.{table_listing};
 ghost use Rattle.table_look.specs.Stored.{table_in};
 
+use anyhow::Result;
 use rules::Written;
+use std::io::Write;
 
 // More than a stored table has, so that another length is told too.
 pub const ROOM: usize = 65536;
@@ -26,15 +30,14 @@ pub fn table_in(file: &[u8]) -> &[u8]
     file
 }
 
-// Writes the listing, and answers whether it was written.
-pub fn show(table: &[u8]) -> bool {
+// Writes the listing.
+pub fn show<W: Write>(out: &mut W, table: &[u8]) -> Result<()>
+    ensures { OnOk result (Appends (W.contents out.old) (W.contents out.new) (table_listing table.now)) }
+{
     let mut output = [0u8; table_show::LONGEST];
     let listed = table_show::list_table(table, &mut output);
     match listed {
-        Written::Bytes(n) => streams::put(&output[..n]),
-        Written::Refused(_) => {
-            check::expect(false);
-            false
-        }
+        Written::Bytes(n) => streams::put(out, &output[..n]),
+        Written::Refused(_) => unreachable!(),
     }
 }

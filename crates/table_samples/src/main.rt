@@ -2,33 +2,27 @@
 // them, were made.
 #![tactic(auto)]
 
+use anyhow::{Context, Result};
+use std::io::Write;
+use std::rt::Files;
+use std::{env, fs};
 use table_look::ROOM;
 
-// The sample that argument i names. Answers whether it could be read, and its listing be written.
-fn list(i: usize) -> bool {
-    let mut path = io::buffer();
-    let len = os::arg(i, &mut path);
-    let file = os::open_read(&path[..len]);
-    if file < 0 {
-        os::fail(&path[..len]);
-        return false;
-    }
-    streams::put(&path[..len]);
-    streams::put(b"\n");
+// The sample of this name.
+fn list<R: Files, W: Write>(rt: &R, out: &mut W, name: &str) -> Result<()> {
+    let mut file = fs::open(rt, name).context(format_args!("{name}"))?;
+    streams::put(out, name.as_bytes())?;
+    streams::put(out, b"\n")?;
     let mut input = [0u8; ROOM];
-    let filled = streams::fill(file, &mut input);
-    let n = filled.len;
-    if n < ROOM && !filled.ended {
-        return false;
-    }
-    libc::close(file);
-    table_look::show(table_look::table_in(&input[..n]))
+    let filled = streams::fill(&mut file, &mut input)?;
+    let table = table_look::table_in(&input[..filled.len]);
+    table_look::show(out, table)
 }
 
-fn main() {
-    let most = os::arg_count();
-    let mut i: usize = 1;
-    while i < most && list(i) {
-        i += 1;
+fn main(rt: HostRuntime) -> Result<()> {
+    let mut out = rt.stdout();
+    for name in env::args(&rt)?.skip(1) {
+        list(&rt, &mut out, name.as_str())?;
     }
+    Ok(())
 }

@@ -29,16 +29,16 @@ pub mode_of-mode-requires : goal.mode_of-mode-requires
 mode_of-mode-requires c =
     whole_long c.args.table.now c.requires
 
-pub slice_bounds-apply_each-end : goal.slice_bounds-apply_each-end
-slice_bounds-apply_each-end c =
+pub slice_bounds-apply_each_leaving-end : goal.slice_bounds-apply_each_leaving-end
+slice_bounds-apply_each_leaving-end c =
     omega (arith, whole_long c.args.table.now c.requires)
 
-pub slice_bounds-apply_each-end-in-Good : goal.slice_bounds-apply_each-end-in-Good
-slice_bounds-apply_each-end-in-Good c =
+pub slice_bounds-apply_each_leaving-end-in-Good : goal.slice_bounds-apply_each_leaving-end-in-Good
+slice_bounds-apply_each_leaving-end-in-Good c =
     sym (length-take-le table_width c.args.table.now (omega (arith, whole_long c.args.table.now c.requires)))
 
-pub apply_each-requires : goal.apply_each-requires
-apply_each-requires c =
+pub apply_each_leaving-requires : goal.apply_each_leaving-requires
+apply_each_leaving-requires c =
     let said : c.read_as-read.result ≡ delta_read_as (decode_whole c.args.table.now).kind.profile c.args.delta.now = c.read_as-read.ensures ∙ ap (λ (p : Profile). delta_read_as p c.args.delta.now) c.profile_of-profile.ensures in
     let a = c.args in
     let e = plainly a.own.now a.delta.now a.clock a.answers.now a.table.now c.requires _ _ (sym (said) ∙ c.in-Good.is) in (
@@ -59,4 +59,4 @@ returns-else-answers-nodes c =
     let said : c.read_as-read.result ≡ delta_read_as (decode_whole c.args.table.now).kind.profile c.args.delta.now = c.read_as-read.ensures ∙ ap (λ (p : Profile). delta_read_as p c.args.delta.now) c.profile_of-profile.ensures in
     let a = c.args in
     applied-all a.own.now a.delta.now a.clock a.answers.now a.table.now c.requires _ _ (sym (said) ∙ c.in-Good.is)
-    c.if-answers-nodes.false _ c.mode_of-mode.ensures _ c.profile_of-profile.ensures _ _ c.apply_each.ensures
+    c.if-answers-nodes.false _ c.mode_of-mode.ensures _ c.profile_of-profile.ensures _ _ c.apply_each_leaving.ensures

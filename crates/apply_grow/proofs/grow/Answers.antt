@@ -9,7 +9,7 @@ begin-requires c =
 
 pub take_records-requires : goal.take_records-requires
 take_records-requires c =
-    (begun-rising _ c.requires.0 c.args.last_gc c.ranges.last_gc c.args.afresh _ c.begin.ensures, c.requires.1)
+    (begun-rising _ c.requires.0 c.args.last_gc c.ranges.last_gc.fits c.args.afresh _ c.begin.ensures, c.requires.1)
 
 pub set_max-requires : goal.set_max-requires
 set_max-requires c =
@@ -17,8 +17,8 @@ set_max-requires c =
 
 pub returns-then-take_records : goal.returns-then-take_records
 returns-then-take_records c =
-    is-grown _ _ _ _ c.ranges.max _ _ (begun-is _ c.requires.0 c.args.last_gc c.ranges.last_gc c.args.afresh _ c.begin.ensures) _ c.read_header-own.ensures _ _ c.take_records.ensures c.if-take_records.true _ c.set_max.ensures
+    is-grown _ _ _ _ c.ranges.max.fits _ _ (begun-is _ c.requires.0 c.args.last_gc c.ranges.last_gc.fits c.args.afresh _ c.begin.ensures) _ c.read_header-own.ensures _ _ c.take_records.ensures c.if-take_records.true _ c.set_max.ensures
 
 pub returns : goal.returns
 returns c =
-    not-grown _ _ _ _ c.ranges.max _ _ (begun-is _ c.requires.0 c.args.last_gc c.ranges.last_gc c.args.afresh _ c.begin.ensures) _ c.read_header-own.ensures _ _ c.take_records.ensures c.if-take_records.false _
+    not-grown _ _ _ _ c.ranges.max.fits _ _ (begun-is _ c.requires.0 c.args.last_gc c.ranges.last_gc.fits c.args.afresh _ c.begin.ensures) _ c.read_header-own.ensures _ _ c.take_records.ensures c.if-take_records.false _

@@ -46,20 +46,20 @@ returns-then-is_fenced c =
 
 pub returns-then-last_gc-own_last_gc : goal.returns-then-last_gc-own_last_gc
 returns-then-last_gc-own_last_gc c =
-    let let-in : let a = c.args in (ways_of a.mode).fence a.own-last-gc a.own-max a.last_gc a.max ≡ false = sym c.is_fenced.ensures ∙ c.if-is_fenced.false in
+    let let-in : let a = c.args in (ways_of a.mode).fence a.own_last_gc a.own_max a.last_gc a.max ≡ false = sym c.is_fenced.ensures ∙ c.if-is_fenced.false in
     c.check_newer.ensures ∙ not-gc _ _ _ _ _ _ (omega arith) (let-in) (omega arith)
 
 pub returns-then-last_gc-own_max : goal.returns-then-last_gc-own_max
 returns-then-last_gc-own_max c =
-    let let-in : let a = c.args in (ways_of a.mode).fence a.own-last-gc a.own-max a.last_gc a.max ≡ false = sym c.is_fenced.ensures ∙ c.if-is_fenced.false in
+    let let-in : let a = c.args in (ways_of a.mode).fence a.own_last_gc a.own_max a.last_gc a.max ≡ false = sym c.is_fenced.ensures ∙ c.if-is_fenced.false in
     c.check_newer-then-last_gc-own_max.ensures ∙ not-max _ _ _ _ _ _ (omega arith) (let-in) (omega arith) (omega arith)
 
 pub returns-then-from-eq0 : goal.returns-then-from-eq0
 returns-then-from-eq0 c =
-    let let-in : let a = c.args in (ways_of a.mode).fence a.own-last-gc a.own-max a.last_gc a.max ≡ false = sym c.is_fenced.ensures ∙ c.if-is_fenced.false in
+    let let-in : let a = c.args in (ways_of a.mode).fence a.own_last_gc a.own_max a.last_gc a.max ≡ false = sym c.is_fenced.ensures ∙ c.if-is_fenced.false in
     due _ _ _ _ _ _ (omega arith) (let-in) (omega arith) (omega arith) (omega arith)
 
 pub returns : goal.returns
 returns c =
-    let let-in : let a = c.args in (ways_of a.mode).fence a.own-last-gc a.own-max a.last_gc a.max ≡ false = sym c.is_fenced.ensures ∙ c.if-is_fenced.false in
+    let let-in : let a = c.args in (ways_of a.mode).fence a.own_last_gc a.own_max a.last_gc a.max ≡ false = sym c.is_fenced.ensures ∙ c.if-is_fenced.false in
     late _ _ _ _ _ _ (omega arith) (let-in) (omega arith) (omega arith) (omega arith)

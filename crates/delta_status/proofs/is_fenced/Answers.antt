@@ -37,12 +37,12 @@ module _ (g m gc x : ℕ) where
 pub returns-then-own_last_gc-own_max : goal.returns-then-own_last_gc-own_max
 returns-then-own_last_gc-own_max c =
     let a = c.args in
-    within a.own-last-gc a.own-max a.last_gc a.max a.mode c.if-own_last_gc-own_max.true
+    within a.own_last_gc a.own_max a.last_gc a.max a.mode c.if-own_last_gc-own_max.true
 
 pub returns-then-own_last_gc-last_gc : goal.returns-then-own_last_gc-last_gc
 returns-then-own_last_gc-last_gc c =
     let a = c.args in
-    as-old a.own-last-gc a.own-max a.last_gc a.max a.mode c.if-own_last_gc-last_gc.true
+    as-old a.own_last_gc a.own_max a.last_gc a.max a.mode c.if-own_last_gc-last_gc.true
 
 pub returns-in-Fenced : goal.returns-in-Fenced
 returns-in-Fenced c =

@@ -51,4 +51,4 @@ returns c =
     let rr = c.read_row-numbers.ensures ∙ ap row_in (seen 1 row_width l) in
     c.store.ensures
     ∙ rows-set l v n row nr rr c.read_rows-gcs.result c.read_rows-maxes.result (c.read_rows-gcs.ensures ∙ ap rows_in (seen 73 rows_width l)) (c.read_rows-maxes.ensures ∙ ap rows_in (seen 585 rows_width l))
-    c.args.peer c.args.present c.args.gc-row c.args.max-row c.requires.1
+    c.args.peer c.args.present c.args.gc_row c.args.max_row c.requires.1

@@ -30,10 +30,10 @@ loop-j-preserved c =
     let l = c.loop-j in
     let a = c.args in
     let ds : List NodeDigest = entries_in a.digest in
-    let e = long ds a.n a.t2 (omega (arith, l.invariant.1)) in
+    let e = long ds a.n a.numbers (omega (arith, l.invariant.1)) in
     let f = ap (λ (x : Pair). x.max) c.told-pair.ensures in
-    let at = map_at (λ i. (told_of i ds).max) (take a.n a.t2) l.j (omega (arith, length-take-le a.n a.t2 (omega (arith, l.invariant.1)))) ∙ ap (λ (i : ℕ). (told_of i ds).max) (get_or-take a.n a.t2 l.j 0 (omega arith)) in
-    (omega arith, l.invariant.1, ap (λ (r : List ℕ). set r l.j c.told-pair.result.max) l.invariant.2 ∙ fill max_nodes l.j c.told-pair.result.max (told ds a.n a.t2) (omega (arith, e)) (omega (arith, e)) (f ∙ sym at))
+    let at = map_at (λ i. (told_of i ds).max) (take a.n a.numbers) l.j (omega (arith, length-take-le a.n a.numbers (omega (arith, l.invariant.1)))) ∙ ap (λ (i : ℕ). (told_of i ds).max) (get_or-take a.n a.numbers l.j 0 (omega arith)) in
+    (omega arith, l.invariant.1, ap (λ (r : List ℕ). set r l.j c.told-pair.result.max) l.invariant.2 ∙ fill max_nodes l.j c.told-pair.result.max (told ds a.n a.numbers) (omega (arith, e)) (omega (arith, e)) (f ∙ sym at))
 
 pub returns : goal.returns
 unfolding row_told
@@ -41,4 +41,4 @@ returns c =
     let l = c.loop-j in
     let a = c.args in
     let ds : List NodeDigest = entries_in a.digest in
-    l.invariant.2 ∙ ap (fit max_nodes) (take_all l.j (told ds a.n a.t2) (omega (arith, long ds a.n a.t2 (omega (arith, l.invariant.1)))))
+    l.invariant.2 ∙ ap (fit max_nodes) (take_all l.j (told ds a.n a.numbers) (omega (arith, long ds a.n a.numbers (omega (arith, l.invariant.1)))))

@@ -16,14 +16,14 @@ loop-j-init c =
 pub returns-then-row-j-ne0 : goal.returns-then-row-j-ne0
 returns-then-row-j-ne0 c =
     let l = c.loop-j in
-    sym (zero-not c.args.t1 l.j (omega arith) c.if-row-j-ne0.true) ∙ l.invariant.1
+    sym (zero-not c.args.row l.j (omega arith) c.if-row-j-ne0.true) ∙ l.invariant.1
 
 pub loop-j-preserved : goal.loop-j-preserved
 loop-j-preserved c =
     let l = c.loop-j in
-    (l.invariant.0, sym (zero-on c.args.t1 l.j (omega arith) (omega arith)) ∙ l.invariant.1)
+    (l.invariant.0, sym (zero-on c.args.row l.j (omega arith) (omega arith)) ∙ l.invariant.1)
 
 pub returns : goal.returns
 returns c =
     let l = c.loop-j in
-    sym (zero-end c.args.t1 l.j (omega arith)) ∙ l.invariant.1
+    sym (zero-end c.args.row l.j (omega arith)) ∙ l.invariant.1

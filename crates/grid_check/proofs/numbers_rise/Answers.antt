@@ -23,9 +23,9 @@ loop-j-preserved c =
     let a = c.args in
     let n : ℕ = a.n in
     let j : ℕ = l.j in
-    let long : length (take n a.t1) ≡ n = length-take-le n a.t1 (omega arith) in
-    let turn = rising-turn (take n a.t1) j (get_or a.t1 j 0) (get_or a.t1 (j + 1) 0) (omega arith) (sym (get_or-take n a.t1 j 0 (omega arith))) (sym (get_or-take n a.t1 (j + 1) 0 (omega arith))) in
-    (l.invariant.0, omega arith, sym (turn ∙ and_yes (ltb (get_or a.t1 j 0) (get_or a.t1 (j + 1) 0)) _ (lt-ltb _ _ c.if-x-y.true)) ∙ l.invariant.2)
+    let long : length (take n a.numbers) ≡ n = length-take-le n a.numbers (omega arith) in
+    let turn = rising-turn (take n a.numbers) j (get_or a.numbers j 0) (get_or a.numbers (j + 1) 0) (omega arith) (sym (get_or-take n a.numbers j 0 (omega arith))) (sym (get_or-take n a.numbers (j + 1) 0 (omega arith))) in
+    (l.invariant.0, omega arith, sym (turn ∙ and_yes (ltb (get_or a.numbers j 0) (get_or a.numbers (j + 1) 0)) _ (lt-ltb _ _ c.if-x-y.true)) ∙ l.invariant.2)
 
 pub returns-else-x-y : goal.returns-else-x-y
 returns-else-x-y c =
@@ -33,13 +33,13 @@ returns-else-x-y c =
     let a = c.args in
     let n : ℕ = a.n in
     let j : ℕ = l.j in
-    let long : length (take n a.t1) ≡ n = length-take-le n a.t1 (omega arith) in
-    let turn = rising-turn (take n a.t1) j (get_or a.t1 j 0) (get_or a.t1 (j + 1) 0) (omega arith) (sym (get_or-take n a.t1 j 0 (omega arith))) (sym (get_or-take n a.t1 (j + 1) 0 (omega arith))) in
-    sym (turn ∙ and_no (ltb (get_or a.t1 j 0) (get_or a.t1 (j + 1) 0)) _ (le-ltb (get_or a.t1 j 0) (get_or a.t1 (j + 1) 0) (omega arith))) ∙ l.invariant.2
+    let long : length (take n a.numbers) ≡ n = length-take-le n a.numbers (omega arith) in
+    let turn = rising-turn (take n a.numbers) j (get_or a.numbers j 0) (get_or a.numbers (j + 1) 0) (omega arith) (sym (get_or-take n a.numbers j 0 (omega arith))) (sym (get_or-take n a.numbers (j + 1) 0 (omega arith))) in
+    sym (turn ∙ and_no (ltb (get_or a.numbers j 0) (get_or a.numbers (j + 1) 0)) _ (le-ltb (get_or a.numbers j 0) (get_or a.numbers (j + 1) 0) (omega arith))) ∙ l.invariant.2
 
 pub returns : goal.returns
 returns c =
     let l = c.loop-j in
     let a = c.args in
-    let long : length (take a.n a.t1) ≡ a.n = length-take-le a.n a.t1 (omega arith) in
-    sym (rising-last (take a.n a.t1) l.j (omega arith)) ∙ l.invariant.2
+    let long : length (take a.n a.numbers) ≡ a.n = length-take-le a.n a.numbers (omega arith) in
+    sym (rising-last (take a.n a.numbers) l.j (omega arith)) ∙ l.invariant.2

@@ -18,18 +18,18 @@ pub loop-x-preserved : goal.loop-x-preserved
 loop-x-preserved c =
     let a = c.args in
     let l = c.loop-x in
-    let e = sym (c.empty_from.ensures ∙ ap (λ (k : ℕ). all_zero (drop k (get_or c.args.t1 c.loop-x.x []))) c.used.ensures) ∙ c.if-empty_from.true in
-    (omega arith, l.invariant.1, sym (rows_on a.count a.present.now a.t1 l.x _ (omega arith) (omega (arith, l.invariant.1)) e) ∙ l.invariant.2)
+    let e = sym (c.empty_from.ensures ∙ ap (λ (k : ℕ). all_zero (drop k (get_or c.args.rows c.loop-x.x []))) c.used.ensures) ∙ c.if-empty_from.true in
+    (omega arith, l.invariant.1, sym (rows_on a.count a.present.now a.rows l.x _ (omega arith) (omega (arith, l.invariant.1)) e) ∙ l.invariant.2)
 
 pub returns-else-empty_from : goal.returns-else-empty_from
 returns-else-empty_from c =
     let a = c.args in
     let l = c.loop-x in
-    let e = sym (c.empty_from.ensures ∙ ap (λ (k : ℕ). all_zero (drop k (get_or c.args.t1 c.loop-x.x []))) c.used.ensures) ∙ c.if-empty_from.false in
-    sym (rows-not a.count a.present.now a.t1 l.x _ (omega arith) (omega (arith, l.invariant.1)) e) ∙ l.invariant.2
+    let e = sym (c.empty_from.ensures ∙ ap (λ (k : ℕ). all_zero (drop k (get_or c.args.rows c.loop-x.x []))) c.used.ensures) ∙ c.if-empty_from.false in
+    sym (rows-not a.count a.present.now a.rows l.x _ (omega arith) (omega (arith, l.invariant.1)) e) ∙ l.invariant.2
 
 pub returns : goal.returns
 returns c =
     let a = c.args in
     let l = c.loop-x in
-    sym (rows_end a.count a.present.now a.t1 l.x (omega arith)) ∙ l.invariant.2
+    sym (rows_end a.count a.present.now a.rows l.x (omega arith)) ∙ l.invariant.2

@@ -25,4 +25,4 @@ returns-else-check_table c =
     let a = c.args in
     let rule = text_part (decode_whole a.table.now).kind.profile a.party a.text a.number a.j in
     same-hands (read-bad nothing_held rule a.table.now c.check_table.ensures c.if-check_table.false) _ _ _
-    (refl, refl, sym (add-zero a.table.ptr.1))
+    (refl, refl, sym (add-zero a.table.ref_ptr.1))

@@ -8,14 +8,14 @@ use Rattle.listing_line.proofs.after_id.Goals as goal
 
 pub returns-then-not-starts_with : goal.returns-then-not-starts_with
 returns-then-not-starts_with c =
-    no_word (ascii " gc=") (after_gc c.args.number) c.args.text.now _ c.starts_with.ensures _ (not-true _ c.if-not-starts_with.true)
+    no_word (ascii " gc=") (after_gc c.args.number) c.args.text.now _ c.starts_with.ensures _ c.if-not-starts_with.true
 
 pub returns-in-Not : goal.returns-in-Not
 returns-in-Not c =
-    word-no-number (ascii " gc=") (after_gc c.args.number) c.args.text.now _ c.starts_with.ensures _ (not-false _ c.if-not-starts_with.false) c.behind-rest.ensures _
+    word-no-number (ascii " gc=") (after_gc c.args.number) c.args.text.now _ c.starts_with.ensures _ c.if-not-starts_with.false c.behind-rest.ensures _
     c.number-read.ensures _ c.in-Not.is
 
 pub returns-in-Is : goal.returns-in-Is
 returns-in-Is c =
-    word_number (ascii " gc=") (after_gc c.args.number) c.args.text.now _ c.starts_with.ensures _ (not-false _ c.if-not-starts_with.false) c.behind-rest.ensures _
+    word_number (ascii " gc=") (after_gc c.args.number) c.args.text.now _ c.starts_with.ensures _ c.if-not-starts_with.false c.behind-rest.ensures _
     c.number-read.ensures _ _ _ _ _ c.in-Is.is c.behind.ensures c.after_gc.ensures

@@ -18,35 +18,35 @@ short n l h g = omega (arith, length-take-le n l h)
 
 pub returns-then-not-starts_with : goal.returns-then-not-starts_with
 returns-then-not-starts_with c =
-    no-text-word (ascii " key=") max_key (after_key c.args.version c.args.status) c.args.text.now _ c.starts_with.ensures _ (not-true _ c.if-not-starts_with.true)
+    no-text-word (ascii " key=") max_key (after_key c.args.version c.args.status) c.args.text.now _ c.starts_with.ensures _ c.if-not-starts_with.true
 
 pub slice_bounds-key-end : goal.slice_bounds-key-end
 slice_bounds-key-end c =
-    let few : c.in-Is.len ≤ max_key = text-few (ascii " key=") max_key (after_key c.args.version c.args.status) c.args.text.now _ c.starts_with.ensures _ _ (not-false _ c.if-not-starts_with.false) c.behind-rest.ensures _
+    let few : c.in-Is.len ≤ max_key = text-few (ascii " key=") max_key (after_key c.args.version c.args.status) c.args.text.now _ c.starts_with.ensures _ _ c.if-not-starts_with.false c.behind-rest.ensures _
     c.text-read.ensures _ _ c.in-Is.is in
     let within : c.in-Is.len ≤ length c.text-read.new.out = omega (arith, few, c.text-read.auto.out) in
     within
 
 pub slice_bounds-after_key-end : goal.slice_bounds-after_key-end
 slice_bounds-after_key-end c =
-    let few : c.in-Is.len ≤ max_key = text-few (ascii " key=") max_key (after_key c.args.version c.args.status) c.args.text.now _ c.starts_with.ensures _ _ (not-false _ c.if-not-starts_with.false) c.behind-rest.ensures _
+    let few : c.in-Is.len ≤ max_key = text-few (ascii " key=") max_key (after_key c.args.version c.args.status) c.args.text.now _ c.starts_with.ensures _ _ c.if-not-starts_with.false c.behind-rest.ensures _
     c.text-read.ensures _ _ c.in-Is.is in
     let within : c.in-Is.len ≤ length c.text-read.new.out = omega (arith, few, c.text-read.auto.out) in
     sym (length-take-le _ _ (within))
 
 pub after_key-requires : goal.after_key-requires
 after_key-requires c =
-    let few : c.in-Is.len ≤ max_key = text-few (ascii " key=") max_key (after_key c.args.version c.args.status) c.args.text.now _ c.starts_with.ensures _ _ (not-false _ c.if-not-starts_with.false) c.behind-rest.ensures _
+    let few : c.in-Is.len ≤ max_key = text-few (ascii " key=") max_key (after_key c.args.version c.args.status) c.args.text.now _ c.starts_with.ensures _ _ c.if-not-starts_with.false c.behind-rest.ensures _
     c.text-read.ensures _ _ c.in-Is.is in
     let within : c.in-Is.len ≤ length c.text-read.new.out = omega (arith, few, c.text-read.auto.out) in
     (short _ _ (within) (few), c.requires)
 
 pub returns-in-Not : goal.returns-in-Not
 returns-in-Not c =
-    word-no-text (ascii " key=") max_key (after_key c.args.version c.args.status) c.args.text.now _ c.starts_with.ensures _ _ (not-false _ c.if-not-starts_with.false) c.behind-rest.ensures _
+    word-no-text (ascii " key=") max_key (after_key c.args.version c.args.status) c.args.text.now _ c.starts_with.ensures _ _ c.if-not-starts_with.false c.behind-rest.ensures _
     c.text-read.ensures _ c.in-Not.is
 
 pub returns-in-Is : goal.returns-in-Is
 returns-in-Is c =
-    word-text (ascii " key=") max_key (after_key c.args.version c.args.status) c.args.text.now _ c.starts_with.ensures _ _ (not-false _ c.if-not-starts_with.false) c.behind-rest.ensures _
+    word-text (ascii " key=") max_key (after_key c.args.version c.args.status) c.args.text.now _ c.starts_with.ensures _ _ c.if-not-starts_with.false c.behind-rest.ensures _
     c.text-read.ensures _ _ _ _ _ _ c.in-Is.is refl c.behind.ensures c.after_key.ensures

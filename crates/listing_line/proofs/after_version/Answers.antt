@@ -9,9 +9,9 @@ use Rattle.listing_line.proofs.after_version.Goals as goal
 
 pub returns-then-not-starts_with : goal.returns-then-not-starts_with
 returns-then-not-starts_with c =
-    goes_other (ascii " status=") NoLine (status (after_status c.args.version)) c.args.text.now _ c.starts_with.ensures 0 _ (not-true _ c.if-not-starts_with.true) refl
+    goes_other (ascii " status=") NoLine (status (after_status c.args.version)) c.args.text.now _ c.starts_with.ensures 0 _ c.if-not-starts_with.true refl
 
 pub returns : goal.returns
 returns c =
     goes-word (ascii " status=") NoLine (status (after_status c.args.version)) c.args.text.now _ c.starts_with.ensures _ _ _
-    (not-false _ c.if-not-starts_with.false) c.behind.ensures c.read_status.ensures
+    c.if-not-starts_with.false c.behind.ensures c.read_status.ensures

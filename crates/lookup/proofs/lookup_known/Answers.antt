@@ -55,6 +55,6 @@ returns-else-may_name c =
     let t = decode (area_of a.table.now) in (
       other-value p a.party a.number a.key.now t h,
       refl,
-      sym (add-zero a.table.ptr.1)
-          ∙ ap (λ (m : ℕ). a.table.ptr.1 + m) (other_place p a.party a.number a.key.now t h (front_in p a.party a.number t)),
+      sym (add-zero a.table.ref_ptr.1)
+          ∙ ap (λ (m : ℕ). a.table.ref_ptr.1 + m) (other_place p a.party a.number a.key.now t h (front_in p a.party a.number t)),
     )

@@ -47,5 +47,5 @@ returns-else-may_name c =
     let a = c.args in
     same-hands
     (other-held (decode_whole a.table.now).kind.profile a.party a.number a.key.now (decode_node a.overrides.now).node (decode (area_of a.table.now)) (sym (says) ∙ c.if-may_name.false))
-    a.overrides.ptr a.table.ptr _ _
-    (refl, refl, sym (add-zero a.table.ptr.1))
+    a.overrides.ref_ptr a.table.ref_ptr _ _
+    (refl, refl, sym (add-zero a.table.ref_ptr.1))

@@ -28,11 +28,11 @@ module _ (a a_end b b_end : ℕ) (x : Order) where
 
 pub returns-then-a-a_end : goal.returns-then-a-a_end
 returns-then-a-a_end c =
-    let t = c.args in at-end t.a t.a-end t.b t.b-end _ c.if-a-a_end.true
+    let t = c.args in at-end t.a t.a_end t.b t.b_end _ c.if-a-a_end.true
 
 pub returns-then-b-b_end : goal.returns-then-b-b_end
 returns-then-b-b_end c =
-    let t = c.args in other-at-end t.a t.a-end t.b t.b-end _ c.if-a-a_end.false c.if-b-b_end.true
+    let t = c.args in other-at-end t.a t.a_end t.b t.b_end _ c.if-a-a_end.false c.if-b-b_end.true
 
 pub key_of-requires : goal.key_of-requires
 key_of-requires c =
@@ -50,4 +50,4 @@ returns c =
     c.compare.ensures
     ∙ ap₂ order_of (c.key_of.ensures ∙ ap (λ (x : List ℕ). (decode_rec x).kv.key) c.record_of.ensures)
     (c.key_of-2.ensures ∙ ap (λ (x : List ℕ). (decode_rec x).kv.key) c.record_of-2.ensures)
-    ∙ neither t.a t.a-end t.b t.b-end _ c.if-a-a_end.false c.if-b-b_end.false
+    ∙ neither t.a t.a_end t.b t.b_end _ c.if-a-a_end.false c.if-b-b_end.false

@@ -47,14 +47,14 @@ loop-j-preserved c =
     ⊎_elim
     (λ w. (
       more,
-      omega (arith, w.1, few),
-      ap (λ (m : ℕ). m + left) w.1 ∙ count-shown b 0 j top zero-le h c.requires.2 c.loop-j.found n (sym c.is_shown.ensures ∙ w.0.taken) c.loop-j.invariant.2,
+      omega (arith, w.found-is, few),
+      ap (λ (m : ℕ). m + left) w.found-is ∙ count-shown b 0 j top zero-le h c.requires.2 c.loop-j.found n (sym c.is_shown.ensures ∙ w.if-is_shown.true) c.loop-j.invariant.2,
     ))
     (λ w. (
       more,
-      omega (arith, w.1, few),
-      ap (λ (m : ℕ). m + left) w.1 ∙ count-hidden b 0 j top zero-le h c.requires.2 c.loop-j.found n (sym c.is_shown.ensures ∙ w.0.left) c.loop-j.invariant.2,
-    )) c.if-is_shown.branch
+      omega (arith, w.found-is, few),
+      ap (λ (m : ℕ). m + left) w.found-is ∙ count-hidden b 0 j top zero-le h c.requires.2 c.loop-j.found n (sym c.is_shown.ensures ∙ w.if-is_shown.false) c.loop-j.invariant.2,
+    )) c.if-is_shown.branch-raw
 
 pub returns : goal.returns
 returns c =

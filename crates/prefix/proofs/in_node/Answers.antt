@@ -48,7 +48,7 @@ write_shown-requires c =
     let high = c.run_in-run.result.end in
     let few = shown-few c.args.node.now c.args.low low high in
     let many = shown-many c.args.node.now c.args.low low high in
-    ⊎_elim (λ w. omega (arith, w.2.left, w.1.ensures, many)) (λ w. omega (arith, w.left, few)) c.if-out-run.branch in
+    ⊎_elim (λ w. omega (arith, w.if-out-count_shown.false, w.count_shown.ensures, many)) (λ w. omega (arith, w.if-out-run.false, few)) c.if-out-run.branch-raw in
     let r = c.run_in-run.ensures in
     (c.requires.0, r.from, r.order, omega (arith, r.inside, c.requires.2), room)
 
@@ -65,7 +65,7 @@ returns c =
     let high = c.run_in-run.result.end in
     let few = shown-few c.args.node.now c.args.low low high in
     let many = shown-many c.args.node.now c.args.low low high in
-    ⊎_elim (λ w. omega (arith, w.2.left, w.1.ensures, many)) (λ w. omega (arith, w.left, few)) c.if-out-run.branch in
+    ⊎_elim (λ w. omega (arith, w.if-out-count_shown.false, w.count_shown.ensures, many)) (λ w. omega (arith, w.if-out-run.false, few)) c.if-out-run.branch-raw in
     let n : c.write_shown.result ≡ length (found) = c.write_shown.ensures.0 ∙ sym (ap length (run)) in
     short-fills (list_into (found) c.args.out.now) c.args.prefix.now _ c.if-prefix-gt-KEY.false _ _
     (all_listed (found) c.args.out.now c.write_shown.result n (omega (arith, c.write_shown.ensures.0, room)) _

@@ -49,26 +49,26 @@ loop-j-preserved c =
     let p : Rec → Bool = due_within a.bound a.clock a.grace in
     let b : List ℕ = c.loop-j.node in
     let o = c.loop-j.invariant.0 in
-    let k : ℕ = c.loop-j.auto in
+    let k : ℕ = c.loop-j.kept in
     let j : ℕ = c.loop-j.j in
     let h = within in
     let s : List ℕ = c.if-must_go.node in
     ⊎_elim
-    (λ w. let e = w.5 ∙ w.2.ensures in (
+    (λ w. let e = w.node-is ∙ w.raise_last_gc.ensures in (
       gone-laid b o j h s e,
       gone-count b o j h s e ∙ c.loop-j.invariant.1,
       omega arith,
       omega arith,
-      ap (λ (n : ℕ). done_from p n (j + 1) (decode_node s)) w.6 ∙ node-goes b o j h s e p k (sym c.must_go.ensures ∙ w.0.taken) ∙ c.loop-j.invariant.4,
+      ap (λ (n : ℕ). done_from p n (j + 1) (decode_node s)) w.kept-is ∙ node-goes b o j h s e p k (sym c.must_go.ensures ∙ w.if-must_go.true) ∙ c.loop-j.invariant.4,
     ))
-    (λ w. let e = w.5 ∙ w.2.ensures in
+    (λ w. let e = w.node-is ∙ w.bring_down.ensures in
     let g = c.loop-j.invariant.2 in (
       kept-laid b o j h k g s e,
       kept-count b o j h k g s e ∙ c.loop-j.invariant.1,
       omega arith,
       omega arith,
-      ap (λ (n : ℕ). done_from p n (j + 1) (decode_node s)) w.6 ∙ node_stays b o j h k g s e p (sym c.must_go.ensures ∙ w.0.left) ∙ c.loop-j.invariant.4,
-    )) c.if-must_go.branch
+      ap (λ (n : ℕ). done_from p n (j + 1) (decode_node s)) w.kept-is ∙ node_stays b o j h k g s e p (sym c.must_go.ensures ∙ w.if-must_go.false) ∙ c.loop-j.invariant.4,
+    )) c.if-must_go.branch-raw
 
 pub cut-requires : goal.cut-requires
 cut-requires c =
@@ -78,5 +78,5 @@ pub returns : goal.returns
 returns c =
     let a = c.args in
     let p : Rec → Bool = due_within a.bound a.clock a.grace in
-    node_end c.loop-j.node c.loop-j.invariant.0 p c.loop-j.auto c.loop-j.j (removed p (decode_node a.node.now)) _ (omega (arith, c.loop-j.invariant.1)) c.loop-j.invariant.4
+    node_end c.loop-j.node c.loop-j.invariant.0 p c.loop-j.kept c.loop-j.j (removed p (decode_node a.node.now)) _ (omega (arith, c.loop-j.invariant.1)) c.loop-j.invariant.4
     c.cut.ensures

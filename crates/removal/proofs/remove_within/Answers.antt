@@ -46,7 +46,7 @@ loop-i-preserved c =
     let l : List ℕ = c.loop-i.table in
     let o = c.loop-i.invariant.0 in
     let i : ℕ = c.loop-i.i in
-    let bs : List ℕ = a.t4 in
+    let bs : List ℕ = a.bounds in
     let p : Rec → Bool = due_at a.clock a.grace bs i in
     let h = within in
     let g : i < length bs = omega (arith, c.loop-i.invariant.3, c.loop-i.invariant.4) in
@@ -69,5 +69,5 @@ shape_of-table c =
 pub returns : goal.returns
 returns c =
     let a = c.args in
-    table-end a.clock a.grace a.t4 c.loop-i.table c.loop-i.invariant.0 c.loop-i.i (remove_within a.clock a.grace a.t4 (decode a.table.now))
+    table-end a.clock a.grace a.bounds c.loop-i.table c.loop-i.invariant.0 c.loop-i.i (remove_within a.clock a.grace a.bounds (decode a.table.now))
     (omega (arith, c.loop-i.invariant.1)) c.loop-i.invariant.5

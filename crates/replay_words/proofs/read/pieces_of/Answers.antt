@@ -38,9 +38,9 @@ loop-i-preserved c =
     let s = c.args.bytes.now in
     let near = c.loop-i-test.true in
     ⊎_elim
-    (λ w. (omega arith, omega arith, turn_at _ s _ _ _ c.loop-i.invariant.2 _ w.1 near w.0.taken))
-    (λ w. (omega arith, omega arith, turn-past _ s _ _ _ c.loop-i.invariant.2 _ w.1 near w.0.left))
-    c.if-bytes-i.branch
+    (λ w. (omega arith, omega arith, turn_at _ s _ _ _ c.loop-i.invariant.2 _ w.n-is near w.if-bytes-i.true))
+    (λ w. (omega arith, omega arith, turn-past _ s _ _ _ c.loop-i.invariant.2 _ w.n-is near w.if-bytes-i.false))
+    c.if-bytes-i.branch-raw
 
 pub returns : goal.returns
 returns c =

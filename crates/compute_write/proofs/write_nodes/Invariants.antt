@@ -1,0 +1,45 @@
+use Prim.Native.Nat.{ℕ, ◌+◌, ◌-◌, ◌≤◌, ◌<◌}
+use mathlib.Core.Path.{◌≡◌, ◌∙◌}
+use mathlib.Core.List.{List, ◌∷◌, ◌++◌}
+use native.Mathlib.Omega.{arith}
+use lib.ListN.{length, get_or}
+use borrow.Author.Rules.{rules}
+use Rattle.fields.specs.Numbers.{Bytes}
+use Rattle.rules.specs.Sizes.{max_records}
+use Rattle.rules.specs.Table.{Table}
+use Rattle.rules.specs.Delta.{Op, KeyValueOp}
+use Rattle.rules.specs.Layout.{decode}
+use Rattle.table.specs.Tests.{nodes_of}
+use Rattle.table_read.specs.Find.{entry_at}
+use Rattle.table_read.proofs.Located.{lent-node, node-long, count_low}
+use Rattle.compute_stale.specs.Arranged.{listed, AllBelow}
+use Rattle.compute_stale.proofs.Arranged.{listed_in, listed-lower}
+use Rattle.compute_write.specs.Sending.{node_op_at, record_at, body_at, ops_at}
+use Rattle.compute_write.proofs.Steps.{Writing, writing, Reached, back, at_first, from-here, then, left_is, all-written}
+use Rattle.compute_write.proofs.Steps.{op-written, unfit-long, node-unfit, record-unfit}
+use Rattle.compute_write.proofs.Lines.{next-node, no_node, record_ops, next-record, no_record}
+use Rattle.compute_write.proofs.Lines.{stale-few, stale-long, stale-within, body-begun}
+use Rattle.compute_write.proofs.write_nodes.Given as goal
+
+-- `compute_write::write_nodes` meets its contract: in both loops what is left to be written, behind what has been, has the whole's outcome. Each step
+-- is a law of proofs/Steps. Assumes nothing.
+-- ---- what the loops keep
+-- the loop over a node's records: the places are those of its records, and writing has come on from where the loop began
+abbrev pub invariant-loop-k : goal.invariant-loop-k
+invariant-loop-k l = (l.k ≤ max_records)
+    × (length l.at ≡ max_records)
+    × AllBelow (length (entry_at (decode l.table) l.p).node.recs) (listed l.k l.at)
+    × Reached (writing l.initial.ops l.initial.used (record_ops (decode l.table) l.p (listed l.initial.k l.at) ++ ops_at (decode l.table) l.froms (listed l.j l.line)) l.initial.datagram)
+    (writing l.ops l.used (record_ops (decode l.table) l.p (listed l.k l.at) ++ ops_at (decode l.table) l.froms (listed l.j l.line)) l.datagram)
+
+abbrev pub decreases-loop-k : goal.decreases-loop-k
+decreases-loop-k l = l.k
+
+-- the loop over the nodes: the places are those of nodes, and writing has come on from the function's entry
+abbrev pub invariant-nodes : goal.invariant-nodes
+invariant-nodes l = (l.j ≤ l.n)
+    × AllBelow (nodes_of l.table) (listed l.j l.line)
+    × Reached (writing 0 0 (ops_at (decode l.table) l.froms (listed l.n l.line)) l.initial.datagram) (writing l.ops l.used (ops_at (decode l.table) l.froms (listed l.j l.line)) l.datagram)
+
+abbrev pub decreases-nodes : goal.decreases-nodes
+decreases-nodes l = l.j
