@@ -134,6 +134,7 @@ in-front : (n : ℕ) → n ∈ (13 ∷ 11 ∷ 12 ∷ []) → n ∈ (13 ∷ 11 �
 in-front n (here e) = here e
 in-front n (later (here e)) = later (here e)
 in-front n (later (later (here e))) = later (later (here e))
+in-front n (later (later (later x))) = elim x [ ]
 
 -- 0 where the delta is accepted, or one of five numbers
 pub made-numbers : (text out : Bytes) → (made_told (lent_make text out).answer).number ∈ (0 ∷ 16 ∷ 13 ∷ 11 ∷ 12 ∷ 8 ∷ [])

@@ -1,5 +1,5 @@
 -- A text that was written at the front of a buffer is what stands there. Assumes nothing.
-use Prim.Native.Nat.{ℕ}
+use Prim.Native.Nat.{ℕ, ◌+◌}
 use mathlib.Core.Path.{◌≡◌, refl, ap, sym, ◌∙◌}
 use mathlib.Core.Bool.{Bool, true, false}
 use mathlib.Core.List.{List}
@@ -20,5 +20,5 @@ shown-front text out k e = go (fits_at 0 (length text) out) e
   where
     go : (t : Bool) → (pick t (given (Bytes (length text)) (put 0 text out)) (given (Refused NoPlace) out)).answer ≡ Bytes k
         → take k (pick t (given (Bytes (length text)) (put 0 text out)) (given (Refused NoPlace) out)).lent ≡ text
-    go true f = let long : length text ≡ k = cc in take_at text (drop (length text) out) k long
+    go true f = let long : length text ≡ k = cc in take_at text (drop (0 + length text) out) k long
     go false f = let z : ◌≡◌ {A = ℕ} 0 1 = cc in absurd (omega arith)

@@ -1,1 +1,2 @@
+mod Shown
 pub mod Stored

@@ -17,5 +17,5 @@ pub returns-in-Refused : goal.returns-in-Refused
 unfolding applied_told
 returns-in-Refused c =
     ap₂ (λ (k n : ℕ). record { number = k; nodes = 0; at = c.in-Refused.at; need = n }) c.number.ensures c.need.ensures
-        ∙ applied-refused c.in-Refused.why c.in-Refused.at
-        ∙ sym (ap (λ (a : Applied). applied_shown (applied_told a)) c.in-Refused.is)
+    ∙ applied-refused c.in-Refused.why c.in-Refused.at
+    ∙ sym (ap (λ (a : Applied). applied_shown (applied_told a)) c.in-Refused.is)

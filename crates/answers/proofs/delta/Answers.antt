@@ -17,5 +17,5 @@ pub returns-in-Refused : goal.returns-in-Refused
 unfolding read_told
 returns-in-Refused c =
     ap₂ (λ (k n : ℕ). record { number = k; ops = 0; nodes = 0; at = c.in-Refused.at; need = n }) c.number.ensures c.need.ensures
-        ∙ delta-refused c.in-Refused.why c.in-Refused.at
-        ∙ sym (ap (λ (a : DeltaRead). delta_shown (read_told a)) c.in-Refused.is)
+    ∙ delta-refused c.in-Refused.why c.in-Refused.at
+    ∙ sym (ap (λ (a : DeltaRead). delta_shown (read_told a)) c.in-Refused.is)

@@ -17,5 +17,5 @@ pub returns-in-Refused : goal.returns-in-Refused
 unfolding exchanged_told
 returns-in-Refused c =
     ap₂ (λ (k s : ℕ). record { number = k; ops = 0; bytes = 0; nodes = 0; step = s }) c.number.ensures c.step_code.ensures
-        ∙ exchanged-refused c.in-Refused.step c.in-Refused.why
-        ∙ sym (ap (λ (a : Exchanged). exchanged_shown (exchanged_told a)) c.in-Refused.is)
+    ∙ exchanged-refused c.in-Refused.step c.in-Refused.why
+    ∙ sym (ap (λ (a : Exchanged). exchanged_shown (exchanged_told a)) c.in-Refused.is)

@@ -26,5 +26,5 @@ returns-in-Nothing c =
 pub returns-in-Refused : goal.returns-in-Refused
 returns-in-Refused c =
     ap₂ (λ (k w : ℕ). record { number = k; found = 0; over = 0; start = 0; len = 0; which = w }) c.number.ensures c.code.ensures
-        ∙ found-over-refused c.in-Refused.which c.in-Refused.why
-        ∙ sym (ap (λ (a : FoundOver). found_over_shown (found_over_told a)) c.in-Refused.is)
+    ∙ found-over-refused c.in-Refused.which c.in-Refused.why
+    ∙ sym (ap (λ (a : FoundOver). found_over_shown (found_over_told a)) c.in-Refused.is)

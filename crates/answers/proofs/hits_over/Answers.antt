@@ -16,5 +16,5 @@ returns-in-Hits c =
 pub returns-in-Refused : goal.returns-in-Refused
 returns-in-Refused c =
     ap₂ (λ (k w : ℕ). record { number = k; count = 0; which = w }) c.number.ensures c.code.ensures
-        ∙ listed-over-refused c.in-Refused.which c.in-Refused.why
-        ∙ sym (ap (λ (a : ListedOver). listed_over_shown (listed_over_told a)) c.in-Refused.is)
+    ∙ listed-over-refused c.in-Refused.which c.in-Refused.why
+    ∙ sym (ap (λ (a : ListedOver). listed_over_shown (listed_over_told a)) c.in-Refused.is)

@@ -19,11 +19,11 @@ pub returns-in-AtFault : goal.returns-in-AtFault
 unfolding judged_told
 returns-in-AtFault c =
     ap₂ (λ (k n : ℕ). judged_shown (record { number = k; values = c.in-AtFault.line ∷ n ∷ []; need = 0 })) c.number.ensures c.code.ensures
-        ∙ sym (ap (λ (a : Judged). judged_shown (judged_told a)) c.in-AtFault.is)
+    ∙ sym (ap (λ (a : Judged). judged_shown (judged_told a)) c.in-AtFault.is)
 
 -- src/lib.rt:470:1
 pub returns-in-Refused : goal.returns-in-Refused
 unfolding judged_told
 returns-in-Refused c =
     ap₂ (λ (k n : ℕ). judged_shown (record { number = k; values = []; need = n })) c.number-in-Refused.ensures c.need.ensures
-        ∙ sym (ap (λ (a : Judged). judged_shown (judged_told a)) c.in-Refused.is)
+    ∙ sym (ap (λ (a : Judged). judged_shown (judged_told a)) c.in-Refused.is)

@@ -21,5 +21,5 @@ returns-in-BadLine c =
 pub returns-in-Refused : goal.returns-in-Refused
 returns-in-Refused c =
     ap₂ (λ (k n : ℕ). record { number = k; bytes = 0; line = 0; at = c.in-Refused.at; need = n }) c.number.ensures c.need.ensures
-        ∙ made-refused _ _
-        ∙ sym (ap (λ (a : Made). made_shown (made_told a)) c.in-Refused.is)
+    ∙ made-refused _ _
+    ∙ sym (ap (λ (a : Made). made_shown (made_told a)) c.in-Refused.is)

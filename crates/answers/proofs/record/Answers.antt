@@ -28,7 +28,7 @@ pub returns-in-Is : goal.returns-in-Is
 unfolding record_read_told
 returns-in-Is c =
     ap (shown c.in-Is.key c.in-Is.value c.in-Is.record) c.byte.ensures
-        ∙ sym (ap (λ (a : RecordRead). record_shown (record_read_told a)) c.in-Is.is)
+    ∙ sym (ap (λ (a : RecordRead). record_shown (record_read_told a)) c.in-Is.is)
 
 pub returns-in-Nothing : goal.returns-in-Nothing
 unfolding record_read_told

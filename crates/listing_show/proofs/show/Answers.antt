@@ -46,4 +46,4 @@ pub returns : goal.returns
 returns g c =
     let call = c.list_delta-listed in
     let same = ap (take c.in-Bytes.n) call.ensures.1 ∙ shown-front (listing c.args.delta.now) buffer _ (sym (same-written _ _ call.ensures.0) ∙ c.in-Bytes.is) in
-    subst (λ (x : List ℕ). OnOk c.put.result (Appends _ _ x)) same c.put.ensures
+    subst (λ (x : List ℕ). OnOk c.put.result (Appends (g.W.Write.contents c.args.out.now) (g.W.Write.contents c.put.new.out) x)) same c.put.ensures

@@ -1,19 +1,22 @@
--- `table_look::show` is safe and ends: the listing always has room in the buffer, so that a refusal for want of room never comes. Assumes nothing.
+-- `table_look::show` meets its contract: the listing always has room in the buffer, so that a refusal for want of room never comes, and it stands at the
+-- front of it. Assumes nothing.
 use Prim.Native.Nat.{ℕ, ◌≤◌}
-use mathlib.Core.Path.{◌≡◌, sym, ◌∙◌}
+use mathlib.Core.Path.{◌≡◌, ap, sym, ◌∙◌}
 use mathlib.Core.List.{List}
 use native.Mathlib.Omega.{arith}
 use native.Mathlib.Nat.{le_of_eq}
-use lib.ListN.{length, replicate, length-replicate}
+use lib.ListN.{length, replicate, length-replicate, take}
 use lib.Seq.{length-take-le}
+use Rattle.std.proofs.Common.{OnOk, subst}
+use Rattle.std.specs.Io.KnownBytes.{Appends}
 use Rattle.rules.specs.declared.Written.TheVariants.{Bytes}
 use Rattle.rules.proofs.Told.{same-written}
-use Rattle.table_listing.specs.TableListing.{list_table, longest_listing}
+use Rattle.table_listing.specs.TableListing.{list_table, longest_listing, table_listing}
 use Rattle.table_show.proofs.Shown.{shown-fits, shown-within}
 use borrow.Author.Rules.{rules}
+use Rattle.table_look.proofs.Shown.{shown-front}
 use Rattle.table_look.proofs.show.Goals as goal
 
--- `table_look::show` is safe and ends: the listing always has room in the buffer, so that a refusal for want of room never comes. Assumes nothing.
 -- the buffer
 abbrev buffer : List ℕ
 buffer = replicate longest_listing 0
@@ -25,15 +28,21 @@ within : (l left : List ℕ) (k : ℕ) → length left ≡ length buffer → (li
 within l left k e f = omega (arith, shown-within l buffer room k f)
 
 pub slice_bounds-output-end : goal.slice_bounds-output-end
-slice_bounds-output-end c =
+slice_bounds-output-end g c =
     let call = c.list_table-listed in
     within _ call.new.out _ call.auto.out (sym (same-written _ _ call.ensures.0) ∙ c.in-Bytes.is)
 
 pub slice_bounds-put-end : goal.slice_bounds-put-end
-slice_bounds-put-end c =
+slice_bounds-put-end g c =
     let call = c.list_table-listed in
     sym (length-take-le _ _ (within _ call.new.out _ call.auto.out (sym (same-written _ _ call.ensures.0) ∙ c.in-Bytes.is)))
 
-pub expect-requires : goal.expect-requires
-expect-requires c =
+pub unreachable-requires : goal.unreachable-requires
+unreachable-requires g c =
     absurd (shown-fits _ buffer room _ (sym (same-written _ _ c.list_table-listed.ensures.0) ∙ c.in-Refused.is))
+
+pub returns : goal.returns
+returns g c =
+    let call = c.list_table-listed in
+    let same = ap (take c.in-Bytes.n) call.ensures.1 ∙ shown-front (table_listing c.args.table.now) buffer _ (sym (same-written _ _ call.ensures.0) ∙ c.in-Bytes.is) in
+    subst (λ (x : List ℕ). OnOk c.put.result (Appends (g.W.Write.contents c.args.out.now) (g.W.Write.contents c.put.new.out) x)) same c.put.ensures
