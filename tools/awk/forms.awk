@@ -124,7 +124,7 @@ function give_told(depth, text, parts,    word) {
     return told_by[depth, word[1]] = give(depth, word[2], parts)
 }
 
-# A part, or several gathered by a definition that makes a record of its arguments, as in `both (now (x .exit)) (now (y .exit))`.
+# A part, or several gathered by a definition that makes a record of its arguments, as in `both x.new y.new`.
 function give_all(depth, text, module, parts,    word, n, i) {
     if (index(parts, "\n" text "\n") > 0) return give(depth, text, parts)
     n = arguments(text, word)
@@ -165,9 +165,8 @@ function give(depth, part, parts) {
 
 # Whether a part of the outcome stands in the text.
 function stands_in(part, text,    word, n, i) {
-    if (part ~ / /) return index(text, part) > 0
     n = words(text, word)
-    for (i = 1; i <= n; i++) if (word[i] == part) return 1
+    for (i = 1; i <= n; i++) if (word[i] == part || index(word[i], part ".") == 1) return 1
     return 0
 }
 
@@ -218,24 +217,21 @@ function is_form(id, depth,    text, head, parameter, n, i, parts, name, field, 
 }
 
 # What is open in a function's outcome, or nothing.
-function open_in(f,    text, parts, signature, result, name, rest, part, n, i, all, out) {
+function open_in(f,    text, parts, signature, name, rest, part, n, i, all, out) {
     text = text_of[f, "ensures"]
     signature = text_of[f, "signature"]
     if (has_ensures[f] > 1) return "two clauses"
-    if (!match(text, /ensures \{ *\316\273 [^ ]+\. \342\214\234/)) return "a clause of another shape"
-    result = substr(text, RSTART, RLENGTH)
-    sub(/^.*\316\273 /, "", result)
-    sub(/\..*$/, "", result)
+    if (!match(text, /^ *ensures ([a-z_]+ )?\{/)) return "a clause of another shape"
     text = substr(text, RSTART + RLENGTH)
-    if (!match(text, /\342\214\235 *\} *$/)) return "a clause of another shape"
+    if (!match(text, /\} *$/)) return "a clause of another shape"
     text = substr(text, 1, RSTART - 1)
     parts = "\n"
-    if (signature ~ /\) *->/) parts = parts result "\n"
+    if (signature ~ /\) *->/) parts = parts "result\n"
     rest = signature
     while (match(rest, /[a-z_][a-z0-9_]*: *&('[a-z]+ )?mut /)) {
         name = substr(rest, RSTART, RLENGTH)
         sub(/:.*$/, "", name)
-        parts = parts "now (" name " .exit)\n"
+        parts = parts name ".new\n"
         rest = substr(rest, RSTART + RLENGTH)
     }
     if (signature ~ /-> *&/) return "where the part handed out lies"

@@ -9,6 +9,7 @@
 #   text_at[id]                                   its lines without comments
 #   under[id], binders_of[id]                     the parameters of the modules that it stands in, as ids; the names that such parameters bind
 #   owner[module, name]                           the definition that a module gives a name to; a constructor's is its data type
+# The variable crates has the names of the crates of this repository: the kit's libraries are named in the same way.
 #   function_of[n], is_public, has_requires ..    the functions, in order
 
 # ---- words
@@ -36,6 +37,12 @@ function words(text, into) {
     return split(text, into, " ")
 }
 
+# What stands before the first dot of a word: `r.f` is a field of r, or the definition f of the module r.
+function head_of(word,    at) {
+    at = index(word, ".")
+    return at ? substr(word, 1, at - 1) : word
+}
+
 # Whether a word can stand for a definition: no field of a record (.max), no bound name of a lambda (x.), no number, no mark.
 function citable(word) {
     return word !~ /^\./ && word !~ /\.$/ && word !~ /^[0-9]/ && word != "=" && word != ":" && word != "\316\273" && word != "_"
@@ -43,24 +50,21 @@ function citable(word) {
 
 # ---- use lines
 
-# The module that a path of a use line names: of this repository as above, of the kit as `kit path`. `crates` are those of this repository, where it is known. A type declared in src/ is `type crate/src:Name`,
-# its variants `variants crate/src:Name`.
+# The module that a path of a use line names: of this repository as above, of the kit as `kit path`. A type declared in src/ is `type crate/src:Name`, its
+# variants `variants crate/src:Name`.
 function module_of(path,    part, n, i, crate, kind, rest, variants) {
     n = split(path, part, ".")
-    if (part[1] !~ /^Rattle\302\267/) return "kit " path
-    crate = part[1]
-    sub(/^Rattle\302\267/, "", crate)
-    sub(/\302\267(specs|proofs)$/, "", crate)
-    if (crates != "" && index(" " crates " ", " " crate " ") == 0) return "kit " path
-    kind = part[2]
+    crate = part[2]
+    if (part[1] != "Rattle" || index(" " crates " ", " " crate " ") == 0) return "kit " path
+    kind = part[3]
     if (kind != "specs" && kind != "proofs") return "unread " path
-    if (part[3] == "declared") {
-        variants = part[n] == "the-variants"
+    if (part[4] == "declared") {
+        variants = part[n] == "TheVariants"
         if (variants) n--
         return (variants ? "variants " : "type ") crate "/src:" part[n]
     }
-    rest = part[3]
-    for (i = 4; i <= n; i++) rest = rest "." part[i]
+    rest = part[4]
+    for (i = 5; i <= n; i++) rest = rest "." part[i]
     return crate "/" kind "/" rest
 }
 
@@ -94,12 +98,12 @@ function read_use(module, line,    path, list, item, n, i, target, part, from) {
 function bind(module, name, target, there,    part, n, i) {
     bound[module, name] = target
     bound_name[module, name] = there
-    if (name ~ /_/) mixfix(module, name)
+    if (name ~ /\342\227\214/) mixfix(module, name)
 }
 
-# The parts of an operator's name stand for it: the sign of _+_ for _+_.
+# The parts of an operator's name stand for it: its sign for the name in which a mark stands for each argument.
 function mixfix(module, name,    part, n, i) {
-    n = split(name, part, "_")
+    n = split(name, part, "\342\227\214")
     for (i = 1; i <= n; i++) if (part[i] != "") operator[module, part[i]] = name
 }
 
@@ -188,7 +192,7 @@ function read_line(module, line,    indent, text, mark, word, n, i, name, head) 
                 for (i = 1; i <= n; i++) {
                     owner[module, word[i]] = now
                     constructor[module, word[i]] = 1
-                    if (word[i] ~ /_/) mixfix(module, word[i])
+                    if (word[i] ~ /\342\227\214/) mixfix(module, word[i])
                 }
             }
         }
@@ -208,7 +212,7 @@ function start(module, name, kind,    level) {
     name_at[now] = name
     kind_at[now] = kind
     owner[module, name] = now
-    if (name ~ /_/) mixfix(module, name)
+    if (name ~ /\342\227\214/) mixfix(module, name)
     under[now] = ""
     for (level = 0; level < block; level += 2) if (level in opened) under[now] = under[now] " " opened[level]
     lines_of[now] += 1 + pending
@@ -240,7 +244,7 @@ function add(text,    word, n, i, mark) {
     n = words(text, word)
     for (i = 1; i <= n; i++) {
         if (!citable(word[i])) continue
-        mark = (word[i] in local) ? " ?" : " "
+        mark = (word[i] in local || head_of(word[i]) in local) ? " ?" : " "
         cited_words[now] = cited_words[now] mark word[i]
         if (in_signature) stated_words[now] = stated_words[now] mark word[i]
     }
@@ -254,7 +258,8 @@ function read_rattle(module, line,    crate, file, name, part, n, i, text) {
     sub(/\/.*$/, "", crate)
     file = module
     sub(/^.*\//, "", file)
-    if (module != reading) { reading = module; pending = 0; within = ""; function_now = ""; type_now = "" }
+    if (module != reading) { reading = module; pending = 0; within = ""; function_now = ""; type_now = ""; use_now = "" }
+    if (use_now != "") { use_now = use_now " " line; if (line ~ /;/) take_types(module, crate); return }
     if (function_now != "") { read_header(line); return }
     if (type_now != "") {
         lines_of[type_now]++
@@ -265,14 +270,9 @@ function read_rattle(module, line,    crate, file, name, part, n, i, text) {
     }
     if (line ~ /^ *$/) { pending = 0; return }
     if (line ~ /^ *\/\//) { pending++; return }
+    if (line ~ /^ *#!?\[/) return
     if (line ~ /^ghost use /) { read_use(module, line); return }
-    if (line ~ /^(pub )*use /) {
-        sub(/^(pub )*use /, "", line)
-        sub(/;.*$/, "", line)
-        n = split(line, part, "::")
-        used_type[module, part[n]] = (part[1] == "crate" || part[1] == "self" ? crate : part[1]) "/src:" part[n]
-        return
-    }
+    if (line ~ /^(pub )*use /) { use_now = line; if (line ~ /;/) take_types(module, crate); return }
     if (line ~ /^impl /) { within = line; sub(/^impl /, "", within); sub(/[ <{].*$/, "", within); within = within "::"; return }
     if (line ~ /^\}/) { within = ""; pending = 0; return }
     if (line ~ /^(pub )*(enum|struct) /) {
@@ -314,6 +314,48 @@ function read_rattle(module, line,    crate, file, name, part, n, i, text) {
     pending = 0
 }
 
+# The names of a `use` of Rattle, each with its path, into the array; answers how many. Behind the path stands the name that it gets here, if it is another.
+function used_names(text, into,    n) {
+    sub(/^(pub )*use /, "", text)
+    sub(/;.*$/, "", text)
+    gsub(/ +as +/, "\t", text)
+    gsub(/ /, "", text)
+    split("", into)
+    return spread("", text, into, 0)
+}
+
+# The paths of a text with braces, behind what stands before it.
+function spread(before, text, into, n,    i, sign, depth, from, piece, at) {
+    from = 1
+    text = text ","
+    for (i = 1; i <= length(text); i++) {
+        sign = substr(text, i, 1)
+        if (sign == "{") depth++
+        if (sign == "}") depth--
+        if (sign != "," || depth > 0) continue
+        piece = substr(text, from, i - from)
+        from = i + 1
+        if (piece == "") continue
+        at = index(piece, "{")
+        if (at == 0) into[++n] = before piece
+        else n = spread(before substr(piece, 1, at - 1), substr(piece, at + 1, length(piece) - at - 1), into, n)
+    }
+    return n
+}
+
+# The types that a `use` of Rattle brings in.
+function take_types(module, crate,    path, part, n, i, k, here) {
+    n = used_names(use_now, path)
+    use_now = ""
+    for (i = 1; i <= n; i++) {
+        here = path[i]
+        sub(/\t.*$/, "", path[i])
+        sub(/^.*(::|\t)/, "", here)
+        k = split(path[i], part, "::")
+        used_type[module, here] = (part[1] == "crate" || part[1] == "self" ? crate : part[1]) "/src:" part[k]
+    }
+}
+
 # The types that a type of src/ is made of.
 function type_text(line,    word, n, i) {
     sub(/\/\/.*$/, "", line)
@@ -340,7 +382,7 @@ function read_header(line,    body) {
 # The definition or type that a word of a module cites: its id, `kit name`, or nothing where it is a local name. `hidden` words count where they are
 # constructors.
 function resolve(module, word, hidden,    n, part, head, last, target) {
-    if (word ~ /^Rattle\302\267/) {
+    if (word ~ /^Rattle\./) {
         n = split(word, part, ".")
         last = part[n]
         head = substr(word, 1, length(word) - length(last) - 1)
@@ -357,7 +399,7 @@ function resolve(module, word, hidden,    n, part, head, last, target) {
         return resolve(module, head, hidden)
     }
     if (!((module SUBSEP word) in bound) && !((module SUBSEP word) in owner)) {
-        n = split(word, part, "_")
+        n = split(word, part, "\342\227\214")
         last = ""
         while (n > 0 && last == "") last = part[n--]
         if (!((module SUBSEP last) in operator)) return ""

@@ -36,7 +36,8 @@ kind == "antt" {
     # in a Rattle file a `ghost use` is for clauses, any other `use` for code too
     was = function_now
     read_rattle(module, $0)
-    if ($0 ~ /^(pub )*(ghost )?use /) { take_use($0); next }
+    if (use_goes_on) { use_line[uses] = use_line[uses] " " $0; use_lines[uses]++; use_goes_on = $0 !~ /;/; next }
+    if ($0 ~ /^(pub )*(ghost )?use /) { take_use($0); use_goes_on = $0 !~ /;/; next }
     line = $0
     sub(/(^| )\/\/.*$/, "", line)
     if ($0 ~ /^ *(requires|ensures) /) clause_here = 1
@@ -54,6 +55,7 @@ function take_use(line,    path) {
     uses++
     use_module[uses] = module
     use_line[uses] = line
+    use_lines[uses] = 1
     use_place[uses] = FNR
     path = line
     sub(/^(pub |unfoldable |ghost )*use /, "", path)
@@ -70,8 +72,8 @@ function take_words(text,    word, n, i, part, k, m) {
         if (word[i] ~ /^\./ || word[i] ~ /\.$/) continue
         seen_word[module, word[i]] = 1
         if (index(word[i], ".")) { split(word[i], part, "."); seen_word[module, part[1]] = 1; word[i] = part[1] }
-        if (word[i] ~ /_/) {
-            m = split(word[i], part, "_")
+        if (word[i] ~ /\342\227\214/) {
+            m = split(word[i], part, "\342\227\214")
             for (k = 1; k <= m; k++) if (part[k] != "") seen_word[module, part[k]] = 1
         }
     }
@@ -80,8 +82,8 @@ function take_words(text,    word, n, i, part, k, m) {
 # Whether a module uses a name.
 function is_used(module, name,    part, n, i) {
     if ((module SUBSEP name) in seen_word) return 1
-    if (name !~ /_/) return 0
-    n = split(name, part, "_")
+    if (name !~ /\342\227\214/) return 0
+    n = split(name, part, "\342\227\214")
     for (i = 1; i <= n; i++) if (part[i] != "" && (module SUBSEP part[i]) in seen_word) return 1
     return 0
 }
@@ -93,10 +95,17 @@ function judge(u,    line, module, head, list, tail, item, n, i, part, name, kep
     if (line ~ /^(unfoldable )?pub /) return
     ghost = line ~ /^ghost /
     if (module ~ /\/src\// && !ghost) {
-        name = line
-        sub(/;.*$/, "", name)
-        sub(/^.*(::| )/, "", name)
-        if (!((module SUBSEP name) in in_code)) says(u, name, "")
+        # what is left of it is laid out by rt fmt
+        n = used_names(line, item)
+        kept = gone = ""
+        for (i = 1; i <= n; i++) {
+            name = item[i]
+            sub(/^.*(::|\t)/, "", name)
+            sub(/\t/, " as ", item[i])
+            if ((module SUBSEP name) in in_code) kept = joined(kept, ", ", item[i])
+            else gone = joined(gone, ", ", name)
+        }
+        if (gone != "") says(u, gone, kept == "" ? "" : "use " (index(kept, ",") ? "{" kept "}" : kept) ";")
         return
     }
     if (match(line, /\.\{/)) {
@@ -128,7 +137,7 @@ function says(u, gone, text,    i) {
     for (i = 1; i <= looked_for; i++)
         if (looked_module[i] == use_module[u] && index(use_line[u], looked_text[i]) && !index(text, looked_text[i])) return
     found++
-    if (mode == "edit") print module_file[use_module[u]] "\t" use_place[u] "\t" text
+    if (mode == "edit") for (i = 0; i < use_lines[u]; i++) print module_file[use_module[u]] "\t" use_place[u] + i "\t" (i ? "" : text)
     else print module_file[use_module[u]] ":" use_place[u] ": imported and not used: " gone
 }
 
@@ -190,7 +199,7 @@ END {
     }
     for (i = 1; i <= definitions; i++) {
         id = order[i]
-        if (kind_at[id] == "type" || kind_at[id] == "parameters" || module_at[id] ~ /\.Proof$/ && public_mark[id] || is_on_page(module_at[id], name_at[id])) reach(id)
+        if (kind_at[id] == "type" || kind_at[id] == "parameters" || module_at[id] ~ /\.(Proof|Invariants|Answers)$/ && public_mark[id] || is_on_page(module_at[id], name_at[id])) reach(id)
     }
     while (followed < queued) {
         id = queue[++followed]
