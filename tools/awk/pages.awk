@@ -80,7 +80,7 @@ function has(where, name,    at, before, behind, rest) {
 # Whether a crate has a file with the name; * in it stands for any characters.
 function within(of, file, name,    glob) {
     if (!((of "/" file) in text)) return 0
-    if (name ~ /\*/) { glob = name; gsub(/\*/, "[A-Za-z0-9-]*", glob); return text[of "/" file] ~ (" " glob " ") }
+    if (name ~ /\*/) { glob = name; gsub(/\*/, "[A-Za-z0-9_-]*", glob); return text[of "/" file] ~ (" " glob " ") }
     return has(text[of "/" file], name)
 }
 function anywhere(file, name,    n, some) {
@@ -132,7 +132,7 @@ function look(name, sep,    side, file, behind, listed) {
         if (!(of in crate)) say(name, "no such crate")
         else if (!((of, file) in filed)) say(name, "no such file")
         else if (behind != "" && !within(of, file, behind)) say(name, "no such name")
-    } else if (name ~ /^[A-Z][A-Za-z0-9]*\.[A-Za-z0-9.*-]+$/ && name !~ /\.(md|antt)$/ && name !~ /^Prim\./) {
+    } else if (name ~ /^[A-Z][A-Za-z0-9]*\.[A-Za-z0-9_.*-]+$/ && name !~ /\.(md|antt)$/ && name !~ /^Prim\./) {
         file = name; sub(/\..*/, "", file); behind = last(name)
         if (kind == "law" && within(of, file, behind)) return
         if (kind != "law" || !(of in crate)) { kind = "free"; of = file }
