@@ -6,7 +6,8 @@ ghost use Rattle.std.specs.Prelude.{◌≡◌, ◌≤◌, length, drop};
 ghost use Rattle.rules.specs.Delta.{NodeOp};
 ghost use Rattle.rules.specs.Sizes.{max_key, max_value};
 ghost use Rattle.delta_write.specs.Written.{key_value};
-ghost use Rattle.listing_read.specs.Unlist.{after_gc, after_id, after_key, after_max, after_status, after_version, closed, number_form, printed, read_line, status};
+ghost use Rattle.listing_read.specs.Unlist.{after_gc, after_id, after_key, after_max, after_status};
+ghost use Rattle.listing_read.specs.Unlist.{after_version, closed, number_form, printed, read_line, status};
 ghost use Rattle.listing_line.specs.Told.{LineTold, longest_op, size_told};
 
 use delta_write::Wrote;

@@ -10,7 +10,8 @@ ghost use Rattle.rules.specs.Node.{Deleting, DeletingAfterTtl};
 ghost use Rattle.rules.specs.Delta.{status_byte};
 ghost use Rattle.rules.specs.Layout.{decode_node};
 ghost use Rattle.local_node.specs.Writes.{call_of};
-ghost use Rattle.overrides.specs.Overrides.{valid_node, stored_node, written, lent_new_overrides, lent_write_override, lent_call_override, lent_remove_overrides};
+ghost use Rattle.overrides.specs.Overrides.{valid_node, stored_node, written};
+ghost use Rattle.overrides.specs.Overrides.{lent_new_overrides, lent_write_override, lent_call_override, lent_remove_overrides};
 ghost use Rattle.overrides.specs.Both.{which_code};
 
 use local_node::Kind;
