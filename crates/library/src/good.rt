@@ -10,7 +10,8 @@ ghost use Rattle.rules.specs.Lent.{lent_prefixed, lent_digest, lent_compute, bot
 ghost use Rattle.leaving.specs.Leaving.{lent_leaving};
 ghost use Rattle.lookup.specs.Lookup.{lent_find};
 ghost use Rattle.lookup.specs.Told.{found_told};
-ghost use Rattle.inspect.specs.Look.{lent_node_count, lent_node_number, lent_node_header, lent_record_count, lent_read_record, lent_record_of, lent_record_by_key};
+ghost use Rattle.inspect.specs.Look.{lent_node_count, lent_node_number, lent_node_header};
+ghost use Rattle.inspect.specs.Look.{lent_record_count, lent_read_record, lent_record_of, lent_record_by_key};
 ghost use Rattle.inspect.specs.Look.{lent_node_rows, lent_front};
 ghost use Rattle.inspect.specs.Told.{count_told, node_number_told, node_header_told, record_read_told, rows_told};
 ghost use Rattle.prefix.specs.Rows.{lent_prefix_rows};
