@@ -1,7 +1,10 @@
 // Reads a listing to its end, by pieces, and says what comes of it. Nothing is written before the whole listing has been judged.
 #![tactic(auto)]
 
-ghost use Rattle.std.specs.Prelude.{◌≡◌, ◌<◌, take};
+ghost use Rattle.std.specs.Prelude.{◌≡◌, ◌<◌, take, OnOk};
+ghost use Rattle.std.specs.Io.KnownBytes.{Appends};
+ghost use Rattle.delta_make.specs.Making.{bad_line, finished};
+ghost use Rattle.delta_put.specs.Texts.{put_text, show_text};
 
 use anyhow::Result;
 use delta_make::{Made, Making};
@@ -71,14 +74,19 @@ pub fn take_all<R: Read>(input: &mut R, delta: &mut [u8]) -> Result<Taken> {
 }
 
 // The line that says which line is not in its form.
-fn tell_line<W: Write>(out: &mut W, line: usize) -> Result<()> {
+fn tell_line<W: Write>(out: &mut W, line: usize) -> Result<()>
+    ensures { OnOk result (Appends (W.contents out.old) (W.contents out.new) (bad_line line)) }
+{
     let mut text = [0u8; delta_make::LONGEST_REFUSED];
     let n = delta_make::put_bad_line(&mut text, line);
     streams::put(out, front(&text, n))
 }
 
 // Writes the delta's bytes, or the one line of a refusal.
-pub fn put<W: Write>(out: &mut W, making: Making, delta: &[u8]) -> Result<()> {
+pub fn put<W: Write>(out: &mut W, making: Making, delta: &[u8]) -> Result<()>
+    ensures { OnOk result (Appends (W.contents out.old) (W.contents out.new)
+        (put_text (finished making delta.now) making delta.now)) }
+{
     let made = delta_make::finish(making, delta);
     match made {
         Made::Bytes(n) => streams::put(out, front(delta, n)),
@@ -88,7 +96,10 @@ pub fn put<W: Write>(out: &mut W, making: Making, delta: &[u8]) -> Result<()> {
 }
 
 // The same, but an accepted delta is listed.
-pub fn show<W: Write>(out: &mut W, making: Making, delta: &[u8]) -> Result<()> {
+pub fn show<W: Write>(out: &mut W, making: Making, delta: &[u8]) -> Result<()>
+    ensures { OnOk result (Appends (W.contents out.old) (W.contents out.new)
+        (show_text (finished making delta.now) making delta.now)) }
+{
     let made = delta_make::finish(making, delta);
     match made {
         Made::Bytes(n) => listing_show::show(out, front(delta, n)),

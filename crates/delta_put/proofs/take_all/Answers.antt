@@ -12,5 +12,5 @@ buffer : 4096 ≡ length {A = ℕ} (replicate 4096 0)
 buffer = sym (length-replicate {A = ℕ} 4096 0)
 
 pub loop-left-init : goal.loop-left-init
-loop-left-init c =
+loop-left-init g c =
     (refl, room, buffer)
