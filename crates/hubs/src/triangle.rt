@@ -31,7 +31,10 @@ fn say_record(rt: &impl Print, hub: &[u8], j: usize) -> io::Result<()> {
     } = inspect::record_at(hub, Party::Nobody, METER, j)
     {
         say::text(rt, b" ")?;
-        say::text(rt, inspect_text::text_at(hub, Party::Nobody, METER, j, Text::Key))?;
+        say::text(
+            rt,
+            inspect_text::text_at(hub, Party::Nobody, METER, j, Text::Key),
+        )?;
         say::number(rt, b"@", r.version)?;
     }
     Ok(())

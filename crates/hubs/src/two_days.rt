@@ -130,9 +130,15 @@ fn say_record(rt: &impl Print, hub: &[u8], number: u64, j: usize) -> io::Result<
         if let Status::Set = status {
             say::number(rt, b"  ", number)?;
             say::text(rt, b" ")?;
-            say::text(rt, inspect_text::text_at(hub, Party::Nobody, number, j, Text::Key))?;
+            say::text(
+                rt,
+                inspect_text::text_at(hub, Party::Nobody, number, j, Text::Key),
+            )?;
             say::text(rt, b" = ")?;
-            say::text(rt, inspect_text::text_at(hub, Party::Nobody, number, j, Text::Value))?;
+            say::text(
+                rt,
+                inspect_text::text_at(hub, Party::Nobody, number, j, Text::Value),
+            )?;
             say::number(rt, b" at version ", r.version)?;
             say::text(rt, b"\n")?;
         }
@@ -233,12 +239,7 @@ fn catch_up(
     Ok(i)
 }
 
-fn meet(
-    rt: &impl Print,
-    publisher: &[u8],
-    follower: &mut [u8],
-    clock: u64,
-) -> io::Result<()> {
+fn meet(rt: &impl Print, publisher: &[u8], follower: &mut [u8], clock: u64) -> io::Result<()> {
     let most = holdings(publisher);
     let n = catch_up(rt, publisher, follower, clock, most)?;
     if agree(publisher, follower) {

@@ -1,6 +1,6 @@
 -- A text that was written at the front of a buffer is what stands there. Assumes nothing.
 use Prim.Native.Nat.{ℕ, ◌+◌}
-use mathlib.Core.Path.{◌≡◌, refl, ap, sym, ◌∙◌}
+use mathlib.Core.Path.{◌≡◌}
 use mathlib.Core.Bool.{Bool, true, false}
 use mathlib.Core.List.{List}
 use native.Mathlib.Omega.{arith}
@@ -8,10 +8,9 @@ use lib.ListN.{drop, length, take}
 use lib.Seq.{take_at}
 use Rattle.fields.specs.Choice.{pick}
 use Rattle.fields.specs.Parts.{put}
-use Rattle.rules.specs.Given.{Given, given}
+use Rattle.rules.specs.Given.{given}
 use Rattle.rules.specs.Digest.{fits_at, write_bytes}
 use Rattle.rules.specs.declared.Refusal.TheVariants.{NoPlace}
-use Rattle.rules.specs.declared.Written.{Written}
 use Rattle.rules.specs.declared.Written.TheVariants.{Bytes, Refused}
 
 pub shown-front : (text out : List ℕ) (k : ℕ) → (write_bytes text 0 out).answer ≡ Bytes k → take k (write_bytes text 0 out).lent ≡ text

@@ -5,7 +5,6 @@ use Rattle.rules.specs.Answers.{applied_told}
 use Rattle.rules.specs.declared.Applied.{Applied}
 use Rattle.answers.specs.Shown.{applied_shown}
 use Rattle.answers.proofs.Shown.{applied-refused}
-use borrow.Author.Rules.{rules}
 use Rattle.answers.proofs.applied.Goals as goal
 
 pub returns-in-Nodes : goal.returns-in-Nodes

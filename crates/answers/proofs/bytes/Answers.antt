@@ -5,7 +5,6 @@ use mathlib.Core.List.{[]}
 use Rattle.rules.specs.Answers.{written_told}
 use Rattle.rules.specs.declared.Written.{Written}
 use Rattle.answers.specs.Shown.{count_shown}
-use borrow.Author.Rules.{rules}
 use Rattle.answers.proofs.bytes.Goals as goal
 
 pub returns-in-Bytes : goal.returns-in-Bytes

@@ -5,7 +5,6 @@ use mathlib.Core.List.{[]}
 use Rattle.rules.specs.Answers.{computed_told}
 use Rattle.rules.specs.declared.Computed.{Computed}
 use Rattle.answers.specs.Shown.{computed_shown}
-use borrow.Author.Rules.{rules}
 use Rattle.answers.proofs.computed.Goals as goal
 
 pub returns-in-Delta : goal.returns-in-Delta

@@ -5,7 +5,6 @@ use mathlib.Core.List.{[]}
 use Rattle.inspect.specs.Told.{count_told}
 use Rattle.inspect.specs.declared.Count.{Count}
 use Rattle.answers.specs.Shown.{count_shown}
-use borrow.Author.Rules.{rules}
 use Rattle.answers.proofs.count.Goals as goal
 
 pub returns-in-Are : goal.returns-in-Are

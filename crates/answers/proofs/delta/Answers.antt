@@ -5,7 +5,6 @@ use Rattle.rules.specs.Answers.{read_told}
 use Rattle.rules.specs.declared.DeltaRead.{DeltaRead}
 use Rattle.answers.specs.Shown.{delta_shown}
 use Rattle.answers.proofs.Shown.{delta-refused}
-use borrow.Author.Rules.{rules}
 use Rattle.answers.proofs.delta.Goals as goal
 
 pub returns-in-Good : goal.returns-in-Good

@@ -5,7 +5,6 @@ use Rattle.digest_read.specs.Told.{digest_told, answer_told}
 use Rattle.digest_read.specs.declared.DigestRead.{DigestRead}
 use Rattle.answers.specs.Shown.{digest_shown}
 use Rattle.answers.proofs.Shown.{digest-refused}
-use borrow.Author.Rules.{rules}
 use Rattle.answers.proofs.digest.Goals as goal
 
 pub returns-in-Nodes : goal.returns-in-Nodes

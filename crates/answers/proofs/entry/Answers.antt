@@ -3,7 +3,6 @@ use mathlib.Core.Path.{ap, sym, ◌∙◌}
 use Rattle.digest_read.specs.declared.DigestRead.{DigestRead}
 use Rattle.answers.specs.Shown.{entry_at, entry_shown, entry_told}
 use Rattle.answers.proofs.Shown.{past-places, past-entries, entry-there}
-use borrow.Author.Rules.{rules}
 use Rattle.answers.proofs.entry.Goals as goal
 
 pub returns-then-i-ge-NODES : goal.returns-then-i-ge-NODES

@@ -5,7 +5,6 @@ use Rattle.exchange.specs.Exchanging.{exchanged_told}
 use Rattle.exchange.specs.declared.Exchanged.{Exchanged}
 use Rattle.answers.specs.Shown.{exchanged_shown}
 use Rattle.answers.proofs.Shown.{exchanged-refused}
-use borrow.Author.Rules.{rules}
 use Rattle.answers.proofs.exchanged.Goals as goal
 
 pub returns-in-Done : goal.returns-in-Done

@@ -5,7 +5,6 @@ use mathlib.Core.List.{[]}
 use Rattle.lookup.specs.Told.{found_told}
 use Rattle.lookup.specs.declared.Found.{Found}
 use Rattle.answers.specs.Shown.{found_shown}
-use borrow.Author.Rules.{rules}
 use Rattle.answers.proofs.found.Goals as goal
 
 pub returns-in-At : goal.returns-in-At

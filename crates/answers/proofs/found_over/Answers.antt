@@ -5,7 +5,6 @@ use Rattle.over_find.specs.Told.{found_over_told}
 use Rattle.over_find.specs.declared.FoundOver.{FoundOver}
 use Rattle.answers.specs.Shown.{found_over_shown}
 use Rattle.answers.proofs.Shown.{found-over-refused}
-use borrow.Author.Rules.{rules}
 use Rattle.answers.proofs.found_over.Goals as goal
 
 pub returns-in-InOverrides : goal.returns-in-InOverrides

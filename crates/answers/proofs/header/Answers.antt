@@ -5,7 +5,6 @@ use mathlib.Core.List.{[]}
 use Rattle.inspect.specs.Told.{node_header_told}
 use Rattle.inspect.specs.declared.NodeHeader.{NodeHeader}
 use Rattle.answers.specs.Shown.{header_shown}
-use borrow.Author.Rules.{rules}
 use Rattle.answers.proofs.header.Goals as goal
 
 pub returns-in-Is : goal.returns-in-Is

@@ -5,7 +5,6 @@ use mathlib.Core.List.{[]}
 use Rattle.rules.specs.Answers.{remembered_told}
 use Rattle.rules.specs.declared.Remembered.{Remembered}
 use Rattle.answers.specs.Shown.{heartbeat_shown}
-use borrow.Author.Rules.{rules}
 use Rattle.answers.proofs.heartbeat.Goals as goal
 
 pub returns-in-With : goal.returns-in-With

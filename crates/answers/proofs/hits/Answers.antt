@@ -5,7 +5,6 @@ use mathlib.Core.List.{[]}
 use Rattle.rules.specs.Answers.{listed_told}
 use Rattle.rules.specs.declared.Listed.{Listed}
 use Rattle.answers.specs.Shown.{count_shown}
-use borrow.Author.Rules.{rules}
 use Rattle.answers.proofs.hits.Goals as goal
 
 pub returns-in-Hits : goal.returns-in-Hits

@@ -5,7 +5,6 @@ use Rattle.over_list.specs.Told.{listed_over_told}
 use Rattle.over_list.specs.declared.ListedOver.{ListedOver}
 use Rattle.answers.specs.Shown.{listed_over_shown}
 use Rattle.answers.proofs.Shown.{listed-over-refused}
-use borrow.Author.Rules.{rules}
 use Rattle.answers.proofs.hits_over.Goals as goal
 
 pub returns-in-Hits : goal.returns-in-Hits

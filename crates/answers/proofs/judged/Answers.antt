@@ -5,23 +5,19 @@ use mathlib.Core.Path.{◌∙◌, ap, ap₂, sym}
 use Rattle.plan.specs.Faults.{judged_told}
 use Rattle.plan.specs.declared.Judged.{Judged}
 use Rattle.answers.specs.Shown.{judged_shown}
-use borrow.Author.Rules.{rules}
 use Rattle.answers.proofs.judged.Goals as goal
 
--- src/lib.rt:470:1
 pub returns-in-Accepted : goal.returns-in-Accepted
 unfolding judged_told
 returns-in-Accepted c =
     sym (ap (λ (a : Judged). judged_shown (judged_told a)) c.in-Accepted.is)
 
--- src/lib.rt:470:1
 pub returns-in-AtFault : goal.returns-in-AtFault
 unfolding judged_told
 returns-in-AtFault c =
     ap₂ (λ (k n : ℕ). judged_shown (record { number = k; values = c.in-AtFault.line ∷ n ∷ []; need = 0 })) c.number.ensures c.code.ensures
     ∙ sym (ap (λ (a : Judged). judged_shown (judged_told a)) c.in-AtFault.is)
 
--- src/lib.rt:470:1
 pub returns-in-Refused : goal.returns-in-Refused
 unfolding judged_told
 returns-in-Refused c =

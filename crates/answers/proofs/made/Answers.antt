@@ -5,7 +5,6 @@ use Rattle.delta_make.specs.declared.Made.{Made}
 use Rattle.listing_make.specs.Make.{made_told}
 use Rattle.answers.specs.Shown.{made_shown}
 use Rattle.answers.proofs.Shown.{made-refused}
-use borrow.Author.Rules.{rules}
 use Rattle.answers.proofs.made.Goals as goal
 
 pub returns-in-Bytes : goal.returns-in-Bytes

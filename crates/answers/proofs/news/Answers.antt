@@ -5,7 +5,6 @@ use mathlib.Core.List.{[]}
 use Rattle.rules.specs.Answers.{offered_told}
 use Rattle.rules.specs.declared.Offered.{Offered}
 use Rattle.answers.specs.Shown.{count_shown}
-use borrow.Author.Rules.{rules}
 use Rattle.answers.proofs.news.Goals as goal
 
 pub returns-in-Yes : goal.returns-in-Yes

@@ -1,7 +1,6 @@
 -- `answers::no_entry` meets its contract, case by case. Assumes nothing.
 use Prim.Native.Nat.{ℕ}
 use mathlib.Core.Path.{ap₂}
-use borrow.Author.Rules.{rules}
 use Rattle.answers.proofs.no_entry.Goals as goal
 
 pub returns : goal.returns

@@ -5,7 +5,6 @@ use mathlib.Core.List.{[]}
 use Rattle.inspect.specs.Told.{node_number_told}
 use Rattle.inspect.specs.declared.NodeNumber.{NodeNumber}
 use Rattle.answers.specs.Shown.{node_shown}
-use borrow.Author.Rules.{rules}
 use Rattle.answers.proofs.node.Goals as goal
 
 pub returns-in-Is : goal.returns-in-Is

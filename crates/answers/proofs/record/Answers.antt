@@ -6,10 +6,8 @@ use Rattle.inspect.specs.declared.RecordRead.{RecordRead}
 use Rattle.rules.specs.declared.Record.{Record}
 use Rattle.answers.specs.Shown.{record_shown, no_record}
 use Rattle.answers.specs.declared.KevRecord.{KevRecord}
-use borrow.Author.Rules.{rules}
 use Rattle.answers.proofs.record.Goals as goal
 
--- `answers::record` meets its contract, case by case. Assumes nothing.
 abbrev shown : (key value : ℕ) (of : Record) (status : ℕ) → KevRecord
 shown k v r s =
     record {

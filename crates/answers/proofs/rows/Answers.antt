@@ -5,7 +5,6 @@ use mathlib.Core.List.{[]}
 use Rattle.inspect.specs.Told.{rows_told}
 use Rattle.inspect.specs.declared.Rows.{Rows}
 use Rattle.answers.specs.Shown.{rows_shown}
-use borrow.Author.Rules.{rules}
 use Rattle.answers.proofs.rows.Goals as goal
 
 pub returns-in-Are : goal.returns-in-Are

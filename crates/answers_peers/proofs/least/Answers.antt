@@ -5,7 +5,6 @@ use mathlib.Core.List.{[]}
 use Rattle.grid.specs.LentGrid.{least_told}
 use Rattle.grid.specs.declared.Least.{Least}
 use Rattle.answers_peers.specs.ShownPeers.{least_shown}
-use borrow.Author.Rules.{rules}
 use Rattle.answers_peers.proofs.least.Goals as goal
 
 pub returns-in-Is : goal.returns-in-Is

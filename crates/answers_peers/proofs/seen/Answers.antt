@@ -5,7 +5,6 @@ use mathlib.Core.List.{[]}
 use Rattle.grid.specs.LentGrid.{seen_told}
 use Rattle.grid.specs.declared.Seen.{Seen}
 use Rattle.answers_peers.specs.ShownPeers.{seen_shown}
-use borrow.Author.Rules.{rules}
 use Rattle.answers_peers.proofs.seen.Goals as goal
 
 pub returns-in-Pair : goal.returns-in-Pair

@@ -5,7 +5,6 @@ use mathlib.Core.List.{[]}
 use Rattle.rules.specs.Answers.{answer_told}
 use Rattle.rules.specs.declared.Answer.{Answer}
 use Rattle.answers_peers.specs.ShownPeers.{told_shown}
-use borrow.Author.Rules.{rules}
 use Rattle.answers_peers.proofs.told.Goals as goal
 
 pub returns-in-Done : goal.returns-in-Done

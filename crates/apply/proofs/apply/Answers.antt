@@ -4,7 +4,6 @@ use mathlib.Core.List.{[]}
 use Rattle.rules.specs.Answers.{applied_told}
 use Rattle.rules.proofs.Unique.{tells}
 use Rattle.apply.proofs.Applied.{bad-table, none_left}
-use borrow.Author.Rules.{rules}
 use Rattle.apply.proofs.apply.Goals as goal
 
 pub apply_known-requires : goal.apply_known-requires

@@ -1,7 +1,6 @@
 -- `apply::apply_known` meets its contract: where no node is left alone, what is given is `lent_apply` by definition. Assumes nothing.
 use mathlib.Core.Path.{refl}
 use Rattle.apply.proofs.Applied.{none_left}
-use borrow.Author.Rules.{rules}
 use Rattle.apply.proofs.apply_known.Goals as goal
 
 pub returns : goal.returns

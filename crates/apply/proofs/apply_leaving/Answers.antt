@@ -3,7 +3,6 @@ use mathlib.Core.Path.{sym, ◌∙◌}
 use Rattle.rules.specs.Answers.{applied_told}
 use Rattle.rules.proofs.Unique.{tells}
 use Rattle.apply.proofs.Applied.{bad-table}
-use borrow.Author.Rules.{rules}
 use Rattle.apply.proofs.apply_leaving.Goals as goal
 
 pub leaving_known-requires : goal.leaving_known-requires

@@ -8,7 +8,6 @@ use Rattle.rules.specs.declared.Profile.{Profile}
 use Rattle.table.proofs.Wholes.{area-valid, whole_long}
 use Rattle.delta_form.specs.Forming.{delta_read_as}
 use Rattle.apply.proofs.Applied.{at-fault, no-places, accepted, heads-found, applied-all, plainly}
-use borrow.Author.Rules.{rules}
 use Rattle.apply.proofs.leaving_known.Goals as goal
 
 pub profile_of-profile-requires : goal.profile_of-profile-requires

@@ -1,6 +1,5 @@
 -- `apply_grow::begin` meets its contract: a reset, or nothing. Assumes nothing.
 use Rattle.apply_grow.proofs.Growing.{begun-bytes, begun-same}
-use borrow.Author.Rules.{rules}
 use Rattle.apply_grow.proofs.begin.Goals as goal
 
 pub returns-then-afresh : goal.returns-then-afresh

@@ -1,6 +1,5 @@
 -- `apply_grow::each_has_room_for` meets its contract. Assumes nothing.
 use Rattle.apply_grow.proofs.Room.{both_hold, first-fails}
-use borrow.Author.Rules.{rules}
 use Rattle.apply_grow.proofs.each_has_room_for.Goals as goal
 
 pub returns-then-has_room_for : goal.returns-then-has_room_for

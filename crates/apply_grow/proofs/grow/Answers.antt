@@ -1,6 +1,5 @@
 -- `apply_grow::grow` meets its contract: the records are taken into the node, and max is the delta's. Assumes nothing.
 use Rattle.apply_grow.proofs.Growing.{begun-is, begun-rising, is-grown, not-grown}
-use borrow.Author.Rules.{rules}
 use Rattle.apply_grow.proofs.grow.Goals as goal
 
 pub begin-requires : goal.begin-requires

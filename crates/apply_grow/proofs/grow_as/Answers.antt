@@ -1,6 +1,5 @@
 -- `apply_grow::grow_as` meets its contract: document 01's room, then the profile's. Assumes nothing.
 use Rattle.apply_grow.proofs.Growing.{by-fit, not-roomy}
-use borrow.Author.Rules.{rules}
 use Rattle.apply_grow.proofs.grow_as.Goals as goal
 
 pub node_fits-requires : goal.node_fits-requires

@@ -1,10 +1,8 @@
 -- `apply_grow::grow_in_place` meets its contract: there is room for all that come, or the node is saved. Assumes nothing.
 use mathlib.Core.Path.{sym, ◌∙◌}
 use Rattle.apply_grow.proofs.Growing.{gives-stored, surely, stored-surely}
-use borrow.Author.Rules.{rules}
 use Rattle.apply_grow.proofs.grow_in_place.Goals as goal
 
--- `apply_grow::grow_in_place` meets its contract: there is room for all that come, or the node is saved. Assumes nothing.
 pub is_sure-requires : goal.is_sure-requires
 is_sure-requires c =
     c.requires.0.laid

@@ -3,7 +3,6 @@ use mathlib.Core.Path.{◌≡◌, ap, ◌∙◌}
 use native.Mathlib.Omega.{arith}
 use lib.ListN.{length}
 use Rattle.apply_grow.proofs.Growing.{put_all, has-stored, kept}
-use borrow.Author.Rules.{rules}
 use Rattle.apply_grow.proofs.grow_or_keep.Goals as goal
 
 pub copy_to-requires : goal.copy_to-requires

@@ -1,7 +1,6 @@
 -- `apply_grow::has_room_for` meets its contract. Assumes nothing.
 use Rattle.rules.specs.Sizes.{max_each}
 use Rattle.apply_grow.proofs.Room.{left_over, none_left}
-use borrow.Author.Rules.{rules}
 use Rattle.apply_grow.proofs.has_room_for.Goals as goal
 
 pub returns-then-n-le-RECORDS : goal.returns-then-n-le-RECORDS

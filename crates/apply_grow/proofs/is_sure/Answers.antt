@@ -5,7 +5,6 @@ use Rattle.rules.specs.declared.Profile.{Profile}
 use Rattle.table.specs.Tests.{recs_in}
 use Rattle.apply_grow.specs.Growing.{fit_for}
 use Rattle.apply_grow.proofs.Room.{sure, not-sure}
-use borrow.Author.Rules.{rules}
 use Rattle.apply_grow.proofs.is_sure.Goals as goal
 
 pub returns-in-Free : goal.returns-in-Free

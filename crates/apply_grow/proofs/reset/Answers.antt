@@ -1,6 +1,5 @@
 -- `apply_grow::reset` meets its contract: a fresh node, the delta's last_gc. Assumes nothing.
 use Rattle.apply_grow.proofs.Growing.{laid-fresh, emptied-bytes}
-use borrow.Author.Rules.{rules}
 use Rattle.apply_grow.proofs.reset.Goals as goal
 
 pub set_last_gc-requires : goal.set_last_gc-requires

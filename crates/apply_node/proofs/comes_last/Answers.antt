@@ -10,7 +10,6 @@ use Rattle.rules.specs.Layout.{decode_rec}
 use Rattle.table.specs.Tests.{count_of, key_length}
 use Rattle.table.proofs.Laid.{laid-key, rec-long}
 use Rattle.apply_node.proofs.Taken.{last-of-none, behind-last}
-use borrow.Author.Rules.{rules}
 use Rattle.apply_node.proofs.comes_last.Goals as goal
 
 pub returns-then-n-eq0 : goal.returns-then-n-eq0

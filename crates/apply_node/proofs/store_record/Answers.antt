@@ -7,7 +7,6 @@ use Rattle.table.specs.Changes.{rec_of}
 use Rattle.table.specs.Fits.{FitsRec}
 use Rattle.table_read.proofs.Searched.{rec-in}
 use Rattle.apply_node.proofs.Taken.{stored_at, stored-new, no_room, place-fits}
-use borrow.Author.Rules.{rules}
 use Rattle.apply_node.proofs.store_record.Goals as goal
 
 below-full : (n m : ℕ) → n ≡ m → m ≤ 32 → (n ≡ 32 → ⊥) → m < 32

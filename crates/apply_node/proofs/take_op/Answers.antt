@@ -1,6 +1,5 @@
 -- `apply_node::take_op` meets its contract: by the kind of operation. Assumes nothing.
 use Rattle.apply_node.proofs.Taken.{inside, step-taken, step-full, step-node, step-max}
-use borrow.Author.Rules.{rules}
 use Rattle.apply_node.proofs.take_op.Goals as goal
 
 pub take_record-requires : goal.take_record-requires

@@ -1,7 +1,6 @@
 -- `apply_node::take_record` meets its contract: the record is stored, or skipped. Assumes nothing.
 use mathlib.Core.Path.{sym, ◌∙◌}
 use Rattle.apply_node.proofs.Taken.{took, passed}
-use borrow.Author.Rules.{rules}
 use Rattle.apply_node.proofs.take_record.Goals as goal
 
 pub returns-then-takes : goal.returns-then-takes

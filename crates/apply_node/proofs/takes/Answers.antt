@@ -1,9 +1,7 @@
 -- `apply_node::takes` meets its contract. Assumes nothing.
 use Rattle.apply_node.proofs.Taken.{old, new-set, new-delete, new-ttl}
-use borrow.Author.Rules.{rules}
 use Rattle.apply_node.proofs.takes.Goals as goal
 
--- `apply_node::takes` meets its contract. Assumes nothing.
 pub returns-then-version-held : goal.returns-then-version-held
 returns-then-version-held c =
     old _ _ _ _ c.if-version-held.true

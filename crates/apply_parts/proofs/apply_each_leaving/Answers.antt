@@ -1,5 +1,5 @@
 -- `apply_parts::apply_each_leaving` meets its contract: the node deltas that are left give the whole's table and answers. Assumes nothing.
-use Prim.Native.Nat.{ℕ, ◌-◌, ◌≤◌, ◌<◌}
+use Prim.Native.Nat.{ℕ, ◌≤◌, ◌<◌}
 use Rattle.fields.proofs.Choice.{at_in}
 use mathlib.Core.Path.{ap, sym, subst}
 use native.Mathlib.Omega.{arith}
@@ -11,8 +11,7 @@ use Rattle.delta_read.specs.NodeDeltas.{parts_from, no_part, Head}
 use Rattle.rules.specs.Given.{Gives}
 use Rattle.rules.specs.Lent.{stored}
 use Rattle.apply_parts.specs.Applying.{part_leaving}
-use Rattle.apply_parts.proofs.Applying.{Stands, stands-first, stands-next, stands-last}
-use borrow.Author.Rules.{rules}
+use Rattle.apply_parts.proofs.Applying.{stands-first, stands-next, stands-last}
 use Rattle.apply_parts.proofs.apply_each_leaving.Goals as goal
 
 pub loop-i-init : goal.loop-i-init

@@ -6,7 +6,6 @@ use Rattle.rules.specs.Layout.{decode_node}
 use Rattle.delta_read.specs.NodeDeltas.{delta_of}
 use Rattle.apply_grow.proofs.Growing.{stored-gives}
 use Rattle.apply_parts.proofs.Applying.{status-is, untouched, concluded}
-use borrow.Author.Rules.{rules}
 use Rattle.apply_parts.proofs.apply_node.Goals as goal
 
 pub returns-then-is_left : goal.returns-then-is_left

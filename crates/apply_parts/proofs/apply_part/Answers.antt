@@ -10,7 +10,6 @@ use Rattle.table_read.specs.declared.Span.TheVariants.{Held}
 use Rattle.table_read.proofs.Held.{node_end, node-fits}
 use Rattle.delta_read.specs.NodeDeltas.{node_delta_at}
 use Rattle.apply_parts.proofs.Applying.{lent-rising, part_left, part_held, part-missing, numbers-read}
-use borrow.Author.Rules.{rules}
 use Rattle.apply_parts.proofs.apply_part.Goals as goal
 
 pub node_span-requires : goal.node_span-requires

@@ -5,7 +5,6 @@ use lib.Dec.{eqb}
 use borrow.Author.Tests.{eq-eqb, ne_eqb}
 use Rattle.compute.specs.Asking.{mtu_fits, is_free}
 use Rattle.compute.proofs.Calling.{asks}
-use borrow.Author.Rules.{rules}
 use Rattle.compute.proofs.ask.Goals as goal
 
 pub returns-then-ties-nodes : goal.returns-then-ties-nodes

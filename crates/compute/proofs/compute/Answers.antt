@@ -5,7 +5,6 @@ use Rattle.rules.proofs.Unique.{tells}
 use Rattle.compute_write.proofs.Steps.{gives_as}
 use Rattle.compute.proofs.Calling.{bad-table, good-table}
 use Rattle.table_check.proofs.Entry.{area-good, area-long}
-use borrow.Author.Rules.{rules}
 use Rattle.compute.proofs.compute.Goals as goal
 
 pub slice_bounds-compute_good-end : goal.slice_bounds-compute_good-end

@@ -3,7 +3,6 @@ use mathlib.Core.Path.{sym, ◌∙◌}
 use Rattle.rules.specs.Layout.{decode}
 use Rattle.compute_write.proofs.Steps.{gives_as}
 use Rattle.compute.proofs.Calling.{in-edition, no-edition}
-use borrow.Author.Rules.{rules}
 use Rattle.compute.proofs.compute_good.Goals as goal
 
 pub returns-then-is_edition : goal.returns-then-is_edition

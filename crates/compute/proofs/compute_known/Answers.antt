@@ -14,7 +14,6 @@ use Rattle.compute.specs.Asking.{asked_of}
 use Rattle.compute.specs.declared.Asked.{Asked}
 use Rattle.compute.specs.declared.Asked.TheVariants.{Good}
 use Rattle.compute.proofs.Calling.{Granted, granted, by-refused, by-digest, by_part}
-use borrow.Author.Rules.{rules}
 use Rattle.compute.proofs.compute_known.Goals as goal
 
 -- ---- the needs: the numbers

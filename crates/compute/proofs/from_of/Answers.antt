@@ -2,7 +2,6 @@
 use Rattle.compute.proofs.Behind.{gc-told, gc-reached, gc-missed}
 use Rattle.compute.proofs.from_of.Goals as goal
 
--- `compute::from_of` meets its contract, case by case. Assumes nothing.
 pub returns-then-own_last_gc-last_gc : goal.returns-then-own_last_gc-last_gc
 returns-then-own_last_gc-last_gc c =
     let a = c.args in gc-told a.own_last_gc a.last_gc a.max c.if-own_last_gc-last_gc.true

@@ -2,7 +2,6 @@
 use Rattle.compute.proofs.Calling.{past_end, before-end}
 use Rattle.compute.proofs.is_free.Goals as goal
 
--- `compute::is_free` meets its contract. Assumes nothing.
 pub returns-then-room-place : goal.returns-then-room-place
 returns-then-room-place c =
     let a = c.args in past_end a.mtu a.place a.room 0 0 c.if-room-place.true

@@ -5,7 +5,6 @@ use mathlib.Core.Bool.{true}
 use mathlib.Core.List.{List}
 use native.Mathlib.Omega.{arith}
 use lib.ListN.{length, set, length-set}
-use borrow.Author.Rules.{rules}
 use Rattle.fields.specs.Numbers.{Bytes}
 use Rattle.rules.specs.Sizes.{max_nodes}
 use Rattle.rules.specs.Table.{Table}
@@ -20,7 +19,7 @@ use Rattle.digest_read.specs.Held.{entries_in}
 use Rattle.compute_order.specs.Line.{is_stale}
 use Rattle.compute.specs.Lined.{from_at}
 use Rattle.compute.proofs.Behind.{told-stale, told-level}
-use Rattle.compute.proofs.Lining.{Upto, none_yet, above, stays, joins, all-in-line}
+use Rattle.compute.proofs.Lining.{none_yet, above, stays, joins, all-in-line}
 use Rattle.compute.proofs.line_up.Goals as goal
 
 -- ---- the needs: a node's turn

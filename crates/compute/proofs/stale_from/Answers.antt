@@ -2,7 +2,6 @@
 use Rattle.rules.specs.Layout.{decode}
 use Rattle.digest_read.specs.Held.{entries_in}
 use Rattle.compute.proofs.Behind.{left_out, level, behind}
-use borrow.Author.Rules.{rules}
 use Rattle.compute.proofs.stale_from.Goals as goal
 
 pub returns-then-is_excluded : goal.returns-then-is_excluded

@@ -4,7 +4,6 @@ use Rattle.table.proofs.Tables.{length-decode}
 use Rattle.digest_read.specs.Held.{entries_in}
 use Rattle.compute_write.proofs.Steps.{gives_as}
 use Rattle.compute.proofs.Whole.{delta-is, line-within}
-use borrow.Author.Rules.{rules}
 use Rattle.compute.proofs.write_delta.Goals as goal
 
 pub write_nodes-requires : goal.write_nodes-requires

@@ -11,7 +11,6 @@ use Rattle.compute.specs.Asking.{mtu_fits}
 use Rattle.rules.specs.Digest.{fits_at}
 use Rattle.compute_write.proofs.Steps.{gives_as}
 use Rattle.compute_plan.proofs.Calling.{bad-digest, bad-mtu, by-plan, free-so, no_place}
-use borrow.Author.Rules.{rules}
 use Rattle.compute_plan.proofs.compute_known.Goals as goal
 
 pub write_plan-requires : goal.write_plan-requires

@@ -5,20 +5,16 @@ use Rattle.rules.specs.Answers.{computed_told}
 use Rattle.table_check.proofs.Entry.{area-good, area-long}
 use Rattle.compute_write.proofs.Steps.{gives_as}
 use Rattle.compute_plan.proofs.Calling.{bad-table, good-table}
-use borrow.Author.Rules.{rules}
 use Rattle.compute_plan.proofs.compute_plan.Goals as goal
 
--- src/lib.rt:133:13
 pub slice_bounds-compute_plan_good-end : goal.slice_bounds-compute_plan_good-end
 slice_bounds-compute_plan_good-end c =
     area-long _ c.check_table.ensures c.if-check_table.true
 
--- src/lib.rt:132:9
 pub compute_plan_good-requires : goal.compute_plan_good-requires
 compute_plan_good-requires c =
     area-good _ c.check_table.ensures c.if-check_table.true
 
--- src/lib.rt:132:9
 pub returns-then-check_table : goal.returns-then-check_table
 returns-then-check_table c =
     let a = c.args in
@@ -27,7 +23,6 @@ returns-then-check_table c =
     (good-table a.edition a.excluded.now a.nodes.now a.counts.now a.mtu a.digest.now a.table.now a.place a.datagram.now
     (sym c.check_table.ensures ∙ c.if-check_table.true)) c.compute_plan_good.ensures)
 
--- src/lib.rt:117:1
 pub returns : goal.returns
 returns c =
     let a = c.args in

@@ -3,10 +3,8 @@ use mathlib.Core.Path.{◌∙◌, sym}
 use Rattle.rules.specs.Layout.{decode}
 use Rattle.compute_write.proofs.Steps.{gives_as}
 use Rattle.compute_plan.proofs.Calling.{in-edition, no-edition}
-use borrow.Author.Rules.{rules}
 use Rattle.compute_plan.proofs.compute_plan_good.Goals as goal
 
--- src/lib.rt:108:9
 pub returns-then-is_edition : goal.returns-then-is_edition
 returns-then-is_edition c =
     let a = c.args in
@@ -14,7 +12,6 @@ returns-then-is_edition c =
     (in-edition a.edition a.excluded.now a.nodes.now a.counts.now a.mtu a.digest.now (decode a.table.now) a.place a.datagram.now
     (sym c.is_edition.ensures ∙ c.if-is_edition.true)) c.compute_known.ensures
 
--- src/lib.rt:92:1
 pub returns : goal.returns
 returns c =
     let a = c.args in

@@ -7,10 +7,8 @@ use Rattle.digest_read.proofs.Values.{same-digest}
 use Rattle.digest_read.specs.Held.{entries_in, rest_of}
 use Rattle.digest_read.specs.declared.Digest.{Digest}
 use Rattle.compute_plan.proofs.Calling.{said-digest, said-lines, said-mtu}
-use borrow.Author.Rules.{rules}
 use Rattle.compute_plan.proofs.judge_known.Goals as goal
 
--- src/lib.rt:164:9
 pub returns-in-Nodes : goal.returns-in-Nodes
 returns-in-Nodes c =
     let a = c.args in
@@ -20,14 +18,12 @@ returns-in-Nodes c =
     c.judge_lines.ensures
     ∙ said-lines a.excluded.now a.nodes.now a.counts.now a.mtu (read_digest a.edition a.digest.now) (decode a.table.now) (sym c.mtu_fits.ensures ∙ c.if-mtu_fits.true) _ _ read
 
--- src/lib.rt:164:9
 pub returns-in-Refused : goal.returns-in-Refused
 returns-in-Refused c =
     let a = c.args in
     let read = read-refused a.edition a.digest.now _ (sym (ap (λ (x : Digest). x.read) (same-digest _ _ c.read_digest-d.ensures)) ∙ c.in-Refused.is) in
     said-digest a.excluded.now a.nodes.now a.counts.now a.mtu (read_digest a.edition a.digest.now) (decode a.table.now) (sym c.mtu_fits.ensures ∙ c.if-mtu_fits.true) _ read
 
--- src/lib.rt:148:1
 pub returns : goal.returns
 returns c =
     let a = c.args in

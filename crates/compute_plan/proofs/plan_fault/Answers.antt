@@ -3,20 +3,16 @@ use mathlib.Core.Path.{◌∙◌, ap, sym}
 use Rattle.table_check.proofs.Entry.{area-good, area-long}
 use Rattle.plan.specs.Faults.{judged_told}
 use Rattle.compute_plan.proofs.Calling.{said-bad-table, said-good-table}
-use borrow.Author.Rules.{rules}
 use Rattle.compute_plan.proofs.plan_fault.Goals as goal
 
--- src/lib.rt:210:13
 pub slice_bounds-plan_fault_good-end : goal.slice_bounds-plan_fault_good-end
 slice_bounds-plan_fault_good-end c =
     area-long _ c.check_table.ensures c.if-check_table.true
 
--- src/lib.rt:209:9
 pub plan_fault_good-requires : goal.plan_fault_good-requires
 plan_fault_good-requires c =
     area-good _ c.check_table.ensures c.if-check_table.true
 
--- src/lib.rt:209:9
 pub returns-then-check_table : goal.returns-then-check_table
 returns-then-check_table c =
     let a = c.args in
@@ -24,7 +20,6 @@ returns-then-check_table c =
     (c.plan_fault_good.ensures
     ∙ said-good-table a.edition a.excluded.now a.nodes.now a.counts.now a.mtu a.digest.now a.table.now (sym c.check_table.ensures ∙ c.if-check_table.true))
 
--- src/lib.rt:196:1
 pub returns : goal.returns
 returns c =
     let a = c.args in

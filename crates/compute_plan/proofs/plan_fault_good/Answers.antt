@@ -2,17 +2,14 @@
 use mathlib.Core.Path.{◌∙◌, sym}
 use Rattle.rules.specs.Layout.{decode}
 use Rattle.compute_plan.proofs.Calling.{said-in-edition, said-no-edition}
-use borrow.Author.Rules.{rules}
 use Rattle.compute_plan.proofs.plan_fault_good.Goals as goal
 
--- src/lib.rt:189:9
 pub returns-then-is_edition : goal.returns-then-is_edition
 returns-then-is_edition c =
     let a = c.args in
     c.judge_known.ensures
     ∙ said-in-edition a.edition a.excluded.now a.nodes.now a.counts.now a.mtu a.digest.now (decode a.table.now) (sym c.is_edition.ensures ∙ c.if-is_edition.true)
 
--- src/lib.rt:175:1
 pub returns : goal.returns
 returns c =
     let a = c.args in

@@ -8,10 +8,8 @@ use Rattle.digest_read.specs.Held.{entries_in}
 use Rattle.plan.proofs.Judging.{is_accepted}
 use Rattle.plan.specs.Plan.{accepts}
 use Rattle.compute_plan.proofs.Calling.{accepted-is, as_long, not_taken, part-long, taken-whole, within}
-use borrow.Author.Rules.{rules}
 use Rattle.compute_plan.proofs.write_plan.Goals as goal
 
--- src/lib.rt:41:17
 pub write_lines-sent-requires : goal.write_lines-sent-requires
 write_lines-sent-requires c =
     let is-taken : Type 0 = let a = c.args in accepts a.excluded.now a.nodes.now a.counts.now a.mtu (entries_in a.digest) (decode a.table.now) ≡ true in
@@ -24,7 +22,6 @@ write_lines-sent-requires c =
     let w = within a.excluded.now a.nodes.now a.counts.now a.mtu (entries_in a.digest) (decode a.table.now) (taken) in
     (c.requires.0, as_long a.excluded.now a.nodes.now a.counts.now a.mtu (entries_in a.digest) (decode a.table.now) (taken), omega (arith, l, w))
 
--- src/lib.rt:23:1
 pub returns-in-Accepted : goal.returns-in-Accepted
 returns-in-Accepted c =
     let is-taken : Type 0 = let a = c.args in accepts a.excluded.now a.nodes.now a.counts.now a.mtu (entries_in a.digest) (decode a.table.now) ≡ true in
@@ -36,7 +33,6 @@ returns-in-Accepted c =
     taken-whole a.excluded.now a.nodes.now a.counts.now a.mtu (entries_in a.digest) (decode a.table.now) a.place a.datagram.now (taken) _ _ c.requires.1
     c.write_lines-sent.ensures c.write_lines-sent.auto.datagram
 
--- src/lib.rt:23:1
 pub returns-in-AtFault : goal.returns-in-AtFault
 returns-in-AtFault c =
     let judged-so : let a = c.args in
@@ -46,7 +42,6 @@ returns-in-AtFault c =
     not_taken a.excluded.now a.nodes.now a.counts.now a.mtu (entries_in a.digest) (decode a.table.now) a.place a.datagram.now
     (judged-so ∙ ap is_accepted c.in-AtFault.is)
 
--- src/lib.rt:23:1
 pub returns-in-Refused : goal.returns-in-Refused
 returns-in-Refused c =
     let judged-so : let a = c.args in

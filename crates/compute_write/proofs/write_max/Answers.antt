@@ -9,7 +9,6 @@ use Rattle.table_read.specs.Find.{entry_at}
 use Rattle.table_read.proofs.Located.{held}
 use Rattle.delta_write.specs.Written.{write_op}
 use Rattle.compute_write.proofs.Steps.{not-due, max-sent, max-left}
-use borrow.Author.Rules.{rules}
 use Rattle.compute_write.proofs.write_max.Goals as goal
 
 pub returns-then-stale-ne0 : goal.returns-then-stale-ne0

@@ -4,10 +4,8 @@ use Rattle.rules.specs.Delta.{Op, NodeOp}
 use Rattle.rules.specs.Given.{Gives}
 use Rattle.delta_write.specs.Written.{write_op}
 use Rattle.table_read.proofs.Located.{held}
-use borrow.Author.Rules.{rules}
 use Rattle.compute_write.proofs.write_node.Goals as goal
 
--- `compute_write::write_node` meets its contract: what is written are the node's numbers. Assumes nothing.
 pub number_at-requires : goal.number_at-requires
 number_at-requires c =
     held c.args.table.now c.requires.0 c.args.p c.requires.1

@@ -1,20 +1,17 @@
 -- `compute_write::write_nodes` meets its contract: in both loops what is left to be written, behind what has been, has the whole's outcome. Each step
 -- is a law of proofs/Steps. Assumes nothing.
-use Prim.Native.Nat.{ℕ, ◌+◌, ◌-◌, ◌≤◌, ◌<◌}
+use Prim.Native.Nat.{ℕ, ◌+◌, ◌-◌, ◌<◌}
 use mathlib.Core.Path.{◌≡◌, ◌∙◌}
 use mathlib.Core.List.{List, ◌∷◌, ◌++◌}
 use native.Mathlib.Omega.{arith}
 use lib.ListN.{length, get_or}
-use borrow.Author.Rules.{rules}
 use Rattle.fields.specs.Numbers.{Bytes}
-use Rattle.rules.specs.Sizes.{max_records}
 use Rattle.rules.specs.Table.{Table}
 use Rattle.rules.specs.Delta.{Op, KeyValueOp}
 use Rattle.rules.specs.Layout.{decode}
 use Rattle.table.specs.Tests.{nodes_of}
-use Rattle.table_read.specs.Find.{entry_at}
 use Rattle.table_read.proofs.Located.{lent-node, node-long, count_low}
-use Rattle.compute_stale.specs.Arranged.{listed, AllBelow}
+use Rattle.compute_stale.specs.Arranged.{listed}
 use Rattle.compute_stale.proofs.Arranged.{listed_in, listed-lower}
 use Rattle.compute_write.specs.Sending.{node_op_at, record_at, body_at, ops_at}
 use Rattle.compute_write.proofs.Steps.{Writing, writing, Reached, back, at_first, from-here, then, left_is, all-written}

@@ -1,28 +1,19 @@
-use Prim.Native.Nat.{ℕ, ◌+◌, ◌-◌, ◌≤◌, ◌<◌}
-use mathlib.Core.Path.{◌≡◌, ◌∙◌}
-use mathlib.Core.List.{List, ◌∷◌, ◌++◌}
-use native.Mathlib.Omega.{arith}
-use lib.ListN.{length, get_or}
-use borrow.Author.Rules.{rules}
-use Rattle.fields.specs.Numbers.{Bytes}
+-- `compute_write::write_nodes` meets its contract: in both loops what is left to be written, behind what has been, has the whole's outcome. Each step
+-- is a law of proofs/Steps. Assumes nothing.
+use Prim.Native.Nat.{◌≤◌}
+use mathlib.Core.Path.{◌≡◌}
+use mathlib.Core.List.{◌++◌}
+use lib.ListN.{length}
 use Rattle.rules.specs.Sizes.{max_records}
-use Rattle.rules.specs.Table.{Table}
-use Rattle.rules.specs.Delta.{Op, KeyValueOp}
 use Rattle.rules.specs.Layout.{decode}
 use Rattle.table.specs.Tests.{nodes_of}
 use Rattle.table_read.specs.Find.{entry_at}
-use Rattle.table_read.proofs.Located.{lent-node, node-long, count_low}
 use Rattle.compute_stale.specs.Arranged.{listed, AllBelow}
-use Rattle.compute_stale.proofs.Arranged.{listed_in, listed-lower}
-use Rattle.compute_write.specs.Sending.{node_op_at, record_at, body_at, ops_at}
-use Rattle.compute_write.proofs.Steps.{Writing, writing, Reached, back, at_first, from-here, then, left_is, all-written}
-use Rattle.compute_write.proofs.Steps.{op-written, unfit-long, node-unfit, record-unfit}
-use Rattle.compute_write.proofs.Lines.{next-node, no_node, record_ops, next-record, no_record}
-use Rattle.compute_write.proofs.Lines.{stale-few, stale-long, stale-within, body-begun}
+use Rattle.compute_write.specs.Sending.{ops_at}
+use Rattle.compute_write.proofs.Steps.{writing, Reached}
+use Rattle.compute_write.proofs.Lines.{record_ops}
 use Rattle.compute_write.proofs.write_nodes.Given as goal
 
--- `compute_write::write_nodes` meets its contract: in both loops what is left to be written, behind what has been, has the whole's outcome. Each step
--- is a law of proofs/Steps. Assumes nothing.
 -- ---- what the loops keep
 -- the loop over a node's records: the places are those of its records, and writing has come on from where the loop began
 abbrev pub invariant-loop-k : goal.invariant-loop-k

@@ -13,7 +13,6 @@ use Rattle.table.specs.Tests.{key_length, value_length}
 use Rattle.table_read.specs.Find.{entry_at}
 use Rattle.table_read.proofs.Located.{lent-node, lent-record, lent-text, record_is}
 use Rattle.delta_write.specs.Written.{write_op}
-use borrow.Author.Rules.{rules}
 use Rattle.compute_write.proofs.write_record.Goals as goal
 
 abbrev Texts : Bytes → Type 0

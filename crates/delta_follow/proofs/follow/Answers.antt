@@ -7,10 +7,8 @@ use Rattle.delta_op.specs.declared.Op.TheVariants.{Node, KeyValue, SetMaxVersion
 use Rattle.rules.specs.declared.Status.{Status}
 use Rattle.delta_follow.specs.declared.Followed.{Followed}
 use Rattle.delta_follow.specs.Following.{node_follows, record_follows, max_follows, follow_at}
-use borrow.Author.Rules.{rules}
 use Rattle.delta_follow.proofs.follow.Goals as goal
 
--- `delta_follow::follow` meets its contract: by the kind of operation. Assumes nothing.
 module _ (nodes running : ℕ) (a : List ℕ) (o : Op) (r : Followed) where
   at-node : (n g f : ℕ) → o ≡ Node n g f → r ≡ node_follows nodes a n → r ≡ follow_at nodes a running o
   unfolding follow_at

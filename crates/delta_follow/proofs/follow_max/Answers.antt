@@ -7,7 +7,6 @@ use Rattle.delta_follow.specs.declared.Followed.TheVariants.{Under, Fault}
 use Rattle.delta_follow.specs.Following.{max_follows}
 use Rattle.delta_follow.proofs.follow_max.Goals as goal
 
--- `delta_follow::follow_max` meets its contract: one law for each way out. Assumes nothing.
 first : (nodes running max : ℕ) → nodes ≡ 0 → Fault OutOfOrder ≡ max_follows nodes running max
 unfolding max_follows
 first nodes running max e = rw e

@@ -8,10 +8,8 @@ use Rattle.rules.specs.Table.{among}
 use Rattle.rules.specs.declared.Refusal.TheVariants.{NodeTwice, TooMany}
 use Rattle.delta_follow.specs.declared.Followed.TheVariants.{Entered, Fault}
 use Rattle.delta_follow.specs.Following.{seen_of, node_follows}
-use borrow.Author.Rules.{rules}
 use Rattle.delta_follow.proofs.follow_node.Goals as goal
 
--- `delta_follow::follow_node` meets its contract: one law for each way out. Assumes nothing.
 module _ (nodes n : ℕ) (a : List ℕ) where
   twice : among n (seen_of nodes a) ≡ true → Fault NodeTwice ≡ node_follows nodes a n
   unfolding node_follows

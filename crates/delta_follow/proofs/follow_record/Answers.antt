@@ -7,7 +7,6 @@ use Rattle.delta_follow.specs.declared.Followed.TheVariants.{Under, Fault}
 use Rattle.delta_follow.specs.Following.{record_follows}
 use Rattle.delta_follow.proofs.follow_record.Goals as goal
 
--- `delta_follow::follow_record` meets its contract: one law for each way out. Assumes nothing.
 first : (nodes running version : ℕ) → nodes ≡ 0 → Fault OutOfOrder ≡ record_follows nodes running version
 unfolding record_follows
 first nodes running version e = rw e

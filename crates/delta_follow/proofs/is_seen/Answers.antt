@@ -8,10 +8,8 @@ use lib.ListN.{get_or}
 use borrow.Author.Tests.{eq-eqb, ne_eqb}
 use Rattle.rules.specs.Table.{among}
 use Rattle.delta_follow.specs.Following.{seen_of}
-use borrow.Author.Rules.{rules}
 use Rattle.delta_follow.proofs.is_seen.Goals as goal
 
--- `delta_follow::is_seen` meets its contract: what is left to be looked through has the whole's answer. Assumes nothing.
 -- one turn, from i down
 turn-yes : (n i : ℕ) (a : List ℕ) → 0 < i → n ≡ get_or a (i - 1) 0 → true ≡ among n (seen_of i a)
 unfolding among seen_of

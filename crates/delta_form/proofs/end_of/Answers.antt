@@ -1,7 +1,6 @@
 -- `delta_form::end_of` meets its contract. Assumes nothing.
 use mathlib.Core.Path.{ap, sym}
 use Rattle.delta_form.specs.Forming.{end_of}
-use borrow.Author.Rules.{rules}
 use Rattle.delta_form.proofs.end_of.Goals as goal
 
 pub returns-in-Refused : goal.returns-in-Refused

@@ -1,5 +1,4 @@
 -- `delta_form::op_formed` meets its contract: by the kind of operation. Assumes nothing.
-use borrow.Author.Rules.{rules}
 use Rattle.delta_form.proofs.Odd.{inside, of-max, of_node, of-record}
 use Rattle.delta_form.proofs.op_formed.Goals as goal
 

@@ -3,7 +3,6 @@ use mathlib.Core.Path.{ap, sym, ◌∙◌}
 use Rattle.rules.specs.declared.Profile.{Profile}
 use Rattle.delta_form.specs.Forming.{delta_read_as}
 use Rattle.delta_form.proofs.Formed.{free-read}
-use borrow.Author.Rules.{rules}
 use Rattle.delta_form.proofs.read_as.Goals as goal
 
 pub returns-in-Free : goal.returns-in-Free

@@ -15,10 +15,8 @@ use Rattle.rules.specs.declared.Profile.{Profile}
 use Rattle.rules.specs.declared.Refusal.{Refusal}
 use Rattle.delta_form.specs.Forming.{delta_read_as, end_of, odd_place, unless_odd}
 use Rattle.delta_form.proofs.Formed.{end-within, formed-read}
-use borrow.Author.Rules.{rules}
 use Rattle.delta_form.proofs.read_formed.Goals as goal
 
--- `delta_form::read_formed` meets its contract. Assumes nothing.
 module _ (p : Profile) (l : List ℕ) (r : DeltaRead) (is : r ≡ delta_read l) (end odd : ℕ) (e : end ≡ end_of (length l) r) (o : odd ≡ odd_place p l end) where
   whole : delta_read_as p l ≡ unless_odd p odd end r
   whole =

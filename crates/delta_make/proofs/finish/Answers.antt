@@ -1,6 +1,5 @@
 -- `delta_make::finish` meets its contract: by how far the text has come. Assumes nothing.
 use Rattle.delta_make.proofs.Steps.{finished-bad, finished-end, finished-lines}
-use borrow.Author.Rules.{rules}
 use Rattle.delta_make.proofs.finish.Goals as goal
 
 pub returns-in-Lines : goal.returns-in-Lines

@@ -10,10 +10,8 @@ use Rattle.rules.specs.Listing.{ascii, end_line, line_feed}
 use Rattle.listing_text.specs.Texts.{TextFits, numbered}
 use Rattle.listing_text.proofs.Texts.{Put, decimal-long, fits-first, fits-three, fits-two, three}
 use Rattle.listing_words.proofs.Read.{put_front, put-within}
-use borrow.Author.Rules.{rules}
 use Rattle.delta_make.proofs.is_end.Goals as goal
 
--- `delta_make::is_end` meets its contract: the end line is printed, and compared. Assumes nothing.
 -- the buffer, and the line's pieces
 abbrev own : List ℕ
 own = replicate 59 0

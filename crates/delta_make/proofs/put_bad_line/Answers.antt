@@ -3,7 +3,6 @@ use Rattle.rules.specs.Listing.{ascii, line_feed}
 use Rattle.listing_text.specs.Texts.{numbered}
 use Rattle.listing_text.proofs.Texts.{fits-first, fits-second, then}
 use Rattle.delta_make.specs.Making.{bad_line}
-use borrow.Author.Rules.{rules}
 use Rattle.delta_make.proofs.put_bad_line.Goals as goal
 
 pub put_numbered-n-requires : goal.put_numbered-n-requires

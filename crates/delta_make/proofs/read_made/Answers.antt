@@ -18,10 +18,8 @@ use Rattle.rules.specs.declared.Refusal.TheVariants.{TooMany}
 use Rattle.rules.proofs.Told.{same_read}
 use Rattle.delta_make.specs.Making.{made_of, read_made}
 use Rattle.delta_make.specs.declared.Made.TheVariants as made
-use borrow.Author.Rules.{rules}
 use Rattle.delta_make.proofs.read_made.Goals as goal
 
--- `delta_make::read_made` meets its contract: too long a delta, or what reading it answers. Assumes nothing.
 over : (n : ℕ) (delta : List ℕ) → max_delta < n → made.Refused TooMany 0 ≡ read_made n delta
 unfolding read_made
 over n delta h = rw (lt-leb n max_delta h)

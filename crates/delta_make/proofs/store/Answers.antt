@@ -7,10 +7,8 @@ use lib.ListN.{length}
 use borrow.Author.Tests.{le-leb, lt-leb}
 use Rattle.fields.specs.Parts.{put}
 use Rattle.delta_make.specs.Making.{stored_at}
-use borrow.Author.Rules.{rules}
 use Rattle.delta_make.proofs.store.Goals as goal
 
--- `delta_make::store` meets its contract: where there is room, and where not. Assumes nothing.
 no-room-1 : (at : ℕ) (op delta : List ℕ) → length delta < at → delta ≡ stored_at at op delta
 unfolding stored_at
 no-room-1 at op delta h =

@@ -5,7 +5,6 @@ use native.Mathlib.Omega.{arith}
 use lib.ListN.{length, length-set, set}
 use lib.Seq.{length-take-le}
 use Rattle.delta_make.proofs.Steps.{among-line, among-long, among-more}
-use borrow.Author.Rules.{rules}
 use Rattle.delta_make.proofs.take_among.Goals as goal
 
 pub returns-then-line-held : goal.returns-then-line-held

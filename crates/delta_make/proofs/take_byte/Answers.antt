@@ -1,7 +1,6 @@
 -- `delta_make::take_byte` meets its contract: by how far the text has come. Assumes nothing.
 use Rattle.delta_make.specs.declared.Stage.TheVariants.{Lines}
 use Rattle.delta_make.proofs.Steps.{byte-at, byte-bad, byte-end}
-use borrow.Author.Rules.{rules}
 use Rattle.delta_make.proofs.take_byte.Goals as goal
 
 pub returns-in-Lines : goal.returns-in-Lines

@@ -1,10 +1,6 @@
 -- `delta_make::take_in` meets its contract: what is left of the piece, behind what was taken in, gives what the piece gives. Assumes nothing.
-use Prim.Native.Nat.{◌-◌, ◌≤◌}
-use mathlib.Core.Path.{◌≡◌, refl, ◌∙◌}
+use mathlib.Core.Path.{refl, ◌∙◌}
 use native.Mathlib.Omega.{arith}
-use lib.ListN.{length, drop}
-use borrow.Author.Rules.{rules}
-use Rattle.delta_make.specs.Making.{kept, taken_in}
 use Rattle.delta_make.proofs.Steps.{piece-all, piece-more}
 use Rattle.delta_make.proofs.take_in.Goals as goal
 

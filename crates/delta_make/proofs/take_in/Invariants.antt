@@ -1,13 +1,10 @@
+-- `delta_make::take_in` meets its contract: what is left of the piece, behind what was taken in, gives what the piece gives. Assumes nothing.
 use Prim.Native.Nat.{◌-◌, ◌≤◌}
-use mathlib.Core.Path.{◌≡◌, refl, ◌∙◌}
-use native.Mathlib.Omega.{arith}
+use mathlib.Core.Path.{◌≡◌}
 use lib.ListN.{length, drop}
-use borrow.Author.Rules.{rules}
 use Rattle.delta_make.specs.Making.{kept, taken_in}
-use Rattle.delta_make.proofs.Steps.{piece-all, piece-more}
 use Rattle.delta_make.proofs.take_in.Given as goal
 
--- `delta_make::take_in` meets its contract: what is left of the piece, behind what was taken in, gives what the piece gives. Assumes nothing.
 abbrev pub invariant-loop-i : goal.invariant-loop-i
 invariant-loop-i l = (l.i ≤ length l.piece)
     × (length l.line ≡ length l.initial.line)

@@ -6,7 +6,6 @@ use lib.Seq.{length-take-le}
 use Rattle.listing_read.specs.Unlist.{read_line}
 use Rattle.delta_make.proofs.Steps.{line-bad, line-end, line-op}
 use Rattle.delta_make.proofs.Taken.{told-within}
-use borrow.Author.Rules.{rules}
 use Rattle.delta_make.proofs.take_line.Goals as goal
 
 pub returns-then-is_end : goal.returns-then-is_end

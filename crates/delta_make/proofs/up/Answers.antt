@@ -1,7 +1,6 @@
 -- `delta_make::up` meets its contract: the count goes on, or stays at its end. Assumes nothing.
 use native.Mathlib.Omega.{arith}
 use Rattle.delta_make.proofs.Steps.{up-sum, up_top}
-use borrow.Author.Rules.{rules}
 use Rattle.delta_make.proofs.up.Goals as goal
 
 pub returns-then-by-n : goal.returns-then-by-n

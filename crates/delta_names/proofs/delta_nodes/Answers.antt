@@ -7,7 +7,6 @@ use Rattle.rules.specs.Answers.{applied_told}
 use Rattle.rules.specs.Given.{Given}
 use Rattle.rules.specs.declared.Applied.{Applied}
 use Rattle.rules.proofs.Unique.{tells}
-use borrow.Author.Rules.{rules}
 use Rattle.delta_names.proofs.Names.{few, lie, on-good, on-refused, on-short}
 use Rattle.delta_names.proofs.delta_nodes.Goals as goal
 

@@ -6,7 +6,6 @@ use native.Mathlib.Omega.{arith}
 use native.Mathlib.Nat.{sub-zero}
 use lib.ListN.{length, get_or, length-set, set}
 use Rattle.fields.specs.Parts.{put}
-use borrow.Author.Rules.{rules}
 use Rattle.delta_names.specs.Names.{numbers_at}
 use Rattle.delta_names.proofs.Names.{over, turn}
 use Rattle.delta_names.proofs.put_numbers.Goals as goal

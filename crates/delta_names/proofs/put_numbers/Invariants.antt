@@ -1,16 +1,11 @@
-use Prim.Native.Nat.{ℕ, ◌+◌, ◌-◌, ◌≤◌}
-use mathlib.Core.Path.{◌≡◌, refl, ap, sym, ◌∙◌}
-use mathlib.Core.List.{List}
-use native.Mathlib.Omega.{arith}
-use native.Mathlib.Nat.{sub-zero}
-use lib.ListN.{length, get_or, length-set, set}
+-- `delta_names::put_numbers` meets its contract: what stands and what is left are the whole. Assumes nothing.
+use Prim.Native.Nat.{◌-◌, ◌≤◌}
+use mathlib.Core.Path.{◌≡◌}
+use lib.ListN.{length}
 use Rattle.fields.specs.Parts.{put}
-use borrow.Author.Rules.{rules}
 use Rattle.delta_names.specs.Names.{numbers_at}
-use Rattle.delta_names.proofs.Names.{over, turn}
 use Rattle.delta_names.proofs.put_numbers.Given as goal
 
--- `delta_names::put_numbers` meets its contract: what stands and what is left are the whole. Assumes nothing.
 abbrev pub invariant-loop-i : goal.invariant-loop-i
 invariant-loop-i l = (l.i ≤ l.n) × (length l.list ≡ length l.initial.list) × (put l.i (numbers_at l.delta l.places l.i (l.n - l.i)) l.list ≡ put 0 (numbers_at l.delta l.places 0 l.n) l.initial.list)
 

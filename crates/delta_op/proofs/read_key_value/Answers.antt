@@ -11,10 +11,8 @@ use Rattle.delta_op.specs.declared.OpRead.{OpRead}
 use Rattle.delta_op.specs.declared.OpRead.TheVariants.{Bad}
 use Rattle.delta_op.specs.Places.{text_at, on_text, value_at, key_value_at}
 use Rattle.delta_op.proofs.Reading.{TextWithin, text-within}
-use borrow.Author.Rules.{rules}
 use Rattle.delta_op.proofs.read_key_value.Goals as goal
 
--- `delta_op::read_key_value` meets its contract: what is read behind the key, or its refusal. Assumes nothing.
 -- the key's bytes are there
 there : (l : Bytes) (at k n : ℕ) → text_at max_key l at ≡ text.Held k n → k + n ≤ length l
 there l at k n e = (subst (TextWithin max_key (length l) at) e (text-within l max_key at)).1

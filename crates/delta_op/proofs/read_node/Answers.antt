@@ -12,10 +12,8 @@ use Rattle.rules.specs.declared.Refusal.TheVariants.{Cut}
 use Rattle.delta_op.specs.declared.Op.TheVariants.{Node}
 use Rattle.delta_op.specs.declared.OpRead.TheVariants.{Got, Bad}
 use Rattle.delta_op.specs.Places.{node_at}
-use borrow.Author.Rules.{rules}
 use Rattle.delta_op.proofs.read_node.Goals as goal
 
--- `delta_op::read_node` meets its contract: one law for each way out. Assumes nothing.
 module _ (l : Bytes) (at : ℕ) (in-l : at < length l) where
   short : (k : ℕ) → length l - at < node_op_width → k ≡ number_lacks (length l - at - byte_width) → Bad (Cut k) ≡ node_at l at
   unfolding node_at

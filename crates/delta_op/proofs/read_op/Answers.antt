@@ -12,10 +12,8 @@ use Rattle.rules.specs.declared.Refusal.TheVariants.{Cut, BadTag}
 use Rattle.delta_op.specs.declared.OpRead.{OpRead}
 use Rattle.delta_op.specs.declared.OpRead.TheVariants.{Bad}
 use Rattle.delta_op.specs.Places.{tagged_at, op_at}
-use borrow.Author.Rules.{rules}
 use Rattle.delta_op.proofs.read_op.Goals as goal
 
--- `delta_op::read_op` meets its contract: by the tag. Assumes nothing.
 module _ (l : List ℕ) (at : ℕ) where
   no-tag : at ≡ length l → Bad (Cut byte_width) ≡ op_at l at
   unfolding op_at

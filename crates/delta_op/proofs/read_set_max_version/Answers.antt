@@ -12,10 +12,8 @@ use Rattle.rules.specs.declared.Refusal.TheVariants.{Cut}
 use Rattle.delta_op.specs.declared.Op.TheVariants.{SetMaxVersion}
 use Rattle.delta_op.specs.declared.OpRead.TheVariants.{Got, Bad}
 use Rattle.delta_op.specs.Places.{set_max_version_at}
-use borrow.Author.Rules.{rules}
 use Rattle.delta_op.proofs.read_set_max_version.Goals as goal
 
--- `delta_op::read_set_max_version` meets its contract: one law for each way out. Assumes nothing.
 module _ (l : Bytes) (at : ℕ) (in-l : at < length l) where
   short : length l - at < max_op_width → Bad (Cut (max_op_width - (length l - at))) ≡ set_max_version_at l at
   unfolding set_max_version_at

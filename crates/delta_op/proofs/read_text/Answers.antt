@@ -9,10 +9,8 @@ use Rattle.fields.specs.Parts.{part}
 use Rattle.rules.specs.Delta.{length_width}
 use Rattle.delta_op.specs.declared.TextRead.TheVariants as text
 use Rattle.delta_op.specs.Places.{text_at}
-use borrow.Author.Rules.{rules}
 use Rattle.delta_op.proofs.read_text.Goals as goal
 
--- `delta_op::read_text` meets its contract: one law for each way out. Assumes nothing.
 module _ (most : ℕ) (l : Bytes) (at : ℕ) (in-l : at ≤ length l) where
   no_length : length l - at < length_width → text.Cut (length_width - (length l - at)) ≡ text_at most l at
   unfolding text_at

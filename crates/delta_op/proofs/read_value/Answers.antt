@@ -10,10 +10,8 @@ use Rattle.delta_op.specs.declared.OpRead.{OpRead}
 use Rattle.delta_op.specs.declared.OpRead.TheVariants.{Bad}
 use Rattle.delta_op.specs.Places.{text_at, on_text, version_at, value_at}
 use Rattle.delta_op.proofs.Reading.{TextWithin, text-within}
-use borrow.Author.Rules.{rules}
 use Rattle.delta_op.proofs.read_value.Goals as goal
 
--- `delta_op::read_value` meets its contract: what is read behind the value, or its refusal. Assumes nothing.
 -- the value's bytes are there
 there : (l : List ℕ) (at v m : ℕ) → text_at max_value l at ≡ text.Held v m → v + m ≤ length l
 there l at v m e = (subst (TextWithin max_value (length l) at) e (text-within l max_value at)).1

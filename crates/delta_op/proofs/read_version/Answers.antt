@@ -15,10 +15,8 @@ use Rattle.rules.specs.declared.Refusal.TheVariants.{Cut, BadTag}
 use Rattle.delta_op.specs.declared.Op.TheVariants.{KeyValue}
 use Rattle.delta_op.specs.declared.OpRead.TheVariants.{Got, Bad}
 use Rattle.delta_op.specs.Places.{version_at, version_lacks}
-use borrow.Author.Rules.{rules}
 use Rattle.delta_op.proofs.read_version.Goals as goal
 
--- `delta_op::read_version` meets its contract: one law for each way out. Assumes nothing.
 abbrev width : ℕ
 width = total version_widths
 

@@ -5,10 +5,8 @@ use borrow.Author.Tests.{le-leb, lt-leb}
 use Rattle.fields.specs.Widths.{total}
 use Rattle.rules.specs.Delta.{number_width, version_widths}
 use Rattle.delta_op.specs.Places.{version_lacks}
-use borrow.Author.Rules.{rules}
 use Rattle.delta_op.proofs.version_lacks.Goals as goal
 
--- `delta_op::version_lacks` meets its contract: by whether the version is there. Assumes nothing.
 in-version : (n : ℕ) → n < number_width → number_width - n ≡ version_lacks n
 in-version n h = rw (lt-leb number_width n h)
 

@@ -2,7 +2,6 @@
 use Prim.Native.Nat.{ℕ}
 use mathlib.Core.Path.{◌≡◌, refl, sym}
 use lib.ListN.{length, length-replicate, replicate}
-use borrow.Author.Rules.{rules}
 use Rattle.delta_put.proofs.take_all.Goals as goal
 
 room : 349 ≡ length {A = ℕ} (replicate 349 0)

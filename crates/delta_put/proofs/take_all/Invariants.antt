@@ -1,7 +1,5 @@
-use Prim.Native.Nat.{ℕ}
-use mathlib.Core.Path.{◌≡◌, refl, sym}
-use lib.ListN.{length, length-replicate, replicate}
-use borrow.Author.Rules.{rules}
+use mathlib.Core.Path.{◌≡◌}
+use lib.ListN.{length}
 use Rattle.delta_put.proofs.take_all.Given as goal
 
 -- `delta_put::take_all` is safe and ends: a piece fewer is left with each turn. Assumes nothing.

@@ -1,6 +1,6 @@
 -- `delta_put::tell_line` meets its contract: the line has room in the buffer, and stands at the front of it. Assumes nothing.
 use Prim.Native.Nat.{ℕ, ◌+◌}
-use mathlib.Core.Path.{◌≡◌, ap, sym, ◌∙◌}
+use mathlib.Core.Path.{◌≡◌, ap, ◌∙◌}
 use mathlib.Core.List.{List}
 use native.Mathlib.Omega.{arith}
 use lib.ListN.{drop, length, length-append, replicate, take}
@@ -11,7 +11,6 @@ use Rattle.fields.specs.Parts.{put}
 use Rattle.listing_text.specs.Texts.{TextFits}
 use Rattle.listing_text.proofs.Texts.{decimal-long}
 use Rattle.delta_make.specs.Making.{bad_line}
-use borrow.Author.Rules.{rules}
 use Rattle.delta_put.proofs.tell_line.Goals as goal
 
 room : (n : ℕ) → TextFits 0 (bad_line n) (replicate 46 0)

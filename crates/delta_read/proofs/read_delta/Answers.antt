@@ -1,7 +1,6 @@
 -- `delta_read::read_delta` meets its contract: the verdict of what `read_heads` found. Assumes nothing.
 use mathlib.Core.Path.{ap}
 use Rattle.rules.specs.Answers.{read_told}
-use borrow.Author.Rules.{rules}
 use Rattle.delta_read.proofs.read_delta.Goals as goal
 
 pub returns : goal.returns

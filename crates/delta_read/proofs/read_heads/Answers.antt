@@ -3,14 +3,12 @@ use Prim.Native.Nat.{ℕ, ◌-◌, ◌≤◌, ◌<◌}
 use mathlib.Core.Path.{◌≡◌, refl, sym, ◌∙◌}
 use mathlib.Core.List.{List}
 use native.Mathlib.Omega.{arith}
-use lib.ListN.{length}
 use Rattle.delta_op.specs.declared.OpRead.TheVariants.{Got}
 use Rattle.delta_op.specs.Places.{op_at}
 use Rattle.delta_op.proofs.Reading.{ends}
-use Rattle.delta_read.proofs.Counted.{So-far, too_long, start, done, bad, fault, on-new, on-under}
+use Rattle.delta_read.proofs.Counted.{too_long, start, done, bad, fault, on-new, on-under}
 use Rattle.delta_read.proofs.Following.{entered}
-use Rattle.delta_read.proofs.NodeDeltas.{Gathering, gathering-first, gathering-entered, gathering-under, gathered_none, gathered}
-use borrow.Author.Rules.{rules}
+use Rattle.delta_read.proofs.NodeDeltas.{gathering-first, gathering-entered, gathering-under, gathered_none, gathered}
 use Rattle.delta_read.proofs.read_heads.Goals.{in-Entered, in-Under}
 use Rattle.delta_read.proofs.read_heads.Goals as goal
 

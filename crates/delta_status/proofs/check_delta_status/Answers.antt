@@ -3,13 +3,11 @@ use Prim.Native.Nat.{ℕ, ◌≤◌, ◌<◌}
 use mathlib.Core.Bool.{true, false}
 use mathlib.Core.Path.{◌≡◌, ◌∙◌, sym}
 use native.Mathlib.Omega.{arith}
-use borrow.Author.Rules.{rules}
 use borrow.Author.Tests.{lt-ltb, le-ltb, eq-eqb, ne_eqb}
 use Rattle.rules.specs.Apply.{Fence, status_of, newer_of, ways_of}
 use Rattle.rules.specs.declared.DeltaStatus.TheVariants.{Reject, ApplyAfterReset, Fenced}
 use Rattle.delta_status.proofs.check_delta_status.Goals as goal
 
--- `delta_status::check_delta_status` meets its contract: step by step. Assumes nothing.
 -- on plain numbers
 module _ (fence : Fence) (g m from gc max : ℕ) where
   ahead : m < from → Reject ≡ status_of fence g m from gc max

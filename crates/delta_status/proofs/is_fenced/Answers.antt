@@ -3,7 +3,6 @@ use Prim.Native.Nat.{ℕ, ◌≤◌, ◌<◌}
 use mathlib.Core.Path.{◌≡◌, refl}
 use mathlib.Core.Bool.{Bool, true, false, ◌&&◌}
 use native.Mathlib.Omega.{arith}
-use borrow.Author.Rules.{rules}
 use borrow.Author.Tests.{lt-ltb, le-ltb}
 use lib.Dec.{ltb}
 use Rattle.rules.specs.Apply.{ways_of}
@@ -11,7 +10,6 @@ use Rattle.rules.specs.declared.Mode.{Mode}
 use Rattle.rules.specs.declared.Mode.TheVariants.{Plain, Fenced, Guarded}
 use Rattle.delta_status.proofs.is_fenced.Goals as goal
 
--- `delta_status::is_fenced` meets its contract: what no mode fences off, and then by the mode. Assumes nothing.
 never : (b : Bool) → false ≡ (b && false)
 never true = refl
 never false = refl

@@ -6,7 +6,6 @@ use Rattle.fields.specs.Numbers.{bytes_of}
 use Rattle.fields.specs.Parts.{put}
 use Rattle.delta_write.proofs.Fronts.{behind_value, key-value-fields}
 use Rattle.rules.specs.Delta.{byte_width, number_width}
-use borrow.Author.Rules.{rules}
 use Rattle.delta_write.proofs.store_key_value.Goals as goal
 
 pub returns : goal.returns

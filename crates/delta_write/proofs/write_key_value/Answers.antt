@@ -7,7 +7,6 @@ use borrow.Author.Tests.{leb-true, leb-false}
 use Rattle.delta_write.proofs.Fronts.{fits, no-fit}
 use Rattle.rules.proofs.Sending.{size-record}
 use Rattle.rules.specs.Delta.{beside_texts}
-use borrow.Author.Rules.{rules}
 use Rattle.delta_write.proofs.write_key_value.Goals as goal
 
 pub overflow_add-size-then-record_fits : goal.overflow_add-size-then-record_fits

@@ -2,7 +2,6 @@
 use native.Mathlib.Omega.{arith}
 use Rattle.delta_write.proofs.Fronts.{fits, no-fit, node-fields}
 use Rattle.rules.proofs.Sending.{size-node}
-use borrow.Author.Rules.{rules}
 use Rattle.delta_write.proofs.write_node.Goals as goal
 
 -- The fields are one put, side by side. Assumes nothing.

@@ -2,7 +2,6 @@
 use native.Mathlib.Omega.{arith}
 use Rattle.delta_write.proofs.Fronts.{fits, no-fit, set-max-version-fields}
 use Rattle.rules.proofs.Sending.{size-max}
-use borrow.Author.Rules.{rules}
 use Rattle.delta_write.proofs.write_set_max_version.Goals as goal
 
 -- The fields are one put, side by side. Assumes nothing.

@@ -1,7 +1,6 @@
 -- The length and the text are one put, side by side. Assumes nothing.
 use native.Mathlib.Omega.{arith}
 use Rattle.delta_write.proofs.Fronts.{text-fields}
-use borrow.Author.Rules.{rules}
 use Rattle.delta_write.proofs.write_text.Goals as goal
 
 pub returns : goal.returns

@@ -1,7 +1,6 @@
 -- By the edition. Assumes nothing.
 use mathlib.Core.Path.{◌∙◌}
 use Rattle.digest_count.proofs.Counts.{in-none, in-v0, in-v1}
-use borrow.Author.Rules.{rules}
 use Rattle.digest_count.proofs.count_entries.Goals as goal
 
 pub returns-then-edition-eq-V0 : goal.returns-then-edition-eq-V0

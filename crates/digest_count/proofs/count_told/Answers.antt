@@ -1,7 +1,6 @@
 -- Each answer is its case of the definition. Assumes nothing.
 use native.Mathlib.Omega.{arith}
 use Rattle.digest_count.proofs.Counts.{no-count, too_many, entries-cut, entries-there}
-use borrow.Author.Rules.{rules}
 use Rattle.digest_count.proofs.count_told.Goals as goal
 
 pub returns-then-digest-lt-COUNT_WIDTH : goal.returns-then-digest-lt-COUNT_WIDTH

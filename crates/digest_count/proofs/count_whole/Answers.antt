@@ -1,7 +1,6 @@
 -- Each answer is its case of the definition. Assumes nothing.
 use native.Mathlib.Omega.{arith}
 use Rattle.digest_count.proofs.Counts.{few-whole, inside, many-whole}
-use borrow.Author.Rules.{rules}
 use Rattle.digest_count.proofs.count_whole.Goals as goal
 
 pub returns-then-over-gt0 : goal.returns-then-over-gt0

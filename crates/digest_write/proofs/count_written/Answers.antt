@@ -1,12 +1,10 @@
 -- The count so far and the nodes not yet passed give the whole count. Assumes nothing.
-use Prim.Native.Nat.{ℕ, ◌-◌}
-use mathlib.Core.Path.{◌≡◌, ◌∙◌, ap, sym}
+use Prim.Native.Nat.{ℕ}
+use mathlib.Core.Path.{◌∙◌, ap, sym}
 use native.Mathlib.Omega.{arith}
 use lib.ListN.{length}
-use borrow.Author.Rules.{rules}
 use Rattle.rules.specs.Table.{among}
-use Rattle.table.specs.Tests.{nodes_of}
-use Rattle.digest_write.proofs.Entries.{Counts, counts_all, counts-next, counts-none, counts_past, node-long, number_is}
+use Rattle.digest_write.proofs.Entries.{counts_all, counts-next, counts-none, counts_past, node-long, number_is}
 use Rattle.digest_write.proofs.count_written.Goals as goal
 
 pub loop-i-init : goal.loop-i-init

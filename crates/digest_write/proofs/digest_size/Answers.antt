@@ -1,6 +1,5 @@
 -- The count of the nodes gives the bytes. Assumes nothing.
 use Rattle.digest_write.proofs.Outcomes.{size_is}
-use borrow.Author.Rules.{rules}
 use Rattle.digest_write.proofs.digest_size.Goals as goal
 
 pub returns : goal.returns

@@ -1,6 +1,5 @@
 -- The number stands in front of the header. Assumes nothing.
 use Rattle.rules.specs.Layout.{decode_node}
-use borrow.Author.Rules.{rules}
 use Rattle.digest_write.proofs.entry_of.Goals as goal
 
 pub returns : goal.returns

@@ -1,7 +1,6 @@
 -- The head and the entries. Assumes nothing.
 use native.Mathlib.Omega.{arith}
 use Rattle.digest_write.proofs.Outcomes.{head-low}
-use borrow.Author.Rules.{rules}
 use Rattle.digest_write.proofs.size_for.Goals as goal
 
 pub overflow_add-result : goal.overflow_add-result

@@ -9,7 +9,6 @@ use Rattle.fields.proofs.Lent.{lent-rest-put}
 use Rattle.rules.specs.Digest.{digest_of, entry_bytes}
 use Rattle.rules.specs.Layout.{decode}
 use Rattle.digest_write.proofs.Outcomes.{stored}
-use borrow.Author.Rules.{rules}
 use Rattle.digest_write.proofs.store_digest.Goals as goal
 
 pub returns : goal.returns

@@ -2,7 +2,6 @@
 use mathlib.Core.Path.{◌∙◌}
 use native.Mathlib.Omega.{arith}
 use Rattle.digest_write.proofs.Outcomes.{counted, head-counted, uncounted}
-use borrow.Author.Rules.{rules}
 use Rattle.digest_write.proofs.write_count.Goals as goal
 
 -- A count is put in front where the edition has one. Assumes nothing.

@@ -5,7 +5,6 @@ use Rattle.rules.specs.Given.{Given}
 use Rattle.rules.proofs.Unique.{tells}
 use Rattle.digest_write.proofs.Outcomes.{bad-table, good-table}
 use Rattle.table_check.proofs.Entry.{area-good, area-long}
-use borrow.Author.Rules.{rules}
 use Rattle.digest_write.proofs.write_digest.Goals as goal
 
 pub slice_bounds-write_good-end : goal.slice_bounds-write_good-end

@@ -6,7 +6,6 @@ use native.Mathlib.Nat.{add-zero}
 use native.Mathlib.Omega.{arith}
 use lib.ListN.{length}
 use borrow.Rule.Slice.PartMut.{put_mid}
-use borrow.Author.Rules.{rules}
 use Rattle.fields.specs.Parts.{put}
 use Rattle.fields.proofs.Lent.{lent-put}
 use Rattle.rules.specs.Digest.{NodeDigest, digest_of_node, entry_bytes, entry_width}
@@ -15,8 +14,7 @@ use Rattle.rules.proofs.Digests.{entry-long}
 use Rattle.digest_read.specs.Held.{back}
 use Rattle.table.proofs.Places.{node_at}
 use Rattle.rules.specs.Table.{among}
-use Rattle.table.specs.Tests.{nodes_of}
-use Rattle.digest_write.proofs.Entries.{Writes, writes-all, writes-next, writes-none, writes-past, writes-room, node-long}
+use Rattle.digest_write.proofs.Entries.{writes-all, writes-next, writes-none, writes-past, writes-room, node-long}
 use Rattle.digest_write.proofs.write_entries.Goals as goal
 
 pub loop-i-init : goal.loop-i-init

@@ -2,7 +2,6 @@
 use native.Mathlib.Omega.{arith}
 use Rattle.digest_read.specs.Held.{back}
 use Rattle.digest_write.proofs.Entries.{entry-fields}
-use borrow.Author.Rules.{rules}
 use Rattle.digest_write.proofs.write_entry.Goals as goal
 
 pub returns : goal.returns

@@ -2,7 +2,6 @@
 use mathlib.Core.Path.{◌∙◌, sym}
 use Rattle.rules.specs.Layout.{decode}
 use Rattle.digest_write.proofs.Outcomes.{no-edition}
-use borrow.Author.Rules.{rules}
 use Rattle.digest_write.proofs.write_good.Goals as goal
 
 pub write_known-requires : goal.write_known-requires

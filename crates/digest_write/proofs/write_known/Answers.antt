@@ -10,7 +10,6 @@ use Rattle.rules.specs.Digest.{digest_bytes, digest_of}
 use Rattle.rules.specs.Layout.{decode}
 use Rattle.table.proofs.Tables.{valid-laid}
 use Rattle.digest_write.proofs.Outcomes.{no_room, past_end, size_is, written}
-use borrow.Author.Rules.{rules}
 use Rattle.digest_write.proofs.write_known.Goals as goal
 
 -- Each answer is its case of the definition. Assumes nothing.

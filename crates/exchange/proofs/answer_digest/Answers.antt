@@ -11,7 +11,6 @@ use Rattle.exchange.specs.Exchanging.{all_three, exchanged_as, lent_answer}
 use Rattle.exchange.proofs.Exchanging.{delta-taken, made-good, made-within, no-delta}
 use Rattle.table.proofs.Wholes.{area-valid}
 use Rattle.table_check.proofs.Entry.{area-long}
-use borrow.Author.Rules.{rules}
 use Rattle.exchange.proofs.answer_digest.Goals as goal
 
 pub slice_bounds-compute_good-end : goal.slice_bounds-compute_good-end

@@ -6,7 +6,6 @@ use Rattle.exchange.specs.Exchanging.{ExchangeLent, Lending, exchanged_told, len
 use Rattle.exchange.specs.declared.Exchanged.{Exchanged}
 use Rattle.exchange.proofs.Exchanging.{goes-ahead, not-ready}
 use Rattle.exchange.proofs.Refusing.{IsReady, is-ready}
-use borrow.Author.Rules.{rules}
 use Rattle.exchange.proofs.exchange.Goals as goal
 
 pub exchange_good-requires : goal.exchange_good-requires

@@ -9,7 +9,6 @@ use Rattle.exchange.specs.Exchanging.{Lending, lending}
 use Rattle.exchange.proofs.Exchanging.{answered, no-digest, told-good, told-within}
 use Rattle.table.proofs.Wholes.{area-valid}
 use Rattle.table_check.proofs.Entry.{area-within, area-long}
-use borrow.Author.Rules.{rules}
 use Rattle.exchange.proofs.exchange_good.Goals as goal
 
 pub slice_bounds-write_good-end : goal.slice_bounds-write_good-end

@@ -9,7 +9,6 @@ use Rattle.exchange_ask.specs.Asking.{Rooms, ready_on, rooms}
 use Rattle.exchange_ask.proofs.Asking.{both-good, follower-bad, publisher-bad}
 use Rattle.table.proofs.Wholes.{area-valid, whole_long}
 use Rattle.table_check.proofs.Entry.{area-long}
-use borrow.Author.Rules.{rules}
 use Rattle.exchange_ask.proofs.ask.Goals as goal
 
 pub profile_of-profile-requires : goal.profile_of-profile-requires

@@ -3,7 +3,6 @@ use mathlib.Core.Path.{◌∙◌, sym}
 use Rattle.rules.specs.Layout.{decode}
 use Rattle.exchange_ask.specs.Asking.{Rooms, rooms}
 use Rattle.exchange_ask.proofs.Asking.{in-edition, no-edition}
-use borrow.Author.Rules.{rules}
 use Rattle.exchange_ask.proofs.ask_good.Goals as goal
 
 pub returns-then-is_edition : goal.returns-then-is_edition

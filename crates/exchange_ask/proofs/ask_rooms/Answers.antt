@@ -7,7 +7,6 @@ use Rattle.rules.specs.Layout.{decode}
 use Rattle.table.proofs.Tables.{length-decode}
 use Rattle.exchange_ask.specs.Asking.{Rooms, rooms}
 use Rattle.exchange_ask.proofs.Asking.{asked-all, no-delta, no-digest-room}
-use borrow.Author.Rules.{rules}
 use Rattle.exchange_ask.proofs.ask_rooms.Goals as goal
 
 pub returns-then-digest-digest_size : goal.returns-then-digest-digest_size

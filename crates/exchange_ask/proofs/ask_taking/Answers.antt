@@ -1,9 +1,7 @@
 -- `exchange_ask::ask_taking` meets its contract. Assumes nothing.
-use borrow.Author.Rules.{rules}
 use Rattle.exchange_ask.proofs.Asking.{no-answer-room, out-of-form, taken}
 use Rattle.exchange_ask.proofs.ask_taking.Goals as goal
 
--- `exchange_ask::ask_taking` meets its contract. Assumes nothing.
 pub returns-then-answers-nodes : goal.returns-then-answers-nodes
 returns-then-answers-nodes c =
     let a = c.args in no-answer-room a.profile a.answers a.nodes a.formed c.if-formed.true c.if-answers-nodes.true

@@ -14,10 +14,8 @@ use Rattle.rules.specs.declared.Profile.TheVariants.{Free, Meter, Shared}
 use Rattle.rules.proofs.Formed.{free-formed, table-formed}
 use Rattle.table.proofs.Tables.{valid-laid}
 use Rattle.table.proofs.Wholes.{area-formed, area-valid, whole_long}
-use borrow.Author.Rules.{rules}
 use Rattle.exchange_ask.proofs.forms_fit.Goals as goal
 
--- `exchange_ask::forms_fit` meets its contract. Assumes nothing.
 -- one byte, one profile
 back : (p : Profile) → profile_of_byte (profile_of p) ≡ p
 back Free = refl

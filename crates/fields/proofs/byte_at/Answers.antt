@@ -1,7 +1,6 @@
 -- `fields::byte_at` meets its contract: the number of one byte is that byte. Assumes nothing.
 use mathlib.Core.Path.{sym}
 use native.Mathlib.Omega.{arith}
-use borrow.Author.Rules.{rules}
 use Rattle.fields.proofs.Numbers.{nat-one}
 use Rattle.fields.proofs.byte_at.Goals as goal
 

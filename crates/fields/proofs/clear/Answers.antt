@@ -9,7 +9,6 @@ use Rattle.fields.specs.Blocks.{zeros}
 use Rattle.fields.specs.Parts.{put}
 use Rattle.fields.proofs.Blocks.{zeros-next}
 use Rattle.fields.proofs.Parts.{put_next, put-nil}
-use borrow.Author.Rules.{rules}
 use Rattle.fields.proofs.clear.Goals as goal
 
 turn : (l : List ℕ) (at n i : ℕ) (t : List ℕ) → i < n → at + n ≤ length l → put (at + i) (zeros (n - i)) l ≡ t

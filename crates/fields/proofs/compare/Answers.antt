@@ -1,14 +1,11 @@
 -- `fields::compare` meets its contract: what is left stands as the wholes do. Assumes nothing.
-use Prim.Native.Nat.{◌-◌, ◌≤◌}
-use mathlib.Core.Path.{◌≡◌, refl, sym, ap₂, ◌∙◌}
+use mathlib.Core.Path.{refl, sym, ap₂, ◌∙◌}
 use native.Mathlib.Omega.{arith}
-use lib.ListN.{length, drop}
 use Rattle.fields.specs.Numbers.{AreBytes}
 use Rattle.fields.specs.Order.{order_of}
 use Rattle.fields.proofs.Lent.{seen-rest}
 use Rattle.fields.proofs.Numbers.{at-bytes}
 use Rattle.fields.proofs.Ranks.{ranked-less, ranked-more, ranked-same}
-use borrow.Author.Rules.{rules}
 use Rattle.fields.proofs.compare.Goals as goal
 
 pub loop-i-init : goal.loop-i-init

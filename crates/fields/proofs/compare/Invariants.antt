@@ -1,16 +1,10 @@
+-- `fields::compare` meets its contract: what is left stands as the wholes do. Assumes nothing.
 use Prim.Native.Nat.{◌-◌, ◌≤◌}
-use mathlib.Core.Path.{◌≡◌, refl, sym, ap₂, ◌∙◌}
-use native.Mathlib.Omega.{arith}
+use mathlib.Core.Path.{◌≡◌}
 use lib.ListN.{length, drop}
-use Rattle.fields.specs.Numbers.{AreBytes}
 use Rattle.fields.specs.Order.{order_of}
-use Rattle.fields.proofs.Lent.{seen-rest}
-use Rattle.fields.proofs.Numbers.{at-bytes}
-use Rattle.fields.proofs.Ranks.{ranked-less, ranked-more, ranked-same}
-use borrow.Author.Rules.{rules}
 use Rattle.fields.proofs.compare.Given as goal
 
--- `fields::compare` meets its contract: what is left stands as the wholes do. Assumes nothing.
 abbrev pub invariant-loop-i : goal.invariant-loop-i
 invariant-loop-i l = (l.i ≤ length l.a) × (l.i ≤ length l.b) × (order_of (drop l.i l.a) (drop l.i l.b) ≡ order_of l.a l.b)
 

@@ -1,5 +1,5 @@
 -- `fields::compare_bytes` meets its contract: what is left stands as the wholes do. Assumes nothing.
-use Prim.Native.Nat.{ℕ, suc, ◌+◌, ◌-◌, ◌≤◌, ◌<◌}
+use Prim.Native.Nat.{ℕ, suc, ◌+◌, ◌≤◌, ◌<◌}
 use mathlib.Core.Path.{◌≡◌, refl, sym, ap, ap₂, ◌∙◌}
 use mathlib.Core.List.{List, ◌∷◌}
 use native.Mathlib.Omega.{arith}
@@ -10,7 +10,6 @@ use Rattle.fields.specs.Order.{order_of}
 use Rattle.fields.proofs.Ordered.{order-none, order-shorter, order-longer, order-first-same, order-first-less, order-first-more}
 use Rattle.fields.specs.declared.Order.{Order}
 use Rattle.fields.specs.declared.Order.TheVariants.{Less, Same, More}
-use borrow.Author.Rules.{rules}
 use Rattle.fields.proofs.compare_bytes.Goals as goal
 
 -- what is left of the two from i on stands as o says

@@ -1,5 +1,5 @@
 -- `fields::copy_to` meets its contract: what is left of `src`, put now, gives what the contract says. Assumes nothing.
-use Prim.Native.Nat.{ℕ, ◌+◌, ◌-◌, ◌≤◌, ◌<◌}
+use Prim.Native.Nat.{ℕ, ◌+◌, ◌≤◌, ◌<◌}
 use mathlib.Core.Path.{◌≡◌, refl, sym, ◌∙◌}
 use mathlib.Core.List.{List, []}
 use native.Mathlib.Omega.{arith}
@@ -9,7 +9,6 @@ use lib.ListN.{length, get_or, set, drop, length-set, drop_of_length-le}
 use lib.Seq.{drop-cons}
 use Rattle.fields.specs.Parts.{put}
 use Rattle.fields.proofs.Parts.{put_next, put-nil}
-use borrow.Author.Rules.{rules}
 use Rattle.fields.proofs.copy_to.Goals as goal
 
 turn : (src l : List ℕ) (at i : ℕ) (t : List ℕ) → i < length src → at + length src ≤ length l → put (at + i) (drop i src) l ≡ t

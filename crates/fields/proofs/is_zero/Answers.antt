@@ -1,5 +1,5 @@
 -- `fields::is_zero` meets its contract: the bytes passed and those that are left are all zero where the whole is. Assumes nothing.
-use Prim.Native.Nat.{ℕ, suc, ◌+◌, ◌-◌, ◌≤◌, ◌<◌}
+use Prim.Native.Nat.{ℕ, suc, ◌+◌, ◌<◌}
 use mathlib.Core.Path.{◌≡◌, refl, sym, ap, ◌∙◌}
 use mathlib.Core.Bool.{Bool, ◌&&◌}
 use mathlib.Core.List.{List}
@@ -12,7 +12,6 @@ use lib.Seq.{drop-cons}
 use Rattle.fields.specs.Blocks.{all_zero}
 use Rattle.fields.proofs.Bits.{or-none}
 use Rattle.fields.proofs.Choice.{and_assoc, and_last}
-use borrow.Author.Rules.{rules}
 use Rattle.fields.proofs.is_zero.Goals as goal
 
 -- one byte more is seen

@@ -1,7 +1,6 @@
 -- `fields::join_four` meets its contract: the upper two bytes go below `high` first. Assumes nothing.
 use native.Mathlib.Omega.{arith}
 use Rattle.fields.proofs.Numbers.{nat-add}
-use borrow.Author.Rules.{rules}
 use Rattle.fields.proofs.join_four.Goals as goal
 
 pub returns : goal.returns

@@ -2,7 +2,6 @@
 use Prim.Native.Nat.{◌+◌}
 use native.Mathlib.Omega.{arith}
 use Rattle.fields.proofs.Numbers.{nat-add, nat-one}
-use borrow.Author.Rules.{rules}
 use Rattle.fields.proofs.join_two.Goals as goal
 
 pub join-requires-2 : goal.join-requires-2

@@ -1,4 +1,5 @@
 -- `fields::move_down` meets its contract: the bytes that are left to move are not yet written over, and put now they give what the contract says.
+-- Assumes nothing.
 use Prim.Native.Nat.{ℕ, ◌+◌, ◌-◌, ◌≤◌, ◌<◌}
 use mathlib.Core.Path.{◌≡◌, refl, sym, ◌∙◌}
 use mathlib.Core.List.{List}
@@ -7,7 +8,6 @@ use native.Mathlib.Nat.{add-zero, sub-zero}
 use lib.ListN.{length, get_or, set, length-set}
 use Rattle.fields.specs.Parts.{part, put}
 use Rattle.fields.proofs.Parts.{part-next, part-set-after, put_next, put-nil}
-use borrow.Author.Rules.{rules}
 use Rattle.fields.proofs.move_down.Goals as goal
 
 turn : (l : List ℕ) (from to n i : ℕ) (t : List ℕ) → i < n → to ≤ from → from + n ≤ length l → put (to + i) (part (from + i) (n - i) l) l ≡ t

@@ -1,12 +1,12 @@
 -- `fields::move_up` meets its contract: from the last byte down, those that are left to move are not yet written over, and put now they give
+-- what the contract says. Assumes nothing.
 use Prim.Native.Nat.{ℕ, suc, ◌+◌, ◌-◌, ◌≤◌, ◌<◌}
-use mathlib.Core.Path.{◌≡◌, refl, sym, ap, ◌∙◌, subst}
+use mathlib.Core.Path.{◌≡◌, refl, sym, ◌∙◌, subst}
 use mathlib.Core.List.{List}
 use native.Mathlib.Omega.{arith}
 use lib.ListN.{length, get_or, set, length-set}
 use Rattle.fields.specs.Parts.{part, put}
-use Rattle.fields.proofs.Parts.{part-snoc, part-set-before, put-snoc, put-nil, length_part}
-use borrow.Author.Rules.{rules}
+use Rattle.fields.proofs.Parts.{put-nil}
 use Rattle.fields.proofs.move_up.Goals as goal
 use Rattle.fields.proofs.move_up.Invariants.{last}
 

@@ -1,14 +1,14 @@
-use Prim.Native.Nat.{ℕ, suc, ◌+◌, ◌-◌, ◌≤◌, ◌<◌}
-use mathlib.Core.Path.{◌≡◌, refl, sym, ap, ◌∙◌, subst}
+-- `fields::move_up` meets its contract: from the last byte down, those that are left to move are not yet written over, and put now they give
+-- what the contract says. Assumes nothing.
+use Prim.Native.Nat.{ℕ, suc, ◌+◌, ◌≤◌, ◌<◌}
+use mathlib.Core.Path.{◌≡◌, sym, ap, ◌∙◌}
 use mathlib.Core.List.{List}
 use native.Mathlib.Omega.{arith}
-use lib.ListN.{length, get_or, set, length-set}
+use lib.ListN.{length, get_or, set}
 use Rattle.fields.specs.Parts.{part, put}
-use Rattle.fields.proofs.Parts.{part-snoc, part-set-before, put-snoc, put-nil, length_part}
-use borrow.Author.Rules.{rules}
+use Rattle.fields.proofs.Parts.{part-snoc, part-set-before, put-snoc, length_part}
 use Rattle.fields.proofs.move_up.Given as goal
 
--- `fields::move_up` meets its contract: from the last byte down, those that are left to move are not yet written over, and put now they give
 pub last : (l : List ℕ) (from to j : ℕ) (t : List ℕ) → from ≤ to → to + j < length l → put to (part from (suc j) l) l ≡ t
     → let v : ℕ = get_or l (from + j) 0 in put to (part from j (set l (to + j) v)) (set l (to + j) v) ≡ t
 last l from to j t g f e =
@@ -20,8 +20,6 @@ last l from to j t g f e =
     ∙ ap (λ (xs : List ℕ). put to xs l) (sym (part-snoc from j l (omega arith)))
     ∙ e
 
--- `fields::move_up` meets its contract: from the last byte down, those that are left to move are not yet written over, and put now they give
--- what the contract says. Assumes nothing.
 abbrev pub invariant-loop-i : goal.invariant-loop-i
 invariant-loop-i l = (l.i ≤ l.n) × (length l.s ≡ length l.initial.s) × (put l.to (part l.from l.i l.s) l.s ≡ put l.to (part l.from l.n l.initial.s) l.initial.s)
 

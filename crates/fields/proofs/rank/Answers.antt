@@ -1,7 +1,6 @@
 -- `fields::rank` meets its contract: the first four bytes go first. Assumes nothing.
 use native.Mathlib.Omega.{arith}
 use Rattle.fields.proofs.Ranks.{rank-add}
-use borrow.Author.Rules.{rules}
 use Rattle.fields.proofs.rank.Goals as goal
 
 pub returns : goal.returns

@@ -1,7 +1,6 @@
 -- `fields::rank_four` meets its contract: the first two bytes go below `high` first. Assumes nothing.
 use native.Mathlib.Omega.{arith}
 use Rattle.fields.proofs.Ranks.{rank-add}
-use borrow.Author.Rules.{rules}
 use Rattle.fields.proofs.rank_four.Goals as goal
 
 pub returns : goal.returns

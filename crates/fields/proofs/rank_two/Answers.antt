@@ -2,7 +2,6 @@
 use Prim.Native.Nat.{◌+◌}
 use native.Mathlib.Omega.{arith}
 use Rattle.fields.proofs.Ranks.{rank-add, rank-one}
-use borrow.Author.Rules.{rules}
 use Rattle.fields.proofs.rank_two.Goals as goal
 
 pub join-requires-2 : goal.join-requires-2

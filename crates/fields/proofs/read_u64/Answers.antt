@@ -1,7 +1,6 @@
 -- `fields::read_u64` meets its contract: the upper four bytes come first. Assumes nothing.
 use native.Mathlib.Omega.{arith}
 use Rattle.fields.proofs.Numbers.{nat-add}
-use borrow.Author.Rules.{rules}
 use Rattle.fields.proofs.read_u64.Goals as goal
 
 pub returns : goal.returns

@@ -1,5 +1,5 @@
 -- `fields::same` meets its contract: what was passed and what is left are the same where the wholes are. Assumes nothing.
-use Prim.Native.Nat.{ℕ, suc, ◌+◌, ◌-◌, ◌≤◌, ◌<◌}
+use Prim.Native.Nat.{ℕ, suc, ◌+◌, ◌<◌}
 use mathlib.Core.Path.{◌≡◌, refl, sym, ap, ap₂, ◌∙◌}
 use mathlib.Core.Bool.{Bool, ◌&&◌}
 use mathlib.Core.List.{List, []}
@@ -13,7 +13,6 @@ use Rattle.fields.specs.Order.{same_bytes}
 use Rattle.fields.proofs.Bits.{or-none, xor-none}
 use Rattle.fields.proofs.Choice.{and_assoc, and_last}
 use Rattle.fields.proofs.Ordered.{same_first, same_length}
-use borrow.Author.Rules.{rules}
 use Rattle.fields.proofs.same.Goals as goal
 
 -- one byte more of each is seen

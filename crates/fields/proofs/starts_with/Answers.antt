@@ -4,10 +4,8 @@ use native.Mathlib.Omega.{arith}
 use lib.ListN.{length}
 use lib.Seq.{length-take-le}
 use Rattle.fields.proofs.Ordered.{starts_is, starts-short}
-use borrow.Author.Rules.{rules}
 use Rattle.fields.proofs.starts_with.Goals as goal
 
--- `fields::starts_with` meets its contract: the first bytes of the second are the first. Assumes nothing.
 pub returns-then-s-n : goal.returns-then-s-n
 returns-then-s-n c =
     let a = c.args in

@@ -2,10 +2,8 @@
 use Prim.Native.Nat.{ℕ, ◌*◌, ◌<◌}
 use native.Mathlib.Omega.{arith}
 use native.Mathlib.Nat.{mul-le-mul_left, le_of_lt}
-use borrow.Author.Rules.{rules}
 use Rattle.fields.proofs.times.Goals as goal
 
--- `fields::times` meets its contract: the product of two numbers of 16 bits has 32. Assumes nothing.
 product : (n w : ℕ) → n < 65536 → w < 65536 → n * w < 4294967296
 product n w h g = omega (arith, mul-le-mul_left n (le_of_lt g))
 

@@ -2,7 +2,6 @@
 use mathlib.Core.Path.{sym}
 use Rattle.fields.specs.Numbers.{bytes_of}
 use Rattle.fields.proofs.Parts.{put_one}
-use borrow.Author.Rules.{rules}
 use Rattle.fields.proofs.write_byte.Goals as goal
 
 pub returns : goal.returns

@@ -7,10 +7,8 @@ use lib.ListN.{length, set, length-set}
 use Rattle.fields.specs.Numbers.{bytes_of}
 use Rattle.fields.specs.Parts.{put}
 use Rattle.fields.proofs.Parts.{put-cons, put_one}
-use borrow.Author.Rules.{rules}
 use Rattle.fields.proofs.write_two.Goals as goal
 
--- `fields::write_two` meets its contract: the lower byte stands first. Assumes nothing.
 stored : (l : List ℕ) (at v x h y : ℕ) → x ≡ v % 256 → h ≡ v / 256 → y ≡ h % 256 → at + 2 ≤ length l → set (set l at x) (at + 1) y ≡ put at (bytes_of 2 v) l
 unfolding bytes_of
 stored l at v x h y ex eh ey f =

@@ -6,7 +6,6 @@ use native.Mathlib.Omega.{arith}
 use Rattle.fields.specs.Numbers.{bytes_of}
 use Rattle.fields.specs.Parts.{put}
 use Rattle.fields.proofs.Numbers.{put-bytes}
-use borrow.Author.Rules.{rules}
 use Rattle.fields.proofs.write_u64.Goals as goal
 
 pub returns : goal.returns

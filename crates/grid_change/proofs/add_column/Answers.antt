@@ -9,10 +9,8 @@ use Rattle.grid.specs.GridLayout.{row_in, row_width, rows_in, rows_width}
 use Rattle.grid.proofs.GridBytes.{good-grid}
 use Rattle.grid.proofs.Places.{place-fits}
 use Rattle.grid_change.proofs.Storing.{add_none, add-one-more, few, many}
-use borrow.Author.Rules.{rules}
 use Rattle.grid_change.proofs.add_column.Goals as goal
 
--- `grid_change::add_column` meets its contract: the column is there, or it comes. Assumes nothing.
 pub byte_at-n-requires : goal.byte_at-n-requires
 byte_at-n-requires c =
     omega (arith, (good-grid c.args.grid.now c.requires).long)

@@ -7,10 +7,8 @@ use Rattle.fields.proofs.Lent.{seen}
 use Rattle.grid.specs.GridLayout.{row_in, row_width, rows_in, rows_width}
 use Rattle.grid.proofs.GridBytes.{good-grid}
 use Rattle.grid_change.proofs.Storing.{drop-none, drop-one, few}
-use borrow.Author.Rules.{rules}
 use Rattle.grid_change.proofs.drop_column.Goals as goal
 
--- `grid_change::drop_column` meets its contract: the column goes, or it is not there. Assumes nothing.
 pub byte_at-n-requires : goal.byte_at-n-requires
 byte_at-n-requires c =
     omega (arith, (good-grid c.args.grid.now c.requires).long)

@@ -15,10 +15,8 @@ use Rattle.table.proofs.Tables.{valid-long}
 use Rattle.grid.specs.Grid.{max_peers, new_grid, no_rows}
 use Rattle.grid.specs.GridLayout.{encode_grid}
 use Rattle.grid_check.proofs.Checked.{nodes-many}
-use borrow.Author.Rules.{rules}
 use Rattle.grid_change.proofs.make.Goals as goal
 
--- `grid_change::make` meets its contract. Assumes nothing.
 -- the values that were stored are those of a new grid
 new_is : (n : ℕ) (ns numbers b l : List ℕ) → n ≡ length ns → numbers ≡ fit max_nodes ns → b ≡ put 65 (zeros max_peers) l → 73 ≤ length l
     → encode_grid (record { count = n; numbers = numbers; present = part 65 max_peers b; gcs = no_rows; maxes = no_rows }) ≡ encode_grid (new_grid ns)

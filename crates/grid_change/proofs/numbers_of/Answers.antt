@@ -1,9 +1,9 @@
 -- `grid_change::numbers_of` meets its contract: the first places have the numbers, and the others 0. Assumes nothing.
-use Prim.Native.Nat.{ℕ, ◌-◌, ◌≤◌}
+use Prim.Native.Nat.{ℕ}
 use mathlib.Core.List.{List}
-use mathlib.Core.Path.{◌≡◌, ◌∙◌, ap, sym}
+use mathlib.Core.Path.{◌∙◌, ap, sym}
 use native.Mathlib.Omega.{arith}
-use lib.ListN.{length, take, set}
+use lib.ListN.{set}
 use lib.Seq.{take_all}
 use Rattle.fields.specs.Blocks.{fit, zeros}
 use Rattle.rules.specs.Sizes.{max_nodes}
@@ -12,7 +12,6 @@ use Rattle.rules.specs.Layout.{decode}
 use Rattle.table.proofs.Tables.{valid-few, valid-long}
 use Rattle.grid_check.proofs.Checked.{node-number, nodes-many}
 use Rattle.grid_change.proofs.Storing.{fill, fit_none}
-use borrow.Author.Rules.{rules}
 use Rattle.grid_change.proofs.numbers_of.Goals as goal
 
 pub byte_at-n-requires : goal.byte_at-n-requires

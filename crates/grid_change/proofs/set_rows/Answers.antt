@@ -9,10 +9,8 @@ use Rattle.grid.proofs.GridBytes.{good-grid}
 use lib.ListN.{length, length-set}
 use Rattle.grid.proofs.GridBytes.{length-grid}
 use Rattle.grid_change.proofs.Storing.{rows-set}
-use borrow.Author.Rules.{rules}
 use Rattle.grid_change.proofs.set_rows.Goals as goal
 
--- `grid_change::set_rows` meets its contract. Assumes nothing.
 pub byte_at-n-requires : goal.byte_at-n-requires
 byte_at-n-requires c =
     omega (arith, (good-grid c.args.grid.now c.requires.0).long, c.requires.1)

@@ -5,7 +5,6 @@ use Rattle.fields.proofs.Lent.{lent}
 use Rattle.grid.specs.GridLayout.{row_bytes, row_width, rows_bytes, rows_width}
 use Rattle.grid.proofs.GridBytes.{length-row, length-rows}
 use Rattle.grid_change.proofs.Storing.{stored}
-use borrow.Author.Rules.{rules}
 use Rattle.grid_change.proofs.store.Goals as goal
 
 pub returns : goal.returns

@@ -11,10 +11,8 @@ use Rattle.grid.specs.GridLayout.{decode_grid, encode_grid, row_in, row_width}
 use Rattle.grid.proofs.GridBytes.{good-grid}
 use Rattle.grid_change.specs.Stored.{with_rows}
 use Rattle.grid_change.proofs.Storing.{columns-are, few}
-use borrow.Author.Rules.{rules}
 use Rattle.grid_change.proofs.tell_row.Goals as goal
 
--- `grid_change::tell_row` meets its contract. Assumes nothing.
 pub byte_at-n-requires : goal.byte_at-n-requires
 byte_at-n-requires c =
     omega (arith, (good-grid c.args.grid.now c.requires.0).long, c.requires.1)

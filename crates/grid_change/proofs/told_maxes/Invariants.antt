@@ -1,22 +1,15 @@
+-- `grid_change::told_maxes` meets its contract: the first places are told, and the others are 0. Assumes nothing.
 use Prim.Native.Nat.{ℕ, ◌-◌, ◌≤◌}
 use mathlib.Core.List.{List, map}
-use mathlib.Core.Path.{◌≡◌, ◌∙◌, ap, sym}
-use native.Mathlib.Omega.{arith}
-use lib.ListN.{length, take, set, length-map}
-use lib.Seq.{get_or-take, length-take-le, take_all}
-use Rattle.fields.specs.Blocks.{fit, zeros}
+use mathlib.Core.Path.{◌≡◌}
+use lib.ListN.{length, take}
+use Rattle.fields.specs.Blocks.{fit}
 use Rattle.rules.specs.Sizes.{max_nodes}
 use Rattle.rules.specs.Compute.{told_of}
 use Rattle.rules.specs.Digest.{NodeDigest}
 use Rattle.digest_read.specs.Held.{entries_in}
-use Rattle.digest_read.specs.declared.Pair.{Pair}
-use Rattle.grid.specs.Grid.{row_told}
-use Rattle.grid_change.proofs.Storing.{fill, fit_none, map_at}
-use borrow.Author.Rules.{rules}
 use Rattle.grid_change.proofs.told_maxes.Given as goal
 
--- `grid_change::told_maxes` meets its contract: the first places are told, and the others are 0. Assumes nothing.
--- `grid_change::told_maxes` meets its contract: the first places are told, and the others are 0. Assumes nothing.
 -- what is told of the first n numbers
 abbrev pub told : (ds : List NodeDigest) (n : ℕ) (numbers : List ℕ) → List ℕ
 told ds n numbers = map (λ i. (told_of i ds).max) (take n numbers)

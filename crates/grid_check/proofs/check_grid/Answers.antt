@@ -13,7 +13,6 @@ use Rattle.grid.specs.Grid.{max_peers, rows_obey}
 use Rattle.grid.specs.GridLayout.{grid_width, rows_in, rows_width}
 use Rattle.grid.proofs.GridBytes.{valid-long}
 use Rattle.grid_check.proofs.Checked.{gcs-bad, head-bad, maxes-decide}
-use borrow.Author.Rules.{rules}
 use Rattle.grid_check.proofs.check_grid.Goals as goal
 
 -- the rows as they are lent and read

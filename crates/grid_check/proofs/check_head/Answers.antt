@@ -12,7 +12,6 @@ use Rattle.grid.specs.GridLayout.{row_in, row_width}
 use lib.Dec.{leb}
 use Rattle.fields.specs.Choice.{all}
 use Rattle.grid_check.proofs.Checked.{head-falls, head-flags, head-many, head_more}
-use borrow.Author.Rules.{rules}
 use Rattle.grid_check.proofs.check_head.Goals as goal
 
 pub returns-then-n-gt-NODES : goal.returns-then-n-gt-NODES

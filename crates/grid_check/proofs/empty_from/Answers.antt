@@ -1,10 +1,6 @@
 -- `grid_check::empty_from` meets its contract: the places from there on. Assumes nothing.
-use Prim.Native.Nat.{◌-◌}
-use mathlib.Core.Path.{◌≡◌, ◌∙◌, refl, sym}
+use mathlib.Core.Path.{◌∙◌, refl, sym}
 use native.Mathlib.Omega.{arith}
-use lib.ListN.{length, drop}
-use Rattle.fields.specs.Blocks.{all_zero}
-use Rattle.rules.specs.Sizes.{max_nodes}
 use Rattle.grid_check.proofs.Checked.{zero-end, zero-not, zero-on}
 use borrow.Author.Rules.{rules}
 use Rattle.grid_check.proofs.empty_from.Goals as goal

@@ -1,13 +1,10 @@
 -- `grid_check::flags_obey` meets its contract: the flags from there on. Assumes nothing.
-use Prim.Native.Nat.{◌-◌, ◌≤◌}
-use mathlib.Core.Path.{◌≡◌, ◌∙◌, refl, sym}
+use mathlib.Core.Path.{◌∙◌, refl, sym}
 use native.Mathlib.Omega.{arith}
 use lib.Dec.{leb}
-use lib.ListN.{length, drop, get_or}
-use Rattle.fields.specs.Choice.{all}
+use lib.ListN.{get_or}
 use borrow.Author.Tests.{le-leb, lt-leb}
 use Rattle.grid_check.proofs.Checked.{all_end, all-not, all-on}
-use borrow.Author.Rules.{rules}
 use Rattle.grid_check.proofs.flags_obey.Goals as goal
 
 pub loop-x-init : goal.loop-x-init

@@ -1,14 +1,12 @@
 -- `grid_check::numbers_rise` meets its contract: the numbers that are left rise where all do. Assumes nothing.
-use Prim.Native.Nat.{ℕ, ◌+◌, ◌-◌, ◌≤◌}
+use Prim.Native.Nat.{ℕ, ◌+◌}
 use mathlib.Core.Path.{◌≡◌, ◌∙◌, refl, sym}
 use native.Mathlib.Omega.{arith}
 use lib.Dec.{ltb}
-use lib.ListN.{length, take, drop, get_or}
+use lib.ListN.{length, take, get_or}
 use lib.Seq.{get_or-take, length-take-le}
 use borrow.Author.Tests.{lt-ltb, le-ltb}
 use Rattle.fields.proofs.Choice.{and_no, and_yes}
-use Rattle.rules.specs.Sizes.{max_nodes}
-use Rattle.rules.specs.Table.{rising}
 use Rattle.rules.proofs.Obeys.{rising-last, rising-turn}
 use borrow.Author.Rules.{rules}
 use Rattle.grid_check.proofs.numbers_rise.Goals as goal

@@ -1,11 +1,10 @@
 -- `grid_check::rows_obey` meets its contract: the rows from there on. Assumes nothing.
-use Prim.Native.Nat.{ℕ, ◌-◌, ◌≤◌}
-use mathlib.Core.Path.{◌≡◌, ◌∙◌, ap, refl, sym}
+use Prim.Native.Nat.{ℕ}
+use mathlib.Core.Path.{◌∙◌, ap, refl, sym}
 use native.Mathlib.Omega.{arith}
-use lib.ListN.{length, drop, get_or}
+use lib.ListN.{drop, get_or}
 use mathlib.Core.List.{[]}
 use Rattle.fields.specs.Blocks.{all_zero}
-use Rattle.grid.specs.Grid.{max_peers, rows_obey}
 use Rattle.grid_check.proofs.Checked.{rows_end, rows-not, rows_on}
 use borrow.Author.Rules.{rules}
 use Rattle.grid_check.proofs.rows_obey.Goals as goal

@@ -1,11 +1,7 @@
 -- `grid_check::somebody` meets its contract: who is left decides. Assumes nothing.
-use Prim.Native.Nat.{◌-◌, ◌≤◌}
-use mathlib.Core.Path.{◌≡◌, ◌∙◌, refl, sym}
+use mathlib.Core.Path.{◌∙◌, refl, sym}
 use native.Mathlib.Omega.{arith}
-use lib.ListN.{length, drop}
-use Rattle.rules.specs.Table.{among}
 use Rattle.table_read.proofs.Among.{among-here, among_none, among-on}
-use borrow.Author.Rules.{rules}
 use Rattle.grid_check.proofs.somebody.Goals as goal
 
 pub loop-x-init : goal.loop-x-init

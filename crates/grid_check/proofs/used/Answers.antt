@@ -4,7 +4,6 @@ use Rattle.fields.proofs.Choice.{pick-false, pick_true}
 use borrow.Author.Tests.{eq-eqb, ne_eqb}
 use Rattle.grid_check.proofs.used.Goals as goal
 
--- `grid_check::used` meets its contract. Assumes nothing.
 pub returns-then-flag-eq1 : goal.returns-then-flag-eq1
 returns-then-flag-eq1 c =
     let a = c.args in

@@ -10,7 +10,6 @@ use Rattle.table_read.specs.declared.Span.TheVariants.{Held}
 use Rattle.table_read.proofs.Held.{node_end, node-fits, node_seen, held-laid}
 use Rattle.heartbeat.specs.Beats.{node_beaten}
 use Rattle.heartbeat.proofs.Beating.{beat-held, beat-missing}
-use borrow.Author.Rules.{rules}
 use Rattle.heartbeat.proofs.beat_good.Goals as goal
 
 pub slice_bounds-beat_node-count : goal.slice_bounds-beat_node-count

@@ -1,6 +1,5 @@
 -- `heartbeat::beat_node` meets its contract. Assumes nothing.
 use Rattle.heartbeat.proofs.Beating.{beat-rose, beat-stayed}
-use borrow.Author.Rules.{rules}
 use Rattle.heartbeat.proofs.beat_node.Goals as goal
 
 pub returns-then-after : goal.returns-then-after

@@ -10,7 +10,6 @@ use Rattle.table_read.specs.declared.Span.TheVariants.{Held}
 use Rattle.table_read.proofs.Held.{node_end, node-fits, node_seen, held-laid}
 use Rattle.heartbeat.specs.Beats.{node_offered}
 use Rattle.heartbeat.proofs.Beating.{offered-held, offered-missing}
-use borrow.Author.Rules.{rules}
 use Rattle.heartbeat.proofs.offer_good.Goals as goal
 
 pub slice_bounds-offer_node-count : goal.slice_bounds-offer_node-count

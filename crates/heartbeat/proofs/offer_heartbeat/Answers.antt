@@ -6,7 +6,6 @@ use Rattle.rules.specs.declared.Offered.TheVariants.{Refused}
 use Rattle.rules.specs.declared.Refusal.TheVariants.{BadTable}
 use Rattle.rules.proofs.Unique.{tells}
 use Rattle.table_check.proofs.Entry.{area-good, area-within, area-long, bad-table, good-table}
-use borrow.Author.Rules.{rules}
 use Rattle.heartbeat.proofs.offer_heartbeat.Goals as goal
 
 pub slice_bounds-offer_good-end : goal.slice_bounds-offer_good-end

@@ -2,7 +2,6 @@
 use mathlib.Core.Path.{ap, sym, ◌∙◌}
 use Rattle.rules.specs.Local.{yes_no}
 use Rattle.heartbeat.proofs.Beating.{offer-stored, offer-told}
-use borrow.Author.Rules.{rules}
 use Rattle.heartbeat.proofs.offer_node.Goals as goal
 
 pub returns-then-after : goal.returns-then-after

@@ -1,6 +1,5 @@
 -- `heartbeat_header::kept` is the heartbeat that the rule stores. Assumes nothing.
 use mathlib.Core.Path.{ap}
-use borrow.Author.Rules.{rules}
 use Rattle.rules.specs.declared.Beat.{Beat}
 use Rattle.heartbeat_header.proofs.kept.Goals as goal
 

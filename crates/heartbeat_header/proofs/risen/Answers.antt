@@ -1,6 +1,5 @@
 -- `heartbeat_header::risen` is the risen heartbeat, and its sum does not wrap. Assumes nothing.
 use mathlib.Core.Path.{sym, ◌∙◌}
-use borrow.Author.Rules.{rules}
 use Rattle.heartbeat_header.proofs.Rising.{room, rises, stays}
 use Rattle.heartbeat_header.proofs.risen.Goals as goal
 

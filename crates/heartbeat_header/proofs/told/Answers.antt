@@ -1,6 +1,5 @@
 -- `heartbeat_header::told` is what the rule says of the offer. Assumes nothing.
 use mathlib.Core.Path.{ap}
-use borrow.Author.Rules.{rules}
 use Rattle.rules.specs.declared.Beat.{Beat}
 use Rattle.heartbeat_header.proofs.told.Goals as goal
 

@@ -2,7 +2,6 @@
 use mathlib.Core.Path.{ap}
 use Rattle.inspect.specs.declared.Count.TheVariants.{Are}
 use Rattle.inspect.proofs.Elements.{own-counted}
-use borrow.Author.Rules.{rules}
 use Rattle.inspect.proofs.count_in.Goals as goal
 
 pub returns : goal.returns

@@ -2,7 +2,6 @@
 use mathlib.Core.Path.{ap, sym, ◌∙◌}
 use Rattle.inspect.specs.Told.{count_told}
 use Rattle.table_read.proofs.Entry.{read-good, read-bad}
-use borrow.Author.Rules.{rules}
 use Rattle.inspect.proofs.front.Goals as goal
 
 pub front_known-requires : goal.front_known-requires

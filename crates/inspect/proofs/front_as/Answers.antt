@@ -2,7 +2,6 @@
 use Rattle.table_read.proofs.Reading.{lent-node-needs, node-says, no-node-says}
 use Rattle.own_rows.proofs.Tables.{lent-formed}
 use Rattle.inspect.specs.Look.{front_told}
-use borrow.Author.Rules.{rules}
 use Rattle.inspect.proofs.front_as.Goals as goal
 
 pub slice_bounds-front_in-count : goal.slice_bounds-front_in-count

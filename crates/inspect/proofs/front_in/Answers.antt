@@ -6,7 +6,6 @@ use Rattle.rules.specs.Layout.{rec_width}
 use Rattle.own_rows.specs.declared.Sight.{Sight}
 use Rattle.inspect.specs.declared.Count.TheVariants.{Are}
 use Rattle.inspect.proofs.Elements.{own-low}
-use borrow.Author.Rules.{rules}
 use Rattle.inspect.proofs.front_in.Goals as goal
 
 pub times-requires : goal.times-requires

@@ -3,7 +3,6 @@ use mathlib.Core.Path.{ap}
 use Rattle.inspect.specs.Told.{count_told}
 use Rattle.table_read.proofs.Entry.{read-good, read-bad}
 use Rattle.table_check.proofs.Entry.{area-good, area-long}
-use borrow.Author.Rules.{rules}
 use Rattle.inspect.proofs.node_count.Goals as goal
 
 pub slice_bounds-node_count_good-end : goal.slice_bounds-node_count_good-end

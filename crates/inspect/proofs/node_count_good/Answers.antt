@@ -5,7 +5,6 @@ use Rattle.table.proofs.Tables.{valid-long, length-decode}
 use Rattle.inspect.specs.declared.Count.TheVariants as count
 use Rattle.inspect.proofs.node_count_good.Goals as goal
 
--- `inspect::node_count_good` meets its contract. Assumes nothing.
 pub byte_at-requires : goal.byte_at-requires
 byte_at-requires c =
     omega (arith, valid-long c.args.table.now c.requires)

@@ -1,7 +1,6 @@
 -- `inspect::node_header_good` meets its contract: what the node's bytes say, or 2. Assumes nothing.
 use Rattle.inspect.specs.Look.{header_on}
 use Rattle.table_read.proofs.Reading.{lent-node-needs, node-says, no-node-says}
-use borrow.Author.Rules.{rules}
 use Rattle.inspect.proofs.node_header_good.Goals as goal
 
 pub slice_bounds-read_header-count : goal.slice_bounds-read_header-count

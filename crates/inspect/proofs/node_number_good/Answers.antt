@@ -13,7 +13,6 @@ use Rattle.inspect.specs.declared.NodeNumber.TheVariants as number
 use Rattle.inspect.proofs.Elements.{node-there, no-node-there}
 use Rattle.inspect.proofs.node_number_good.Goals as goal
 
--- `inspect::node_number_good` meets its contract. Assumes nothing.
 pub byte_at-n-requires : goal.byte_at-n-requires
 byte_at-n-requires c =
     omega (arith, valid-long c.args.table.now c.requires)

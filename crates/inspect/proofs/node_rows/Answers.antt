@@ -2,7 +2,6 @@
 use mathlib.Core.Path.{ap, sym, ◌∙◌}
 use Rattle.inspect.specs.Told.{rows_told}
 use Rattle.table_read.proofs.Entry.{read-good, read-bad}
-use borrow.Author.Rules.{rules}
 use Rattle.inspect.proofs.node_rows.Goals as goal
 
 pub node_rows_known-requires : goal.node_rows_known-requires

@@ -6,10 +6,8 @@ use Rattle.rules.specs.Layout.{rec_widths}
 use Rattle.rules.specs.declared.Record.{Record}
 use Rattle.table_read.proofs.Reading.{rec-fits, rec-read, lent-rec-needs}
 use Rattle.inspect.specs.declared.RecordRead.TheVariants as rec
-use borrow.Author.Rules.{rules}
 use Rattle.inspect.proofs.placed.Goals as goal
 
--- `inspect::placed` meets its contract: where the texts begin, and what the record's bytes say. Assumes nothing.
 pub record_of-requires : goal.record_of-requires
 record_of-requires c =
     search lent-rec-needs

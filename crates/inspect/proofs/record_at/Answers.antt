@@ -2,7 +2,6 @@
 use mathlib.Core.Path.{ap, sym, ◌∙◌}
 use Rattle.inspect.specs.Told.{record_read_told}
 use Rattle.table_read.proofs.Entry.{read-good, read-bad}
-use borrow.Author.Rules.{rules}
 use Rattle.inspect.proofs.record_at.Goals as goal
 
 pub record_at_known-requires : goal.record_at_known-requires

@@ -6,7 +6,6 @@ use Rattle.table_read.proofs.Reading.{lent-node-needs, node-stands, no-node-says
 use Rattle.own_rows.proofs.Tables.{lent-formed}
 use Rattle.inspect.specs.Look.{record_by_key_on_as}
 use Rattle.inspect.proofs.Keyed.{seen-reads, none-held}
-use borrow.Author.Rules.{rules}
 use Rattle.inspect.proofs.record_by_key_as.Goals as goal
 
 pub slice_bounds-record_keyed-count : goal.slice_bounds-record_keyed-count

@@ -10,7 +10,6 @@ use Rattle.table_check.proofs.Entry.{area-long}
 use Rattle.inspect.specs.Look.{record_by_key_as}
 use Rattle.inspect.proofs.record_by_key_known.Goals as goal
 
--- `inspect::record_by_key_known` meets its contract: the reading in the table's area, in its profile. Assumes nothing.
 pub profile_of-profile-requires : goal.profile_of-profile-requires
 profile_of-profile-requires c =
     whole_long c.args.table.now c.requires

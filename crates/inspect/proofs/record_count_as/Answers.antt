@@ -6,7 +6,6 @@ use Rattle.table_read.proofs.Reading.{lent-node-needs, node-says, no-node-says}
 use Rattle.own_rows.specs.Sight.{seen_held}
 use Rattle.own_rows.proofs.Tables.{lent-formed, node_seen}
 use Rattle.inspect.specs.Look.{records_on}
-use borrow.Author.Rules.{rules}
 use Rattle.inspect.proofs.record_count_as.Goals as goal
 
 pub slice_bounds-count_in-count : goal.slice_bounds-count_in-count

@@ -6,7 +6,6 @@ use Rattle.table.specs.Tests.{count_of}
 use Rattle.table.proofs.Places.{rec_at}
 use Rattle.inspect.specs.Look.{read_at, read_rec}
 use Rattle.inspect.proofs.Elements.{own-within, rec-there, no-rec-there}
-use borrow.Author.Rules.{rules}
 use Rattle.inspect.proofs.record_in.Goals as goal
 
 -- its place in the piece

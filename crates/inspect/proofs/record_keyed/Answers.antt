@@ -12,7 +12,6 @@ use Rattle.own_rows.specs.declared.Sight.{Sight}
 use Rattle.own_rows.proofs.Keys.{own_behind}
 use Rattle.inspect.specs.Look.{read_rec}
 use Rattle.inspect.proofs.Keyed.{long-first, other-first, named-reads, key-there, key-nowhere}
-use borrow.Author.Rules.{rules}
 use Rattle.inspect.proofs.record_keyed.Goals as goal
 
 pub returns-then-key-gt-KEY : goal.returns-then-key-gt-KEY

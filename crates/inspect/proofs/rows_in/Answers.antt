@@ -4,7 +4,6 @@ use mathlib.Core.Path.{ap}
 use Rattle.rules.specs.Layout.{rec_place}
 use Rattle.inspect.specs.declared.Rows.TheVariants.{Are}
 use Rattle.inspect.proofs.Elements.{own-counted}
-use borrow.Author.Rules.{rules}
 use Rattle.inspect.proofs.rows_in.Goals as goal
 
 pub returns : goal.returns

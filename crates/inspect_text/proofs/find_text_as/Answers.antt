@@ -7,7 +7,6 @@ use Rattle.table_read.proofs.Reading.{lent-node-needs, node-stands, no-node-stan
 use Rattle.own_rows.specs.Sight.{seen_held}
 use Rattle.own_rows.proofs.Tables.{lent-formed, seen-stands}
 use Rattle.inspect_text.specs.Texts.{text_on}
-use borrow.Author.Rules.{rules}
 use Rattle.inspect_text.proofs.find_text_as.Goals as goal
 
 pub slice_bounds-in_node-count : goal.slice_bounds-in_node-count

@@ -9,10 +9,8 @@ use Rattle.lookup.specs.Lookup.{start_of, len_of, Within, Hands, part_of, moved_
 use Rattle.lookup.specs.declared.Found.{Found}
 use Rattle.lookup.specs.declared.Found.TheVariants.{At, Nothing, Refused}
 use Rattle.lookup.proofs.Values.{refused-stands, same-hands}
-use borrow.Author.Rules.{rules}
 use Rattle.inspect_text.proofs.held_behind.Goals as goal
 
--- `inspect_text::held_behind` meets its contract: the part that was found, moved by the front. Assumes nothing.
 -- what was told is this
 moved : (l : List ℕ) (m : ℕ) (f g : Found) → f ≡ g → part_of l (moved_by m g) ≡ part_of l (moved_by m f)
 moved l m f g e = ap (λ (x : Found). part_of l (moved_by m x)) (sym e)

@@ -19,7 +19,6 @@ use Rattle.inspect.proofs.Elements.{own-within, rec-there, no-rec-there}
 use Rattle.inspect_text.specs.Texts.{text_of, text_place, place_on}
 use Rattle.inspect_text.specs.declared.Text.{Text}
 use Rattle.inspect_text.specs.declared.Text.TheVariants.{Key, Value}
-use borrow.Author.Rules.{rules}
 use Rattle.inspect_text.proofs.in_node.Goals as goal
 
 pub returns-then-sight-j : goal.returns-then-sight-j

@@ -6,7 +6,6 @@ use Rattle.table_read.proofs.Entry.{read-good, read-bad}
 use Rattle.lookup.specs.Lookup.{nothing_held}
 use Rattle.lookup.proofs.Values.{same-hands}
 use Rattle.inspect_text.specs.Texts.{text_part}
-use borrow.Author.Rules.{rules}
 use Rattle.inspect_text.proofs.text_at.Goals as goal
 
 pub text_known-requires : goal.text_known-requires

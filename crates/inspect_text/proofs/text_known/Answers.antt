@@ -7,7 +7,6 @@ use Rattle.lookup.specs.Lookup.{moved_by}
 use Rattle.lookup.proofs.Values.{found_within, hands-found}
 use Rattle.inspect_text.specs.Texts.{counted_or, text_found_as}
 use Rattle.inspect_text.proofs.There.{whole-text-stands, counted-front}
-use borrow.Author.Rules.{rules}
 use Rattle.inspect_text.proofs.text_known.Goals as goal
 
 pub held_behind-requires : goal.held_behind-requires

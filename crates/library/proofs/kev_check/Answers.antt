@@ -4,7 +4,6 @@ use Rattle.fields.proofs.Choice.{pick_true, pick-false}
 use Rattle.rules.specs.Answers.{number_of}
 use Rattle.rules.specs.Whole.{valid_whole}
 use Rattle.rules.specs.declared.Refusal.TheVariants.{BadTable}
-use borrow.Author.Rules.{rules}
 use Rattle.library.proofs.kev_check.Goals as goal
 
 pub returns-then-check_table : goal.returns-then-check_table

@@ -4,7 +4,6 @@ use Rattle.fields.proofs.Choice.{pick_true, pick-false}
 use Rattle.rules.specs.Answers.{number_of}
 use Rattle.rules.specs.declared.Refusal.TheVariants.{BadTable}
 use Rattle.overrides.specs.Overrides.{valid_node}
-use borrow.Author.Rules.{rules}
 use Rattle.library.proofs.kev_check_overrides.Goals as goal
 
 pub returns-then-check_overrides : goal.returns-then-check_overrides

@@ -1,7 +1,6 @@
 -- `library::kev_delete_after_ttl` meets its contract: the call by the number's party, and what its answer tells. Assumes nothing.
 use mathlib.Core.Path.{ap, ◌∙◌}
 use Rattle.answers.specs.Shown.{number_shown}
-use borrow.Author.Rules.{rules}
 use Rattle.library.proofs.kev_delete_after_ttl.Goals as goal
 
 pub returns : goal.returns

@@ -3,7 +3,6 @@ use mathlib.Core.Path.{ap, ◌∙◌}
 use Rattle.answers.specs.Shown.{entry_shown, entry_told}
 use Rattle.digest_read.specs.declared.Digest.{Digest}
 use Rattle.digest_read.proofs.Values.{same-digest}
-use borrow.Author.Rules.{rules}
 use Rattle.library.proofs.kev_digest_entry.Goals as goal
 
 pub returns : goal.returns

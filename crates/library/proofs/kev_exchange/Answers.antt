@@ -1,7 +1,6 @@
 -- `library::kev_exchange` meets its contract: the call, and what its answer tells. Assumes nothing.
 use mathlib.Core.Path.{ap, ◌∙◌}
 use Rattle.answers.specs.Shown.{exchanged_shown}
-use borrow.Author.Rules.{rules}
 use Rattle.library.proofs.kev_exchange.Goals as goal
 
 pub returns : goal.returns

@@ -1,7 +1,6 @@
 -- `library::kev_list_table` meets its contract: the call, and what its answer tells. Assumes nothing.
 use mathlib.Core.Path.{ap, ◌∙◌}
 use Rattle.answers.specs.Shown.{count_shown}
-use borrow.Author.Rules.{rules}
 use Rattle.library.proofs.kev_list_table.Goals as goal
 
 pub returns : goal.returns

@@ -3,7 +3,6 @@ use mathlib.Core.Path.{ap, ◌∙◌}
 use Rattle.delta_make.specs.declared.Made.{Made}
 use Rattle.listing_make.specs.Make.{made_told}
 use Rattle.answers.specs.Shown.{made_shown}
-use borrow.Author.Rules.{rules}
 use Rattle.library.proofs.kev_make_delta.Goals as goal
 
 pub returns : goal.returns

@@ -7,7 +7,6 @@ use Rattle.rules.specs.Given.{Given, Tells}
 use Rattle.rules.specs.declared.Answer.{Answer}
 use Rattle.answers.specs.Shown.{number_shown}
 use Rattle.library.proofs.Numbers.{no_mode, no-profile, made_in}
-use borrow.Author.Rules.{rules}
 use Rattle.library.proofs.kev_new_table.Goals as goal
 
 pub returns-then-byte-mode : goal.returns-then-byte-mode

@@ -1,7 +1,6 @@
 -- `library::kev_node_count` meets its contract: the call, and what its answer tells. Assumes nothing.
 use mathlib.Core.Path.{ap, ◌∙◌}
 use Rattle.answers.specs.Shown.{count_shown}
-use borrow.Author.Rules.{rules}
 use Rattle.library.proofs.kev_node_count.Goals as goal
 
 pub returns : goal.returns

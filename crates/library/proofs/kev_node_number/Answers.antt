@@ -1,7 +1,6 @@
 -- `library::kev_node_number` meets its contract: the call, and what its answer tells. Assumes nothing.
 use mathlib.Core.Path.{ap, ◌∙◌}
 use Rattle.answers.specs.Shown.{node_shown}
-use borrow.Author.Rules.{rules}
 use Rattle.library.proofs.kev_node_number.Goals as goal
 
 pub returns : goal.returns

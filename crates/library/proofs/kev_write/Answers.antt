@@ -7,7 +7,6 @@ use Rattle.rules.specs.Given.{Given, Tells}
 use Rattle.rules.specs.declared.Answer.{Answer}
 use Rattle.local.proofs.Asking.{number-lent}
 use Rattle.answers.specs.Shown.{number_shown}
-use borrow.Author.Rules.{rules}
 use Rattle.library.proofs.kev_write.Goals as goal
 
 pub returns : goal.returns

@@ -7,7 +7,6 @@ use Rattle.rules.specs.Given.{Given, Tells}
 use Rattle.rules.specs.declared.Answer.{Answer}
 use Rattle.answers.specs.Shown.{number_shown}
 use Rattle.library.proofs.Numbers.{number-override}
-use borrow.Author.Rules.{rules}
 use Rattle.library.proofs.kev_write_override.Goals as goal
 
 pub returns : goal.returns

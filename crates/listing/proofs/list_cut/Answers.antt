@@ -5,7 +5,6 @@ use native.Mathlib.Omega.{arith}
 use lib.ListN.{length}
 use Rattle.listing.specs.Shapes.{cut_text}
 use Rattle.listing.proofs.Lines.{cut-long, front-none, front-whole}
-use borrow.Author.Rules.{rules}
 use Rattle.listing.proofs.list_cut.Goals as goal
 
 pub returns-then-out-n : goal.returns-then-out-n

@@ -10,10 +10,8 @@ use Rattle.rules.proofs.Told.{same_read}
 use Rattle.rules.proofs.Unique.{tells}
 use Rattle.listing.specs.Shapes.{refused_text}
 use Rattle.listing.proofs.Lines.{listing-good, listing-refused}
-use borrow.Author.Rules.{rules}
 use Rattle.listing.proofs.list_delta.Goals as goal
 
--- `listing::list_delta` meets its contract: the listing by what reading has answered. Assumes nothing.
 as-listing : (text other out left : List ℕ) (r : Written) → text ≡ other → Gives (write_bytes other 0 out) r left → Gives (write_bytes text 0 out) r left
 as-listing text other out left r e h = rw e h
 

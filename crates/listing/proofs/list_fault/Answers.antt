@@ -5,7 +5,6 @@ use native.Mathlib.Omega.{arith}
 use lib.ListN.{length}
 use Rattle.listing.specs.Shapes.{fault_text}
 use Rattle.listing.proofs.Lines.{front-none, front-whole, fault-long}
-use borrow.Author.Rules.{rules}
 use Rattle.listing.proofs.list_fault.Goals as goal
 
 pub returns-then-out-n : goal.returns-then-out-n

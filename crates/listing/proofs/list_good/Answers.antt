@@ -10,7 +10,6 @@ use Rattle.listing_text.proofs.Texts.{fits-second, then}
 use Rattle.listing_ops.specs.Lines.{lines_from, two_numbers}
 use Rattle.listing.specs.Shapes.{good_text}
 use Rattle.listing.proofs.Lines.{front-none, front-whole, good-long}
-use borrow.Author.Rules.{rules}
 use Rattle.listing.proofs.list_good.Goals as goal
 
 pub returns-then-out-n : goal.returns-then-out-n

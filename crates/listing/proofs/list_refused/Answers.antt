@@ -7,10 +7,8 @@ use Rattle.rules.specs.Given.{Gives}
 use Rattle.rules.specs.Digest.{write_bytes}
 use Rattle.rules.specs.declared.Written.{Written}
 use Rattle.listing.specs.Shapes.{cut_text, fault_text, refused_text}
-use borrow.Author.Rules.{rules}
 use Rattle.listing.proofs.list_refused.Goals as goal
 
--- `listing::list_refused` meets its contract: by the number. Assumes nothing.
 module _ (code at need : ℕ) (out left : List ℕ) (r : Written) where
   of_cut : code ≡ 9 → Gives (write_bytes (cut_text code at need) 0 out) r left → Gives (write_bytes (refused_text code at need) 0 out) r left
   of_cut e h = rw (eq-eqb code 9 e) h

@@ -5,7 +5,6 @@ use Rattle.listing_text.specs.Texts.{numbered}
 use Rattle.listing_text.proofs.Texts.{fits-first, fits-second, then}
 use Rattle.listing_ops.specs.Lines.{two_numbers}
 use Rattle.listing.specs.Shapes.{cut_text}
-use borrow.Author.Rules.{rules}
 use Rattle.listing.proofs.put_cut.Goals as goal
 
 pub put_numbered-a-requires : goal.put_numbered-a-requires

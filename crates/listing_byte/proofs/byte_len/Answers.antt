@@ -3,11 +3,9 @@ use Prim.Native.Nat.{ℕ}
 use mathlib.Core.Path.{◌≡◌}
 use mathlib.Core.Bool.{Bool, true, false}
 use lib.ListN.{length}
-use borrow.Author.Rules.{rules}
 use Rattle.rules.specs.Listing.{plain, shown_byte}
 use Rattle.listing_byte.proofs.byte_len.Goals as goal
 
--- `listing_byte::byte_len` meets its contract. Assumes nothing.
 one : (b : ℕ) (r : Bool) → r ≡ plain b → r ≡ true → 1 ≡ length (shown_byte b)
 one b r e h = let p : plain b ≡ true = cc in rw p
 

@@ -1,12 +1,10 @@
 -- `listing_byte::hex_digit` meets its contract. Assumes nothing.
 use Prim.Native.Nat.{ℕ, ◌+◌, ◌≤◌, ◌<◌}
 use mathlib.Core.Path.{◌≡◌}
-use borrow.Author.Rules.{rules}
 use borrow.Author.Tests.{lt-ltb, le-ltb}
 use Rattle.rules.specs.Listing.{hex_digit}
 use Rattle.listing_byte.proofs.hex_digit.Goals as goal
 
--- `listing_byte::hex_digit` meets its contract. Assumes nothing.
 figure : (n : ℕ) → n < 10 → 48 + n ≡ hex_digit n
 unfolding hex_digit
 figure n h = rw (lt-ltb n 10 h)

@@ -6,7 +6,6 @@ use borrow.Author.Tests.{eq-eqb, le-leb, lt-leb, ne_eqb}
 use Rattle.rules.specs.Listing.{plain}
 use Rattle.listing_byte.proofs.is_plain.Goals as goal
 
--- `listing_byte::is_plain` meets its contract. Assumes nothing.
 module _ (b : ℕ) where
   low : b < 33 → false ≡ plain b
   unfolding plain

@@ -3,8 +3,6 @@ use Rattle.rules.specs.Delta.{NodeOp}
 use Rattle.listing_read.specs.Unlist.{closed}
 use Rattle.rules.specs.Listing.{ascii}
 use Rattle.listing_line.proofs.Goes.{no_word, word-no-number, word_number}
-use borrow.Author.Rules.{rules}
-use borrow.Author.Tests.{not-false, not-true}
 use Rattle.listing_line.proofs.after_gc.Goals as goal
 
 pub returns-then-not-starts_with : goal.returns-then-not-starts_with

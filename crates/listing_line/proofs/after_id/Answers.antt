@@ -2,8 +2,6 @@
 use Rattle.listing_read.specs.Unlist.{after_gc}
 use Rattle.rules.specs.Listing.{ascii}
 use Rattle.listing_line.proofs.Goes.{no_word, word-no-number, word_number}
-use borrow.Author.Rules.{rules}
-use borrow.Author.Tests.{not-false, not-true}
 use Rattle.listing_line.proofs.after_id.Goals as goal
 
 pub returns-then-not-starts_with : goal.returns-then-not-starts_with

@@ -10,8 +10,6 @@ use lib.Seq.{length-take-le}
 use Rattle.rules.specs.Listing.{ascii}
 use Rattle.rules.specs.Sizes.{max_value}
 use Rattle.listing_line.proofs.Goes.{no-text-word, text-few, word-no-text, word-text}
-use borrow.Author.Rules.{rules}
-use borrow.Author.Tests.{not-false, not-true}
 use Rattle.listing_line.proofs.after_key.Goals as goal
 
 short : (n : ℕ) (l : List ℕ) → n ≤ length l → n ≤ max_value → length (take n l) ≤ max_value

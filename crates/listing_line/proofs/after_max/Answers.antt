@@ -1,8 +1,6 @@
 -- `listing_line::after_max` meets its contract: the line ends here. Assumes nothing.
 use Rattle.rules.specs.Delta.{SetMaxVersionOp}
 use Rattle.listing_line.proofs.Goes.{ends, max-fits, no_end}
-use borrow.Author.Rules.{rules}
-use borrow.Author.Tests.{not-false, not-true}
 use Rattle.listing_line.proofs.after_max.Goals as goal
 
 pub returns-then-not-same : goal.returns-then-not-same

@@ -9,8 +9,6 @@ use lib.Seq.{length-take-le}
 use Rattle.rules.specs.Listing.{ascii}
 use Rattle.rules.specs.Sizes.{max_key}
 use Rattle.listing_line.proofs.Goes.{no-text-word, text-few, word-no-text, word-text}
-use borrow.Author.Rules.{rules}
-use borrow.Author.Tests.{not-false, not-true}
 use Rattle.listing_line.proofs.after_status.Goals as goal
 
 short : (n : ℕ) (l : List ℕ) → n ≤ length l → n ≤ max_key → length (take n l) ≤ max_key

@@ -3,8 +3,6 @@ use mathlib.Core.Path.{refl}
 use Rattle.rules.specs.Listing.{ascii}
 use Rattle.listing_read.specs.Unlist.{NoLine, after_status, status}
 use Rattle.listing_line.proofs.Goes.{goes_other, goes-word}
-use borrow.Author.Rules.{rules}
-use borrow.Author.Tests.{not-false, not-true}
 use Rattle.listing_line.proofs.after_version.Goals as goal
 
 pub returns-then-not-starts_with : goal.returns-then-not-starts_with

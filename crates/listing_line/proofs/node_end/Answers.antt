@@ -1,8 +1,6 @@
 -- `listing_line::node_end` meets its contract: the line ends here. Assumes nothing.
 use Rattle.rules.specs.Delta.{NodeOp}
 use Rattle.listing_line.proofs.Goes.{ends, node-fits, no_end}
-use borrow.Author.Rules.{rules}
-use borrow.Author.Tests.{not-false, not-true}
 use Rattle.listing_line.proofs.node_end.Goals as goal
 
 pub returns-then-not-same : goal.returns-then-not-same

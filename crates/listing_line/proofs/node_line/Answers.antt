@@ -1,7 +1,6 @@
 -- `listing_line::node_line` meets its contract: a number, and what stands behind it. Assumes nothing.
 use Rattle.listing_read.specs.Unlist.{after_id}
 use Rattle.listing_line.proofs.Goes.{goes_number, no_number}
-use borrow.Author.Rules.{rules}
 use Rattle.listing_line.proofs.node_line.Goals as goal
 
 pub returns-in-Not : goal.returns-in-Not

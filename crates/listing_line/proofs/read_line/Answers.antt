@@ -3,7 +3,6 @@ use mathlib.Core.Path.{refl}
 use Rattle.rules.specs.Listing.{ascii}
 use Rattle.listing_read.specs.Unlist.{NoLine, after_id, after_max, after_version, number_form, printed, read_line, word}
 use Rattle.listing_line.proofs.Goes.{goes_other, goes-word}
-use borrow.Author.Rules.{rules}
 use Rattle.listing_line.proofs.read_line.Goals as goal
 
 pub returns-then-starts_with : goal.returns-then-starts_with

@@ -4,7 +4,6 @@ use Rattle.rules.specs.Listing.{status_text}
 use Rattle.rules.specs.declared.Status.TheVariants.{Set, Delete, Ttl}
 use Rattle.listing_read.specs.Unlist.{NoLine, after_status, word}
 use Rattle.listing_line.proofs.Goes.{goes_other, goes-word}
-use borrow.Author.Rules.{rules}
 use Rattle.listing_line.proofs.read_status.Goals as goal
 
 pub returns-then-starts_with : goal.returns-then-starts_with

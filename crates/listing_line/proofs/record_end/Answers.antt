@@ -1,8 +1,6 @@
 -- `listing_line::record_end` meets its contract: the line ends here. Assumes nothing.
 use Rattle.delta_write.specs.Written.{key_value}
 use Rattle.listing_line.proofs.Goes.{ends, record-fits, no_end}
-use borrow.Author.Rules.{rules}
-use borrow.Author.Tests.{not-false, not-true}
 use Rattle.listing_line.proofs.record_end.Goals as goal
 
 pub returns-then-not-same : goal.returns-then-not-same

@@ -7,7 +7,6 @@ use Rattle.rules.specs.Sizes.{numbers}
 use Rattle.listing_read.specs.Unlist.{unlist}
 use Rattle.delta_make.specs.Making.{Outcome}
 use Rattle.listing_make.proofs.Placing.{made_bytes, made_fault, made-line, made-within, outcome}
-use borrow.Author.Rules.{rules}
 use Rattle.listing_make.proofs.make_delta.Goals as goal
 
 pub place-requires : goal.place-requires

@@ -3,10 +3,8 @@ use mathlib.Core.Path.{sym}
 use native.Mathlib.Omega.{arith}
 use lib.Seq.{length-take-le}
 use Rattle.listing_make.proofs.Placing.{no_room, room}
-use borrow.Author.Rules.{rules}
 use Rattle.listing_make.proofs.place.Goals as goal
 
--- `listing_make::place` meets its contract: where the delta has room, and where not. Assumes nothing.
 pub returns-then-out-n : goal.returns-then-out-n
 returns-then-out-n c =
     no_room c.args.n c.args.delta.now c.args.out.now c.requires c.if-out-n.true

@@ -12,10 +12,8 @@ use Rattle.delta_op.specs.declared.Op.{Op}
 use Rattle.delta_op.specs.declared.Op.TheVariants.{Node, SetMaxVersion}
 use Rattle.delta_op.specs.Places.{op_of}
 use Rattle.listing_ops.proofs.Lines.{inside, max-long, node-long, record-line}
-use borrow.Author.Rules.{rules}
 use Rattle.listing_ops.proofs.line_len.Goals as goal
 
--- `listing_ops::line_len` meets its contract: by the kind of operation. Assumes nothing.
 at-node : (l : List ℕ) (o : Op) (n g f a b d : ℕ) → o ≡ Node n g f → a ≡ length (decimal n) → b ≡ length (decimal g) → d ≡ length (decimal f)
     → 22 + a + b + d ≡ length (op_line (op_of l o))
 at-node l o n g f a b d e p q r = rw e (omega (arith, node-long n g f))

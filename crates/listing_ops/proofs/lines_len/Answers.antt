@@ -1,5 +1,5 @@
 -- `listing_ops::lines_len` meets its contract: what is counted and the length of the lines left are the whole's. Assumes nothing.
-use Prim.Native.Nat.{ℕ, ◌+◌, ◌-◌, ◌*◌, ◌≤◌, ◌<◌}
+use Prim.Native.Nat.{ℕ, ◌+◌, ◌*◌, ◌≤◌, ◌<◌}
 use mathlib.Core.Path.{◌≡◌, ap, sym, ◌∙◌}
 use mathlib.Core.List.{List, []}
 use native.Mathlib.Omega.{arith}
@@ -12,10 +12,8 @@ use Rattle.rules.specs.Sizes.{max_delta}
 use Rattle.rules.specs.Listing.{op_line}
 use Rattle.listing_ops.specs.Lines.{lines_from}
 use Rattle.listing_ops.proofs.Lines.{line-short, lines_end, lines-bad, lines_next, within}
-use borrow.Author.Rules.{rules}
 use Rattle.listing_ops.proofs.lines_len.Goals as goal
 
--- `listing_ops::lines_len` meets its contract: what is counted and the length of the lines left are the whole's. Assumes nothing.
 -- one turn
 turn : (l : List ℕ) (at : ℕ) (o : Op) (next n k : ℕ) → op_at l at ≡ Got o next → at < length l → n ≤ 5 * at → k ≡ length (op_line (op_of l o))
     → (next ≤ length l) × (n + k ≤ 5 * next) × (length (lines_from l at) ≡ k + length (lines_from l next))

@@ -2,7 +2,6 @@
 use Rattle.fields.specs.Numbers.{Bytes}
 use Rattle.listing_ops.specs.Lines.{texts_text, version_text}
 use Rattle.listing_text.proofs.Texts.{fits-first, fits-second, then}
-use borrow.Author.Rules.{rules}
 use Rattle.listing_ops.proofs.put_key_value.Goals as goal
 
 pub put_version-a-requires : goal.put_version-a-requires

@@ -14,10 +14,8 @@ use Rattle.listing_text.specs.Texts.{TextFits}
 use Rattle.listing_text.proofs.Texts.{Put}
 use Rattle.listing_ops.specs.Lines.{record_line}
 use Rattle.listing_ops.proofs.Lines.{inside, record-line}
-use borrow.Author.Rules.{rules}
 use Rattle.listing_ops.proofs.put_line.Goals as goal
 
--- `listing_ops::put_line` meets its contract: by the kind of operation. Assumes nothing.
 -- a record's line has room, and was put
 module _ (l : List ℕ) where
   record-room : (out : List ℕ) (at k n v m ver : ℕ) (st : Status) (o : Op) (key value : List ℕ) → o ≡ KeyValue k n v m ver st → key ≡ part k n l

@@ -1,5 +1,5 @@
 -- `listing_ops::put_lines` meets its contract: the lines that are left, put now, give what the contract says. Assumes nothing.
-use Prim.Native.Nat.{ℕ, ◌+◌, ◌-◌, ◌≤◌, ◌<◌}
+use Prim.Native.Nat.{ℕ, ◌+◌, ◌≤◌, ◌<◌}
 use mathlib.Core.Path.{◌≡◌, refl, ap, sym, ◌∙◌, subst}
 use mathlib.Core.List.{List, [], ◌++◌}
 use native.Mathlib.Omega.{arith}
@@ -15,10 +15,8 @@ use Rattle.listing_text.specs.Texts.{TextFits}
 use Rattle.listing_text.proofs.Texts.{Put, fits-first, put-long}
 use Rattle.listing_ops.specs.Lines.{lines_from}
 use Rattle.listing_ops.proofs.Lines.{lines_end, lines-bad, lines_next, within}
-use borrow.Author.Rules.{rules}
 use Rattle.listing_ops.proofs.put_lines.Goals as goal
 
--- `listing_ops::put_lines` meets its contract: the lines that are left, put now, give what the contract says. Assumes nothing.
 -- one turn: room for the line and those behind it, and what the operation is
 module _ (l out : List ℕ) (n at : ℕ) (o : Op) (next : ℕ) (e : op_at l at ≡ Got o next) (h : at < length l) (fits : TextFits n (lines_from l at) out) where
   turn : (TextFits n (op_line (op_of l o) ++ lines_from l next) out) × (Within (length l) at (Got o next))

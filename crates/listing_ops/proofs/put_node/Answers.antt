@@ -4,7 +4,6 @@ use Rattle.rules.specs.Listing.{ascii, op_line}
 use Rattle.listing_text.specs.Texts.{numbered}
 use Rattle.listing_text.proofs.Texts.{fits-first, fits-second, then}
 use Rattle.listing_ops.specs.Lines.{two_numbers}
-use borrow.Author.Rules.{rules}
 use Rattle.listing_ops.proofs.put_node.Goals as goal
 
 pub put_numbered-a-requires : goal.put_numbered-a-requires

@@ -3,7 +3,6 @@ use Rattle.fields.specs.Numbers.{Bytes}
 use Rattle.rules.specs.Listing.{ascii, line_feed, op_line}
 use Rattle.listing_text.specs.Texts.{numbered}
 use Rattle.listing_text.proofs.Texts.{fits-first, fits-second, then}
-use borrow.Author.Rules.{rules}
 use Rattle.listing_ops.proofs.put_set_max_version.Goals as goal
 
 pub put_numbered-a-requires : goal.put_numbered-a-requires

@@ -4,7 +4,6 @@ use Rattle.fields.specs.Numbers.{Bytes}
 use Rattle.rules.specs.Listing.{ascii, line_feed}
 use Rattle.listing_text.specs.Texts.{named}
 use Rattle.listing_text.proofs.Texts.{fits-first, fits-three, fits-two, three}
-use borrow.Author.Rules.{rules}
 use Rattle.listing_ops.proofs.put_texts.Goals as goal
 
 pub put_named-a-requires : goal.put_named-a-requires

@@ -4,7 +4,6 @@ use Rattle.fields.specs.Numbers.{Bytes}
 use Rattle.rules.specs.Listing.{ascii, status_text}
 use Rattle.listing_text.specs.Texts.{numbered}
 use Rattle.listing_text.proofs.Texts.{fits-first, fits-three, fits-two, three}
-use borrow.Author.Rules.{rules}
 use Rattle.listing_ops.proofs.put_version.Goals as goal
 
 pub put_numbered-a-requires : goal.put_numbered-a-requires

@@ -10,10 +10,8 @@ use Rattle.rules.specs.Listing.{decimal, shown_bytes, status_text}
 use Rattle.listing_text.proofs.Texts.{shown-long}
 use Rattle.listing_ops.specs.Lines.{record_line}
 use Rattle.listing_ops.proofs.Lines.{record-long, status-long}
-use borrow.Author.Rules.{rules}
 use Rattle.listing_ops.proofs.record_len.Goals as goal
 
--- `listing_ops::record_len` meets its contract. Assumes nothing.
 few : (l : List ℕ) (r : ℕ) → length l ≤ max_value → r ≡ length (shown_bytes l) → r ≤ 3 * max_value
 few l r h e = omega (arith, shown-long l)
 

@@ -2,7 +2,6 @@
 use Rattle.fields.specs.Numbers.{Bytes}
 use Rattle.rules.specs.Listing.{line_feed}
 use Rattle.listing_text.specs.Texts.{numbered}
-use borrow.Author.Rules.{rules}
 use Rattle.listing_room.proofs.Room.{ends-first, ends-second, then}
 use Rattle.listing_room.proofs.put_last.Goals as goal
 

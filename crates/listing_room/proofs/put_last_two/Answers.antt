@@ -2,7 +2,6 @@
 use Rattle.fields.specs.Numbers.{Bytes}
 use Rattle.listing_text.specs.Texts.{numbered}
 use Rattle.listing_room.specs.Room.{last_number}
-use borrow.Author.Rules.{rules}
 use Rattle.listing_room.proofs.Room.{ends-first, ends-second, then}
 use Rattle.listing_room.proofs.put_last_two.Goals as goal
 

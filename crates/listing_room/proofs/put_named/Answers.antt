@@ -11,11 +11,9 @@ use Rattle.rules.specs.Sizes.{max_value}
 use Rattle.listing_text.specs.Texts.{put_text}
 use Rattle.listing_text.proofs.Texts.{shown-long}
 use Rattle.listing_room.specs.Room.{Ends}
-use borrow.Author.Rules.{rules}
 use Rattle.listing_room.proofs.Room.{Put, ends-first, ends-second, front_read, then}
 use Rattle.listing_room.proofs.put_named.Goals as goal
 
--- `listing_room::put_named` meets its contract: the bytes as they are shown behind the name. Assumes nothing.
 -- room for the bytes as they are shown
 abbrev room : List ℕ
 room = replicate 192 0

@@ -10,11 +10,9 @@ use Rattle.rules.specs.Listing.{decimal}
 use Rattle.listing_text.specs.Texts.{put_text}
 use Rattle.listing_text.proofs.Texts.{decimal-long}
 use Rattle.listing_room.specs.Room.{Ends}
-use borrow.Author.Rules.{rules}
 use Rattle.listing_room.proofs.Room.{Put, ends-first, ends-second, front_read, then}
 use Rattle.listing_room.proofs.put_numbered.Goals as goal
 
--- `listing_room::put_numbered` meets its contract: the digits behind the name. Assumes nothing.
 -- room for the digits
 abbrev room : List ℕ
 room = replicate 20 0

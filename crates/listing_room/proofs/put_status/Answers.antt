@@ -3,7 +3,6 @@ use mathlib.Core.Path.{sym, subst}
 use Rattle.rules.specs.declared.Status.{Status}
 use Rattle.listing_room.specs.Room.{Ends, status_word}
 use Rattle.listing_room.proofs.Room.{Put}
-use borrow.Author.Rules.{rules}
 use Rattle.listing_room.proofs.put_status.Goals as goal
 
 pub put_text-requires : goal.put_text-requires

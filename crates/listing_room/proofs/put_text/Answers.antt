@@ -5,11 +5,9 @@ use mathlib.Core.List.{List}
 use native.Mathlib.Omega.{arith}
 use lib.ListN.{length, take}
 use lib.Seq.{length-take-le}
-use borrow.Author.Rules.{rules}
 use Rattle.listing_room.proofs.Room.{all_room, no_room}
 use Rattle.listing_room.proofs.put_text.Goals as goal
 
--- `listing_room::put_text` meets its contract: by where the room ends. Assumes nothing.
 -- the front of the text lies in the buffer
 front_fits : (at room : ℕ) (text l : List ℕ) → at < length l → room ≤ length l - at → room < length text → at + length (take room text) ≤ length l
 front_fits at room text l h g f = omega (arith, length-take-le room text (omega arith))

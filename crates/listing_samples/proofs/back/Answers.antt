@@ -7,7 +7,6 @@ use lib.ListN.{length, replicate, length-replicate}
 use Rattle.rules.proofs.Told.{same-written}
 use Rattle.listing.specs.Shapes.{longest_listing}
 use Rattle.listing.proofs.Lines.{front_fits}
-use borrow.Author.Rules.{rules}
 use Rattle.listing_samples.proofs.back.Goals as goal
 
 -- the buffer

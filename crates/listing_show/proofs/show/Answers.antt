@@ -1,7 +1,7 @@
 -- `listing_show::show` meets its contract: the listing always has room in the buffer, so that a refusal for want of room never comes, and it stands at the
 -- front of it. Assumes nothing.
 use Prim.Native.Nat.{ℕ, ◌≤◌}
-use mathlib.Core.Path.{◌≡◌, refl, ap, sym, ◌∙◌}
+use mathlib.Core.Path.{◌≡◌, ap, sym, ◌∙◌}
 use mathlib.Core.List.{List}
 use native.Mathlib.Omega.{arith}
 use native.Mathlib.Nat.{le_of_eq}
@@ -14,7 +14,6 @@ use Rattle.rules.specs.declared.Written.TheVariants.{Bytes}
 use Rattle.rules.proofs.Told.{same-written}
 use Rattle.listing.specs.Shapes.{longest_listing}
 use Rattle.listing.proofs.Lines.{front_fits, front-within}
-use borrow.Author.Rules.{rules}
 use Rattle.listing_show.proofs.Shown.{shown-front}
 use Rattle.listing_show.proofs.show.Goals as goal
 

@@ -5,10 +5,8 @@ use native.Mathlib.Omega.{arith}
 use lib.ListN.{length, length-append}
 use Rattle.rules.specs.Listing.{decimal}
 use Rattle.listing_text.proofs.Texts.{decimal-one, decimal-more, decimal-long}
-use borrow.Author.Rules.{rules}
 use Rattle.listing_text.proofs.decimal_len.Goals as goal
 
--- `listing_text::decimal_len` meets its contract: the digits counted and those of what is left are one more than the whole's. Assumes nothing.
 -- one turn, and the last
 turn : (left n k : ℕ) → 10 ≤ left → left < 2 ^ 64 → n + length (decimal left) ≡ k → n + 1 + length (decimal (left / 10)) ≡ k
 turn left n k h g e =

@@ -1,10 +1,7 @@
-use Prim.Native.Nat.{ℕ, ◌+◌, ◌/◌, ◌^◌, ◌≤◌, ◌<◌}
-use mathlib.Core.Path.{◌≡◌, ap, ◌∙◌}
-use native.Mathlib.Omega.{arith}
-use lib.ListN.{length, length-append}
+use Prim.Native.Nat.{◌+◌, ◌≤◌}
+use mathlib.Core.Path.{◌≡◌}
+use lib.ListN.{length}
 use Rattle.rules.specs.Listing.{decimal}
-use Rattle.listing_text.proofs.Texts.{decimal-one, decimal-more, decimal-long}
-use borrow.Author.Rules.{rules}
 use Rattle.listing_text.proofs.decimal_len.Given as goal
 
 abbrev pub invariant-loop-left : goal.invariant-loop-left

@@ -3,10 +3,8 @@ use Prim.Native.Nat.{ℕ, ◌+◌, ◌*◌, ◌-◌, ◌/◌, ◌%◌, ◌≤◌
 use mathlib.Core.Path.{◌≡◌, ap, ◌∙◌}
 use native.Mathlib.Omega.{arith}
 use native.Mathlib.Nat.{add-mul-mod_self_right, div-add-mod, mod-eq_of_lt}
-use borrow.Author.Rules.{rules}
 use Rattle.listing_text.proofs.last_digit.Goals as goal
 
--- `listing_text::last_digit` meets its contract: what a number is above ten times its tenth is below 16, so its four lowest bits tell it. Assumes nothing.
 -- the difference of the bits is the digit and some sixteens
 difference : (v tenth digit s a k b u c : ℕ) → 10 * tenth + digit ≡ v → 16 * s + a ≡ v → 16 * k + b ≡ tenth → 16 * u + c ≡ b * 10 → digit < 10 → c < 16
     → a + 16 - c ≡ digit + (1 + u + k * 10 - s) * 16

@@ -6,10 +6,8 @@ use mathlib.Core.List.{List, [], ◌∷◌}
 use Rattle.rules.specs.Listing.{hex_digit, plain, shown_byte}
 use Rattle.listing_text.specs.Texts.{TextFits}
 use Rattle.listing_text.proofs.Texts.{Put}
-use borrow.Author.Rules.{rules}
 use Rattle.listing_text.proofs.put_byte.Goals as goal
 
--- `listing_text::put_byte` meets its contract: one byte or three. Assumes nothing.
 module _ (b : ℕ) (r : Bool) (e : r ≡ plain b) where
   itself : r ≡ true → b ∷ [] ≡ shown_byte b
   itself h = let p : plain b ≡ true = cc in rw p

@@ -8,10 +8,8 @@ use Rattle.fields.specs.Parts.{put}
 use Rattle.fields.proofs.Parts.{put-snoc, put_one}
 use Rattle.rules.specs.Listing.{decimal}
 use Rattle.listing_text.proofs.Texts.{Put, decimal-one, decimal-more, decimal-some}
-use borrow.Author.Rules.{rules}
 use Rattle.listing_text.proofs.put_decimal.Goals as goal
 
--- `listing_text::put_decimal` meets its contract: the digits of what is left, put now, give what the contract says. Assumes nothing.
 -- one digit, from the last one back
 module _ (at left i : ℕ) (h : 10 ≤ left) (g : left < 2 ^ 64) (e : i + 1 ≡ at + length (decimal left)) where
   before : i ≡ at + length (decimal (left / 10))

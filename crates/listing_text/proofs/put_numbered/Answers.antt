@@ -1,10 +1,8 @@
 -- `listing_text::put_numbered` meets its contract: the number behind the name. Assumes nothing.
 use Rattle.rules.specs.Listing.{decimal}
 use Rattle.listing_text.proofs.Texts.{then, fits-first, fits-second}
-use borrow.Author.Rules.{rules}
 use Rattle.listing_text.proofs.put_numbered.Goals as goal
 
--- `listing_text::put_numbered` meets its contract: the number behind the name. Assumes nothing.
 pub put_text-next-requires : goal.put_text-next-requires
 put_text-next-requires c =
     let a = c.args in

@@ -1,5 +1,5 @@
 -- `listing_text::put_shown` meets its contract: what is left of the text, put now as it is shown, gives what the contract says. Assumes nothing.
-use Prim.Native.Nat.{ℕ, ◌+◌, ◌-◌, ◌≤◌, ◌<◌}
+use Prim.Native.Nat.{ℕ, ◌+◌, ◌≤◌, ◌<◌}
 use mathlib.Core.Path.{◌≡◌, refl, ap, sym, ◌∙◌}
 use mathlib.Core.List.{List, []}
 use native.Mathlib.Omega.{arith}
@@ -9,10 +9,8 @@ use Rattle.fields.proofs.Parts.{put-behind, put-nil}
 use Rattle.rules.specs.Listing.{shown_byte, shown_bytes}
 use Rattle.listing_text.specs.Texts.{TextFits}
 use Rattle.listing_text.proofs.Texts.{Put, put-long, shown-next}
-use borrow.Author.Rules.{rules}
 use Rattle.listing_text.proofs.put_shown.Goals as goal
 
--- `listing_text::put_shown` meets its contract: what is left of the text, put now as it is shown, gives what the contract says. Assumes nothing.
 -- one turn: room for the byte, and what is left then
 module _ (l out : List ℕ) (n i all : ℕ) (h : i < length l) (e : n + length (shown_bytes (drop i l)) ≡ all) (fits : all ≤ length out) where
   abbrev shown : List ℕ

@@ -1,14 +1,8 @@
-use Prim.Native.Nat.{ℕ, ◌+◌, ◌-◌, ◌≤◌, ◌<◌}
-use mathlib.Core.Path.{◌≡◌, refl, ap, sym, ◌∙◌}
-use mathlib.Core.List.{List, []}
-use native.Mathlib.Omega.{arith}
-use lib.ListN.{length, get_or, drop, length-append, drop_of_length-le}
+use Prim.Native.Nat.{◌+◌, ◌-◌}
+use mathlib.Core.Path.{◌≡◌}
+use lib.ListN.{length, drop}
 use Rattle.fields.specs.Parts.{put}
-use Rattle.fields.proofs.Parts.{put-behind, put-nil}
-use Rattle.rules.specs.Listing.{shown_byte, shown_bytes}
-use Rattle.listing_text.specs.Texts.{TextFits}
-use Rattle.listing_text.proofs.Texts.{Put, put-long, shown-next}
-use borrow.Author.Rules.{rules}
+use Rattle.rules.specs.Listing.{shown_bytes}
 use Rattle.listing_text.proofs.put_shown.Given as goal
 
 abbrev pub invariant-loop-i : goal.invariant-loop-i

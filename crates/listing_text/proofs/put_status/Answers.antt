@@ -4,7 +4,6 @@ use Rattle.rules.specs.declared.Status.{Status}
 use Rattle.rules.specs.Listing.{status_text}
 use Rattle.listing_text.specs.Texts.{TextFits}
 use Rattle.listing_text.proofs.Texts.{Put}
-use borrow.Author.Rules.{rules}
 use Rattle.listing_text.proofs.put_status.Goals as goal
 
 pub put_text-requires : goal.put_text-requires

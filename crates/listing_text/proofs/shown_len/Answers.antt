@@ -1,15 +1,13 @@
 -- `listing_text::shown_len` meets its contract: what is counted and the length of what is left are the whole's. Assumes nothing.
-use Prim.Native.Nat.{ℕ, ◌+◌, ◌-◌, ◌≤◌, ◌<◌}
+use Prim.Native.Nat.{ℕ, ◌+◌, ◌≤◌, ◌<◌}
 use mathlib.Core.Path.{◌≡◌, ap}
 use mathlib.Core.List.{List}
 use native.Mathlib.Omega.{arith}
 use lib.ListN.{length, get_or, drop, length-append, drop_of_length-le}
 use Rattle.rules.specs.Listing.{shown_byte, shown_bytes}
 use Rattle.listing_text.proofs.Texts.{shown-long, shown-next}
-use borrow.Author.Rules.{rules}
 use Rattle.listing_text.proofs.shown_len.Goals as goal
 
--- `listing_text::shown_len` meets its contract: what is counted and the length of what is left are the whole's. Assumes nothing.
 turn : (l : List ℕ) (i n k : ℕ) → i < length l → k ≡ length (shown_byte (get_or l i 0)) → n + length (shown_bytes (drop i l)) ≡ length (shown_bytes l)
     → n + k + length (shown_bytes (drop (i + 1) l)) ≡ length (shown_bytes l)
 turn l i n k h q e = omega (arith, ap length (shown-next l i h), length-append (shown_byte (get_or l i 0)) (shown_bytes (drop (i + 1) l)))

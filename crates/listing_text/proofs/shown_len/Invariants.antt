@@ -1,11 +1,7 @@
-use Prim.Native.Nat.{ℕ, ◌+◌, ◌-◌, ◌≤◌, ◌<◌}
-use mathlib.Core.Path.{◌≡◌, ap}
-use mathlib.Core.List.{List}
-use native.Mathlib.Omega.{arith}
-use lib.ListN.{length, get_or, drop, length-append, drop_of_length-le}
-use Rattle.rules.specs.Listing.{shown_byte, shown_bytes}
-use Rattle.listing_text.proofs.Texts.{shown-long, shown-next}
-use borrow.Author.Rules.{rules}
+use Prim.Native.Nat.{◌+◌, ◌-◌}
+use mathlib.Core.Path.{◌≡◌}
+use lib.ListN.{length, drop}
+use Rattle.rules.specs.Listing.{shown_bytes}
 use Rattle.listing_text.proofs.shown_len.Given as goal
 
 abbrev pub invariant-loop-i : goal.invariant-loop-i

@@ -1,11 +1,8 @@
 -- `listing_words::graphic_len` meets its contract: the bytes counted and those that are left are the whole. Assumes nothing.
-use Prim.Native.Nat.{◌+◌, ◌-◌, ◌≤◌}
-use mathlib.Core.Path.{◌≡◌, ap}
+use mathlib.Core.Path.{ap}
 use native.Mathlib.Omega.{arith}
-use lib.ListN.{length, drop}
-use borrow.Author.Rules.{rules}
+use lib.ListN.{length}
 use Rattle.listing_read.specs.Unlist.{is_graphic}
-use Rattle.listing_words.specs.Words.{piece_of}
 use Rattle.listing_words.proofs.Read.{front_ends, front-more, front-stops}
 use Rattle.listing_words.proofs.graphic_len.Goals as goal
 

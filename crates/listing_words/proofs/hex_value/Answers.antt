@@ -2,12 +2,10 @@
 use Prim.Native.Nat.{ℕ, ◌-◌, ◌≤◌, ◌<◌}
 use mathlib.Core.Path.{◌≡◌}
 use native.Mathlib.Omega.{arith}
-use borrow.Author.Rules.{rules}
 use borrow.Author.Tests.{le-ltb, lt-ltb}
 use Rattle.listing_read.specs.Unlist.{hex_value}
 use Rattle.listing_words.proofs.hex_value.Goals as goal
 
--- `listing_words::hex_value` meets its contract. Assumes nothing.
 none : (b : ℕ) → b < 48 → 0 ≡ hex_value b
 unfolding hex_value
 none b h =

@@ -5,14 +5,12 @@ use mathlib.Core.List.{List}
 use native.Mathlib.Omega.{arith}
 use lib.ListN.{length, replicate}
 use lib.Seq.{length-take-le}
-use borrow.Author.Rules.{rules}
 use Rattle.fields.specs.Order.{same_bytes}
 use Rattle.rules.specs.Listing.{decimal}
 use Rattle.listing_text.proofs.Texts.{decimal-long}
 use Rattle.listing_words.proofs.Read.{put_front, put-within}
 use Rattle.listing_words.proofs.is_decimal.Goals as goal
 
--- `listing_words::is_decimal` meets its contract. Assumes nothing.
 -- the buffer
 abbrev own : List ℕ
 own = replicate 20 0

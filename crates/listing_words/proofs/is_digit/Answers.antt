@@ -3,7 +3,6 @@ use mathlib.Core.Path.{sym}
 use Rattle.listing_words.proofs.Read.{digit-high, digit_low}
 use Rattle.listing_words.proofs.is_digit.Goals as goal
 
--- `listing_words::is_digit` meets its contract. Assumes nothing.
 pub returns-then-b-lt48 : goal.returns-then-b-lt48
 returns-then-b-lt48 c =
     sym (digit_low c.args.b c.if-b-lt48.true)

@@ -1,5 +1,4 @@
 -- `listing_words::is_same` meets its contract: it is the comparison. Assumes nothing.
-use borrow.Author.Rules.{rules}
 use Rattle.listing_words.proofs.is_same.Goals as goal
 
 pub returns : goal.returns

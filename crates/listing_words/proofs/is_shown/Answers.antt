@@ -5,14 +5,12 @@ use mathlib.Core.List.{List}
 use native.Mathlib.Omega.{arith}
 use lib.ListN.{length, replicate, length-replicate}
 use lib.Seq.{length-take-le}
-use borrow.Author.Rules.{rules}
 use Rattle.fields.specs.Order.{same_bytes}
 use Rattle.rules.specs.Listing.{shown_bytes}
 use Rattle.listing_text.proofs.Texts.{shown-long}
 use Rattle.listing_words.proofs.Read.{put_front, put-within}
 use Rattle.listing_words.proofs.is_shown.Goals as goal
 
--- `listing_words::is_shown` meets its contract. Assumes nothing.
 -- the buffer
 abbrev own : List ℕ
 own = replicate 192 0

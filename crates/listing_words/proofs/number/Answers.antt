@@ -2,7 +2,6 @@
 use mathlib.Core.Path.{sym}
 use lib.Seq.{length-take-le}
 use Rattle.listing_words.proofs.Read.{number-not, number-other, number_same, numeral-within}
-use borrow.Author.Rules.{rules}
 use Rattle.listing_words.proofs.number.Goals as goal
 
 pub slice_bounds-is_decimal-end : goal.slice_bounds-is_decimal-end

@@ -1,7 +1,6 @@
 -- `listing_words::one_at` meets its contract: a byte that stands for itself, or three. Assumes nothing.
 use native.Mathlib.Omega.{arith}
 use Rattle.listing_words.proofs.Read.{one-escaped, one-itself, one_last}
-use borrow.Author.Rules.{rules}
 use Rattle.listing_words.proofs.one_at.Goals as goal
 
 pub returns-then-piece-i-lt3 : goal.returns-then-piece-i-lt3

@@ -1,14 +1,10 @@
+-- `listing_words::read_digits` meets its contract: the value so far with the digits that are left is the whole's. Assumes nothing.
 use Prim.Native.Nat.{◌+◌, ◌-◌, ◌^◌, ◌≤◌, ◌<◌}
-use mathlib.Core.Path.{◌≡◌, refl, sym, ◌∙◌}
-use mathlib.Core.List.{◌∷◌}
-use native.Mathlib.Omega.{arith}
-use lib.ListN.{length, drop, get_or}
-use borrow.Author.Rules.{rules}
+use mathlib.Core.Path.{◌≡◌}
+use lib.ListN.{length, drop}
 use Rattle.listing_read.specs.Unlist.{front, is_digit, value_from}
-use Rattle.listing_words.proofs.Read.{digits-all, digits-next, digits-over, front_ends, front-more, front-stops}
 use Rattle.listing_words.proofs.read_digits.Given as goal
 
--- `listing_words::read_digits` meets its contract: the value so far with the digits that are left is the whole's. Assumes nothing.
 abbrev pub invariant-loop-i : goal.invariant-loop-i
 invariant-loop-i l = (l.i ≤ length l.text)
     × (value_from l.value (front is_digit (drop l.i l.text)) ≡ value_from 0 (front is_digit l.text))

@@ -3,10 +3,8 @@ use Prim.Native.Nat.{ℕ, ◌+◌, ◌*◌, ◌/◌, ◌%◌, ◌^◌, ◌≤◌
 use mathlib.Core.Path.{◌≡◌}
 use native.Mathlib.Nat.{mod-eq_of_lt}
 use native.Mathlib.Omega.{arith}
-use borrow.Author.Rules.{rules}
 use Rattle.listing_words.proofs.tenfold.Goals as goal
 
--- `listing_words::tenfold` meets its contract: the three parts, each tenfold, at their places. Assumes nothing.
 joined : (v low mid high : ℕ) → v ≤ 1844674407370955161 → low ≡ v % 268435456 * 10 → mid ≡ v / 268435456 % 268435456 * 10
     → high ≡ v / 268435456 / 268435456 * 10 → low + mid * 268435456 % 2 ^ 64 + high * 72057594037927936 % 2 ^ 64 ≡ v * 10
 joined v low mid high h p q r =

@@ -6,13 +6,11 @@ use mathlib.Core.List.{List}
 use native.Mathlib.Omega.{arith}
 use lib.ListN.{length, take}
 use lib.Seq.{length-take-le}
-use borrow.Author.Rules.{rules}
 use Rattle.listing_read.specs.Unlist.{is_graphic, unshown}
 use Rattle.listing_words.specs.Words.{count_of, piece_of, text_fits}
 use Rattle.listing_words.proofs.Read.{count-within, front-take, text-not, text-other, text_same}
 use Rattle.listing_words.proofs.text.Goals as goal
 
--- `listing_words::text` meets its contract. Assumes nothing.
 -- the piece is what stands at the front
 piece_is : (l : List ℕ) (took : ℕ) → took ≡ length (piece_of l) → take took l ≡ piece_of l
 piece_is l took e = ap (λ (k : ℕ). take k l) e ∙ front-take is_graphic l

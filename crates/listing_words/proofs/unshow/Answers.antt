@@ -1,13 +1,7 @@
 -- `listing_words::unshow` meets its contract: what is stored and what is left stands for the whole. Assumes nothing.
-use Prim.Native.Nat.{◌-◌, ◌≤◌}
-use mathlib.Core.Path.{◌≡◌, refl, ◌∙◌}
-use mathlib.Core.Bool.{true}
-use mathlib.Core.List.{◌++◌}
+use mathlib.Core.Path.{refl, ◌∙◌}
 use native.Mathlib.Omega.{arith}
-use lib.ListN.{length, drop, take, length-set}
-use borrow.Author.Rules.{rules}
-use Rattle.fields.specs.Choice.{all}
-use Rattle.listing_read.specs.Unlist.{is_byte, unshown}
+use lib.ListN.{length-set}
 use Rattle.listing_words.proofs.Read.{all_shown, no_room, none-bytes, not-bytes, one_more}
 use Rattle.listing_words.proofs.unshow.Goals as goal
 

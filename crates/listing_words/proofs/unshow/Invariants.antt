@@ -1,16 +1,13 @@
+-- `listing_words::unshow` meets its contract: what is stored and what is left stands for the whole. Assumes nothing.
 use Prim.Native.Nat.{◌-◌, ◌≤◌}
-use mathlib.Core.Path.{◌≡◌, refl, ◌∙◌}
+use mathlib.Core.Path.{◌≡◌}
 use mathlib.Core.Bool.{true}
 use mathlib.Core.List.{◌++◌}
-use native.Mathlib.Omega.{arith}
-use lib.ListN.{length, drop, take, length-set}
-use borrow.Author.Rules.{rules}
+use lib.ListN.{length, drop, take}
 use Rattle.fields.specs.Choice.{all}
 use Rattle.listing_read.specs.Unlist.{is_byte, unshown}
-use Rattle.listing_words.proofs.Read.{all_shown, no_room, none-bytes, not-bytes, one_more}
 use Rattle.listing_words.proofs.unshow.Given as goal
 
--- `listing_words::unshow` meets its contract: what is stored and what is left stands for the whole. Assumes nothing.
 abbrev pub invariant-loop-i : goal.invariant-loop-i
 invariant-loop-i l = (l.i ≤ length l.piece)
     × (length l.out ≡ length l.initial.out)

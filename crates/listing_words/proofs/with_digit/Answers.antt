@@ -4,7 +4,6 @@ use mathlib.Core.Path.{◌≡◌}
 use mathlib.Core.Bool.{true}
 use native.Mathlib.Omega.{arith}
 use lib.Dec.{leb}
-use borrow.Author.Rules.{rules}
 use borrow.Author.Tests.{le-ltb, leb-true, lt-ltb}
 use Rattle.fields.proofs.Choice.{and_left}
 use Rattle.listing_read.specs.Unlist.{is_digit}
@@ -12,7 +11,6 @@ use Rattle.listing_words.specs.Words.{grown}
 use Rattle.listing_words.specs.declared.Value.TheVariants as value
 use Rattle.listing_words.proofs.with_digit.Goals as goal
 
--- `listing_words::with_digit` meets its contract: ten times the value and the digit, where that is below 2^64. Assumes nothing.
 least : (b : ℕ) → is_digit b ≡ true → 48 ≤ b
 least b h = leb-true 48 b (and_left (leb 48 b) (leb b 57) h)
 

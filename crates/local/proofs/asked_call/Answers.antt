@@ -1,7 +1,6 @@
 -- `local::asked_call` meets its contract. Assumes nothing.
 use mathlib.Core.Path.{ap, sym}
 use Rattle.local.specs.Wanted.{asked_by}
-use borrow.Author.Rules.{rules}
 use Rattle.local.proofs.asked_call.Goals as goal
 
 pub returns-in-Set : goal.returns-in-Set

@@ -8,7 +8,6 @@ use Rattle.rules.specs.declared.Refusal.TheVariants.{BadTable}
 use Rattle.rules.proofs.Unique.{tells}
 use Rattle.table_check.proofs.Entry.{bad-table}
 use Rattle.local_node.specs.Writes.{call_of}
-use borrow.Author.Rules.{rules}
 use Rattle.local.proofs.call.Goals as goal
 
 pub call_guarded-requires : goal.call_guarded-requires

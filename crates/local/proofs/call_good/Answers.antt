@@ -14,7 +14,6 @@ use Rattle.table_read.specs.declared.Span.TheVariants.{Held}
 use Rattle.table_read.proofs.Held.{node_end, node-fits, node_seen, held-laid, held-rises}
 use Rattle.local_node.specs.Writes.{node_called, call_of}
 use Rattle.local.proofs.Called.{called-held, called-missing}
-use borrow.Author.Rules.{rules}
 use Rattle.local.proofs.call_good.Goals as goal
 
 pub slice_bounds-write_node-count : goal.slice_bounds-write_node-count

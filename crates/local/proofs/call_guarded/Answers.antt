@@ -3,7 +3,6 @@ use mathlib.Core.Bool.{true}
 use mathlib.Core.Path.{◌≡◌, ap, sym, subst, ◌∙◌}
 use native.Mathlib.Omega.{arith}
 use lib.Seq.{length-take-le}
-use borrow.Author.Rules.{rules}
 use Rattle.rules.specs.Layout.{decode, table_width}
 use Rattle.rules.specs.Node.{Call}
 use Rattle.rules.specs.Profile.{guard_in, profile_obeys}

@@ -7,10 +7,8 @@ use Rattle.table.proofs.Wholes.{whole_long}
 use Rattle.local_node.specs.Writes.{call_of}
 use Rattle.local.proofs.Called.{let_through}
 use Rattle.local.proofs.Letting.{free-lets}
-use borrow.Author.Rules.{rules}
 use Rattle.local.proofs.call_known.Goals as goal
 
--- `local::call_known` meets its contract: a free table lets the call through. Assumes nothing.
 pub profile_of-requires : goal.profile_of-requires
 profile_of-requires c =
     whole_long c.args.table.now c.requires

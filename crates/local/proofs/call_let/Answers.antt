@@ -2,14 +2,12 @@
 use mathlib.Core.Path.{sym}
 use native.Mathlib.Omega.{arith}
 use lib.Seq.{length-take-le}
-use borrow.Author.Rules.{rules}
 use Rattle.rules.specs.Layout.{table_width}
 use Rattle.table.proofs.Wholes.{area-valid, whole_long}
 use Rattle.local_node.specs.Writes.{call_of}
 use Rattle.local.proofs.Called.{on-whole}
 use Rattle.local.proofs.call_let.Goals as goal
 
--- `local::call_let` meets its contract: the call on the table's area. Assumes nothing.
 pub slice_bounds-call_good-end : goal.slice_bounds-call_good-end
 slice_bounds-call_good-end c =
     omega (arith, whole_long c.args.table.now c.requires)

@@ -6,7 +6,6 @@ use Rattle.rules.specs.Table.{node_of}
 use Rattle.rules.specs.Whole.{area_of, decode_whole}
 use Rattle.local.proofs.Called.{let_through}
 use Rattle.local.proofs.Letting.{delete-lets}
-use borrow.Author.Rules.{rules}
 use Rattle.local.proofs.delete_known.Goals as goal
 
 pub returns : goal.returns

@@ -2,10 +2,8 @@
 use mathlib.Core.Path.{ap, sym, ◌∙◌}
 use Rattle.table.proofs.Wholes.{whole_long}
 use Rattle.local.specs.Wanted.{is_shared}
-use borrow.Author.Rules.{rules}
 use Rattle.local.proofs.is_shared.Goals as goal
 
--- `local::is_shared` meets its contract. Assumes nothing.
 pub profile_of-requires : goal.profile_of-requires
 profile_of-requires c =
     whole_long c.args.table.now c.requires

@@ -2,7 +2,6 @@
 use Rattle.local.proofs.Asking.{wanted-set, wanted-ttl, wanted-none}
 use Rattle.local.proofs.wanted.Goals as goal
 
--- `local::wanted` meets its contract. Assumes nothing.
 pub returns-then-n-eq0 : goal.returns-then-n-eq0
 returns-then-n-eq0 c =
     wanted-set c.args.n c.if-n-eq0.true

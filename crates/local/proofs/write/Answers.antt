@@ -8,7 +8,6 @@ use Rattle.rules.specs.declared.Answer.TheVariants.{Refused}
 use Rattle.rules.specs.declared.Refusal.TheVariants.{BadTable}
 use Rattle.rules.proofs.Unique.{tells}
 use Rattle.table_check.proofs.Entry.{bad-table}
-use borrow.Author.Rules.{rules}
 use Rattle.local.proofs.write.Goals as goal
 
 pub write_guarded-requires : goal.write_guarded-requires

@@ -1,7 +1,6 @@
 -- `local::write_known` meets its contract: the call that the wanted status asks for, or 10. Assumes nothing.
 use mathlib.Core.Path.{sym, ◌∙◌}
 use Rattle.local.proofs.Asking.{call-gives, none-gives}
-use borrow.Author.Rules.{rules}
 use Rattle.local.proofs.write_known.Goals as goal
 
 pub returns-in-Call : goal.returns-in-Call

@@ -11,7 +11,6 @@ use Rattle.rules.specs.declared.Refusal.TheVariants.{Exhausted, NodeFull}
 use Rattle.table_read.specs.Find.{find_key}
 use Rattle.local_grant.specs.Granting.{node_in, change_of, full_at, allowed_at}
 use Rattle.local_grant.proofs.Acting.{refused, room, no_room, cannot-rise, can-rise, max-laid, max-recs, max-room, given}
-use borrow.Author.Rules.{rules}
 use Rattle.local_grant.proofs.grant.Goals as goal
 
 pub returns-then-is_full : goal.returns-then-is_full

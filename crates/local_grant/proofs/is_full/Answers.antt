@@ -5,7 +5,6 @@ use Rattle.rules.specs.Sizes.{max_records}
 use Rattle.table.proofs.Places.{length-recs}
 use Rattle.table_read.specs.declared.Place.{Place}
 use Rattle.local_grant.specs.Granting.{node_in, full_at}
-use borrow.Author.Rules.{rules}
 use Rattle.local_grant.proofs.is_full.Goals as goal
 
 pub returns-in-At : goal.returns-in-At

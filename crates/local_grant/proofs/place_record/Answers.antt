@@ -17,7 +17,6 @@ use Rattle.table_read.specs.declared.Place.TheVariants.{At, Free}
 use Rattle.table_read.proofs.Searched.{rec-in}
 use Rattle.table_read.proofs.Placed.{store_at, store-free, free_in}
 use Rattle.local_grant.specs.Granting.{node_in, full_at}
-use borrow.Author.Rules.{rules}
 use Rattle.local_grant.proofs.place_record.Goals as goal
 
 pub put_record-requires : goal.put_record-requires

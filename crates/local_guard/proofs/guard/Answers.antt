@@ -8,7 +8,6 @@ use Rattle.rules.specs.declared.Profile.{Profile}
 use Rattle.local_node.specs.Writes.{call_of}
 use Rattle.local_guard.specs.Guarding.{guarded_by}
 use Rattle.local_guard.proofs.Guarding.{any-party}
-use borrow.Author.Rules.{rules}
 use Rattle.local_guard.proofs.guard.Goals as goal
 
 pub guard_meter-requires : goal.guard_meter-requires

@@ -5,7 +5,6 @@ use mathlib.Core.List.{List}
 use mathlib.Core.Path.{◌≡◌, ◌∙◌, ap, sym, subst}
 use native.Mathlib.Omega.{arith}
 use lib.ListN.{length}
-use borrow.Author.Rules.{rules}
 use Rattle.fields.specs.Choice.{all}
 use Rattle.fields.proofs.Choice.{and_right}
 use Rattle.rules.specs.Layout.{decode_rec}
@@ -16,7 +15,6 @@ use Rattle.meter_form.proofs.Forms.{value-digits}
 use Rattle.local_guard.proofs.Guarding.{greater-passes, hidden-passes, smaller-refused}
 use Rattle.local_guard.proofs.guard_held.Goals as goal
 
--- `local_guard::guard_held` meets its contract: the two numbers decide, unless the record is hidden. Assumes nothing.
 below : (a b x y : ℕ) → a ≡ x → b ≡ y → a < b → x < y
 below a b x y p q h = omega arith
 

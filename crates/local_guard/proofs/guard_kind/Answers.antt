@@ -10,7 +10,6 @@ use Rattle.local_node.specs.Writes.{call_of}
 use Rattle.local_node.specs.declared.Kind.{Kind}
 use Rattle.local_guard.specs.Guarding.{bringing, guarded_by}
 use Rattle.local_guard.proofs.Sharing.{any-record}
-use borrow.Author.Rules.{rules}
 use Rattle.local_guard.proofs.guard_kind.Goals as goal
 
 pub returns-in-Setting : goal.returns-in-Setting

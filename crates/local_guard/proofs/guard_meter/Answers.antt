@@ -5,7 +5,6 @@ use mathlib.Core.List.{List}
 use mathlib.Core.Option.{Option}
 use mathlib.Core.Path.{◌≡◌, ◌∙◌, ap, sym, subst}
 use native.Mathlib.Omega.{arith}
-use borrow.Author.Rules.{rules}
 use Rattle.rules.specs.Layout.{decode}
 use Rattle.rules.specs.Node.{Node}
 use Rattle.rules.specs.Profile.{guard_at, guard_in, recs_formed}

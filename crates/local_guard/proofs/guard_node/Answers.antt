@@ -1,7 +1,6 @@
 -- `local_guard::guard_node` meets its contract, call by call. Assumes nothing.
 use Rattle.table.specs.Tests.{recs_in}
 use Rattle.local_guard.proofs.Guarding.{of-delete, of-delete-after, of-set, of-ttl}
-use borrow.Author.Rules.{rules}
 use Rattle.local_guard.proofs.guard_node.Goals as goal
 
 pub returns-in-Setting : goal.returns-in-Setting

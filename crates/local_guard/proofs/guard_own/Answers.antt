@@ -12,7 +12,6 @@ use Rattle.own_rows.specs.declared.Sight.{Sight}
 use Rattle.own_rows.proofs.Laws.{seen-count}
 use Rattle.local_guard.specs.Guarding.{bringing}
 use Rattle.local_guard.proofs.Sharing.{full, has_room, there}
-use borrow.Author.Rules.{rules}
 use Rattle.local_guard.proofs.guard_own.Goals as goal
 
 pub returns-then-seen-lt-RECORDS : goal.returns-then-seen-lt-RECORDS

@@ -2,7 +2,6 @@
 use Rattle.table.specs.Tests.{recs_in}
 use Rattle.local_node.specs.Writes.{call_of}
 use Rattle.local_guard.proofs.Sharing.{its_own, others, too_long}
-use borrow.Author.Rules.{rules}
 use Rattle.local_guard.proofs.guard_party.Goals as goal
 
 pub returns-then-owns : goal.returns-then-owns

@@ -6,7 +6,6 @@ use mathlib.Core.Path.{◌≡◌, ◌∙◌, ap, sym, subst}
 use native.Mathlib.Omega.{arith}
 use lib.Dec.{ltb}
 use lib.ListN.{get_or, length}
-use borrow.Author.Rules.{rules}
 use Rattle.fields.proofs.Choice.{in-at}
 use Rattle.rules.specs.Layout.{decode_rec}
 use Rattle.rules.specs.Node.{Rec, hidden}

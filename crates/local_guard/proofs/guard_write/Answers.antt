@@ -1,12 +1,10 @@
 -- `local_guard::guard_write` meets its contract: lengths, form, then the total. Assumes nothing.
 use mathlib.Core.Path.{◌∙◌}
-use borrow.Author.Rules.{rules}
 use Rattle.rules.specs.Node.{find}
 use Rattle.table.specs.Tests.{recs_in}
 use Rattle.local_guard.proofs.Guarding.{formed, formed-value, long-key, long-value, not-formed}
 use Rattle.local_guard.proofs.guard_write.Goals as goal
 
--- `local_guard::guard_write` meets its contract: lengths, form, then the total. Assumes nothing.
 pub returns-then-key-gt-KEY : goal.returns-then-key-gt-KEY
 returns-then-key-gt-KEY c =
     let a = c.args in

@@ -7,10 +7,8 @@ use Rattle.rules.specs.Sizes.{max_value}
 use Rattle.local_node.specs.Writes.{call_of}
 use Rattle.local_node.specs.declared.Kind.{Kind}
 use Rattle.local_guard.proofs.Sharing.{by_value, key-too-long}
-use borrow.Author.Rules.{rules}
 use Rattle.local_guard.proofs.is_sized.Goals as goal
 
--- `local_guard::is_sized` meets its contract, call by call. Assumes nothing.
 pub returns-then-key-gt-KEY : goal.returns-then-key-gt-KEY
 returns-then-key-gt-KEY c =
     let a = c.args in key-too-long (call_of a.kind a.value.now 0) a.key.now c.if-key-gt-KEY.true

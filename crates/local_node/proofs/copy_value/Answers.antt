@@ -10,7 +10,6 @@ use Rattle.rules.specs.Layout.{decode_rec}
 use Rattle.table.specs.Tests.{value_length}
 use Rattle.table.proofs.Places.{rec_at}
 use Rattle.table.proofs.Laid.{laid-rec, laid-value, rec-long}
-use borrow.Author.Rules.{rules}
 use Rattle.local_node.proofs.copy_value.Goals as goal
 
 pub value_of-value-requires : goal.value_of-value-requires

@@ -14,7 +14,6 @@ use Rattle.table_read.proofs.Searched.{rec-found, rec-missing}
 use Rattle.local_grant.specs.Granting.{decided, node_in}
 use Rattle.local_grant.proofs.Acting.{refused}
 use Rattle.local_node.proofs.Deciding.{delete-long, delete-at as deciding-at, delete-none}
-use borrow.Author.Rules.{rules}
 use Rattle.local_node.proofs.delete_key.Goals as goal
 
 pub returns-then-key-gt-KEY : goal.returns-then-key-gt-KEY

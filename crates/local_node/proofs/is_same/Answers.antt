@@ -12,7 +12,6 @@ use Rattle.table.specs.Tests.{key_length, value_length}
 use Rattle.table.proofs.Places.{rec_at}
 use Rattle.table.proofs.Laid.{laid-key, laid-value, rec-long}
 use Rattle.local_node.proofs.Deciding.{alike-by, not_alike}
-use borrow.Author.Rules.{rules}
 use Rattle.local_node.proofs.is_same.Goals as goal
 
 pub read_record-held-requires : goal.read_record-held-requires

@@ -2,7 +2,6 @@
 use mathlib.Core.Path.{ap₂, ◌∙◌}
 use lib.Dec.{eqb}
 use Rattle.local_node.proofs.Deciding.{same_code}
-use borrow.Author.Rules.{rules}
 use Rattle.local_node.proofs.same_status.Goals as goal
 
 pub returns : goal.returns

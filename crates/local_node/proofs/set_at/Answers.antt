@@ -11,7 +11,6 @@ use Rattle.local_grant.specs.Granting.{decided, node_in, change_of, allowed_at}
 use Rattle.local_node.specs.Writes.{alike, changing}
 use Rattle.local_grant.proofs.Acting.{left}
 use Prim.Native.Nat.{ℕ}
-use borrow.Author.Rules.{rules}
 use Rattle.local_node.proofs.set_at.Goals as goal
 
 module _ (j : ℕ) (r : Rec) (ch : Change) (n : Node) where

@@ -17,10 +17,8 @@ use Rattle.local_grant.specs.Granting.{decided, node_in, change_of}
 use Rattle.local_node.specs.Writes.{setting}
 use Rattle.local_grant.proofs.Acting.{refused}
 use Rattle.local_node.proofs.Deciding.{key-long, value-long, set_at as deciding-at, set_new as deciding-new}
-use borrow.Author.Rules.{rules}
 use Rattle.local_node.proofs.set_key.Goals as goal
 
--- `local_node::set_key` meets its contract: what finding the key says decides. Assumes nothing.
 long : (k : List ℕ) (ch : Change) (b : List ℕ) → max_key < length k → setting k ch (node_in b) ≡ Refuse TooLong
 unfolding setting
 long k ch b h = key-long k ch.value (allowed k (node_in b) (unless_same (find k (recs_in b)) ch)) h

@@ -9,10 +9,8 @@ use Rattle.rules.specs.declared.Answer.{Answer}
 use Rattle.local_node.specs.declared.Kind.{Kind}
 use Rattle.local_grant.specs.Granting.{decided, node_in, change_of}
 use Rattle.local_node.specs.Writes.{node_called, within, setting, call_of}
-use borrow.Author.Rules.{rules}
 use Rattle.local_node.proofs.write_node.Goals as goal
 
--- `local_node::write_node` meets its contract: each arm is one of the calls. Assumes nothing.
 -- from the kind's own call to that of the kind at hand
 one : (k v : List ℕ) (t : ℕ) (b : List ℕ) (r : Answer) (s : List ℕ) (x y : Kind) → x ≡ y → Gives (node_called (call_of y v t) k b) r s → Gives (node_called (call_of x v t) k b) r s
 one k v t b r s x y e = subst (λ (z : Kind). Gives (node_called (call_of z v t) k b) r s) (sym e)

@@ -2,7 +2,6 @@
 use mathlib.Core.Path.{ap, sym, ◌∙◌}
 use Rattle.lookup.specs.Told.{found_told}
 use Rattle.table_read.proofs.Entry.{read-good, read-bad}
-use borrow.Author.Rules.{rules}
 use Rattle.lookup.proofs.find.Goals as goal
 
 pub find_known-requires : goal.find_known-requires

@@ -6,7 +6,6 @@ use Rattle.table_read.proofs.Reading.{lent-node-needs, node-stands, no-node-says
 use Rattle.own_rows.proofs.Tables.{lent-formed}
 use Rattle.lookup.specs.Lookup.{find_on_as}
 use Rattle.lookup.proofs.Seen.{seen-finds, none-held}
-use borrow.Author.Rules.{rules}
 use Rattle.lookup.proofs.find_as.Goals as goal
 
 pub slice_bounds-in_sight-count : goal.slice_bounds-in_sight-count

@@ -1,7 +1,6 @@
 -- `lookup::find_good` meets its contract: where the value stands in the node's bytes, or 2. Assumes nothing.
 use Rattle.table_read.proofs.Reading.{lent-node-needs, node-stands, no-node-stands}
 use Rattle.lookup.specs.Lookup.{find_on}
-use borrow.Author.Rules.{rules}
 use Rattle.lookup.proofs.find_good.Goals as goal
 
 pub slice_bounds-in_node-count : goal.slice_bounds-in_node-count

@@ -10,7 +10,6 @@ use Rattle.table_check.proofs.Entry.{area-long}
 use Rattle.lookup.specs.Lookup.{find_as}
 use Rattle.lookup.proofs.find_known.Goals as goal
 
--- `lookup::find_known` meets its contract: the lookup in the table's area, in its profile. Assumes nothing.
 pub profile_of-profile-requires : goal.profile_of-profile-requires
 profile_of-profile-requires c =
     whole_long c.args.table.now c.requires

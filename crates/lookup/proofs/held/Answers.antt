@@ -10,10 +10,8 @@ use Rattle.fields.proofs.Lent.{seen}
 use Rattle.lookup.specs.Lookup.{start_of, len_of, Within}
 use Rattle.lookup.specs.declared.Found.{Found}
 use Rattle.lookup.specs.declared.Found.TheVariants.{At, Nothing, Refused}
-use borrow.Author.Rules.{rules}
 use Rattle.lookup.proofs.held.Goals as goal
 
--- `lookup::held` meets its contract: the part that was found, its bytes and where they lie. Assumes nothing.
 -- the bytes and the place of what was found
 at_part : (l : List ℕ) (f : Found) (s n : ℕ) → f ≡ At s n → take (s + n - s) (drop s l) ≡ part (start_of f) (len_of f) l
 at_part l f s n e = seen s n l ∙ ap (λ (g : Found). part (start_of g) (len_of g) l) (sym e)

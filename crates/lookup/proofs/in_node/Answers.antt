@@ -11,7 +11,6 @@ use Rattle.lookup.proofs.Values.{value-place, value-nowhere}
 use borrow.Author.Rules.{rules}
 use Rattle.lookup.proofs.in_node.Goals as goal
 
--- `lookup::in_node` meets its contract: 1, or what the search for the key says of the place. Assumes nothing.
 -- all records of the node are seen
 none_before : (start j : ℕ) (b : List ℕ) (r : Found) → r ≡ found_rec start (j - 0) (rec_at j b) → r ≡ found_rec start j (rec_at j b)
 none_before start j b r e = e ∙ ap (λ (m : ℕ). found_rec start m (rec_at j b)) (omega arith)

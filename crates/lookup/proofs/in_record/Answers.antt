@@ -14,7 +14,6 @@ use Rattle.table_read.specs.Find.{record_of}
 use Rattle.table_read.proofs.Reading.{lent-rec-needs, rec-fits, rec-read}
 use Rattle.lookup.specs.Lookup.{value_place, found_rec}
 use Rattle.lookup.specs.declared.Found.TheVariants.{At, Nothing}
-use borrow.Author.Rules.{rules}
 use Rattle.lookup.proofs.in_record.Goals as goal
 
 -- by the status that was read

@@ -11,7 +11,6 @@ use Rattle.table_read.proofs.Searched.{rec-in}
 use Rattle.own_rows.proofs.Keys.{own_behind}
 use Rattle.lookup.specs.Lookup.{found_rec}
 use Rattle.lookup.proofs.Seen.{long-first, other-first, named-finds, own_value, no-own-value}
-use borrow.Author.Rules.{rules}
 use Rattle.lookup.proofs.in_sight.Goals as goal
 
 pub returns-then-key-gt-KEY : goal.returns-then-key-gt-KEY

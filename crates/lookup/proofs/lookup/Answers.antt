@@ -5,7 +5,6 @@ use Rattle.rules.specs.Whole.{decode_whole}
 use Rattle.table_read.proofs.Entry.{read-good, read-bad}
 use Rattle.lookup.specs.Lookup.{nothing_held, value_part}
 use Rattle.lookup.proofs.Values.{same-hands}
-use borrow.Author.Rules.{rules}
 use Rattle.lookup.proofs.lookup.Goals as goal
 
 pub lookup_known-requires : goal.lookup_known-requires

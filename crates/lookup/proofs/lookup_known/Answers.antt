@@ -12,7 +12,6 @@ use Rattle.table_check.proofs.Entry.{area-long}
 use Rattle.own_rows.specs.Sight.{front_in}
 use Rattle.lookup.proofs.Values.{found_within, hands-found}
 use Rattle.lookup.proofs.Seen.{other-value, other_place, whole-found, whole-stands}
-use borrow.Author.Rules.{rules}
 use Rattle.lookup.proofs.lookup_known.Goals as goal
 
 pub profile_of-requires : goal.profile_of-requires

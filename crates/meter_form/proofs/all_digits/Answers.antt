@@ -1,10 +1,6 @@
 -- `meter_form::all_digits` meets its contract: the bytes that are left decide. Assumes nothing.
-use Prim.Native.Nat.{◌-◌, ◌≤◌}
-use mathlib.Core.Path.{◌≡◌, ◌∙◌, refl, sym}
+use mathlib.Core.Path.{◌∙◌, refl, sym}
 use native.Mathlib.Omega.{arith}
-use lib.ListN.{drop, length}
-use borrow.Author.Rules.{rules}
-use Rattle.fields.specs.Choice.{all}
 use Rattle.rules.specs.Profile.{is_digit}
 use Rattle.meter_form.proofs.Forms.{all_none, all-on, all-stop}
 use Rattle.meter_form.proofs.all_digits.Goals as goal

@@ -1,6 +1,5 @@
 -- `meter_form::is_formed` meets its contract. Assumes nothing.
 use mathlib.Core.Path.{◌∙◌, sym}
-use borrow.Author.Rules.{rules}
 use Rattle.fields.proofs.Choice.{and_no, and_yes}
 use Rattle.rules.specs.Profile.{meter_key, meter_value}
 use Rattle.meter_form.proofs.is_formed.Goals as goal

@@ -1,9 +1,7 @@
 -- `meter_form::is_key_byte` meets its contract. Assumes nothing.
-use borrow.Author.Rules.{rules}
 use Rattle.meter_form.proofs.Forms.{digit-in, dot-in, letter}
 use Rattle.meter_form.proofs.is_key_byte.Goals as goal
 
--- `meter_form::is_key_byte` meets its contract. Assumes nothing.
 pub returns-then-b-ge97 : goal.returns-then-b-ge97
 returns-then-b-ge97 c =
     letter c.args.b c.if-b-ge97.true

@@ -1,5 +1,4 @@
 -- `meter_form::is_value` meets its contract. Assumes nothing.
-use borrow.Author.Rules.{rules}
 use Rattle.meter_form.proofs.Forms.{digits_value, empty-value, long-value}
 use Rattle.meter_form.proofs.is_value.Goals as goal
 

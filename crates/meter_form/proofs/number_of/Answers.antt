@@ -1,13 +1,11 @@
 -- `meter_form::number_of` meets its contract: the number so far with the digits that are left is the whole's. Assumes nothing.
-use Prim.Native.Nat.{◌-◌, ◌≤◌, ◌<◌}
+use Prim.Native.Nat.{◌≤◌}
 use mathlib.Core.Bool.{true}
 use mathlib.Core.Path.{◌≡◌, ◌∙◌, refl, sym}
 use native.Mathlib.Omega.{arith}
-use lib.ListN.{drop, get_or, length}
-use borrow.Author.Rules.{rules}
-use Rattle.fields.specs.Choice.{all}
-use Rattle.rules.specs.Profile.{is_digit, numeral}
-use Rattle.meter_form.proofs.Forms.{all_here, digit-is, next-digit, next_fits, no_digit, tens, tens-few, one-digit}
+use lib.ListN.{get_or}
+use Rattle.rules.specs.Profile.{is_digit}
+use Rattle.meter_form.proofs.Forms.{all_here, digit-is, next-digit, next_fits, no_digit, tens-few, one-digit}
 use Rattle.meter_form.proofs.number_of.Goals as goal
 
 pub loop-i-init : goal.loop-i-init

@@ -1,5 +1,4 @@
 -- `meter_form::tenfold` meets its contract: two halves, each tenfold, at their places. Assumes nothing.
-use borrow.Author.Rules.{rules}
 use Rattle.meter_form.proofs.Forms.{tenfold-is}
 use Rattle.meter_form.proofs.tenfold.Goals as goal
 

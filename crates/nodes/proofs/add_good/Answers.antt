@@ -10,7 +10,6 @@ use Rattle.table_read.specs.Find.{find_node, to_node}
 use Rattle.table_read.specs.declared.Place.TheVariants.{Free}
 use Rattle.table_read.proofs.Placed.{free_in}
 use Rattle.nodes.proofs.Coming.{add-held, add-full, add-new}
-use borrow.Author.Rules.{rules}
 use Rattle.nodes.proofs.add_good.Goals as goal
 
 pub find_node-requires : goal.find_node-requires

@@ -8,10 +8,8 @@ use Rattle.rules.specs.Layout.{table_width}
 use Rattle.rules.specs.Whole.{tail_width}
 use Rattle.table.proofs.Wholes.{area-valid, whole_long}
 use Rattle.nodes.proofs.Remembering.{add_done, add-not, came-laid, came-long, lent-long, tail-back}
-use borrow.Author.Rules.{rules}
 use Rattle.nodes.proofs.add_known.Goals as goal
 
--- `nodes::add_known` meets its contract. Assumes nothing.
 pub slice_bounds-add_good-end : goal.slice_bounds-add_good-end
 slice_bounds-add_good-end c =
     omega (arith, whole_long c.args.table.now c.requires)

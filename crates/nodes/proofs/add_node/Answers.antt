@@ -6,7 +6,6 @@ use Rattle.rules.specs.declared.Answer.TheVariants.{Refused}
 use Rattle.rules.specs.declared.Refusal.TheVariants.{BadTable}
 use Rattle.rules.proofs.Unique.{tells}
 use Rattle.table_check.proofs.Entry.{bad-whole, good-whole}
-use borrow.Author.Rules.{rules}
 use Rattle.nodes.proofs.add_node.Goals as goal
 
 pub add_known-requires : goal.add_known-requires

@@ -18,10 +18,8 @@ use Rattle.table_read.specs.Find.{find_node}
 use Rattle.table_read.specs.declared.Place.TheVariants.{At}
 use Rattle.table_read.proofs.Searched.{node_in, node-found, node-missing}
 use Rattle.nodes.specs.Coming.{beat_of}
-use borrow.Author.Rules.{rules}
 use Rattle.nodes.proofs.heartbeat_in.Goals as goal
 
--- `nodes::heartbeat_in` meets its contract. Assumes nothing.
 -- the heartbeat of the node that was found
 beat-there : (l : List ℕ) (v : valid l ≡ true) (n i : ℕ) → find_node n (decode l) ≡ At i → (x : ℕ) → x ≡ nat_of (part (offset node_widths 1) 8 (node_bytes i l)) → beats x ≡ beat_of (node_of n (decode l))
 unfolding decode_node

@@ -2,7 +2,6 @@
 use mathlib.Core.Path.{ap, sym, ◌∙◌}
 use Rattle.rules.specs.Answers.{remembered_told}
 use Rattle.nodes.proofs.Remembering.{not-told, told}
-use borrow.Author.Rules.{rules}
 use Rattle.nodes.proofs.last_heartbeat.Goals as goal
 
 pub last_heartbeat_known-requires : goal.last_heartbeat_known-requires

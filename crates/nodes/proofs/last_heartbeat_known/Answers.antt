@@ -3,7 +3,6 @@ use mathlib.Core.Path.{◌∙◌}
 use native.Mathlib.Omega.{arith}
 use Rattle.table.proofs.Wholes.{whole_long}
 use Rattle.nodes.proofs.Remembering.{asked, asked-laid}
-use borrow.Author.Rules.{rules}
 use Rattle.nodes.proofs.last_heartbeat_known.Goals as goal
 
 pub slice_bounds-last_heartbeat-end : goal.slice_bounds-last_heartbeat-end

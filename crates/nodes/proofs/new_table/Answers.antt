@@ -7,10 +7,8 @@ use Rattle.rules.specs.Answers.{answer_told}
 use Rattle.rules.specs.Layout.{table_width}
 use Rattle.rules.proofs.Unique.{tells}
 use Rattle.nodes.proofs.Coming.{made, not_made}
-use borrow.Author.Rules.{rules}
 use Rattle.nodes.proofs.new_table.Goals as goal
 
--- `nodes::new_table` meets its contract. Assumes nothing.
 pub returns-then-table-ne-TABLE : goal.returns-then-table-ne-TABLE
 returns-then-table-ne-TABLE c =
     let a = c.args in tells answer_told (not_made a.mode a.profile a.table.now c.if-table-ne-TABLE.true)

@@ -6,7 +6,6 @@ use Rattle.table_read.specs.Find.{find_node}
 use Rattle.table_read.specs.declared.Place.TheVariants.{At}
 use Rattle.table_read.proofs.Searched.{node_in}
 use Rattle.nodes.proofs.Coming.{remove-held, remove-none}
-use borrow.Author.Rules.{rules}
 use Rattle.nodes.proofs.remove_good.Goals as goal
 
 pub find_node-requires : goal.find_node-requires

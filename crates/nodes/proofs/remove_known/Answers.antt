@@ -8,10 +8,8 @@ use Rattle.rules.specs.Layout.{table_width}
 use Rattle.rules.specs.Whole.{tail_width}
 use Rattle.table.proofs.Wholes.{area-valid, whole_long}
 use Rattle.nodes.proofs.Remembering.{came-laid, came-long, lent-long, remove-done, remove-not, tail-back}
-use borrow.Author.Rules.{rules}
 use Rattle.nodes.proofs.remove_known.Goals as goal
 
--- `nodes::remove_known` meets its contract. Assumes nothing.
 pub slice_bounds-heartbeat_in-end : goal.slice_bounds-heartbeat_in-end
 slice_bounds-heartbeat_in-end c =
     omega (arith, whole_long c.args.table.now c.requires)

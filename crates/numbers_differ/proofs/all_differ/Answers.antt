@@ -10,7 +10,6 @@ use lib.ListN.{length, get_or, set, take, drop, length-set}
 use Rattle.rules.specs.Table.{among, differ}
 use Rattle.numbers_differ.proofs.Seen.{Marked, none-among, unmarked, marked, differ-cons, twice-cons, differ-rest}
 use Rattle.numbers_differ.proofs.Row.{rest-next}
-use borrow.Author.Rules.{rules}
 use Rattle.numbers_differ.proofs.all_differ.Goals as goal
 
 -- the numbers from i on

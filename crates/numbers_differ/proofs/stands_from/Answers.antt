@@ -10,7 +10,6 @@ use borrow.Author.Tests.{eq-eqb, ne_eqb}
 use Rattle.fields.specs.Choice.{pick}
 use Rattle.rules.specs.Table.{among}
 use Rattle.numbers_differ.proofs.Row.{rest-next}
-use borrow.Author.Rules.{rules}
 use Rattle.numbers_differ.proofs.stands_from.Goals as goal
 
 -- one number more

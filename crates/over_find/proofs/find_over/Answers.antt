@@ -6,7 +6,6 @@ use Rattle.overrides.proofs.Both.{bad-over, bad-under, good-both}
 use Rattle.over_find.specs.Over.{found_over}
 use Rattle.over_find.specs.Told.{found_over_told}
 use Rattle.over_find.specs.declared.FoundOver.TheVariants.{Refused}
-use borrow.Author.Rules.{rules}
 use Rattle.over_find.proofs.find_over.Goals as goal
 
 pub find_over_known-requires : goal.find_over_known-requires

@@ -3,7 +3,6 @@ use mathlib.Core.Path.{ap₂, ◌∙◌}
 use native.Mathlib.Omega.{arith}
 use Rattle.overrides.proofs.Valid.{over-laid, over-rises}
 use Rattle.over_find.specs.Over.{over_of}
-use borrow.Author.Rules.{rules}
 use Rattle.over_find.proofs.find_over_good.Goals as goal
 
 pub in_node-own-requires : goal.in_node-own-requires

@@ -2,7 +2,6 @@
 use mathlib.Core.Path.{ap, sym}
 use Rattle.lookup.specs.declared.Found.{Found}
 use Rattle.over_find.specs.Over.{first_of}
-use borrow.Author.Rules.{rules}
 use Rattle.over_find.proofs.first.Goals as goal
 
 pub returns-in-At : goal.returns-in-At

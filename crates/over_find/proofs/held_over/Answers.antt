@@ -10,10 +10,8 @@ use Rattle.fields.proofs.Lent.{seen}
 use Rattle.over_find.specs.Over.{Within, HandsOver, part_over}
 use Rattle.over_find.specs.declared.FoundOver.{FoundOver}
 use Rattle.over_find.specs.declared.FoundOver.TheVariants.{InOverrides, InTable, Nothing, Refused}
-use borrow.Author.Rules.{rules}
 use Rattle.over_find.proofs.held_over.Goals as goal
 
--- `over_find::held_over` meets its contract: the part that was found, its bytes and where they lie, in the one slice or in the other. Assumes nothing.
 none-there : (l : List ℕ) → [] ≡ part 0 0 l
 unfolding part
 none-there l = refl

@@ -5,7 +5,6 @@ use Rattle.rules.specs.Whole.{decode_whole}
 use Rattle.overrides.proofs.Both.{bad-over, bad-under, good-both}
 use Rattle.over_find.specs.Over.{nothing_held, value_over}
 use Rattle.over_find.proofs.Values.{same-hands}
-use borrow.Author.Rules.{rules}
 use Rattle.over_find.proofs.lookup_over.Goals as goal
 
 pub lookup_over_known-requires : goal.lookup_over_known-requires

@@ -9,7 +9,6 @@ use Rattle.rules.specs.declared.Profile.{Profile}
 use Rattle.table.proofs.Wholes.{whole_long, area-valid}
 use Rattle.table_check.proofs.Entry.{area-long}
 use Rattle.over_find.proofs.Values.{same-hands, named-within, named-hands, other-held}
-use borrow.Author.Rules.{rules}
 use Rattle.over_find.proofs.lookup_over_known.Goals as goal
 
 pub profile_of-requires : goal.profile_of-requires

@@ -1,7 +1,6 @@
 -- `over_find::over` meets its contract. Assumes nothing.
 use mathlib.Core.Path.{ap, sym, ◌∙◌}
 use Rattle.over_find.specs.Over.{over_of}
-use borrow.Author.Rules.{rules}
 use Rattle.over_find.proofs.over.Goals as goal
 
 pub returns-in-At : goal.returns-in-At

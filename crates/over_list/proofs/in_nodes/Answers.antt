@@ -15,7 +15,6 @@ use Rattle.own_rows.specs.Sight.{seen_node}
 use Rattle.own_rows.proofs.Tables.{seen-recs}
 use Rattle.over_list.specs.Merged.{places_of, listing, places_as, list_into}
 use Rattle.over_list.proofs.Listed.{seen-short, listing-few, no_room, all_listed}
-use borrow.Author.Rules.{rules}
 use Rattle.over_list.proofs.in_nodes.Goals as goal
 
 pub returns-then-prefix-gt-KEY : goal.returns-then-prefix-gt-KEY

@@ -8,7 +8,6 @@ use Rattle.overrides.proofs.Both.{bad-over-fills, bad-under-fills}
 use Rattle.over_list.specs.Merged.{list_over}
 use Rattle.over_list.specs.Told.{listed_over_told}
 use Rattle.over_list.specs.declared.ListedOver.TheVariants as listed
-use borrow.Author.Rules.{rules}
 use Rattle.over_list.proofs.list_over.Goals as goal
 
 pub list_over_known-requires : goal.list_over_known-requires

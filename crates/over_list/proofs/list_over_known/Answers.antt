@@ -13,7 +13,6 @@ use Rattle.overrides.proofs.Both.{good-both-fills}
 use Rattle.over_list.specs.Merged.{list_over}
 use Rattle.over_list.specs.declared.ListedOver.TheVariants as listed
 use Rattle.over_list.proofs.Listed.{profile-fills}
-use borrow.Author.Rules.{rules}
 use Rattle.over_list.proofs.list_over_known.Goals as goal
 
 pub profile_of-profile-requires : goal.profile_of-profile-requires

@@ -9,7 +9,6 @@ use Rattle.own_rows.proofs.Tables.{lent-formed}
 use Rattle.overrides.proofs.Valid.{over-laid, over-rises}
 use Rattle.over_list.specs.Merged.{list_on}
 use Rattle.over_list.proofs.Listed.{seen-fills}
-use borrow.Author.Rules.{rules}
 use Rattle.over_list.proofs.list_over_seen.Goals as goal
 
 pub slice_bounds-in_nodes-count : goal.slice_bounds-in_nodes-count

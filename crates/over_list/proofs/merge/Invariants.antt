@@ -1,16 +1,11 @@
-use Prim.Native.Nat.{ℕ, zero, suc, ◌+◌, ◌-◌, ◌≤◌, ◌<◌}
-use mathlib.Core.Path.{◌≡◌, refl, ap, ap₂, sym, ◌∙◌, subst}
-use mathlib.Core.List.{List, [], ◌∷◌, ◌++◌, append_assoc, append-nil}
-use native.Mathlib.Omega.{arith}
-use native.Mathlib.Nat.{add-zero}
-use native.Mathlib.Numerals.{add-one}
-use lib.ListN.{length, take, set, length-set}
-use lib.Seq.{length-take-le, take-set-le, take-suc-set}
+-- `over_list::merge` meets its contract: what is listed and what is left are the whole listing. Assumes nothing.
+use Prim.Native.Nat.{◌+◌, ◌-◌, ◌≤◌}
+use mathlib.Core.Path.{◌≡◌}
+use mathlib.Core.List.{◌++◌}
+use lib.ListN.{length, take}
 use Rattle.over_list.specs.Turns.{left_in}
-use Rattle.over_list.proofs.Turning.{TurnIs, none_left, turn_is}
 use Rattle.over_list.proofs.merge.Given as goal
 
--- `over_list::merge` meets its contract: what is listed and what is left are the whole listing. Assumes nothing.
 abbrev pub invariant-loop-a : goal.invariant-loop-a
 invariant-loop-a l = (l.a ≤ l.a_end)
     × (l.base ≤ l.b)

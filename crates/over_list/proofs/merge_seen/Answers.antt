@@ -12,7 +12,6 @@ use Rattle.prefix.proofs.Seen.{piece-within, piece-seen}
 use Rattle.over_list.specs.Merged.{places_of, listing, places_as}
 use Rattle.over_list.specs.Turns.{left_in}
 use Rattle.over_list.proofs.Turning.{piece, all_left}
-use borrow.Author.Rules.{rules}
 use Rattle.over_list.proofs.merge_seen.Goals as goal
 
 pub overflow_sub-seen : goal.overflow_sub-seen

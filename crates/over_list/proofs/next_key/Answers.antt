@@ -12,10 +12,8 @@ use Rattle.fields.specs.declared.Order.TheVariants.{Less, More}
 use Rattle.fields.proofs.Choice.{pick_true, pick-false}
 use Rattle.rules.specs.Layout.{decode_rec}
 use Rattle.table_read.proofs.Reading.{rec-fits}
-use borrow.Author.Rules.{rules}
 use Rattle.over_list.proofs.next_key.Goals as goal
 
--- `over_list::next_key` meets its contract: a side at its end, or the order of the two keys. Assumes nothing.
 module _ (a a_end b b_end : ℕ) (x : Order) where
   at-end : a ≡ a_end → More ≡ pick (eqb a a_end) More (pick (eqb b b_end) Less x)
   at-end e = sym (pick_true (eqb a a_end) More (pick (eqb b b_end) Less x) (eq-eqb a a_end e))

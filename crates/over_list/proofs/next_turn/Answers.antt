@@ -13,10 +13,8 @@ use Rattle.table.specs.Places.{rec_at}
 use Rattle.over_list.specs.Merged.{over_place}
 use Rattle.over_list.specs.Turns.{next_key, turn_as, both_turn, turn_of}
 use Rattle.over_list.specs.declared.Turn.{Turn}
-use borrow.Author.Rules.{rules}
 use Rattle.over_list.proofs.next_turn.Goals as goal
 
--- `over_list::next_turn` meets its contract: by which of the two keys comes next. Assumes nothing.
 -- which side is not at its end
 module _ (a a_end b b_end : ℕ) (x : Order) (p : a ≤ a_end) (q : b ≤ b_end) where
   abbrev next : Order

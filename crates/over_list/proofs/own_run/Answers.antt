@@ -8,10 +8,8 @@ use Rattle.rules.specs.Party.{metering_keys, building_keys, own}
 use Rattle.rules.specs.declared.Party.{Party}
 use Rattle.prefix.specs.Run.{RunOf}
 use Rattle.over_list.specs.Turns.{PassIn}
-use borrow.Author.Rules.{rules}
 use Rattle.over_list.proofs.own_run.Goals as goal
 
--- `over_list::own_run` meets its contract: the run of the party's own keys. Assumes nothing.
 -- a run is of the keys that begin so
 passes : (k b : List ℕ) (start end : ℕ) → RunOf k b start end → PassIn (starts_with k) b start end
 passes k b start end r =

@@ -9,10 +9,8 @@ use Rattle.rules.specs.declared.Profile.{Profile}
 use Rattle.rules.specs.declared.Party.{Party}
 use Rattle.table.specs.Tests.{count_of}
 use Rattle.over_list.specs.Turns.{PassIn}
-use borrow.Author.Rules.{rules}
 use Rattle.over_list.proofs.seen_run.Goals as goal
 
--- `over_list::seen_run` meets its contract: all records, or in a shared table the party's own. Assumes nothing.
 all_pass : (f : List ℕ → Bool) (b : List ℕ) (n : ℕ) → n ≡ count_of b → ((k : List ℕ) → f k ≡ true) → PassIn f b 0 n
 all_pass f b n e h =
     record { order = omega arith; inside = omega arith; before = λ j i. absurd (omega arith); within = λ j i g. h _; behind = λ j i g. absurd (omega arith) }

@@ -5,10 +5,8 @@ use mathlib.Core.Bool.{Bool, true, false, not, true≢false, false≢true}
 use Rattle.fields.specs.Choice.{pick}
 use Rattle.rules.specs.Node.{hidden}
 use Rattle.table.specs.Places.{rec_at}
-use borrow.Author.Rules.{rules}
 use Rattle.over_list.proofs.shown_once.Goals as goal
 
--- `over_list::shown_once` meets its contract. Assumes nothing.
 one : (t : Bool) → not t ≡ true → ◌≡◌ {A = ℕ} 1 (pick t 0 1)
 one true e = absurd (false≢true e)
 one false e = refl

@@ -8,7 +8,6 @@ use Rattle.local_node.specs.Writes.{call_of}
 use Rattle.overrides.specs.Overrides.{called}
 use Rattle.overrides.proofs.Valid.{over-laid, over-rises}
 use Rattle.overrides.proofs.Calls.{bad-overrides, good-overrides}
-use borrow.Author.Rules.{rules}
 use Rattle.overrides.proofs.call.Goals as goal
 
 pub write_node-requires : goal.write_node-requires

@@ -2,10 +2,8 @@
 use mathlib.Core.Path.{sym, ◌∙◌}
 use Rattle.fields.proofs.Numbers.{at-bytes}
 use Rattle.overrides.proofs.Valid.{length-stops, node-decides}
-use borrow.Author.Rules.{rules}
 use Rattle.overrides.proofs.check_overrides.Goals as goal
 
--- `overrides::check_overrides` meets its contract: the length, then the tests of a node's bytes. Assumes nothing.
 pub returns-then-overrides-ne-NODE : goal.returns-then-overrides-ne-NODE
 returns-then-overrides-ne-NODE c =
     length-stops _ c.if-overrides-ne-NODE.true

@@ -7,7 +7,6 @@ use Rattle.rules.proofs.Unique.{tells}
 use Rattle.overrides.specs.Overrides.{cleaned}
 use Rattle.overrides.proofs.Valid.{over-laid}
 use Rattle.overrides.proofs.Calls.{bad-overrides, good-overrides}
-use borrow.Author.Rules.{rules}
 use Rattle.overrides.proofs.remove_overrides.Goals as goal
 
 pub remove_due-requires : goal.remove_due-requires

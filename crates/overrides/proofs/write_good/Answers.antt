@@ -1,7 +1,6 @@
 -- `overrides::write_good` meets its contract: the call that the wanted status asks for, or 10. Assumes nothing.
 use Rattle.overrides.proofs.Valid.{over-laid, over-rises}
 use Rattle.overrides.proofs.Calls.{set_gives, ttl-gives, tag-gives}
-use borrow.Author.Rules.{rules}
 use Rattle.overrides.proofs.write_good.Goals as goal
 
 pub write_node-requires : goal.write_node-requires

@@ -7,7 +7,6 @@ use Rattle.rules.specs.declared.Refusal.TheVariants.{BadTable}
 use Rattle.rules.proofs.Unique.{tells}
 use Rattle.overrides.specs.Overrides.{written}
 use Rattle.overrides.proofs.Calls.{bad-overrides, good-overrides}
-use borrow.Author.Rules.{rules}
 use Rattle.overrides.proofs.write_override.Goals as goal
 
 pub write_good-requires : goal.write_good-requires

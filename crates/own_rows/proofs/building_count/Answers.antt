@@ -1,21 +1,16 @@
 -- `own_rows::building_count` meets its contract: where the records of the two part lies from `low` up to `high`. Assumes nothing.
-use Prim.Native.Nat.{ℕ, ◌+◌, ◌-◌, ◌/◌, ◌≤◌, ◌<◌}
+use Prim.Native.Nat.{ℕ, ◌+◌, ◌/◌, ◌≤◌, ◌<◌}
 use mathlib.Core.Path.{◌≡◌, sym, ap, ◌∙◌}
 use mathlib.Core.List.{List}
 use native.Mathlib.Omega.{arith}
-use lib.ListN.{length}
 use Rattle.fields.specs.Numbers.{nat_of}
 use Rattle.fields.specs.Parts.{part}
 use Rattle.fields.specs.Widths.{offset}
 use Rattle.rules.specs.Layout.{rec_widths, rec_place}
-use Rattle.rules.specs.Party.{own, of_keys}
-use Rattle.rules.specs.declared.Party.TheVariants.{Building}
 use Rattle.table.specs.Tests.{count_of, recs_in}
 use Rattle.table.proofs.Places.{length-recs}
-use borrow.Author.Rules.{rules}
 use Rattle.own_rows.proofs.First.{both-counted, left-of, right_of}
 use Rattle.own_rows.proofs.building_count.Goals as goal
-use Rattle.own_rows.proofs.building_count.Invariants.{parts}
 
 halved : (a b : ℕ) → a < b → (a ≤ (a + b) / 2) × ((a + b) / 2 < b)
 halved a b h = (omega arith, omega arith)

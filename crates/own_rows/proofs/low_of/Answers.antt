@@ -8,7 +8,6 @@ use Rattle.rules.specs.declared.Profile.{Profile}
 use Rattle.rules.specs.declared.Party.{Party}
 use Rattle.table.specs.Tests.{recs_in}
 use Rattle.own_rows.specs.Sight.{sight_in}
-use borrow.Author.Rules.{rules}
 use Rattle.own_rows.proofs.low_of.Goals as goal
 
 -- by the profile

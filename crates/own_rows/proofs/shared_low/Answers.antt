@@ -4,7 +4,6 @@ use mathlib.Core.List.{List}
 use Rattle.rules.specs.Node.{Rec}
 use Rattle.rules.specs.declared.Party.{Party}
 use Rattle.own_rows.specs.Sight.{shared_sight}
-use borrow.Author.Rules.{rules}
 use Rattle.own_rows.proofs.shared_low.Goals as goal
 
 -- by the party

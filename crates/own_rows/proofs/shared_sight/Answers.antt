@@ -12,7 +12,6 @@ use Rattle.table.specs.Tests.{recs_in}
 use Rattle.table.proofs.Places.{length-recs}
 use Rattle.own_rows.specs.Sight.{sight, shared_sight}
 use Rattle.own_rows.proofs.First.{both-counted}
-use borrow.Author.Rules.{rules}
 use Rattle.own_rows.proofs.shared_sight.Goals as goal
 
 -- by the party

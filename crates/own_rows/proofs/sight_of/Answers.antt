@@ -9,7 +9,6 @@ use Rattle.rules.specs.declared.Party.{Party}
 use Rattle.table.specs.Tests.{recs_in}
 use Rattle.table.proofs.Places.{length-recs}
 use Rattle.own_rows.specs.Sight.{sight, sight_in}
-use borrow.Author.Rules.{rules}
 use Rattle.own_rows.proofs.sight_of.Goals as goal
 
 -- by the profile

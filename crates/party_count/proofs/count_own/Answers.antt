@@ -1,5 +1,5 @@
 -- `party_count::count_own` meets its contract: those counted and those that are left are all. Assumes nothing.
-use Prim.Native.Nat.{ℕ, ◌+◌, ◌-◌, ◌≤◌, ◌<◌}
+use Prim.Native.Nat.{ℕ, ◌+◌, ◌≤◌, ◌<◌}
 use mathlib.Core.Bool.{Bool, true, false}
 use mathlib.Core.List.{List, ◌∷◌}
 use mathlib.Core.Logic.{⊎_elim}
@@ -8,7 +8,6 @@ use native.Mathlib.Nat.{zero-add}
 use native.Mathlib.Numerals.{add-one}
 use native.Mathlib.Omega.{arith}
 use lib.ListN.{length, drop, drop_of_length-le}
-use borrow.Author.Rules.{rules}
 use Rattle.fields.specs.Choice.{pick, keep}
 use Rattle.fields.proofs.Choice.{pick_true, pick-false}
 use Rattle.rules.specs.Layout.{decode_rec}

@@ -1,7 +1,6 @@
 -- `party_form::is_someones` meets its contract. Assumes nothing.
 use mathlib.Core.Bool.{Bool, true}
 use mathlib.Core.Path.{◌∙◌, ap, sym}
-use borrow.Author.Rules.{rules}
 use Rattle.fields.specs.Choice.{pick}
 use Rattle.rules.specs.Party.{own}
 use Rattle.rules.specs.declared.Party.TheVariants.{Building}

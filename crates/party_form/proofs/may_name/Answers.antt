@@ -1,6 +1,5 @@
 -- `party_form::may_name` meets its contract. Assumes nothing.
 use mathlib.Core.Path.{◌∙◌, ap, sym}
-use borrow.Author.Rules.{rules}
 use Rattle.rules.specs.Party.{sees}
 use Rattle.rules.specs.declared.Profile.{Profile}
 use Rattle.party_form.proofs.may_name.Goals as goal

@@ -1,6 +1,5 @@
 -- `party_form::owns` meets its contract. Assumes nothing.
 use mathlib.Core.Path.{◌∙◌, ap, sym}
-use borrow.Author.Rules.{rules}
 use Rattle.rules.specs.Party.{own}
 use Rattle.rules.specs.declared.Party.{Party}
 use Rattle.party_form.proofs.owns.Goals as goal

@@ -10,7 +10,6 @@ use Rattle.grid.specs.Grid.{add_column}
 use Rattle.grid.specs.GridLayout.{decode_grid, encode_grid}
 use Rattle.grid.specs.LentGrid.{both, lent_column_in}
 use Rattle.peers.proofs.Watching.{both-grid, both-table, no, with-column, without-column}
-use borrow.Author.Rules.{rules}
 use Rattle.peers.proofs.add_node.Goals as goal
 
 pub add_known-requires : goal.add_known-requires

@@ -1,17 +1,13 @@
 -- `peers::bounds_of` meets its contract: one column after the other. Assumes nothing.
-use Prim.Native.Nat.{ℕ, ◌-◌, ◌<◌, ◌≤◌}
-use mathlib.Core.Path.{◌≡◌, ◌∙◌, ap, refl}
+use mathlib.Core.Path.{◌∙◌, ap, refl}
 use native.Mathlib.Omega.{arith}
-use lib.ListN.{length, get_or, length-set}
-use Rattle.fields.specs.Parts.{part}
+use lib.ListN.{length, length-set}
 use Rattle.fields.proofs.Lent.{seen}
 use Rattle.fields.proofs.Parts.{length_part}
-use Rattle.rules.specs.Sizes.{max_nodes}
 use Rattle.grid.specs.Grid.{least_of, max_peers, maxes_at}
 use Rattle.grid.specs.GridLayout.{decode_grid, rows_in, rows_width}
 use Rattle.grid.proofs.GridBytes.{good-grid}
 use Rattle.peers.proofs.Watching.{bound-is, more-bounds}
-use borrow.Author.Rules.{rules}
 use Rattle.peers.proofs.bounds_of.Goals as goal
 
 pub slice_bounds-read_rows-end : goal.slice_bounds-read_rows-end

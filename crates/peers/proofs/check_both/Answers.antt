@@ -2,7 +2,6 @@
 use mathlib.Core.Path.{◌∙◌, sym}
 use Rattle.table_check.proofs.Entry.{area-good, area-long}
 use Rattle.peers.proofs.Watching.{fit-decides, no-grid, no_table}
-use borrow.Author.Rules.{rules}
 use Rattle.peers.proofs.check_both.Goals as goal
 
 pub slice_bounds-columns_fit-end : goal.slice_bounds-columns_fit-end

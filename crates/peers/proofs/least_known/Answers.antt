@@ -12,7 +12,6 @@ use Rattle.grid.specs.GridLayout.{row_in, row_width, rows_in, rows_width}
 use Rattle.grid.proofs.GridBytes.{good-grid}
 use Rattle.grid_change.proofs.Storing.{few}
 use Rattle.peers.proofs.Watching.{least-found, least-missing, least-nobody, present-is}
-use borrow.Author.Rules.{rules}
 use Rattle.peers.proofs.least_known.Goals as goal
 
 pub slice_bounds-somebody-end : goal.slice_bounds-somebody-end

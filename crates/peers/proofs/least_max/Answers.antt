@@ -5,7 +5,6 @@ use Rattle.rules.specs.declared.Refusal.TheVariants.{BadTable}
 use Rattle.grid.specs.GridLayout.{decode_grid, valid_grid}
 use Rattle.grid.specs.LentGrid.{least_in, least_told, lent_least}
 use Rattle.grid.specs.declared.Least.TheVariants as least
-use borrow.Author.Rules.{rules}
 use Rattle.peers.proofs.least_max.Goals as goal
 
 pub least_known-requires : goal.least_known-requires

@@ -14,10 +14,8 @@ use Rattle.table_check.proofs.Entry.{area-good, area-long}
 use Rattle.grid.specs.GridLayout.{grid_width}
 use Rattle.grid.specs.LentGrid.{lent_new_grid}
 use Rattle.peers.proofs.Watching.{no, no_room, nothing-behind, yes}
-use borrow.Author.Rules.{rules}
 use Rattle.peers.proofs.new_grid.Goals as goal
 
--- `peers::new_grid` meets its contract: the length, the table, and the grid of its nodes. Assumes nothing.
 pub returns-then-grid-ne-GRID : goal.returns-then-grid-ne-GRID
 unfolding lent_new_grid
 returns-then-grid-ne-GRID c =

@@ -19,7 +19,6 @@ use Rattle.grid.specs.GridLayout.{decode_grid}
 use Rattle.grid.specs.LentGrid.{carefully_removed, lent_careful}
 use Rattle.grid.proofs.GridBytes.{good-grid}
 use Rattle.peers.proofs.Watching.{both-fit, both-grid, both-table, no, present-is, yes}
-use borrow.Author.Rules.{rules}
 use Rattle.peers.proofs.remove_carefully.Goals as goal
 
 pub slice_bounds-somebody-end : goal.slice_bounds-somebody-end

@@ -4,10 +4,8 @@ use Rattle.rules.specs.Layout.{decode, encode}
 use Rattle.table.proofs.Tables.{table-obeys, valid-laid, valid-obeys}
 use Rattle.grid.specs.GridLayout.{decode_grid}
 use Rattle.peers.proofs.Watching.{careful-within}
-use borrow.Author.Rules.{rules}
 use Rattle.peers.proofs.remove_known.Goals as goal
 
--- `peers::remove_known` meets its contract: the bound of each column is that of its node. Assumes nothing.
 pub bounds_of-requires : goal.bounds_of-requires
 bounds_of-requires c =
     c.requires.0

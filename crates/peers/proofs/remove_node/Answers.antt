@@ -10,7 +10,6 @@ use Rattle.grid.specs.Grid.{drop_column}
 use Rattle.grid.specs.GridLayout.{decode_grid, encode_grid}
 use Rattle.grid.specs.LentGrid.{both, lent_column_out}
 use Rattle.peers.proofs.Watching.{both-grid, both-table, no, with-column, without-column}
-use borrow.Author.Rules.{rules}
 use Rattle.peers.proofs.remove_node.Goals as goal
 
 pub remove_known-requires : goal.remove_known-requires

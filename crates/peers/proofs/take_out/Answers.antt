@@ -9,7 +9,6 @@ use Rattle.rules.specs.declared.Refusal.TheVariants.{BadPeer, BadTable}
 use Rattle.grid.specs.Grid.{max_peers}
 use Rattle.grid.specs.LentGrid.{lent_take_out}
 use Rattle.peers.proofs.Watching.{no, yes}
-use borrow.Author.Rules.{rules}
 use Rattle.peers.proofs.take_out.Goals as goal
 
 pub take_out_row-requires : goal.take_out_row-requires

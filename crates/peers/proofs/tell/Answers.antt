@@ -9,7 +9,6 @@ use Rattle.rules.specs.declared.Refusal.TheVariants.{BadPeer, BadTable}
 use Rattle.grid.specs.Grid.{max_peers}
 use Rattle.grid.specs.LentGrid.{lent_tell}
 use Rattle.peers.proofs.Watching.{no, yes}
-use borrow.Author.Rules.{rules}
 use Rattle.peers.proofs.tell.Goals as goal
 
 pub tell_known-requires : goal.tell_known-requires

@@ -6,7 +6,6 @@ use Rattle.digest_read.specs.declared.Digest.{Digest}
 use Rattle.digest_read.proofs.Reading.{read-nodes, read-refused}
 use Rattle.digest_read.proofs.Values.{same-digest}
 use Rattle.peers.proofs.Watching.{told_entries, told-refused}
-use borrow.Author.Rules.{rules}
 use Rattle.peers.proofs.tell_known.Goals as goal
 
 pub returns-in-Nodes : goal.returns-in-Nodes

@@ -5,7 +5,6 @@ use Rattle.rules.specs.declared.Refusal.TheVariants.{BadTable}
 use Rattle.grid.specs.GridLayout.{decode_grid, valid_grid}
 use Rattle.grid.specs.LentGrid.{seen_in, seen_told, lent_seen}
 use Rattle.grid.specs.declared.Seen.TheVariants as seen
-use borrow.Author.Rules.{rules}
 use Rattle.peers.proofs.told.Goals as goal
 
 pub told_known-requires : goal.told_known-requires

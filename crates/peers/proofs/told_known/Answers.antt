@@ -10,10 +10,8 @@ use Rattle.grid.specs.declared.Seen.TheVariants as answer
 use Rattle.grid.proofs.GridBytes.{good-grid}
 use Rattle.grid_change.proofs.Storing.{few}
 use Rattle.peers.proofs.Watching.{no-column, no-peer, pair-absent, pair-there}
-use borrow.Author.Rules.{rules}
 use Rattle.peers.proofs.told_known.Goals as goal
 
--- `peers::told_known` meets its contract: 21, 2, the pair, or absent. Assumes nothing.
 pub returns-then-peer-ge8 : goal.returns-then-peer-ge8
 returns-then-peer-ge8 c =
     no-peer c.args.grid.now c.args.peer c.args.number c.if-peer-ge8.true

@@ -10,7 +10,6 @@ use Rattle.table_read.specs.declared.Place.TheVariants.{At}
 use Rattle.digest_read.specs.Held.{entries_in}
 use Rattle.compute.proofs.Behind.{told-level, told-stale}
 use Rattle.plan_lines.proofs.Placed.{found_in, is-left-out, is-level, is-missing, is-named, is-weighed}
-use borrow.Author.Rules.{rules}
 use Rattle.plan_lines.proofs.judge_line.Goals as goal
 
 pub find_node-requires : goal.find_node-requires

@@ -2,9 +2,7 @@
 use Prim.Native.Nat.{◌+◌, ◌-◌, ◌≤◌}
 use mathlib.Core.Path.{◌∙◌, ◌≡◌, refl, sym}
 use native.Mathlib.Omega.{arith}
-use lib.ListN.{length}
 use lib.Seq.{length-take-le}
-use borrow.Author.Rules.{rules}
 use Rattle.rules.specs.Layout.{decode}
 use Rattle.digest_read.specs.Held.{entries_in}
 use Rattle.plan_lines.proofs.Turns.{all_lines, at-fault, from-line, line-good, lone-count, lone-node, no_line}

@@ -1,15 +1,12 @@
-use Prim.Native.Nat.{◌+◌, ◌-◌, ◌≤◌}
-use mathlib.Core.Path.{◌∙◌, ◌≡◌, refl, sym}
-use native.Mathlib.Omega.{arith}
+-- `plan_lines::judge_lines` meets its contract: what the lines from j on come to is what all come to. Assumes nothing.
+use Prim.Native.Nat.{◌-◌, ◌≤◌}
+use mathlib.Core.Path.{◌≡◌}
 use lib.ListN.{length}
-use lib.Seq.{length-take-le}
-use borrow.Author.Rules.{rules}
 use Rattle.rules.specs.Layout.{decode}
 use Rattle.digest_read.specs.Held.{entries_in}
-use Rattle.plan_lines.proofs.Turns.{all_lines, at-fault, from-line, line-good, lone-count, lone-node, no_line}
+use Rattle.plan_lines.proofs.Turns.{from-line}
 use Rattle.plan_lines.proofs.judge_lines.Given as goal
 
--- `plan_lines::judge_lines` meets its contract: what the lines from j on come to is what all come to. Assumes nothing.
 abbrev pub invariant-loop-j : goal.invariant-loop-j
 invariant-loop-j l = (l.j ≤ length l.nodes) × (from-line l.excluded (entries_in l.digest) (decode l.table) l.nodes l.counts l.j l.left ≡ from-line l.excluded (entries_in l.digest) (decode l.table) l.nodes l.counts 0 l.mtu)
 

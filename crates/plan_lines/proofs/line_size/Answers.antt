@@ -14,18 +14,14 @@ use Rattle.plan_lines.specs.declared.Above.{Above}
 use Rattle.plan_lines.proofs.First.{all-low, all-size}
 use Rattle.plan_lines.proofs.Placed.{line-are}
 use Rattle.plan_lines.proofs.Placed as placed
-use borrow.Author.Rules.{rules}
 use Rattle.plan_lines.proofs.line_size.Goals as goal
 
--- `plan_lines::line_size` meets its contract: of all stale records the sum, of a part of them those in order. Assumes nothing.
--- src/lib.rt:111:20
 pub overflow_add-result : goal.overflow_add-result
 overflow_add-result c =
     let b : c.args.all.bytes ≡ _ = ap (λ (x : Above). x.bytes) c.requires.2 in
     let l = all-low c.args.table.now c.requires.0 c.args.p c.requires.1 c.args.from in
     omega (arith, b, l)
 
--- src/lib.rt:111:13
 pub returns-then-count-all : goal.returns-then-count-all
 returns-then-count-all c =
     let a = c.args in
@@ -33,12 +29,10 @@ returns-then-count-all c =
     ap (λ (x : Above). 25 + x.bytes) all
     ∙ all-size (decode a.table.now) a.p a.from a.count c.if-count-gt0.true (c.if-count-all.true ∙ ap (λ (x : Above). x.count) all)
 
--- src/lib.rt:114:9
 pub stale_places-stale-requires : goal.stale_places-stale-requires
 stale_places-stale-requires c =
     (node-long c.args.table.now c.requires.0 _ c.requires.1 _ c.node_of.ensures, count_low c.args.table.now c.requires.0 _ c.requires.1 _ c.node_of.ensures)
 
--- src/lib.rt:116:5
 pub size_of-requires : goal.size_of-requires
 size_of-requires c =
     let l = c.args.table.now in
@@ -53,7 +47,6 @@ size_of-requires c =
       stale-within l c.requires.0 c.args.p c.requires.1 _ c.node_of.ensures c.args.from _ c.stale_places-stale.ensures,
     )
 
--- src/lib.rt:104:1
 pub returns : goal.returns
 returns c =
     c.size_of.ensures

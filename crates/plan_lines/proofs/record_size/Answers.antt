@@ -15,7 +15,6 @@ use Rattle.table_read.proofs.Located.{lent-node, lent-record, lent-text, record_
 use Rattle.table_read.specs.Find.{entry_at}
 use Rattle.compute_write.specs.Sending.{record_at}
 use Rattle.plan_lines.proofs.First.{record-low}
-use borrow.Author.Rules.{rules}
 use Rattle.plan_lines.proofs.record_size.Goals as goal
 
 abbrev Texts : Bytes → Type 0

@@ -1,41 +1,34 @@
 -- `plan_lines::size_of` meets its contract: what is summed and what is left are the line's bytes. Assumes nothing.
-use Prim.Native.Nat.{ℕ, ◌+◌, ◌*◌, ◌-◌, ◌≤◌, ◌<◌}
+use Prim.Native.Nat.{ℕ, ◌-◌, ◌≤◌, ◌<◌}
 use mathlib.Core.List.{List}
 use mathlib.Core.Path.{◌∙◌, ◌≡◌, ap, refl, subst, sym}
 use native.Mathlib.Omega.{arith}
 use lib.ListN.{get_or, length, take}
-use borrow.Author.Rules.{rules}
 use Rattle.rules.specs.Delta.{delta_bytes}
 use Rattle.rules.specs.Layout.{decode}
-use Rattle.table_read.specs.Find.{entry_at}
 use Rattle.compute_stale.proofs.Arranged.{listed_in, listed-lower}
-use Rattle.compute_stale.specs.Arranged.{AllBelow, listed}
+use Rattle.compute_stale.specs.Arranged.{listed}
 use Rattle.plan_lines.specs.Lines.{records_at}
 use Rattle.plan_lines.proofs.First.{count-taken, next-record, next-taken, no_record, no_size, none-taken, record-low, some_size}
 use Rattle.plan_lines.proofs.size_of.Goals as goal
 
--- src/lib.rt:55:9
 pub returns-then-count-eq0 : goal.returns-then-count-eq0
 returns-then-count-eq0 c =
     let a = c.args in
     sym (no_size (decode a.table.now) a.p a.from (take a.count (listed a.n a.at.now)) (count-taken a.count a.n a.at.now c.requires.4 ∙ c.if-count-eq0.true))
 
--- src/lib.rt:58:15
 pub overflow_sub-end : goal.overflow_sub-end
 overflow_sub-end c =
     c.requires.4
 
--- src/lib.rt:60:5
 pub loop-k-init : goal.loop-k-init
 loop-k-init c =
     (omega arith, omega arith, omega arith, c.requires.5, refl)
 
--- src/lib.rt:63:17
 pub record_size-size-requires : goal.record_size-size-requires
 record_size-size-requires c =
     (c.requires.0, c.requires.1, c.loop-k.invariant.3 _ (listed_in c.loop-k.k c.args.at.now (omega arith)))
 
--- src/lib.rt:63:9
 pub overflow_add-size : goal.overflow_add-size
 overflow_add-size c =
     let size_low : c.record_size-size.result ≤ 110 = let inside = c.loop-k.invariant.3 _ (listed_in c.loop-k.k c.args.at.now (omega arith)) in
@@ -45,7 +38,6 @@ overflow_add-size c =
     let q = c.requires in
     omega (arith, s, v, q.3)
 
--- src/lib.rt:60:5
 pub loop-k-preserved : goal.loop-k-preserved
 loop-k-preserved c =
     let size_low : c.record_size-size.result ≤ 110 = let inside = c.loop-k.invariant.3 _ (listed_in c.loop-k.k c.args.at.now (omega arith)) in
@@ -65,7 +57,6 @@ loop-k-preserved c =
       omega (arith, rest, own, sum),
     )
 
--- src/lib.rt:49:1
 pub returns : goal.returns
 returns c =
     let a = c.args in

@@ -1,19 +1,14 @@
-use Prim.Native.Nat.{ℕ, ◌+◌, ◌*◌, ◌-◌, ◌≤◌, ◌<◌}
-use mathlib.Core.List.{List}
-use mathlib.Core.Path.{◌∙◌, ◌≡◌, ap, refl, subst, sym}
-use native.Mathlib.Omega.{arith}
-use lib.ListN.{get_or, length, take}
-use borrow.Author.Rules.{rules}
+-- `plan_lines::size_of` meets its contract: what is summed and what is left are the line's bytes. Assumes nothing.
+use Prim.Native.Nat.{◌+◌, ◌*◌, ◌-◌, ◌≤◌}
+use mathlib.Core.Path.{◌≡◌}
+use lib.ListN.{length, take}
 use Rattle.rules.specs.Delta.{delta_bytes}
 use Rattle.rules.specs.Layout.{decode}
 use Rattle.table_read.specs.Find.{entry_at}
-use Rattle.compute_stale.proofs.Arranged.{listed_in, listed-lower}
 use Rattle.compute_stale.specs.Arranged.{AllBelow, listed}
 use Rattle.plan_lines.specs.Lines.{records_at}
-use Rattle.plan_lines.proofs.First.{count-taken, next-record, next-taken, no_record, no_size, none-taken, record-low, some_size}
 use Rattle.plan_lines.proofs.size_of.Given as goal
 
--- `plan_lines::size_of` meets its contract: what is summed and what is left are the line's bytes. Assumes nothing.
 abbrev pub invariant-loop-k : goal.invariant-loop-k
 invariant-loop-k l = (l.k ≤ l.n)
     × (l.end ≤ l.k)

@@ -9,23 +9,19 @@ use Rattle.table_read.proofs.Located.{lent-node, lent-record, lent-text, record_
 use Rattle.table_read.specs.Find.{entry_at}
 use Rattle.plan_lines.proofs.version_at.Goals as goal
 
--- src/lib.rt:80:30
 pub node_of-requires : goal.node_of-requires
 node_of-requires c =
     lent-node c.args.table.now c.requires.0 c.args.p c.requires.1
 
--- src/lib.rt:80:9
 pub record_of-b-requires : goal.record_of-b-requires
 record_of-b-requires c =
     lent-record c.args.table.now c.requires.0 c.args.p c.requires.1 _ c.node_of.ensures c.args.q c.requires.2
 
--- src/lib.rt:81:5
 pub read_u64-requires : goal.read_u64-requires
 read_u64-requires c =
     let t = lent-text c.args.table.now c.requires.0 c.args.p c.requires.1 _ c.node_of.ensures c.args.q c.requires.2 _ c.record_of-b.ensures in
     omega (arith, t.0)
 
--- src/lib.rt:76:1
 pub returns : goal.returns
 unfolding decode_rec
 returns c =

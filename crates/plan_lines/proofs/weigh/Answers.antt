@@ -12,7 +12,6 @@ use Rattle.plan_lines.specs.Lines.{line_at}
 use Rattle.plan_lines.specs.declared.Above.{Above}
 use Rattle.plan_lines.specs.declared.Line.TheVariants as line
 use Rattle.plan_lines.proofs.Placed.{it-fits, no-fit, too_few, too_many}
-use borrow.Author.Rules.{rules}
 use Rattle.plan_lines.proofs.weigh.Goals.{then-count-eq0+else-n-ne0, else-count-eq0}
 use Rattle.plan_lines.proofs.weigh.Goals as goal
 

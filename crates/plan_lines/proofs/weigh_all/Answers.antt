@@ -1,11 +1,10 @@
 -- `plan_lines::weigh_all` meets its contract: those summed and those that are left are all. Assumes nothing.
-use Prim.Native.Nat.{ℕ, ◌+◌, ◌*◌, ◌-◌, ◌≤◌, ◌<◌}
+use Prim.Native.Nat.{ℕ, ◌+◌, ◌≤◌, ◌<◌}
 use mathlib.Core.List.{List, []}
 use mathlib.Core.Path.{◌∙◌, ◌≡◌, ap, subst, sym}
 use native.Mathlib.Nat.{zero-add}
 use native.Mathlib.Omega.{arith}
 use lib.ListN.{get_or, length}
-use borrow.Author.Rules.{rules}
 use Rattle.rules.specs.Delta.{KeyValueOp, size_of}
 use Rattle.rules.specs.Layout.{decode, decode_rec}
 use Rattle.rules.specs.Node.{Rec}

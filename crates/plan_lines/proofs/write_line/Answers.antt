@@ -19,7 +19,6 @@ use Rattle.plan_lines.specs.Lines.{line_at, records_at, taken}
 use Rattle.plan_lines.proofs.First.{taken-first, taken-low}
 use Rattle.plan_lines.proofs.Placed as placed
 use Rattle.plan_lines.proofs.Sums.{one-first, rest-long, rest-room, rest-written}
-use borrow.Author.Rules.{rules}
 use Rattle.plan_lines.proofs.write_line.Goals as goal
 
 pub returns-in_default : goal.returns-in_default

@@ -1,10 +1,9 @@
 -- `plan_lines::write_lines` meets its contract: the lines that are left, behind those that are written, have the whole's outcome. Assumes nothing.
-use Prim.Native.Nat.{◌+◌, ◌-◌, ◌≤◌}
+use Prim.Native.Nat.{◌+◌, ◌≤◌}
 use mathlib.Core.List.{List, ◌++◌}
 use mathlib.Core.Path.{◌∙◌, ap, subst}
 use native.Mathlib.Omega.{arith}
 use lib.ListN.{drop, get_or, length, length-append}
-use borrow.Author.Rules.{rules}
 use Rattle.rules.specs.Compute.{StaleNode}
 use Rattle.rules.specs.Delta.{Op, delta_bytes}
 use Rattle.rules.specs.Layout.{decode}

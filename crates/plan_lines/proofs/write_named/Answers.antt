@@ -14,7 +14,6 @@ use Rattle.compute.specs.Lined.{at_front}
 use Rattle.compute_write.proofs.Steps.{gives_as}
 use Rattle.plan_lines.proofs.Placed.{found_in, named-level, named-missing, named-stale}
 use Rattle.plan_lines.proofs.Sums.{sent-none, sent-whole}
-use borrow.Author.Rules.{rules}
 use Rattle.plan_lines.proofs.write_named.Goals as goal
 
 pub find_node-requires : goal.find_node-requires

@@ -16,7 +16,6 @@ use Rattle.table_read.specs.Find.{entry_at}
 use Rattle.record_write.proofs.Words.{record-width}
 use Rattle.delta_write.proofs.Fronts.{fits, no-fit}
 use Rattle.compute_write.specs.Sending.{record_at}
-use borrow.Author.Rules.{rules}
 use Rattle.plan_lines.proofs.write_record.Goals as goal
 
 abbrev Texts : Bytes → Type 0

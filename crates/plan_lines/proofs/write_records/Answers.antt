@@ -1,15 +1,13 @@
 -- `plan_lines::write_records` meets its contract: what is left to be written, behind what has been, has the whole's outcome. Assumes nothing.
-use Prim.Native.Nat.{◌+◌, ◌-◌, ◌≤◌}
+use Prim.Native.Nat.{◌+◌, ◌-◌}
 use mathlib.Core.List.{List, ◌∷◌}
 use native.Mathlib.Omega.{arith}
-use lib.ListN.{get_or, length, take}
-use borrow.Author.Rules.{rules}
+use lib.ListN.{get_or, take}
 use Rattle.rules.specs.Delta.{KeyValueOp, Op}
 use Rattle.rules.specs.Layout.{decode}
 use Rattle.rules.specs.Table.{Table}
-use Rattle.table_read.specs.Find.{entry_at}
 use Rattle.compute_stale.proofs.Arranged.{listed_in, listed-lower}
-use Rattle.compute_stale.specs.Arranged.{AllBelow, listed}
+use Rattle.compute_stale.specs.Arranged.{listed}
 use Rattle.compute_write.proofs.Steps.{Reached, Writing, all-written, at_first, back, left_is, op-written, record-unfit, unfit-long, writing}
 use Rattle.compute_write.specs.Sending.{record_at}
 use Rattle.plan_lines.specs.Lines.{records_at}

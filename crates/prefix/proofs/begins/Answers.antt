@@ -5,10 +5,8 @@ use mathlib.Core.List.{List}
 use Rattle.fields.specs.Order.{starts_with}
 use Rattle.rules.specs.Layout.{decode_rec}
 use Rattle.table_read.proofs.Reading.{lent-rec-needs, rec-fits}
-use borrow.Author.Rules.{rules}
 use Rattle.prefix.proofs.begins.Goals as goal
 
--- `prefix::begins` meets its contract: the key that was read is the record's. Assumes nothing.
 pub record_of-requires : goal.record_of-requires
 record_of-requires c =
     search lent-rec-needs

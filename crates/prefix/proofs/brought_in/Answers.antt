@@ -6,7 +6,6 @@ use Rattle.fields.specs.Choice.{pick}
 use Rattle.fields.proofs.Choice.{pick_true, pick-false}
 use Rattle.prefix.proofs.brought_in.Goals as goal
 
--- `prefix::brought_in` meets its contract. Assumes nothing.
 pub returns-then-j-low : goal.returns-then-j-low
 returns-then-j-low c =
     let a = c.args in

@@ -12,7 +12,6 @@ use Rattle.table.specs.Tests.{recs_in}
 use Rattle.table_read.proofs.Reading.{short-fills, long-fills}
 use Rattle.prefix.specs.Run.{shown_in}
 use Rattle.prefix.proofs.Hits.{run-hits, shown-few, shown-many, no_room, all_listed}
-use borrow.Author.Rules.{rules}
 use Rattle.prefix.proofs.in_node.Goals as goal
 
 pub returns-then-prefix-gt-KEY : goal.returns-then-prefix-gt-KEY

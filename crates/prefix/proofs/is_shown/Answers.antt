@@ -7,7 +7,6 @@ use Rattle.rules.specs.declared.Status.{Status}
 use Rattle.rules.specs.declared.Status.TheVariants.{Set, Delete, Ttl}
 use Rattle.table_read.proofs.Reading.{lent-rec-needs, rec-fits, rec-read}
 use Rattle.prefix.proofs.Hits.{shown_at}
-use borrow.Author.Rules.{rules}
 use Rattle.prefix.proofs.is_shown.Goals as goal
 
 pub record_of-requires : goal.record_of-requires

@@ -8,7 +8,6 @@ use Rattle.rules.specs.declared.Profile.{Profile}
 use Rattle.table.proofs.Wholes.{area-formed, area-valid, whole_long}
 use Rattle.table_check.proofs.Entry.{area-long}
 use Rattle.prefix.proofs.Seen.{whole-fills}
-use borrow.Author.Rules.{rules}
 use Rattle.prefix.proofs.list_known.Goals as goal
 
 pub profile_of-profile-requires : goal.profile_of-profile-requires

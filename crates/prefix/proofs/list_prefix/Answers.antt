@@ -7,7 +7,6 @@ use Rattle.rules.specs.declared.Listed.TheVariants.{Refused}
 use Rattle.rules.specs.declared.Refusal.TheVariants.{BadTable}
 use Rattle.rules.proofs.Unique.{tells}
 use Rattle.table_read.proofs.Entry.{fill-bad}
-use borrow.Author.Rules.{rules}
 use Rattle.prefix.proofs.list_prefix.Goals as goal
 
 pub list_known-requires : goal.list_known-requires

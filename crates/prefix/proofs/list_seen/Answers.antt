@@ -15,7 +15,6 @@ use Rattle.table_read.proofs.Reading.{lent-node-needs, lent_laid, lent-rises, no
 use Rattle.own_rows.specs.Sight.{seen_held}
 use Rattle.own_rows.proofs.Tables.{lent-formed}
 use Rattle.prefix.proofs.Seen.{piece-within, seen-fills, table-fills}
-use borrow.Author.Rules.{rules}
 use Rattle.prefix.proofs.list_seen.Goals as goal
 
 pub slice_bounds-sight_of-count : goal.slice_bounds-sight_of-count

@@ -2,7 +2,6 @@
 use mathlib.Core.Path.{ap, sym, ◌∙◌}
 use Rattle.inspect.specs.Told.{rows_told}
 use Rattle.table_read.proofs.Entry.{read-bad}
-use borrow.Author.Rules.{rules}
 use Rattle.prefix.proofs.prefix_rows.Goals as goal
 
 pub prefix_rows_known-requires : goal.prefix_rows_known-requires

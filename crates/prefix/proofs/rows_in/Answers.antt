@@ -6,7 +6,6 @@ use Rattle.rules.specs.Layout.{rec_place}
 use Rattle.inspect.specs.declared.Rows.TheVariants.{Are}
 use Rattle.table_read.proofs.Reading.{short-says, long-says}
 use Rattle.prefix.proofs.Counted.{first_counted, run-counted}
-use borrow.Author.Rules.{rules}
 use Rattle.prefix.proofs.rows_in.Goals as goal
 
 pub returns-then-prefix-gt-KEY : goal.returns-then-prefix-gt-KEY

@@ -15,7 +15,6 @@ use Rattle.own_rows.specs.Sight.{seen_held}
 use Rattle.own_rows.proofs.Tables.{lent-formed, seen-stands}
 use Rattle.prefix.specs.Rows.{prefix_rows_on}
 use Rattle.prefix.proofs.Seen.{piece-within, seen-says}
-use borrow.Author.Rules.{rules}
 use Rattle.prefix.proofs.rows_seen.Goals as goal
 
 pub slice_bounds-sight_of-count : goal.slice_bounds-sight_of-count

@@ -1,13 +1,10 @@
 -- `prefix::run_end` meets its contract: a key that begins with the prefix says it of those before it, and one that does not of those behind it. Assumes nothing.
-use Prim.Native.Nat.{ℕ, ◌+◌, ◌-◌, ◌/◌, ◌≤◌, ◌<◌}
-use mathlib.Core.Path.{◌≡◌, sym, ◌∙◌}
-use mathlib.Core.Bool.{true, false}
+use Prim.Native.Nat.{ℕ, ◌+◌, ◌/◌, ◌≤◌, ◌<◌}
+use mathlib.Core.Path.{sym, ◌∙◌}
 use native.Mathlib.Omega.{arith}
-use Rattle.fields.specs.Order.{starts_with}
 use Rattle.table.specs.Tests.{count_of}
 use Rattle.prefix.specs.Run.{key_at}
 use Rattle.prefix.proofs.Run.{early-not, all-before, none-behind}
-use borrow.Author.Rules.{rules}
 use Rattle.prefix.proofs.run_end.Goals as goal
 
 halved : (a b : ℕ) → a < b → (a ≤ (a + b) / 2) × ((a + b) / 2 < b)

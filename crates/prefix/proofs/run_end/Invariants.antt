@@ -1,15 +1,12 @@
-use Prim.Native.Nat.{ℕ, ◌+◌, ◌-◌, ◌/◌, ◌≤◌, ◌<◌}
-use mathlib.Core.Path.{◌≡◌, sym, ◌∙◌}
+-- `prefix::run_end` meets its contract: a key that begins with the prefix says it of those before it, and one that does not of those behind it. Assumes nothing.
+use Prim.Native.Nat.{ℕ, ◌-◌, ◌≤◌, ◌<◌}
+use mathlib.Core.Path.{◌≡◌}
 use mathlib.Core.Bool.{true, false}
-use native.Mathlib.Omega.{arith}
 use Rattle.fields.specs.Order.{starts_with}
 use Rattle.table.specs.Tests.{count_of}
 use Rattle.prefix.specs.Run.{key_at}
-use Rattle.prefix.proofs.Run.{early-not, all-before, none-behind}
-use borrow.Author.Rules.{rules}
 use Rattle.prefix.proofs.run_end.Given as goal
 
--- `prefix::run_end` meets its contract: a key that begins with the prefix says it of those before it, and one that does not of those behind it. Assumes nothing.
 abbrev pub invariant-loop-low : goal.invariant-loop-low
 invariant-loop-low l = (l.from ≤ l.low)
     × (l.low ≤ l.high)

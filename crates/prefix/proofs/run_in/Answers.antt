@@ -1,7 +1,6 @@
 -- `prefix::run_in` meets its contract: the run in all rows, brought into the piece. Assumes nothing.
 use native.Mathlib.Omega.{arith}
 use Rattle.prefix.proofs.Run.{run_in}
-use borrow.Author.Rules.{rules}
 use Rattle.prefix.proofs.run_in.Goals as goal
 
 pub overflow_add-top : goal.overflow_add-top

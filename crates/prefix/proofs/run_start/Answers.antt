@@ -1,7 +1,6 @@
 -- `prefix::run_start` meets its contract: what the search for the prefix itself answers. Assumes nothing.
 use mathlib.Core.Path.{ap, sym, ◌∙◌}
 use Rattle.prefix.proofs.Run.{place_in, first_of}
-use borrow.Author.Rules.{rules}
 use Rattle.prefix.proofs.run_start.Goals as goal
 
 pub returns-in-At : goal.returns-in-At

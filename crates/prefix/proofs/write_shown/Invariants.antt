@@ -1,3 +1,4 @@
+-- `prefix::write_shown` meets its contract: what is left to be written gives the whole list. Assumes nothing.
 use Prim.Native.Nat.{◌+◌, ◌-◌, ◌≤◌}
 use mathlib.Core.Path.{◌≡◌}
 use lib.ListN.{length}
@@ -5,7 +6,6 @@ use Rattle.fields.specs.Parts.{put}
 use Rattle.prefix.specs.Run.{shown_in}
 use Rattle.prefix.proofs.write_shown.Given as goal
 
--- `prefix::write_shown` meets its contract: what is left to be written gives the whole list. Assumes nothing.
 abbrev pub invariant-loop-j : goal.invariant-loop-j
 invariant-loop-j l =
     (l.j ≤ l.high)

@@ -1,14 +1,10 @@
 -- `profile_check::check_forms` meets its contract: the nodes that are left decide. Assumes nothing.
-use Prim.Native.Nat.{◌-◌, ◌≤◌}
-use mathlib.Core.Path.{◌≡◌, ◌∙◌, refl, sym, subst}
+use mathlib.Core.Path.{◌∙◌, refl, sym, subst}
 use native.Mathlib.Omega.{arith}
-use lib.ListN.{drop}
-use borrow.Author.Rules.{rules}
-use Rattle.rules.specs.Layout.{decode}
 use Rattle.rules.specs.Profile.{recs_formed, table_formed}
 use Rattle.table.specs.Fits.{LaidNode}
 use Rattle.table.proofs.Laid.{laid-at}
-use Rattle.profile_check.proofs.Formed.{each, no_node, node-on, node-stop}
+use Rattle.profile_check.proofs.Formed.{no_node, node-on, node-stop}
 use Rattle.profile_check.proofs.check_forms.Goals as goal
 
 pub loop-i-init : goal.loop-i-init

@@ -2,7 +2,6 @@
 use mathlib.Core.Path.{◌∙◌, ap, sym}
 use native.Mathlib.Omega.{arith}
 use lib.Seq.{length-take-le}
-use borrow.Author.Rules.{rules}
 use Rattle.rules.specs.Layout.{decode, table_width}
 use Rattle.rules.specs.Profile.{profile_obeys}
 use Rattle.rules.specs.Whole.{area_of}

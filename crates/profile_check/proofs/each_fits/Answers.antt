@@ -5,7 +5,6 @@ use mathlib.Core.List.{List}
 use mathlib.Core.Path.{◌≡◌, ◌∙◌, ap, sym}
 use lib.Dec.{leb}
 use lib.ListN.{length}
-use borrow.Author.Rules.{rules}
 use borrow.Author.Tests.{le-leb, lt-leb}
 use Rattle.fields.proofs.Choice.{and_no, and_yes}
 use Rattle.rules.specs.Node.{Rec}
@@ -15,7 +14,6 @@ use Rattle.rules.specs.declared.Party.TheVariants.{Building, Metering}
 use Rattle.table.specs.Tests.{recs_in}
 use Rattle.profile_check.proofs.each_fits.Goals as goal
 
--- `profile_check::each_fits` meets its contract. Assumes nothing.
 module _ (l : List Rec) (n : ℕ) (e : n ≡ length (of_keys (own Metering) l)) where
   abbrev m : Bool
   m = leb (length (of_keys (own Metering) l)) max_each

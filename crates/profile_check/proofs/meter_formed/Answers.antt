@@ -1,7 +1,6 @@
 -- `profile_check::meter_formed` meets its contract. Assumes nothing.
 use mathlib.Core.Bool.{◌&&◌}
 use mathlib.Core.Path.{◌∙◌}
-use borrow.Author.Rules.{rules}
 use Rattle.rules.specs.Profile.{meter_key, meter_value}
 use Rattle.profile_check.proofs.meter_formed.Goals as goal
 

@@ -1,6 +1,5 @@
 -- `profile_check::node_fits` meets its contract. Assumes nothing.
 use mathlib.Core.Path.{◌∙◌, ap, sym}
-use borrow.Author.Rules.{rules}
 use Rattle.rules.specs.Profile.{recs_fit}
 use Rattle.rules.specs.declared.Profile.{Profile}
 use Rattle.table.specs.Tests.{recs_in}

@@ -1,13 +1,11 @@
 -- `profile_check::node_formed` meets its contract: the records that are left decide. Assumes nothing.
-use Prim.Native.Nat.{ℕ, ◌-◌, ◌≤◌}
+use Prim.Native.Nat.{ℕ, ◌≤◌}
 use mathlib.Core.List.{List}
-use mathlib.Core.Path.{◌≡◌, ◌∙◌, ap, refl, sym, subst}
+use mathlib.Core.Path.{◌∙◌, ap, refl, sym, subst}
 use native.Mathlib.Omega.{arith}
-use lib.ListN.{drop, length}
-use borrow.Author.Rules.{rules}
-use Rattle.rules.specs.Profile.{recs_formed}
+use lib.ListN.{length}
 use Rattle.rules.specs.Sizes.{max_key, max_value}
-use Rattle.table.specs.Tests.{key_length, value_length, recs_in}
+use Rattle.table.specs.Tests.{key_length, value_length}
 use Rattle.table.proofs.Laid.{laid-key, laid-value, rec-long}
 use Rattle.profile_check.proofs.Formed.{no_record, record-on, record-stop}
 use Rattle.profile_check.proofs.node_formed.Goals as goal

@@ -1,6 +1,5 @@
 -- `profile_check::node_obeys` meets its contract. Assumes nothing.
 use mathlib.Core.Path.{◌∙◌, sym}
-use borrow.Author.Rules.{rules}
 use Rattle.fields.proofs.Choice.{and_no, and_yes}
 use Rattle.rules.specs.Profile.{recs_fit, recs_formed}
 use Rattle.table.specs.Tests.{recs_in}

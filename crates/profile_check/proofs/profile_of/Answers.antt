@@ -4,7 +4,6 @@ use mathlib.Core.List.{List}
 use Prim.Native.Nat.{ℕ, ◌+◌}
 use native.Mathlib.Omega.{arith}
 use lib.ListN.{length}
-use borrow.Author.Rules.{rules}
 use Rattle.fields.specs.Numbers.{nat_of}
 use Rattle.fields.specs.Parts.{part}
 use Rattle.fields.proofs.Parts.{part-part}
@@ -13,7 +12,6 @@ use Rattle.rules.specs.Whole.{profile_of_byte, tail_width, whole_width, decode_w
 use Rattle.rules.specs.declared.Profile.{Profile}
 use Rattle.profile_check.proofs.profile_of.Goals as goal
 
--- `profile_check::profile_of` meets its contract: the byte is the tail's second. Assumes nothing.
 second : (l : List ℕ) → length l ≡ whole_width → (n : ℕ) → n ≡ nat_of (part (table_width + 1) 1 l) → (p : Profile) → p ≡ profile_of_byte n → p ≡ (decode_whole l).kind.profile
 second l e n q p r = r ∙ ap profile_of_byte (q ∙ ap nat_of (sym (part-part 1 1 table_width tail_width l (omega arith) (omega (arith, e)))))
 

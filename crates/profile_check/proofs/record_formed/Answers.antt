@@ -1,6 +1,5 @@
 -- `profile_check::record_formed` meets its contract. Assumes nothing.
 use mathlib.Core.Path.{◌∙◌, ap, sym}
-use borrow.Author.Rules.{rules}
 use Rattle.rules.specs.Layout.{decode_rec}
 use Rattle.rules.specs.Party.{someones}
 use Rattle.rules.specs.Profile.{in_form}

@@ -1,4 +1,5 @@
 -- `record_check::check_record` meets its contract: a test that fails is one of the record's tests, and past all but the zeros only these are left.
+-- Assumes nothing.
 use Prim.Native.Nat.{ℕ, ◌≤◌}
 use mathlib.Core.Path.{◌≡◌, ◌∙◌, sym}
 use mathlib.Core.Bool.{true, ◌&&◌}
@@ -13,7 +14,6 @@ use Rattle.rules.specs.Sizes.{max_key, max_value}
 use Rattle.rules.specs.Layout.{rec_widths}
 use Rattle.table.specs.Tests.{rec_good, key_length, value_length, version_of, clean}
 use Rattle.table.proofs.Records.{rec-stop}
-use borrow.Author.Rules.{rules}
 use Rattle.record_check.proofs.check_record.Goals as goal
 
 -- past the five tests only the zeros are left

@@ -17,7 +17,6 @@ use Rattle.fields.proofs.Parts.{part-snoc}
 use Rattle.fields.proofs.Choice.{and_assoc, and_last}
 use Rattle.fields.specs.Parts.{part}
 use Rattle.fields.specs.Blocks.{all_zero}
-use borrow.Author.Rules.{rules}
 use Rattle.record_check.proofs.clean_behind.Goals as goal
 
 -- ---- the mask: zeros, and then as many times 255

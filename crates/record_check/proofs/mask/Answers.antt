@@ -8,7 +8,6 @@ use lib.ListN.{length, take, set, replicate, length-set}
 use lib.Seq.{take-suc-set, take_all}
 use Rattle.rules.specs.Sizes.{max_value}
 use Rattle.record_check.specs.Mask.{mask_width, mask_bytes}
-use borrow.Author.Rules.{rules}
 use Rattle.record_check.proofs.mask.Goals as goal
 
 snoc : (n : ℕ) → ◌≡◌ {A = List ℕ} (replicate n 255 ++ (255 ∷ [])) (replicate (suc n) 255)

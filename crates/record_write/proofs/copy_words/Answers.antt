@@ -1,12 +1,11 @@
 -- `record_write::copy_words` meets its contract: so many bytes are copied, a word more each turn. Assumes nothing.
-use Prim.Native.Nat.{ℕ, ◌+◌, ◌-◌, ◌≤◌}
+use Prim.Native.Nat.{ℕ, ◌+◌}
 use mathlib.Core.Path.{◌∙◌, ◌≡◌, ap}
 use native.Mathlib.Omega.{arith}
 use lib.ListN.{length}
 use Rattle.fields.proofs.Numbers.{at-bytes}
 use Rattle.fields.specs.Numbers.{bytes_of}
-use Rattle.fields.specs.Parts.{part, put}
-use borrow.Author.Rules.{rules}
+use Rattle.fields.specs.Parts.{put}
 use Rattle.record_write.proofs.Words.{copied-long, next_word, none-copied}
 use Rattle.record_write.proofs.copy_words.Goals as goal
 

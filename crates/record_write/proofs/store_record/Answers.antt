@@ -8,7 +8,6 @@ use Rattle.fields.specs.Parts.{part, put}
 use Rattle.rules.specs.Delta.{length_width, status_byte}
 use Rattle.rules.specs.Layout.{status_of_byte}
 use Rattle.table.specs.Tests.{key_length, value_length, version_of}
-use borrow.Author.Rules.{rules}
 use Rattle.record_write.proofs.Words.{record-fields}
 use Rattle.record_write.proofs.store_record.Goals as goal
 

@@ -4,7 +4,6 @@ use mathlib.Core.Path.{◌∙◌, ap}
 use native.Mathlib.Omega.{arith}
 use Rattle.fields.proofs.Parts.{length_part}
 use Rattle.fields.specs.Parts.{part, put}
-use borrow.Author.Rules.{rules}
 use Rattle.record_write.proofs.Words.{behind-length}
 use Rattle.record_write.proofs.store_text.Goals as goal
 

@@ -5,7 +5,6 @@ use mathlib.Core.List.{List}
 use Rattle.fields.specs.Parts.{part, put}
 use Rattle.rules.specs.Layout.{rec_width}
 use Rattle.removal.proofs.Removing.{brought}
-use borrow.Author.Rules.{rules}
 use Rattle.removal.proofs.bring_down.Goals as goal
 
 pub returns : goal.returns

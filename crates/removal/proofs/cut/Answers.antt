@@ -6,7 +6,6 @@ use native.Mathlib.Omega.{arith}
 use Rattle.fields.specs.Parts.{put}
 use Rattle.fields.specs.Blocks.{zeros}
 use Rattle.removal.proofs.Removing.{cut-steps, cut-none}
-use borrow.Author.Rules.{rules}
 use Rattle.removal.proofs.cut.Goals as goal
 
 pub returns-then-kept-n : goal.returns-then-kept-n

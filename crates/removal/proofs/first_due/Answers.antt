@@ -1,13 +1,11 @@
 -- `removal::first_due` meets its contract: what is passed and the first that goes of the rest give the whole's. Assumes nothing.
-use Prim.Native.Nat.{◌+◌, ◌-◌, ◌≤◌, ◌<◌}
-use mathlib.Core.Path.{◌≡◌, sym, ◌∙◌}
+use Prim.Native.Nat.{◌<◌}
+use mathlib.Core.Path.{sym, ◌∙◌}
 use native.Mathlib.Nat.{zero-add}
 use native.Mathlib.Omega.{arith}
-use lib.ListN.{drop}
-use Rattle.table.specs.Tests.{count_of, recs_in}
-use Rattle.removal.specs.Removals.{due_within, first_going}
+use Rattle.table.specs.Tests.{count_of}
+use Rattle.removal.specs.Removals.{due_within}
 use Rattle.removal.proofs.Removing.{found, not_found, none_found}
-use borrow.Author.Rules.{rules}
 use Rattle.removal.proofs.first_due.Goals as goal
 
 pub loop-j-init : goal.loop-j-init

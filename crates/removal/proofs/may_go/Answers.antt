@@ -5,7 +5,6 @@ use mathlib.Core.Bool.{not}
 use lib.Dec.{ltb}
 use Prim.Native.Nat.{◌+◌}
 use Rattle.fields.proofs.Choice.{and_no, and_yes}
-use borrow.Author.Rules.{rules}
 use Rattle.removal.proofs.may_go.Goals as goal
 
 pub returns-then-is_due : goal.returns-then-is_due

@@ -16,10 +16,8 @@ use Rattle.table.specs.Tests.{key_length, value_length}
 use Rattle.table.proofs.Places.{rec_bytes, rec_at}
 use Rattle.table.proofs.Laid.{rec-long, laid-key, laid-value}
 use Rattle.table_read.specs.Find.{record_of}
-use borrow.Author.Rules.{rules}
 use Rattle.removal.proofs.must_go.Goals as goal
 
--- `removal::must_go` meets its contract: the status schedules, and the grace is over. Assumes nothing.
 -- by what was read of the record
 by-status : (b x : List ℕ) (j time grace bound : ℕ) → x ≡ rec_bytes j b → (r : Record) → r ≡ record_of (decode_rec x) → (s : Status) → r.status ≡ s
     → (scheduled s && (not (ltb time (r.start + grace)) && leb r.version bound)) ≡ goes (due_within bound time grace) (rec_at j b)

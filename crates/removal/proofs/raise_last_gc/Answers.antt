@@ -11,10 +11,8 @@ use Rattle.table.specs.Tests.{count_of}
 use Rattle.table.specs.Fits.{LaidNode}
 use Rattle.table.specs.Changes.{with_gc}
 use Rattle.table.proofs.Places.{rec_at, version-at}
-use borrow.Author.Rules.{rules}
 use Rattle.removal.proofs.raise_last_gc.Goals as goal
 
--- `removal::raise_last_gc` meets its contract: the larger of the two numbers that were read is written. Assumes nothing.
 -- what is to be written, by what was read
 raised : (b : List ℕ) → LaidNode b → (j : ℕ) → j < count_of b → (held version g : ℕ) → held ≡ nat_of (part (offset node_widths 3) 8 b) → version ≡ nat_of (part (rec_place j + offset rec_widths 4) 8 b)
     → g ≡ max held version → g ≡ max (decode_node b).node.last_gc (rec_at j b).kv.version

@@ -2,7 +2,6 @@
 use mathlib.Core.Path.{ap, ◌∙◌}
 use Rattle.rules.specs.Layout.{decode_node, encode_node}
 use Rattle.removal.proofs.Within.{plain-node}
-use borrow.Author.Rules.{rules}
 use Rattle.removal.proofs.remove_due.Goals as goal
 
 pub returns : goal.returns

@@ -1,6 +1,7 @@
 -- `removal::remove_due_within` meets its contract: of what is in front of `j`, those that stay stand in the first places, and the rest gives the whole.
-use Prim.Native.Nat.{ℕ, ◌+◌, ◌-◌, ◌≤◌, ◌<◌}
-use mathlib.Core.Path.{◌≡◌, ap, sym, ◌∙◌}
+-- Assumes nothing.
+use Prim.Native.Nat.{ℕ, ◌+◌, ◌<◌}
+use mathlib.Core.Path.{ap, sym, ◌∙◌}
 use mathlib.Core.Bool.{Bool}
 use mathlib.Core.List.{List}
 use mathlib.Core.Logic.{⊎_elim}
@@ -8,11 +9,9 @@ use native.Mathlib.Omega.{arith}
 use Rattle.rules.specs.Node.{Rec}
 use Rattle.rules.specs.Layout.{decode_node}
 use Rattle.table.specs.Tests.{count_of, recs_in}
-use Rattle.table.specs.Fits.{LaidNode}
 use Rattle.table.proofs.Places.{length-recs}
 use Rattle.removal.specs.Removals.{due_within, removed}
 use Rattle.removal.proofs.Removing.{done_from, first-few, first_done, node-goes, node_stays, node_end, gone-laid, gone-count, kept-laid, kept-count}
-use borrow.Author.Rules.{rules}
 use Rattle.removal.proofs.remove_due_within.Goals as goal
 
 pub loop-j-init : goal.loop-j-init

@@ -1,21 +1,14 @@
-use Prim.Native.Nat.{ℕ, ◌+◌, ◌-◌, ◌≤◌, ◌<◌}
-use mathlib.Core.Path.{◌≡◌, ap, sym, ◌∙◌}
-use mathlib.Core.Bool.{Bool}
-use mathlib.Core.List.{List}
-use mathlib.Core.Logic.{⊎_elim}
-use native.Mathlib.Omega.{arith}
-use Rattle.rules.specs.Node.{Rec}
-use Rattle.rules.specs.Layout.{decode_node}
-use Rattle.table.specs.Tests.{count_of, recs_in}
-use Rattle.table.specs.Fits.{LaidNode}
-use Rattle.table.proofs.Places.{length-recs}
-use Rattle.removal.specs.Removals.{due_within, removed}
-use Rattle.removal.proofs.Removing.{done_from, first-few, first_done, node-goes, node_stays, node_end, gone-laid, gone-count, kept-laid, kept-count}
-use borrow.Author.Rules.{rules}
-use Rattle.removal.proofs.remove_due_within.Given as goal
-
 -- `removal::remove_due_within` meets its contract: of what is in front of `j`, those that stay stand in the first places, and the rest gives the whole.
 -- Assumes nothing.
+use Prim.Native.Nat.{◌-◌, ◌≤◌}
+use mathlib.Core.Path.{◌≡◌}
+use Rattle.rules.specs.Layout.{decode_node}
+use Rattle.table.specs.Tests.{count_of}
+use Rattle.table.specs.Fits.{LaidNode}
+use Rattle.removal.specs.Removals.{due_within, removed}
+use Rattle.removal.proofs.Removing.{done_from}
+use Rattle.removal.proofs.remove_due_within.Given as goal
+
 abbrev pub invariant-loop-j : goal.invariant-loop-j
 invariant-loop-j l = LaidNode l.node × (count_of l.node ≡ l.n) × (l.kept ≤ l.j) × (l.j ≤ l.n) × (done_from (due_within l.bound l.clock l.grace) l.kept l.j (decode_node l.node) ≡ removed (due_within l.bound l.clock l.grace) (decode_node l.initial.node))
 

@@ -3,7 +3,6 @@ use mathlib.Core.Path.{ap, ◌∙◌}
 use Rattle.rules.specs.Layout.{decode, encode}
 use Rattle.table.proofs.Tables.{valid-laid}
 use Rattle.removal.proofs.Within.{plain-within}
-use borrow.Author.Rules.{rules}
 use Rattle.removal.proofs.remove_good.Goals as goal
 
 pub returns : goal.returns

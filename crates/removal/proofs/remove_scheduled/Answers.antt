@@ -16,10 +16,8 @@ use Rattle.rules.specs.declared.Answer.TheVariants.{Done, Refused}
 use Rattle.rules.specs.declared.Refusal.TheVariants.{BadTable}
 use Rattle.rules.proofs.Unique.{tells}
 use Rattle.table_check.proofs.Entry.{area-good, area-within, area-long, bad-table, good-table}
-use borrow.Author.Rules.{rules}
 use Rattle.removal.proofs.remove_scheduled.Goals as goal
 
--- `removal::remove_scheduled` meets its contract: the check, then the rule. Assumes nothing.
 removed : (clock grace : ℕ) (l : List ℕ) → valid_whole l ≡ true → (m : List ℕ) → m ≡ encode (remove_all (λ i. due clock grace) (decode (take table_width l)))
     → Gives (lent_gc clock grace l) Done (m ++ drop table_width l)
 unfolding gc

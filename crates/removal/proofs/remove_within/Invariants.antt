@@ -1,24 +1,15 @@
-use Prim.Native.Nat.{ℕ, ◌-◌, ◌≤◌, ◌<◌}
-use mathlib.Core.Path.{◌≡◌, refl, ap, sym, subst, ◌∙◌}
-use mathlib.Core.List.{List}
-use native.Mathlib.Omega.{arith}
-use Rattle.fields.specs.Parts.{part, put}
-use Rattle.fields.proofs.Lent.{seen, lent_by}
-use mathlib.Core.Bool.{Bool}
+-- `removal::remove_within` meets its contract: what is in front of node `i` is done, and the rest gives the whole. Assumes nothing.
+use Prim.Native.Nat.{◌-◌, ◌≤◌}
+use mathlib.Core.Path.{◌≡◌}
 use lib.ListN.{length}
 use Rattle.rules.specs.Sizes.{max_nodes}
-use Rattle.rules.specs.Node.{Rec}
-use Rattle.rules.specs.Layout.{node_width, decode_node, encode_node, decode}
+use Rattle.rules.specs.Layout.{decode}
 use Rattle.table.specs.Tests.{nodes_of}
-use Rattle.table.specs.Fits.{LaidNode, LaidTable}
-use Rattle.table.proofs.Tables.{valid-few, valid-laid, valid-long}
-use Rattle.table.proofs.Laid.{laid-at}
-use Rattle.removal.specs.Removals.{removed, remove_within}
-use Rattle.removal.proofs.Removing.{due_at, nodes_from, next-laid, next-count, next-node, table-end}
-use borrow.Author.Rules.{rules}
+use Rattle.table.specs.Fits.{LaidTable}
+use Rattle.removal.specs.Removals.{remove_within}
+use Rattle.removal.proofs.Removing.{nodes_from}
 use Rattle.removal.proofs.remove_within.Given as goal
 
--- `removal::remove_within` meets its contract: what is in front of node `i` is done, and the rest gives the whole. Assumes nothing.
 abbrev pub invariant-loop-i : goal.invariant-loop-i
 invariant-loop-i l = LaidTable l.table
     × (nodes_of l.table ≡ l.n)

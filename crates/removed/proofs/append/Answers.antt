@@ -1,7 +1,6 @@
 -- `removed::append` meets its contract. Assumes nothing.
 use native.Mathlib.Omega.{arith}
 use Rattle.removed.proofs.Steps.{one_more}
-use borrow.Author.Rules.{rules}
 use Rattle.removed.proofs.append.Goals as goal
 
 pub returns : goal.returns

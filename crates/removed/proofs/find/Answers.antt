@@ -1,17 +1,14 @@
 -- `removed::find` meets its contract: what was passed over and where it stands in the rest is where it stands. Assumes nothing.
-use Prim.Native.Nat.{ℕ, ◌+◌, ◌-◌, ◌≤◌}
-use mathlib.Core.Path.{◌≡◌, ap, ◌∙◌}
+use Prim.Native.Nat.{ℕ, ◌+◌}
+use mathlib.Core.Path.{ap, ◌∙◌}
 use mathlib.Core.List.{List}
 use native.Mathlib.Omega.{arith}
 use native.Mathlib.Nat.{zero-add}
-use lib.ListN.{drop}
 use Rattle.fields.specs.Numbers.{nat_of}
 use Rattle.fields.specs.Parts.{part}
 use Rattle.fields.specs.Widths.{offset}
-use Rattle.rules.specs.Whole.{decode_memory, removed_widths}
-use Rattle.removed.specs.Find.{index_of}
+use Rattle.rules.specs.Whole.{removed_widths}
 use Rattle.removed.proofs.Found.{hit, miss, past}
-use borrow.Author.Rules.{rules}
 use Rattle.removed.proofs.find.Goals as goal
 
 pub loop-i-init : goal.loop-i-init

@@ -1,7 +1,6 @@
 -- `removed::forget` meets its contract. Assumes nothing.
 use native.Mathlib.Omega.{arith}
 use Rattle.removed.proofs.Steps.{forget-one, forget-none}
-use borrow.Author.Rules.{rules}
 use Rattle.removed.proofs.forget.Goals as goal
 
 pub returns-then-i-n : goal.returns-then-i-n

@@ -8,7 +8,6 @@ use Rattle.fields.specs.Parts.{part}
 use Rattle.fields.specs.Widths.{offset}
 use Rattle.rules.specs.Whole.{removed_widths}
 use Rattle.removed.proofs.Found.{beat-read, beat-none}
-use borrow.Author.Rules.{rules}
 use Rattle.removed.proofs.last_heartbeat.Goals as goal
 
 pub returns-then-i-n : goal.returns-then-i-n

@@ -1,7 +1,6 @@
 -- `removed::make_room` meets its contract. Assumes nothing.
 use native.Mathlib.Omega.{arith}
 use Rattle.removed.proofs.Steps.{no_room, has_room}
-use borrow.Author.Rules.{rules}
 use Rattle.removed.proofs.make_room.Goals as goal
 
 pub returns-then-byte_at-ge-REMOVED : goal.returns-then-byte_at-ge-REMOVED

@@ -1,6 +1,5 @@
 -- `removed::remember` meets its contract. Assumes nothing.
 use Rattle.removed.proofs.Steps.{room-laid, room-then}
-use borrow.Author.Rules.{rules}
 use Rattle.removed.proofs.remember.Goals as goal
 
 pub append-requires : goal.append-requires

@@ -1,8 +1,5 @@
 -- `replay::main` is safe and ends. Assumes nothing.
-use mathlib.Core.Path.{◌≡◌}
 use native.Mathlib.Omega.{arith}
-use lib.ListN.{length}
-use borrow.Author.Rules.{rules}
 use Rattle.replay.proofs.main.Goals as goal
 
 -- the loop's test lies too far behind the end of a turn to be found by a search

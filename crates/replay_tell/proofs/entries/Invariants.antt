@@ -1,7 +1,6 @@
 use mathlib.Core.Path.{◌≡◌}
 use Prim.Native.Nat.{◌≤◌, ◌-◌}
 use lib.ListN.{length}
-use borrow.Author.Rules.{rules}
 use Rattle.replay_tell.proofs.entries.Given as goal
 
 -- `replay_tell::entries` is safe and ends. Assumes nothing.

@@ -1,5 +1,5 @@
 -- `streams::fill` stays within the room and ends: each turn has fewer bytes to fill. What it put at the front is what it consumed. Assumes nothing.
-use Rattle.std.proofs.Common.{rules, ◌≡◌, ℕ, List, ◌+◌, ◌≤◌, ◌++◌, ◌∙◌, ap, subst, sym, arith, length, take, le_refl, drop_at, length-take-le}
+use Rattle.std.proofs.Common.{rules, ◌≡◌, ℕ, List, ◌+◌, ◌≤◌, ◌++◌, ◌∙◌, ap, subst, sym, length, take, le_refl, drop_at, length-take-le}
 use Rattle.std.proofs.lemmas.Slice.{take-put_mid_below}
 use Rattle.std.proofs.KnownBytes.{Consumes-trans}
 use Rattle.std.specs.Io.KnownBytes.{Consumes}

@@ -8,7 +8,6 @@ use Rattle.fields.specs.Widths.{offset}
 use Rattle.fields.proofs.Lent.{seen}
 use Rattle.rules.specs.Layout.{rec_widths, decode_rec}
 use Rattle.table.specs.Tests.{key_length}
-use borrow.Author.Rules.{rules}
 use Rattle.table.proofs.key_of.Goals as goal
 
 key-is : (b : List ℕ) (k : ℕ) → k ≡ key_length b → take (offset rec_widths 1 + k - offset rec_widths 1) (drop (offset rec_widths 1) b) ≡ (decode_rec b).kv.key

@@ -4,7 +4,6 @@ use mathlib.Core.Path.{ap, ◌∙◌}
 use Rattle.fields.specs.Parts.{part}
 use Rattle.fields.proofs.Lent.{seen}
 use Rattle.rules.specs.Layout.{rec_width}
-use borrow.Author.Rules.{rules}
 use Rattle.table.proofs.record_of.Goals as goal
 
 pub returns : goal.returns

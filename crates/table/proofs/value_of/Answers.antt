@@ -8,7 +8,6 @@ use Rattle.fields.specs.Widths.{offset}
 use Rattle.fields.proofs.Lent.{seen}
 use Rattle.rules.specs.Layout.{rec_widths, decode_rec}
 use Rattle.table.specs.Tests.{value_length}
-use borrow.Author.Rules.{rules}
 use Rattle.table.proofs.value_of.Goals as goal
 
 value-is : (b : List ℕ) (k : ℕ) → k ≡ value_length b → take (offset rec_widths 3 + k - offset rec_widths 3) (drop (offset rec_widths 3) b) ≡ (decode_rec b).kv.value

@@ -1,4 +1,5 @@
 -- `table_check::check_area` meets its contract: a test that fails is one of the table's tests, and past all others only the zeros are left.
+-- Assumes nothing.
 use Prim.Native.Nat.{ℕ, ◌-◌, ◌*◌, ◌≤◌}
 use mathlib.Core.Path.{◌≡◌, ◌∙◌, ap, sym}
 use mathlib.Core.Bool.{Bool, true}
@@ -14,7 +15,6 @@ use Rattle.rules.specs.Sizes.{max_nodes}
 use Rattle.rules.specs.Layout.{node_place, node_width, table_width}
 use Rattle.table.specs.Tests.{node_good, nodes_of, table_tests}
 use Rattle.table.proofs.Checked.{length-stop, table-stop, table-pass}
-use borrow.Author.Rules.{rules}
 use Rattle.table_check.proofs.check_area.Goals as goal
 
 nodes-test : (l : List ℕ) (n : ℕ) (t : Bool) → n ≡ nodes_of l → t ≡ all_blocks node_good node_width n (drop (node_place 0) l) → get_or (table_tests l) 1 true ≡ t

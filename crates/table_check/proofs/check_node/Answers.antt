@@ -1,4 +1,5 @@
 -- `table_check::check_node` meets its contract: a test that fails is one of the node's tests, and past four of them only the zeros are left.
+-- Assumes nothing.
 use Prim.Native.Nat.{ℕ, ◌-◌, ◌*◌, ◌≤◌}
 use mathlib.Core.Path.{◌≡◌, ◌∙◌, ap, ap₂, sym}
 use mathlib.Core.Bool.{Bool, true}
@@ -17,8 +18,6 @@ use Rattle.table.proofs.Nodes.{node-stop}
 use borrow.Author.Rules.{rules}
 use Rattle.table_check.proofs.check_node.Goals as goal
 
--- `table_check::check_node` meets its contract: a test that fails is one of the node's tests, and past four of them only the zeros are left.
--- Assumes nothing.
 -- the tests of a node's bytes, as the calls answer them
 module _ (b : List ℕ) (n max : ℕ) (en : n ≡ count_of b) (em : max ≡ max_in b) where
   records-test : (t : Bool) → t ≡ all_blocks (rec_good max) rec_width n (drop (rec_place 0) b) → get_or (node_tests b) 1 true ≡ t

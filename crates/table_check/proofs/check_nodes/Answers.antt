@@ -1,16 +1,15 @@
 -- `table_check::check_nodes` meets its contract: what is left to be tested has the whole's answer. Assumes nothing.
-use Prim.Native.Nat.{ℕ, ◌-◌, ◌≤◌}
+use Prim.Native.Nat.{ℕ, ◌-◌}
 use mathlib.Core.Path.{◌≡◌, refl, sym, ap, ◌∙◌}
 use native.Mathlib.Omega.{arith}
 use native.Mathlib.Nat.{sub-zero}
-use lib.ListN.{length, drop}
+use lib.ListN.{length}
 use Rattle.fields.specs.Blocks.{all_blocks}
 use Rattle.fields.proofs.Choice.{and_yes, and_no}
 use Rattle.fields.proofs.Blocks.{blocks-turn}
 use Rattle.fields.proofs.Parts.{length_part}
 use Rattle.rules.specs.Layout.{node_place, node_width}
 use Rattle.table.specs.Tests.{node_good}
-use borrow.Author.Rules.{rules}
 use Rattle.table_check.proofs.check_nodes.Goals as goal
 
 pub loop-i-init : goal.loop-i-init

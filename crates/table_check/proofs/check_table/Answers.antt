@@ -5,7 +5,6 @@ use mathlib.Core.List.{List}
 use native.Mathlib.Omega.{arith}
 use lib.ListN.{length, take, drop}
 use lib.Seq.{length-take-le}
-use borrow.Author.Rules.{rules}
 use Rattle.fields.specs.Numbers.{AreBytes}
 use Rattle.fields.proofs.Numbers.{at-bytes}
 use Rattle.fields.proofs.Lent.{seen}

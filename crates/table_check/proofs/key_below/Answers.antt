@@ -7,7 +7,6 @@ use Rattle.fields.specs.Order.{less_bytes, order_of}
 use Rattle.fields.specs.declared.Order.TheVariants.{Same, More}
 use Rattle.fields.proofs.Ordered.{order-less, order_same, order-more, same_true, less-self, less-not}
 use Rattle.rules.specs.Layout.{decode_rec}
-use borrow.Author.Rules.{rules}
 use Rattle.table_check.proofs.key_below.Goals as goal
 
 same-not-less : (j k : List ℕ) → order_of j k ≡ Same → less_bytes j k ≡ false

@@ -1,5 +1,6 @@
 -- `table_check::keys_rise` meets its contract: the keys that are left rise where all do. The loop is that of `numbers_rise`; its needs are its own, and
-use Prim.Native.Nat.{ℕ, suc, ◌+◌, ◌-◌, ◌≤◌, ◌<◌}
+-- so is the order, for which the rules' law of rising numbers says nothing. Assumes nothing.
+use Prim.Native.Nat.{ℕ, suc, ◌+◌, ◌≤◌, ◌<◌}
 use mathlib.Core.Path.{◌≡◌, refl, sym, ap, ap₂, ◌∙◌}
 use mathlib.Core.Bool.{Bool, true, ◌&&◌}
 use mathlib.Core.List.{List, [], ◌∷◌}
@@ -17,7 +18,6 @@ use Rattle.rules.specs.Sizes.{max_records, max_key}
 use Rattle.fields.proofs.Parts.{length_part}
 use Rattle.table.proofs.Records.{good-key}
 use Rattle.table.proofs.Places.{rec_bytes, rec_at, recs-drop, length-recs, good-at}
-use borrow.Author.Rules.{rules}
 use Rattle.table_check.proofs.keys_rise.Goals as goal
 
 module _ (b : List ℕ) (n max i : ℕ) (e : length b ≡ node_width) (h : i + 1 < n) (g : n ≤ max_records) (good : all_blocks (rec_good max) rec_width n (drop (rec_place 0) b) ≡ true) where

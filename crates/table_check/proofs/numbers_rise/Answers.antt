@@ -1,5 +1,5 @@
 -- `table_check::numbers_rise` meets its contract: the numbers that are left rise where all do, by `rising-turn` of the rules. Assumes nothing.
-use Prim.Native.Nat.{ℕ, zero, suc, ◌+◌, ◌-◌, ◌≤◌, ◌<◌}
+use Prim.Native.Nat.{ℕ, zero, suc, ◌+◌, ◌≤◌, ◌<◌}
 use mathlib.Core.Path.{◌≡◌, refl, sym, ap, ◌∙◌}
 use mathlib.Core.Bool.{true, ◌&&◌}
 use mathlib.Core.List.{List, [], ◌∷◌}
@@ -17,7 +17,6 @@ use Rattle.rules.proofs.Obeys.{rising-turn, rising-last}
 use Rattle.table.specs.Tests.{nodes_of}
 use Rattle.table.proofs.Places.{decode-at, number_at}
 use Rattle.table.proofs.Tables.{length-decode}
-use borrow.Author.Rules.{rules}
 use Rattle.table_check.proofs.numbers_rise.Goals as goal
 
 -- ---- the numbers of a table

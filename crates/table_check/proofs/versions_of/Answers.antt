@@ -1,5 +1,5 @@
 -- `table_check::versions_of` meets its contract: the versions that are stored and those that are left are all. Assumes nothing.
-use Prim.Native.Nat.{ℕ, suc, ◌+◌, ◌-◌, ◌≤◌, ◌<◌}
+use Prim.Native.Nat.{ℕ, suc, ◌+◌, ◌≤◌, ◌<◌}
 use mathlib.Core.Path.{◌≡◌, refl, sym, ap, ◌∙◌}
 use mathlib.Core.List.{List, [], ◌∷◌, ◌++◌, append-nil, append_assoc}
 use native.Mathlib.Omega.{arith}
@@ -15,7 +15,6 @@ use Rattle.rules.specs.Sizes.{max_records}
 use Rattle.rules.specs.Layout.{rec_place, rec_widths, node_width}
 use Rattle.table.specs.Tests.{count_of, recs_in}
 use Rattle.table.proofs.Places.{recs-drop, version-at, rec_at, length-recs}
-use borrow.Author.Rules.{rules}
 use Rattle.table_check.proofs.versions_of.Goals as goal
 
 -- one version more

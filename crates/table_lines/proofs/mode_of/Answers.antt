@@ -4,7 +4,6 @@ use mathlib.Core.List.{List}
 use Prim.Native.Nat.{ℕ, ◌+◌}
 use native.Mathlib.Omega.{arith}
 use lib.ListN.{length}
-use borrow.Author.Rules.{rules}
 use Rattle.fields.specs.Numbers.{nat_of}
 use Rattle.fields.specs.Parts.{part}
 use Rattle.fields.proofs.Parts.{part-part}
@@ -13,7 +12,6 @@ use Rattle.rules.specs.Whole.{mode_of_byte, tail_width, whole_width, decode_whol
 use Rattle.rules.specs.declared.Mode.{Mode}
 use Rattle.table_lines.proofs.mode_of.Goals as goal
 
--- `table_lines::mode_of` meets its contract: the byte is the tail's first. Assumes nothing.
 first : (l : List ℕ) → length l ≡ whole_width → (n : ℕ) → n ≡ nat_of (part (table_width + 0) 1 l) → (m : Mode) → m ≡ mode_of_byte n → m ≡ (decode_whole l).kind.mode
 first l e n q m r = r ∙ ap mode_of_byte (q ∙ ap nat_of (sym (part-part 0 1 table_width tail_width l (omega arith) (omega (arith, e)))))
 

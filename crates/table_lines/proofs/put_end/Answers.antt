@@ -5,7 +5,6 @@ use Rattle.listing_text.specs.Texts.{numbered}
 use Rattle.listing_room.specs.Room.{last_two}
 use Rattle.listing_room.proofs.Room.{ends-first, ends-second, then}
 use Rattle.table_listing.specs.TableListing.{end_text}
-use borrow.Author.Rules.{rules}
 use Rattle.table_lines.proofs.put_end.Goals as goal
 
 pub put_numbered-next-requires : goal.put_numbered-next-requires

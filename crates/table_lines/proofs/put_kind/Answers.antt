@@ -9,10 +9,8 @@ use Rattle.rules.specs.declared.Profile.{Profile}
 use Rattle.listing_room.specs.Room.{Ends}
 use Rattle.listing_room.proofs.Room.{Put, ends-first, ends-three, ends-two, three}
 use Rattle.table_listing.specs.TableListing.{kind_line, mode_text, profile_text}
-use borrow.Author.Rules.{rules}
 use Rattle.table_lines.proofs.put_kind.Goals as goal
 
--- `table_lines::put_kind` meets its contract: the texts of mode and profile, one behind the other. Assumes nothing.
 -- the line by what was read
 abbrev line : (mode : Mode) (profile : Profile) → Bytes
 line m p = mode_text m ++ (profile_text p ++ line_feed)

@@ -4,7 +4,6 @@ use Rattle.rules.specs.declared.Mode.{Mode}
 use Rattle.table_listing.specs.TableListing.{mode_text}
 use Rattle.listing_room.specs.Room.{Ends}
 use Rattle.listing_room.proofs.Room.{Put}
-use borrow.Author.Rules.{rules}
 use Rattle.table_lines.proofs.put_mode.Goals as goal
 
 pub put_text-requires : goal.put_text-requires

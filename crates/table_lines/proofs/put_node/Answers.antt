@@ -5,7 +5,6 @@ use Rattle.rules.specs.Layout.{decode_node}
 use Rattle.table.specs.Tests.{recs_in}
 use Rattle.listing_room.proofs.Room.{ends-first, ends-second, then}
 use Rattle.table_listing.specs.TableListing.{entry_text, node_line, record_line}
-use borrow.Author.Rules.{rules}
 use Rattle.table_lines.proofs.put_node.Goals as goal
 
 pub put_header-next-requires : goal.put_header-next-requires

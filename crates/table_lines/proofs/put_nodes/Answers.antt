@@ -1,9 +1,8 @@
 -- `table_lines::put_nodes` meets its contract: what stands and what is left are the whole. Assumes nothing.
-use Prim.Native.Nat.{ℕ, ◌+◌, ◌-◌, ◌≤◌, ◌<◌}
+use Prim.Native.Nat.{ℕ, ◌+◌, ◌<◌}
 use mathlib.Core.Path.{◌≡◌, ap, sym, ◌∙◌, subst}
 use mathlib.Core.List.{◌++◌}
 use native.Mathlib.Omega.{arith}
-use lib.ListN.{drop}
 use Rattle.fields.specs.Blocks.{flat}
 use Rattle.fields.specs.Numbers.{Bytes}
 use Rattle.rules.specs.Layout.{decode, decode_node}
@@ -14,7 +13,6 @@ use Rattle.table.proofs.Places.{decode-drop, node_at, node_bytes}
 use Rattle.table.proofs.Tables.{length-decode}
 use Rattle.listing_room.proofs.Lines.{Left, left-all, left-ends, left-long, left-none, left-turn, lines-done, lines_next}
 use Rattle.table_listing.specs.TableListing.{entry_text}
-use borrow.Author.Rules.{rules}
 use Rattle.table_lines.proofs.put_nodes.Goals as goal
 use Rattle.table_lines.proofs.put_nodes.Invariants.{lines}
 

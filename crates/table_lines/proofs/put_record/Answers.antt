@@ -3,7 +3,6 @@ use Rattle.fields.specs.Numbers.{Bytes}
 use Rattle.rules.specs.Layout.{decode_rec}
 use Rattle.listing_room.proofs.Room.{ends-first, ends-second, then}
 use Rattle.table_listing.specs.TableListing.{record_line, rest_text, texts_text}
-use borrow.Author.Rules.{rules}
 use Rattle.table_lines.proofs.put_record.Goals as goal
 
 pub put_texts-next-requires : goal.put_texts-next-requires

@@ -1,9 +1,9 @@
 -- `table_lines::put_records` meets its contract: what stands and what is left are the whole. Assumes nothing.
-use Prim.Native.Nat.{ℕ, ◌+◌, ◌-◌, ◌≤◌, ◌<◌}
+use Prim.Native.Nat.{ℕ, ◌+◌, ◌≤◌, ◌<◌}
 use mathlib.Core.Path.{◌≡◌, ap, sym, ◌∙◌, subst}
 use mathlib.Core.List.{◌++◌}
 use native.Mathlib.Omega.{arith}
-use lib.ListN.{length, drop}
+use lib.ListN.{length}
 use Rattle.fields.specs.Blocks.{flat}
 use Rattle.fields.specs.Numbers.{Bytes}
 use Rattle.rules.specs.Layout.{decode_rec}
@@ -13,7 +13,6 @@ use Rattle.table.proofs.Laid.{laid-key, laid-value, rec-long}
 use Rattle.table.proofs.Places.{length-recs, rec_at, rec_bytes, recs-drop}
 use Rattle.listing_room.proofs.Lines.{Left, left-all, left-ends, left-long, left-none, left-turn, lines-done, lines_next}
 use Rattle.table_listing.specs.TableListing.{record_line}
-use borrow.Author.Rules.{rules}
 use Rattle.table_lines.proofs.put_records.Goals as goal
 use Rattle.table_lines.proofs.put_records.Invariants.{lines}
 

@@ -1,9 +1,9 @@
 -- `table_lines::put_removed` meets its contract: what stands and what is left are the whole. Assumes nothing.
-use Prim.Native.Nat.{ℕ, ◌+◌, ◌-◌, ◌≤◌, ◌<◌}
+use Prim.Native.Nat.{ℕ, ◌+◌, ◌≤◌, ◌<◌}
 use mathlib.Core.Path.{◌≡◌, ap, ap₂, sym, ◌∙◌, subst}
 use mathlib.Core.List.{◌++◌}
 use native.Mathlib.Omega.{arith}
-use lib.ListN.{length, drop}
+use lib.ListN.{length}
 use Rattle.fields.specs.Blocks.{flat}
 use Rattle.fields.specs.Numbers.{Bytes, nat_of}
 use Rattle.fields.specs.Parts.{part}
@@ -15,7 +15,6 @@ use Rattle.table.proofs.Memories.{length-memory, memory-drop, removed-beat, remo
 use Rattle.listing_room.specs.Room.{last_two}
 use Rattle.listing_room.proofs.Lines.{Left, left-all, left-ends, left-long, left-none, left-turn, lines-done, lines_next}
 use Rattle.table_listing.specs.TableListing.{removed_line}
-use borrow.Author.Rules.{rules}
 use Rattle.table_lines.proofs.put_removed.Goals as goal
 use Rattle.table_lines.proofs.put_removed.Invariants.{lines}
 

@@ -8,7 +8,6 @@ use Rattle.listing_text.specs.Texts.{numbered}
 use Rattle.listing_room.specs.Room.{Ends, last_number, status_word}
 use Rattle.listing_room.proofs.Room.{Put, ends-first, ends-three, ends-two, three}
 use Rattle.table_listing.specs.TableListing.{rest_text}
-use borrow.Author.Rules.{rules}
 use Rattle.table_lines.proofs.Pieces.{rest-is}
 use Rattle.table_lines.proofs.put_rest.Goals as goal
 

@@ -8,7 +8,6 @@ use Rattle.listing_text.specs.Texts.{named}
 use Rattle.listing_room.specs.Room.{Ends}
 use Rattle.listing_room.proofs.Room.{Put, ends-first, ends-second, then}
 use Rattle.table_listing.specs.TableListing.{texts_text}
-use borrow.Author.Rules.{rules}
 use Rattle.table_lines.proofs.Pieces.{key-short, texts-is, value-short}
 use Rattle.table_lines.proofs.put_texts.Goals as goal
 

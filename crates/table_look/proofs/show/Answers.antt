@@ -13,7 +13,6 @@ use Rattle.rules.specs.declared.Written.TheVariants.{Bytes}
 use Rattle.rules.proofs.Told.{same-written}
 use Rattle.table_listing.specs.TableListing.{list_table, longest_listing, table_listing}
 use Rattle.table_show.proofs.Shown.{shown-fits, shown-within}
-use borrow.Author.Rules.{rules}
 use Rattle.table_look.proofs.Shown.{shown-front}
 use Rattle.table_look.proofs.show.Goals as goal
 

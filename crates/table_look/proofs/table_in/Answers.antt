@@ -2,10 +2,8 @@
 use mathlib.Core.Path.{sym, ◌∙◌}
 use native.Mathlib.Omega.{arith}
 use Rattle.table_look.proofs.Stored.{in-bare, in-headed, in-short}
-use borrow.Author.Rules.{rules}
 use Rattle.table_look.proofs.table_in.Goals as goal
 
--- `table_look::table_in` meets its contract: the part of the file that is the table. Assumes nothing.
 pub returns-then-file-lt-HEAD : goal.returns-then-file-lt-HEAD
 returns-then-file-lt-HEAD c =
     in-short c.args.file.now (omega arith)

@@ -11,7 +11,6 @@ use Rattle.table.specs.Changes.{fresh_entry}
 use Rattle.table.proofs.Nodes.{length-node}
 use Rattle.table_nodes.proofs.Steps.{add-steps}
 use Rattle.table_nodes.proofs.Moves.{up-free}
-use borrow.Author.Rules.{rules}
 use Rattle.table_nodes.proofs.insert_node.Goals as goal
 
 pub write_fresh-requires : goal.write_fresh-requires

@@ -7,7 +7,6 @@ use Rattle.fields.specs.Parts.{put}
 use Rattle.fields.specs.Blocks.{zeros}
 use Rattle.rules.specs.Layout.{node_width}
 use Rattle.table_nodes.proofs.Steps.{pair-steps}
-use borrow.Author.Rules.{rules}
 use Rattle.table_nodes.proofs.lower.Goals as goal
 
 pub returns : goal.returns

@@ -7,8 +7,7 @@ use lib.ListN.{length}
 use Rattle.fields.specs.Parts.{part, put}
 use Rattle.rules.specs.Sizes.{max_nodes}
 use Rattle.rules.specs.Layout.{node_place, node_width}
-use Rattle.table_nodes.proofs.Moves.{down_to, down-none, down-long, down-asked, down-done}
-use borrow.Author.Rules.{rules}
+use Rattle.table_nodes.proofs.Moves.{down-none, down-long, down-asked, down-done}
 use Rattle.table_nodes.proofs.lower_behind.Goals as goal
 
 pub loop-k-init : goal.loop-k-init

@@ -2,7 +2,6 @@
 use native.Mathlib.Omega.{arith}
 use Rattle.rules.specs.Layout.{node_width}
 use Rattle.table_nodes.proofs.Steps.{pair-steps}
-use borrow.Author.Rules.{rules}
 use Rattle.table_nodes.proofs.raise.Goals as goal
 
 pub returns : goal.returns

@@ -6,7 +6,6 @@ use native.Mathlib.Omega.{arith}
 use lib.ListN.{length}
 use Rattle.rules.specs.Layout.{node_place, node_width}
 use Rattle.table_nodes.proofs.Moves.{up_from, up_none, up-long, up-asked, up_done}
-use borrow.Author.Rules.{rules}
 use Rattle.table_nodes.proofs.raise_from.Goals as goal
 
 pub loop-k-init : goal.loop-k-init

@@ -13,7 +13,6 @@ use Rattle.fields.specs.Widths.{offset}
 use Rattle.table_write.proofs.Steps.{gone-steps}
 use Rattle.table_nodes.proofs.Steps.{node-gone}
 use Rattle.table_nodes.proofs.Moves.{down_to, down-free}
-use borrow.Author.Rules.{rules}
 use Rattle.table_nodes.proofs.remove_node.Goals as goal
 
 pub clear_node-requires : goal.clear_node-requires

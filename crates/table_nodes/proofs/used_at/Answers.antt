@@ -10,7 +10,6 @@ use Rattle.rules.specs.Sizes.{max_records}
 use Rattle.rules.specs.Layout.{rec_place, node_width}
 use Rattle.table.specs.Fits.{LaidNode}
 use Rattle.table.specs.Tests.{count_of}
-use borrow.Author.Rules.{rules}
 use Rattle.table_nodes.proofs.used_at.Goals as goal
 
 pub used-requires : goal.used-requires

@@ -1,5 +1,5 @@
 -- `table_read::find_node` meets its contract: what is left to be searched has the whole's answer. Assumes nothing.
-use Prim.Native.Nat.{ℕ, ◌+◌, ◌-◌, ◌≤◌, ◌<◌}
+use Prim.Native.Nat.{ℕ, ◌+◌, ◌≤◌, ◌<◌}
 use mathlib.Core.Path.{◌≡◌, ap, sym, ◌∙◌}
 use mathlib.Core.List.{List}
 use native.Mathlib.Omega.{arith}
@@ -14,7 +14,6 @@ use Rattle.table.proofs.Places.{decode-drop, number_at, node_at}
 use Rattle.table_read.specs.Find.{further, to_node, find_node}
 use Rattle.table_read.specs.declared.Place.TheVariants.{At, Free}
 use Rattle.table_read.proofs.Found.{start, end, step_same, step_less, step-more, number_same, number-less, number_more}
-use borrow.Author.Rules.{rules}
 use Rattle.table_read.proofs.find_node.Goals as goal
 
 -- node i, as the bytes tell its number

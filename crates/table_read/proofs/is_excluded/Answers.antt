@@ -1,10 +1,6 @@
 -- Whether the number is among those not yet passed says whether it is among all. Assumes nothing.
-use Prim.Native.Nat.{◌-◌, ◌≤◌}
-use mathlib.Core.Path.{◌≡◌, ◌∙◌, refl, sym}
+use mathlib.Core.Path.{◌∙◌, refl, sym}
 use native.Mathlib.Omega.{arith}
-use lib.ListN.{drop, length}
-use borrow.Author.Rules.{rules}
-use Rattle.rules.specs.Table.{among}
 use Rattle.table_read.proofs.Among.{among-here, among_none, among-on}
 use Rattle.table_read.proofs.is_excluded.Goals as goal
 

@@ -1,10 +1,7 @@
 use Prim.Native.Nat.{◌-◌, ◌≤◌}
-use mathlib.Core.Path.{◌≡◌, ◌∙◌, refl, sym}
-use native.Mathlib.Omega.{arith}
+use mathlib.Core.Path.{◌≡◌}
 use lib.ListN.{drop, length}
-use borrow.Author.Rules.{rules}
 use Rattle.rules.specs.Table.{among}
-use Rattle.table_read.proofs.Among.{among-here, among_none, among-on}
 use Rattle.table_read.proofs.is_excluded.Given as goal
 
 -- Whether the number is among those not yet passed says whether it is among all. Assumes nothing.

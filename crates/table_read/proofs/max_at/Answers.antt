@@ -5,7 +5,6 @@ use lib.ListN.{length}
 use Rattle.fields.proofs.Parts.{length_part}
 use Rattle.rules.specs.Layout.{node_width, node_place}
 use Rattle.table_read.proofs.Located.{max-is}
-use borrow.Author.Rules.{rules}
 use Rattle.table_read.proofs.max_at.Goals as goal
 
 pub read_u64-requires : goal.read_u64-requires

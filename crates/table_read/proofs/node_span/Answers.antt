@@ -9,7 +9,6 @@ use Rattle.table_read.specs.Find.{find_node, span_of}
 use Rattle.table_read.specs.declared.Place.TheVariants.{At}
 use Rattle.table_read.specs.declared.Span.TheVariants.{Held}
 use Rattle.table_read.proofs.Searched.{node_in}
-use borrow.Author.Rules.{rules}
 use Rattle.table_read.proofs.node_span.Goals as goal
 
 pub find_node-requires : goal.find_node-requires

@@ -6,7 +6,6 @@ use Rattle.fields.specs.Numbers.{nat_of}
 use Rattle.fields.specs.Parts.{part}
 use Rattle.rules.specs.Layout.{decode_node}
 use Rattle.table_read.specs.Find.{header_of}
-use borrow.Author.Rules.{rules}
 use Rattle.table_read.proofs.read_header.Goals as goal
 
 header_is : (b : List ℕ) (beat max gc : ℕ) → beat ≡ nat_of (part 8 8 b) → max ≡ nat_of (part 16 8 b) → gc ≡ nat_of (part 24 8 b)

@@ -12,7 +12,6 @@ use Rattle.rules.specs.Layout.{rec_width, decode_rec, status_of_byte}
 use Rattle.rules.specs.declared.Status.{Status}
 use Rattle.table.specs.Tests.{key_length, value_length}
 use Rattle.table_read.specs.Find.{record_of}
-use borrow.Author.Rules.{rules}
 use Rattle.table_read.proofs.read_record.Goals as goal
 
 record_is : (b : List ℕ) (k v version start code : ℕ) (status : Status) → length b ≡ rec_width → key_length b ≤ max_key → value_length b ≤ max_value

@@ -1,9 +1,9 @@
 -- `table_read::search_key` meets its contract: what stands from `low` on, and what stands before `high`, has the whole's answer. Assumes nothing.
-use Prim.Native.Nat.{ℕ, ◌+◌, ◌-◌, ◌/◌, ◌≤◌, ◌<◌}
+use Prim.Native.Nat.{ℕ, ◌+◌, ◌/◌, ◌≤◌, ◌<◌}
 use mathlib.Core.Path.{◌≡◌, sym, ap, ◌∙◌, subst}
 use mathlib.Core.List.{List}
 use native.Mathlib.Omega.{arith}
-use lib.ListN.{length, take, drop}
+use lib.ListN.{length, take}
 use lib.Seq.{take_all}
 use Rattle.fields.specs.Order.{order_of}
 use Rattle.rules.specs.Sizes.{max_key}
@@ -11,7 +11,7 @@ use Rattle.rules.specs.Layout.{decode_rec}
 use Rattle.table.specs.Tests.{key_length, count_of, recs_in}
 use Rattle.table.proofs.Places.{length-recs, rec_at}
 use Rattle.table.proofs.Laid.{laid-key, rec-long}
-use Rattle.table_read.specs.Find.{further, to_key, find_key}
+use Rattle.table_read.specs.Find.{to_key, find_key}
 use Rattle.table_read.proofs.Found.{start}
 use Rattle.table_read.proofs.Halves.{met, half-same, half-less, half-more}
 use borrow.Author.Rules.{rules}

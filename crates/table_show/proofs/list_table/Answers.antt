@@ -3,7 +3,6 @@ use Rattle.rules.specs.Answers.{written_told}
 use Rattle.rules.proofs.Unique.{tells}
 use native.Mathlib.Omega.{arith}
 use Rattle.table_listing.specs.TableListing.{table_listing}
-use borrow.Author.Rules.{rules}
 use Rattle.table_show.proofs.Shown.{has_room, too_long}
 use Rattle.table_show.proofs.list_table.Goals as goal
 

@@ -8,7 +8,6 @@ use Rattle.rules.specs.Whole.{decode_memory}
 use Rattle.listing_room.specs.Room.{Ends}
 use Rattle.listing_room.proofs.Room.{Put, ends-first, ends-second, then}
 use Rattle.table_listing.specs.TableListing.{behind_nodes, end_text, removed_line}
-use borrow.Author.Rules.{rules}
 use Rattle.table_show.proofs.Shown.{end_is}
 use Rattle.table_show.proofs.put_behind.Goals as goal
 

@@ -12,7 +12,6 @@ use Rattle.table.proofs.Wholes.{whole_long}
 use Rattle.listing_room.specs.Room.{Ends}
 use Rattle.listing_room.proofs.Room.{Put, ends-first, ends-three, ends-two, three}
 use Rattle.table_listing.specs.TableListing.{behind_nodes, entry_text, kind_line, whole_text}
-use borrow.Author.Rules.{rules}
 use mathlib.Core.Bool.{true}
 use Rattle.table_show.proofs.Shown.{good-area, good-ends, good-tail}
 use Rattle.table_show.proofs.put_good.Goals as goal

@@ -3,7 +3,6 @@ use mathlib.Core.Path.{sym, subst, ◌∙◌}
 use Rattle.fields.specs.Numbers.{Bytes}
 use Rattle.listing_room.proofs.Room.{Put}
 use Rattle.table_listing.proofs.Told.{listing-bad, listing-good}
-use borrow.Author.Rules.{rules}
 use Rattle.table_show.proofs.put_listing.Goals as goal
 
 pub put_good-requires : goal.put_good-requires

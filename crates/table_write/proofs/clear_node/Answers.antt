@@ -1,6 +1,5 @@
 -- `table_write::clear_node` meets its contract: the bytes in use become zeros, and zeros stand behind them. Assumes nothing.
 use Rattle.table_write.proofs.Steps.{cleared-steps}
-use borrow.Author.Rules.{rules}
 use Rattle.table_write.proofs.clear_node.Goals as goal
 
 pub returns : goal.returns

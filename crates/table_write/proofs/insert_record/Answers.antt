@@ -10,7 +10,6 @@ use Rattle.rules.specs.Node.{Rec}
 use Rattle.table.specs.Changes.{rec_of}
 use Rattle.table.proofs.Records.{length-rec}
 use Rattle.table_write.proofs.Steps.{insert-steps}
-use borrow.Author.Rules.{rules}
 use Rattle.table_write.proofs.insert_record.Goals as goal
 
 pub returns : goal.returns

@@ -9,7 +9,6 @@ use Rattle.rules.specs.Node.{Rec}
 use Rattle.table.specs.Changes.{rec_of}
 use Rattle.table.proofs.Records.{length-rec}
 use Rattle.table_write.proofs.Steps.{put-steps}
-use borrow.Author.Rules.{rules}
 use Rattle.table_write.proofs.put_record.Goals as goal
 
 pub returns : goal.returns

@@ -8,10 +8,8 @@ use Rattle.fields.specs.Parts.{part, put}
 use Rattle.fields.specs.Blocks.{zeros}
 use Rattle.table_write.specs.Rows.{blocks_in, block_place, behind_block}
 use Rattle.table_write.proofs.Steps.{row-end, gone-steps}
-use borrow.Author.Rules.{rules}
 use Rattle.table_write.proofs.remove_block.Goals as goal
 
--- `table_write::remove_block` meets its contract: the blocks behind the one that goes end where the row ends. Assumes nothing.
 -- the row is within the bytes
 row_fits : (at w i n m len : ℕ) → n ≡ m → i < m → block_place at w m ≤ len → block_place at w i + w + behind_block w i n ≤ len
 row_fits at w i n m len e h g = rw e (subst (λ (k : ℕ). k ≤ len) (sym (row-end at w i m h)) g)

@@ -5,7 +5,6 @@ use Rattle.fields.specs.Parts.{put}
 use Rattle.fields.specs.Widths.{offset}
 use Rattle.rules.specs.Layout.{node_widths, decode_node}
 use Rattle.table.proofs.Changed.{put-max}
-use borrow.Author.Rules.{rules}
 use Rattle.table_write.proofs.set_max.Goals as goal
 
 pub returns : goal.returns

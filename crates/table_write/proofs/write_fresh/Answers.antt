@@ -1,6 +1,5 @@
 -- `table_write::write_fresh` meets its contract: zeros, the number, the header of a fresh node. Assumes nothing.
 use Rattle.table_write.proofs.Steps.{fresh-steps}
-use borrow.Author.Rules.{rules}
 use Rattle.table_write.proofs.write_fresh.Goals as goal
 
 pub returns : goal.returns

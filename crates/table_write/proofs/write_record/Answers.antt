@@ -1,6 +1,5 @@
 -- `table_write::write_record` meets its contract. Assumes nothing.
 use Rattle.table_write.proofs.Steps.{record-steps}
-use borrow.Author.Rules.{rules}
 use Rattle.table_write.proofs.write_record.Goals as goal
 
 pub returns : goal.returns

@@ -1,6 +1,5 @@
 -- `table_write::write_text` meets its contract. Assumes nothing.
 use Rattle.table_write.proofs.Steps.{text-steps}
-use borrow.Author.Rules.{rules}
 use Rattle.table_write.proofs.write_text.Goals as goal
 
 pub returns : goal.returns

@@ -1,6 +1,6 @@
 -- `table_wrong::first_bad` meets its contract: the nodes that are passed and the first bad one of those left. Assumes nothing.
-use Prim.Native.Nat.{ℕ, ◌+◌, ◌-◌, ◌≤◌}
-use mathlib.Core.Path.{◌≡◌, ap, sym, ◌∙◌}
+use Prim.Native.Nat.{ℕ}
+use mathlib.Core.Path.{ap, sym, ◌∙◌}
 use native.Mathlib.Omega.{arith}
 use native.Mathlib.Nat.{sub-zero, zero-add}
 use lib.ListN.{length, drop}
@@ -8,7 +8,6 @@ use Rattle.fields.proofs.Parts.{length_part}
 use Rattle.rules.specs.Layout.{node_place, node_width}
 use Rattle.table.specs.Tests.{node_good}
 use Rattle.table_listing.specs.TableListing.{first_bad}
-use borrow.Author.Rules.{rules}
 use Rattle.table_wrong.proofs.Wrong.{bad-here, bad-none, bad-on}
 use Rattle.table_wrong.proofs.first_bad.Goals as goal
 

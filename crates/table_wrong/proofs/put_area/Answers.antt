@@ -3,7 +3,6 @@ use mathlib.Core.Path.{subst}
 use native.Mathlib.Omega.{arith}
 use Rattle.fields.specs.Numbers.{Bytes}
 use Rattle.listing_room.proofs.Room.{Put}
-use borrow.Author.Rules.{rules}
 use Rattle.table_wrong.proofs.Wrong.{node-bad, nodes-good, nodes-many}
 use Rattle.table_wrong.proofs.put_area.Goals as goal
 

@@ -11,11 +11,9 @@ use Rattle.rules.specs.Layout.{table_width}
 use Rattle.rules.specs.Whole.{area_of, tail_width, whole_width}
 use Rattle.listing_room.proofs.Room.{Put}
 use Rattle.table_listing.specs.TableListing.{wrong_area}
-use borrow.Author.Rules.{rules}
 use Rattle.table_wrong.proofs.Wrong.{as_long, other-long}
 use Rattle.table_wrong.proofs.put_line.Goals as goal
 
--- `table_wrong::put_line` meets its contract: by the length. Assumes nothing.
 -- the tail as it is lent
 behind : (l : Bytes) → length l ≡ whole_width → length (take (whole_width - table_width) (drop table_width l)) ≡ tail_width
 behind l e = ap length (seen table_width tail_width l) ∙ length_part table_width tail_width l (omega (arith, e))

@@ -3,7 +3,6 @@ use mathlib.Core.Path.{◌∙◌, sym, subst}
 use Rattle.fields.specs.Numbers.{Bytes}
 use Rattle.listing_room.proofs.Room.{Put}
 use Rattle.table_listing.specs.TableListing.{refused_line}
-use borrow.Author.Rules.{rules}
 use Rattle.table_wrong.proofs.Wrong.{no_mode, no-profile, some-mode, some-profile}
 use Rattle.table_wrong.proofs.put_tail.Goals as goal
 

@@ -6,10 +6,8 @@ use Rattle.listing_room.specs.Room.{Ends, last_number}
 use Rattle.listing_room.proofs.Room.{ends-second, then}
 use Rattle.table_listing.specs.TableListing.{wrong_line}
 use Rattle.table_listing.proofs.Long.{wrong-long}
-use borrow.Author.Rules.{rules}
 use Rattle.table_wrong.proofs.put_wrong.Goals as goal
 
--- `table_wrong::put_wrong` meets its contract: two texts, one behind the other. Assumes nothing.
 abbrev front : Bytes
 front = ascii "end=refused code=14"
 

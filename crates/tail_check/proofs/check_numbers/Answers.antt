@@ -9,10 +9,8 @@ use Rattle.rules.specs.Whole.{decode_memory}
 use Rattle.table.proofs.Memories.{length-memory}
 use Rattle.tail_check.proofs.Numbers.{nothing-removed}
 use Rattle.tail_check.proofs.Tails.{read-once, read_twice}
-use borrow.Author.Rules.{rules}
 use Rattle.tail_check.proofs.check_numbers.Goals as goal
 
--- `tail_check::check_numbers` meets its contract. Assumes nothing.
 pub returns-then-n-eq0 : goal.returns-then-n-eq0
 returns-then-n-eq0 c =
     let a = c.args in

@@ -3,7 +3,6 @@ use native.Mathlib.Omega.{arith}
 use Rattle.rules.specs.Table.{numbers_of}
 use Rattle.rules.specs.Layout.{decode}
 use Rattle.tail_check.proofs.Tails.{no_mode, no-profile, too_many, not_free, numbers-decide}
-use borrow.Author.Rules.{rules}
 use Rattle.tail_check.proofs.check_tail.Goals as goal
 
 pub returns-then-byte_at-gt-LAST : goal.returns-then-byte_at-gt-LAST

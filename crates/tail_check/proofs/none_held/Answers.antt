@@ -1,5 +1,5 @@
 -- `tail_check::none_held` meets its contract: none of those that are left is remembered where none of all is. Assumes nothing.
-use Prim.Native.Nat.{ℕ, ◌-◌, ◌≤◌}
+use Prim.Native.Nat.{ℕ, ◌-◌}
 use mathlib.Core.Path.{◌≡◌, refl, sym, ap, ◌∙◌}
 use mathlib.Core.List.{List}
 use native.Mathlib.Omega.{arith}
@@ -7,11 +7,8 @@ use native.Mathlib.Nat.{sub-zero}
 use lib.ListN.{take, drop}
 use Rattle.fields.specs.Numbers.{nat_of}
 use Rattle.fields.specs.Parts.{part}
-use Rattle.rules.specs.Table.{among, numbers_of}
-use Rattle.rules.specs.Memory.{apart}
-use Rattle.rules.specs.Layout.{decode}
+use Rattle.rules.specs.Table.{among}
 use Rattle.tail_check.proofs.Numbers.{one-held, not-held, no_more}
-use borrow.Author.Rules.{rules}
 use Rattle.tail_check.proofs.none_held.Goals as goal
 
 -- from the first on

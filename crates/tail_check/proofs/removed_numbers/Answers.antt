@@ -1,5 +1,5 @@
 -- `tail_check::removed_numbers` meets its contract: the numbers that are stored and those that are left are all. Assumes nothing.
-use Prim.Native.Nat.{ℕ, suc, ◌+◌, ◌-◌, ◌≤◌, ◌<◌}
+use Prim.Native.Nat.{ℕ, suc, ◌+◌, ◌≤◌, ◌<◌}
 use mathlib.Core.Path.{◌≡◌, refl, sym, ap, ◌∙◌}
 use mathlib.Core.List.{List, [], ◌∷◌, ◌++◌, append-nil, append_assoc}
 use native.Mathlib.Omega.{arith}
@@ -14,7 +14,6 @@ use Rattle.rules.specs.Sizes.{max_removed}
 use Rattle.rules.specs.Whole.{decode_memory, removed_place, removed_widths, tail_width}
 use Rattle.table.specs.Tests.{removed_in}
 use Rattle.table.proofs.Memories.{memory-drop, removed-number, removed_at, length-memory}
-use borrow.Author.Rules.{rules}
 use Rattle.tail_check.proofs.removed_numbers.Goals as goal
 
 -- one number more

@@ -1,4 +1,4 @@
-use Rattle.std.proofs.Common.{◌≡◌, ◌-◌, ◌≤◌, length, rules}
+use Rattle.std.proofs.Common.{◌≡◌, ◌-◌, ◌≤◌, length}
 use Rattle.hubs.proofs.two_days.catch_up.Given as goal
 
 -- `hubs::two_days::catch_up` is safe and ends. Assumes nothing.

@@ -7,7 +7,6 @@ use Rattle.rules.specs.declared.Answer.TheVariants.{Refused}
 use Rattle.rules.specs.declared.Refusal.TheVariants.{BadTable}
 use Rattle.table_check.proofs.Entry.{good-whole}
 use Rattle.answers.specs.Shown.{number_shown}
-use borrow.Author.Rules.{rules}
 use Rattle.library.proofs.good.kev_good_add_node.Goals as goal
 
 pub returns : goal.returns

@@ -3,7 +3,6 @@ use mathlib.Core.Path.{ap, ◌∙◌}
 use Rattle.rules.specs.Answers.{applied_told}
 use Rattle.rules.specs.declared.Applied.{Applied}
 use Rattle.answers.specs.Shown.{applied_shown}
-use borrow.Author.Rules.{rules}
 use Rattle.library.proofs.good.kev_good_apply.Goals as goal
 
 pub returns : goal.returns

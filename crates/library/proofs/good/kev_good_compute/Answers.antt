@@ -8,10 +8,8 @@ use Rattle.rules.specs.declared.Computed.TheVariants.{Refused}
 use Rattle.rules.specs.declared.Refusal.TheVariants.{BadTable}
 use Rattle.answers.specs.Shown.{computed_shown}
 use Rattle.library.proofs.Accepted.{good-area, good-long, good-fill}
-use borrow.Author.Rules.{rules}
 use Rattle.library.proofs.good.kev_good_compute.Goals as goal
 
--- `library::good::kev_good_compute` meets its contract: the call on a good table, and what its answer tells. Assumes nothing.
 pub slice_bounds-compute_good-end : goal.slice_bounds-compute_good-end
 slice_bounds-compute_good-end c =
     search good-long

@@ -8,10 +8,8 @@ use Rattle.rules.specs.declared.Refusal.TheVariants.{BadTable}
 use Rattle.plan.specs.Plan.{compute_plan}
 use Rattle.answers.specs.Shown.{computed_shown}
 use Rattle.library.proofs.Accepted.{good-area, good-long, good-fill}
-use borrow.Author.Rules.{rules}
 use Rattle.library.proofs.good.kev_good_compute_plan.Goals as goal
 
--- `library::good::kev_good_compute_plan` meets its contract: the call on a good table, and what its answer tells. Assumes nothing.
 pub slice_bounds-compute_plan_good-end : goal.slice_bounds-compute_plan_good-end
 slice_bounds-compute_plan_good-end c =
     search good-long

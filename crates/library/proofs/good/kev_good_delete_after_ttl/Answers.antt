@@ -3,7 +3,6 @@ use mathlib.Core.Path.{ap, ◌∙◌}
 use Rattle.rules.specs.Answers.{answer_told}
 use Rattle.rules.specs.declared.Answer.{Answer}
 use Rattle.answers.specs.Shown.{number_shown}
-use borrow.Author.Rules.{rules}
 use Rattle.library.proofs.good.kev_good_delete_after_ttl.Goals as goal
 
 pub returns : goal.returns

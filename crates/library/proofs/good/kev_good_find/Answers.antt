@@ -4,7 +4,6 @@ use Rattle.lookup.specs.Told.{found_told}
 use Rattle.lookup.specs.declared.Found.{Found}
 use Rattle.answers.specs.Shown.{found_shown}
 use Rattle.library.proofs.Accepted.{good-read}
-use borrow.Author.Rules.{rules}
 use Rattle.library.proofs.good.kev_good_find.Goals as goal
 
 pub returns : goal.returns

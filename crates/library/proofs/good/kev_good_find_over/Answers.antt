@@ -9,7 +9,6 @@ use Rattle.over_find.specs.declared.FoundOver.{FoundOver}
 use Rattle.over_find.specs.declared.FoundOver.TheVariants.{Refused}
 use Rattle.answers.specs.Shown.{found_over_shown}
 use Rattle.library.proofs.Numbers.{good-over}
-use borrow.Author.Rules.{rules}
 use Rattle.library.proofs.good.kev_good_find_over.Goals as goal
 
 pub returns : goal.returns

@@ -4,7 +4,6 @@ use Rattle.rules.specs.Answers.{remembered_told}
 use Rattle.rules.specs.declared.Remembered.{Remembered}
 use Rattle.nodes.proofs.Remembering.{told}
 use Rattle.answers.specs.Shown.{heartbeat_shown}
-use borrow.Author.Rules.{rules}
 use Rattle.library.proofs.good.kev_good_last_heartbeat.Goals as goal
 
 pub returns : goal.returns

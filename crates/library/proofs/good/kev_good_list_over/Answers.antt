@@ -3,7 +3,6 @@ use mathlib.Core.Path.{ap, ◌∙◌}
 use Rattle.over_list.specs.Told.{listed_over_told}
 use Rattle.over_list.specs.declared.ListedOver.{ListedOver}
 use Rattle.answers.specs.Shown.{listed_over_shown}
-use borrow.Author.Rules.{rules}
 use Rattle.library.proofs.good.kev_good_list_over.Goals as goal
 
 pub returns : goal.returns

@@ -3,7 +3,6 @@ use mathlib.Core.Path.{ap, ◌∙◌}
 use Rattle.rules.specs.Answers.{listed_told}
 use Rattle.rules.specs.declared.Listed.{Listed}
 use Rattle.answers.specs.Shown.{count_shown}
-use borrow.Author.Rules.{rules}
 use Rattle.library.proofs.good.kev_good_list_prefix.Goals as goal
 
 pub returns : goal.returns

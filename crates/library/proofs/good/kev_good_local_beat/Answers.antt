@@ -8,10 +8,8 @@ use Rattle.rules.specs.declared.Refusal.TheVariants.{BadTable}
 use Rattle.table_check.proofs.Entry.{good-table}
 use Rattle.answers.specs.Shown.{number_shown}
 use Rattle.library.proofs.Accepted.{good-area, good-within, good-long}
-use borrow.Author.Rules.{rules}
 use Rattle.library.proofs.good.kev_good_local_beat.Goals as goal
 
--- `library::good::kev_good_local_beat` meets its contract: the call on a good table, and what its answer tells. Assumes nothing.
 pub slice_bounds-beat_good-end : goal.slice_bounds-beat_good-end
 slice_bounds-beat_good-end c =
     search good-within

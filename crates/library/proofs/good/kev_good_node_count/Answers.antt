@@ -4,10 +4,8 @@ use Rattle.inspect.specs.Told.{count_told}
 use Rattle.inspect.specs.declared.Count.{Count}
 use Rattle.answers.specs.Shown.{count_shown}
 use Rattle.library.proofs.Accepted.{good-area, good-long, good-read}
-use borrow.Author.Rules.{rules}
 use Rattle.library.proofs.good.kev_good_node_count.Goals as goal
 
--- `library::good::kev_good_node_count` meets its contract: the call on a good table, and what its answer tells. Assumes nothing.
 pub slice_bounds-node_count_good-end : goal.slice_bounds-node_count_good-end
 slice_bounds-node_count_good-end c =
     search good-long

@@ -4,10 +4,8 @@ use Rattle.inspect.specs.Told.{node_header_told}
 use Rattle.inspect.specs.declared.NodeHeader.{NodeHeader}
 use Rattle.answers.specs.Shown.{header_shown}
 use Rattle.library.proofs.Accepted.{good-area, good-long, good-read}
-use borrow.Author.Rules.{rules}
 use Rattle.library.proofs.good.kev_good_node_header.Goals as goal
 
--- `library::good::kev_good_node_header` meets its contract: the call on a good table, and what its answer tells. Assumes nothing.
 pub slice_bounds-node_header_good-end : goal.slice_bounds-node_header_good-end
 slice_bounds-node_header_good-end c =
     search good-long

@@ -4,10 +4,8 @@ use Rattle.inspect.specs.Told.{node_number_told}
 use Rattle.inspect.specs.declared.NodeNumber.{NodeNumber}
 use Rattle.answers.specs.Shown.{node_shown}
 use Rattle.library.proofs.Accepted.{good-area, good-long, good-read}
-use borrow.Author.Rules.{rules}
 use Rattle.library.proofs.good.kev_good_node_number.Goals as goal
 
--- `library::good::kev_good_node_number` meets its contract: the call on a good table, and what its answer tells. Assumes nothing.
 pub slice_bounds-node_number_good-end : goal.slice_bounds-node_number_good-end
 slice_bounds-node_number_good-end c =
     search good-long

@@ -4,7 +4,6 @@ use Rattle.inspect.specs.Told.{rows_told}
 use Rattle.inspect.specs.declared.Rows.{Rows}
 use Rattle.answers.specs.Shown.{rows_shown}
 use Rattle.library.proofs.Accepted.{good-read}
-use borrow.Author.Rules.{rules}
 use Rattle.library.proofs.good.kev_good_node_rows.Goals as goal
 
 pub returns : goal.returns

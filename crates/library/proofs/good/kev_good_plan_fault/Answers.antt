@@ -4,10 +4,8 @@ use Rattle.plan.specs.Faults.{judged_told}
 use Rattle.plan.specs.declared.Judged.{Judged}
 use Rattle.answers.specs.Shown.{judged_shown}
 use Rattle.library.proofs.Accepted.{good-area, good-long, good-read}
-use borrow.Author.Rules.{rules}
 use Rattle.library.proofs.good.kev_good_plan_fault.Goals as goal
 
--- `library::good::kev_good_plan_fault` meets its contract: the call on a good table, and what its answer tells. Assumes nothing.
 pub slice_bounds-plan_fault_good-end : goal.slice_bounds-plan_fault_good-end
 slice_bounds-plan_fault_good-end c =
     search good-long

@@ -3,7 +3,6 @@ use mathlib.Core.Path.{ap, ◌∙◌}
 use Rattle.inspect.specs.Told.{rows_told}
 use Rattle.inspect.specs.declared.Rows.{Rows}
 use Rattle.answers.specs.Shown.{rows_shown}
-use borrow.Author.Rules.{rules}
 use Rattle.library.proofs.good.kev_good_prefix_rows.Goals as goal
 
 pub returns : goal.returns

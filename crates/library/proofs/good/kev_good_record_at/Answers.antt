@@ -4,7 +4,6 @@ use Rattle.inspect.specs.Told.{record_read_told}
 use Rattle.inspect.specs.declared.RecordRead.{RecordRead}
 use Rattle.answers.specs.Shown.{record_shown}
 use Rattle.library.proofs.Accepted.{good-read}
-use borrow.Author.Rules.{rules}
 use Rattle.library.proofs.good.kev_good_record_at.Goals as goal
 
 pub returns : goal.returns

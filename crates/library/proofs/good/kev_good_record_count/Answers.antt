@@ -4,7 +4,6 @@ use Rattle.inspect.specs.Told.{count_told}
 use Rattle.inspect.specs.declared.Count.{Count}
 use Rattle.answers.specs.Shown.{count_shown}
 use Rattle.library.proofs.Accepted.{good-read}
-use borrow.Author.Rules.{rules}
 use Rattle.library.proofs.good.kev_good_record_count.Goals as goal
 
 pub returns : goal.returns

@@ -4,10 +4,8 @@ use Rattle.rules.specs.Answers.{answer_told}
 use Rattle.rules.specs.declared.Answer.{Answer}
 use Rattle.answers.specs.Shown.{number_shown}
 use Rattle.library.proofs.Accepted.{good-area, good-within, good-long, good-removed}
-use borrow.Author.Rules.{rules}
 use Rattle.library.proofs.good.kev_good_remove_scheduled.Goals as goal
 
--- `library::good::kev_good_remove_scheduled` meets its contract: the removal on a good table answers nothing. Assumes nothing.
 pub slice_bounds-remove_good-end : goal.slice_bounds-remove_good-end
 slice_bounds-remove_good-end c =
     search good-within

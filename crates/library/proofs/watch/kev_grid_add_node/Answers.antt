@@ -1,7 +1,6 @@
 -- `library::watch::kev_grid_add_node` meets its contract: the call, and what its answer tells. Assumes nothing.
 use mathlib.Core.Path.{ap, ◌∙◌}
 use Rattle.answers.specs.Shown.{number_shown}
-use borrow.Author.Rules.{rules}
 use Rattle.library.proofs.watch.kev_grid_add_node.Goals as goal
 
 pub returns : goal.returns

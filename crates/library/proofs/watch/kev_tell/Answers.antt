@@ -1,7 +1,6 @@
 -- `library::watch::kev_tell` meets its contract: the call, and what its answer tells. Assumes nothing.
 use mathlib.Core.Path.{ap, ◌∙◌}
 use Rattle.answers_peers.specs.ShownPeers.{told_shown}
-use borrow.Author.Rules.{rules}
 use Rattle.library.proofs.watch.kev_tell.Goals as goal
 
 pub returns : goal.returns

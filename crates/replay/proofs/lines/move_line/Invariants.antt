@@ -1,7 +1,6 @@
 use mathlib.Core.Path.{◌≡◌}
 use Prim.Native.Nat.{◌-◌}
 use lib.ListN.{length}
-use borrow.Author.Rules.{rules}
 use Rattle.replay.proofs.lines.move_line.Given as goal
 
 -- `replay::lines::move_line` is safe and ends. Assumes nothing.

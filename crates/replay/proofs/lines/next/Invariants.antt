@@ -1,4 +1,3 @@
-use borrow.Author.Rules.{rules}
 use Rattle.replay.proofs.lines.next.Given as goal
 
 -- `replay::lines::next` is safe and ends. Assumes nothing.

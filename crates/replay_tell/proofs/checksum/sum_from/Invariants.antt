@@ -1,6 +1,5 @@
 use Prim.Native.Nat.{◌<◌, ◌-◌}
 use lib.ListN.{length}
-use borrow.Author.Rules.{rules}
 use Rattle.replay_tell.proofs.checksum.sum_from.Given as goal
 
 -- `replay_tell::checksum::sum_from` is safe and ends. Assumes nothing.

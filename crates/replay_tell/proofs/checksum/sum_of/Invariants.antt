@@ -1,6 +1,5 @@
 use Prim.Native.Nat.{◌≤◌, ◌<◌, ◌-◌}
 use lib.ListN.{length}
-use borrow.Author.Rules.{rules}
 use Rattle.replay_tell.proofs.checksum.sum_of.Given as goal
 
 -- `replay_tell::checksum::sum_of` is safe and ends. Assumes nothing.

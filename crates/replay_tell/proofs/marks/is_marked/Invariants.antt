@@ -1,6 +1,5 @@
 use Prim.Native.Nat.{◌≤◌, ◌-◌}
 use lib.ListN.{length}
-use borrow.Author.Rules.{rules}
 use Rattle.replay_tell.proofs.marks.is_marked.Given as goal
 
 -- `replay_tell::marks::is_marked` is safe and ends. Assumes nothing.

@@ -1,5 +1,4 @@
 -- `replay_words::print::byte` meets its contract. Assumes nothing.
-use borrow.Author.Rules.{rules}
 use Rattle.replay_words.proofs.Said.{said-one, unsaid-one}
 use Rattle.replay_words.proofs.print.byte.Goals as goal
 

@@ -12,10 +12,8 @@ use Rattle.listing_text.specs.Texts.{TextFits}
 use Rattle.listing_text.proofs.Texts.{Put}
 use Rattle.replay_words.specs.Printing.{page, say}
 use Rattle.replay_words.proofs.Said.{said, unsaid}
-use borrow.Author.Rules.{rules}
 use Rattle.replay_words.proofs.print.decimal.Goals as goal
 
--- `replay_words::print::decimal` meets its contract. Assumes nothing.
 room : (at n : ℕ) (t l : List ℕ) (r : Bool) → n ≡ length t → r ≡ leb (at + n) (length l) → r ≡ true → TextFits at t l
 room at n t l r e p q = let h = leb-true (at + n) (length l) (sym p ∙ q) in omega arith
 

@@ -1,12 +1,10 @@
 -- `replay_words::print::digit` meets its contract. Assumes nothing.
 use Prim.Native.Nat.{ℕ, ◌+◌, ◌≤◌, ◌<◌}
 use mathlib.Core.Path.{◌≡◌}
-use borrow.Author.Rules.{rules}
 use borrow.Author.Tests.{lt-ltb, le-ltb}
 use Rattle.replay_words.specs.Printing.{hex_digit}
 use Rattle.replay_words.proofs.print.digit.Goals as goal
 
--- `replay_words::print::digit` meets its contract. Assumes nothing.
 low : (v : ℕ) → v < 10 → 48 + v ≡ hex_digit v
 low v h = rw (lt-ltb v 10 h)
 

@@ -8,7 +8,6 @@ use borrow.Author.Tests.{lt-leb, le-leb, leb-true}
 use Rattle.fields.proofs.Choice.{same_test}
 use Rattle.replay_words.proofs.print.has_room.Goals as goal
 
--- `replay_words::print::has_room` meets its contract. Assumes nothing.
 none : (len at n : ℕ) → len < n → false ≡ leb (at + n) len
 none len at n h = sym (lt-leb (at + n) len (omega arith))
 

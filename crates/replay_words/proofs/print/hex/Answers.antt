@@ -1,10 +1,7 @@
 -- `replay_words::print::hex` meets its contract: what is left to print, printed now, gives what the contract says. Assumes nothing.
-use Prim.Native.Nat.{◌-◌, ◌≤◌}
-use mathlib.Core.Path.{◌≡◌, refl, ap, ◌∙◌}
+use mathlib.Core.Path.{refl, ap, ◌∙◌}
 use mathlib.Core.List.{[]}
 use native.Mathlib.Omega.{arith}
-use lib.ListN.{length, drop}
-use borrow.Author.Rules.{rules}
 use Rattle.replay_words.specs.Printing.{page, says, hex_texts}
 use Rattle.replay_words.proofs.Said.{hex-turn, hex-end}
 use Rattle.replay_words.proofs.print.hex.Goals as goal

@@ -1,12 +1,10 @@
 -- `replay_words::print::list` meets its contract: what is left to print, printed now, gives what the contract says. Assumes nothing.
-use Prim.Native.Nat.{ℕ, ◌-◌, ◌≤◌}
-use mathlib.Core.Path.{◌≡◌, refl, ap, ◌∙◌}
+use Prim.Native.Nat.{ℕ}
+use mathlib.Core.Path.{refl, ap, ◌∙◌}
 use mathlib.Core.List.{[]}
 use native.Mathlib.Omega.{arith}
-use lib.ListN.{length, drop}
-use borrow.Author.Rules.{rules}
 use Rattle.rules.specs.Listing.{decimal}
-use Rattle.replay_words.specs.Printing.{page, say, says, more_texts}
+use Rattle.replay_words.specs.Printing.{page, say}
 use Rattle.replay_words.proofs.Said.{more_turn, more-end, list-none, list-first}
 use Rattle.replay_words.proofs.print.list.Goals as goal
 

@@ -2,12 +2,10 @@
 use Prim.Native.Nat.{ℕ}
 use mathlib.Core.Path.{◌≡◌, ap₂, ◌∙◌}
 use mathlib.Core.List.{[], ◌∷◌}
-use borrow.Author.Rules.{rules}
 use Rattle.rules.specs.Listing.{decimal}
 use Rattle.replay_words.specs.Printing.{Page, say}
 use Rattle.replay_words.proofs.print.more.Goals as goal
 
--- `replay_words::print::more` meets its contract. Assumes nothing.
 more-said : (p q t : Page) (b v : ℕ) → v ≡ b → q ≡ say (44 ∷ []) p → t ≡ say (decimal v) q → t ≡ say (decimal b) (say (44 ∷ []) p)
 more-said p q t b v g m n = n ∙ ap₂ (λ (k : ℕ) (r : Page). say (decimal k) r) g m
 

@@ -2,11 +2,9 @@
 use Prim.Native.Nat.{ℕ, ◌/◌, ◌%◌}
 use mathlib.Core.Path.{◌≡◌, ap, ap₂, ◌∙◌}
 use mathlib.Core.List.{[], ◌∷◌}
-use borrow.Author.Rules.{rules}
 use Rattle.replay_words.specs.Printing.{Page, say, hex_digit}
 use Rattle.replay_words.proofs.print.two.Goals as goal
 
--- `replay_words::print::two` meets its contract. Assumes nothing.
 two_said : (p q t : Page) (b v d e : ℕ) → v ≡ b → d ≡ hex_digit (v / 16) → e ≡ hex_digit (v % 16) → q ≡ say (d ∷ []) p → t ≡ say (e ∷ []) q
     → t ≡ say (hex_digit (b % 16) ∷ []) (say (hex_digit (b / 16) ∷ []) p)
 two_said p q t b v d e g x y m n =

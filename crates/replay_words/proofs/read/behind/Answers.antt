@@ -3,7 +3,6 @@ use mathlib.Core.Path.{sym}
 use native.Mathlib.Omega.{arith}
 use lib.ListN.{drop_of_length-le}
 use Rattle.fields.proofs.Lent.{seen-rest}
-use borrow.Author.Rules.{rules}
 use Rattle.replay_words.proofs.read.behind.Goals as goal
 
 pub returns-then-bytes-n : goal.returns-then-bytes-n

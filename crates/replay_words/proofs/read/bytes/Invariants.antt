@@ -1,7 +1,6 @@
 use mathlib.Core.Path.{◌≡◌}
 use Prim.Native.Nat.{◌≤◌, ◌-◌}
 use lib.ListN.{length}
-use borrow.Author.Rules.{rules}
 use Rattle.replay_words.proofs.read.bytes.Given as goal
 
 -- `replay_words::read::bytes` is safe and ends. Its loop is that of `numbers` over another element type. A need is stated of a function's own code, and what is

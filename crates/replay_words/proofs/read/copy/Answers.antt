@@ -1,10 +1,8 @@
 -- `replay_words::read::copy` meets its contract. Assumes nothing.
 use mathlib.Core.Path.{◌∙◌}
 use Rattle.replay_words.proofs.Stored.{not-counted, not-stored, is-counted, is-stored}
-use borrow.Author.Rules.{rules}
 use Rattle.replay_words.proofs.read.copy.Goals as goal
 
--- `replay_words::read::copy` meets its contract. Assumes nothing.
 pub returns-then-out-src : goal.returns-then-out-src
 returns-then-out-src c =
     let a = c.args in

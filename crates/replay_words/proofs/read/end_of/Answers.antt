@@ -1,5 +1,5 @@
 -- `replay_words::read::end_of` meets its contract: what was passed and the rest of the first piece are the whole's. Assumes nothing.
-use Prim.Native.Nat.{ℕ, suc, ◌+◌, ◌≤◌, ◌<◌, ◌-◌}
+use Prim.Native.Nat.{ℕ, suc, ◌+◌, ◌≤◌, ◌<◌}
 use mathlib.Core.Path.{◌≡◌, refl, ap, sym, ◌∙◌}
 use mathlib.Core.List.{List}
 use native.Mathlib.Omega.{arith}
@@ -7,10 +7,8 @@ use native.Mathlib.Numerals.{add-one}
 use lib.ListN.{length, get_or, drop, drop_of_length-le}
 use lib.Seq.{drop-cons}
 use Rattle.replay_words.proofs.Pieces.{ends, ends-past, ends_at, ends-none}
-use borrow.Author.Rules.{rules}
 use Rattle.replay_words.proofs.read.end_of.Goals as goal
 
--- `replay_words::read::end_of` meets its contract: what was passed and the rest of the first piece are the whole's. Assumes nothing.
 -- a byte more is passed; the piece ends here; the list ends
 turn : (b : ℕ) (l : List ℕ) (i k : ℕ) → i < length l → (get_or l i 0 ≡ b → ⊥) → i + ends b (drop i l) ≡ k → i + 1 + ends b (drop (i + 1) l) ≡ k
 turn b l i k h n e =

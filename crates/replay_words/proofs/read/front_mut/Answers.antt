@@ -2,10 +2,8 @@
 use mathlib.Core.Path.{sym}
 use native.Mathlib.Omega.{arith}
 use lib.Seq.{length-take-le, take_all}
-use borrow.Author.Rules.{rules}
 use Rattle.replay_words.proofs.read.front_mut.Goals as goal
 
--- `replay_words::read::front_mut` meets its contract. It is `front` again, once to read and once to write: a contract cannot take both. Assumes nothing.
 pub returns-then-bytes-n : goal.returns-then-bytes-n
 returns-then-bytes-n c =
     let a = c.args in

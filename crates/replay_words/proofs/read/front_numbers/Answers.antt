@@ -2,10 +2,8 @@
 use mathlib.Core.Path.{sym}
 use native.Mathlib.Omega.{arith}
 use lib.Seq.{length-take-le, take_all}
-use borrow.Author.Rules.{rules}
 use Rattle.replay_words.proofs.read.front_numbers.Goals as goal
 
--- `replay_words::read::front_numbers` meets its contract. Assumes nothing.
 pub returns-then-numbers-n : goal.returns-then-numbers-n
 returns-then-numbers-n c =
     let a = c.args in

@@ -1,10 +1,9 @@
 -- `replay_words::read::number` meets its contract: the number so far with the digits that are left is the whole's. Assumes nothing.
-use Prim.Native.Nat.{ℕ, suc, ◌+◌, ◌-◌, ◌≤◌, ◌<◌}
+use Prim.Native.Nat.{ℕ, suc, ◌+◌, ◌≤◌, ◌<◌}
 use mathlib.Core.Path.{◌≡◌, refl, ap, sym, ◌∙◌}
 use mathlib.Core.List.{List, [], ◌∷◌}
 use native.Mathlib.Omega.{arith}
 use lib.ListN.{length, get_or, drop}
-use borrow.Author.Rules.{rules}
 use native.Mathlib.Numerals.{add-one}
 use lib.ListN.{drop_of_length-le}
 use lib.Seq.{drop-cons}
@@ -13,7 +12,6 @@ use Rattle.replay_words.specs.declared.read.Numeral.{Numeral}
 use Rattle.replay_words.specs.declared.read.Numeral.TheVariants as numeral
 use Rattle.replay_words.proofs.read.number.Goals as goal
 
--- `replay_words::read::number` meets its contract: the number so far with the digits that are left is the whole's. Assumes nothing.
 none : (w : List ℕ) → length w ≡ 0 → numeral.Not ≡ numeral_of w
 unfolding numeral_of
 none [] e = refl

@@ -1,7 +1,6 @@
 use mathlib.Core.Path.{◌≡◌}
 use Prim.Native.Nat.{◌≤◌, ◌-◌}
 use lib.ListN.{length}
-use borrow.Author.Rules.{rules}
 use Rattle.replay_words.proofs.read.numbers.Given as goal
 
 -- `replay_words::read::numbers` is safe and ends. Its loop is that of `bytes` over another element type; the proof there says why both stand. Assumes nothing.

@@ -7,10 +7,8 @@ use native.Mathlib.Nat.{sub-zero}
 use lib.ListN.{length, get_or, take, drop}
 use Rattle.replay_words.specs.Reading.{pieces}
 use Rattle.replay_words.proofs.Pieces.{ends, pieces-behind, pieces-gone, piece-here}
-use borrow.Author.Rules.{rules}
 use Rattle.replay_words.proofs.read.piece.Goals as goal
 
--- `replay_words::read::piece` meets its contract: the piece that is asked for, counted from here, is the whole's. Assumes nothing.
 module _ (b : ℕ) (l : List ℕ) (at e k i : ℕ) (t : List ℕ) (h : at ≤ length l) (g : e ≡ at + ends b (drop at l))
     (q : get_or (pieces b (drop at l)) (k - i) [] ≡ t) where
   one_less : i < k → get_or (pieces b (drop at l)) (suc (k - (i + 1))) [] ≡ t

@@ -1,12 +1,8 @@
-use Prim.Native.Nat.{ℕ, suc, ◌+◌, ◌≤◌, ◌<◌, ◌-◌}
-use mathlib.Core.Path.{◌≡◌, ap, sym, ◌∙◌}
-use mathlib.Core.List.{List, []}
-use native.Mathlib.Omega.{arith}
-use native.Mathlib.Nat.{sub-zero}
-use lib.ListN.{length, get_or, take, drop}
+use Prim.Native.Nat.{◌≤◌, ◌-◌}
+use mathlib.Core.Path.{◌≡◌}
+use mathlib.Core.List.{[]}
+use lib.ListN.{length, get_or, drop}
 use Rattle.replay_words.specs.Reading.{pieces}
-use Rattle.replay_words.proofs.Pieces.{ends, pieces-behind, pieces-gone, piece-here}
-use borrow.Author.Rules.{rules}
 use Rattle.replay_words.proofs.read.piece.Given as goal
 
 abbrev pub invariant-loop-i : goal.invariant-loop-i

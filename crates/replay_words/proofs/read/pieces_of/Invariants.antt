@@ -1,18 +1,11 @@
-use Prim.Native.Nat.{ℕ, suc, ◌+◌, ◌≤◌, ◌<◌, ◌-◌}
-use mathlib.Core.Path.{◌≡◌, ap, sym, ◌∙◌}
-use mathlib.Core.Logic.{⊎_elim}
+-- `replay_words::read::pieces_of` meets its contract: the pieces counted and those of what is left are one more than the whole's. Assumes nothing.
+use Prim.Native.Nat.{ℕ, ◌+◌, ◌≤◌, ◌-◌}
+use mathlib.Core.Path.{◌≡◌}
 use mathlib.Core.List.{List}
-use native.Mathlib.Omega.{arith}
-use native.Mathlib.Numerals.{add-one}
-use lib.ListN.{length, get_or, drop, drop_of_length-le}
-use lib.Seq.{drop-cons}
+use lib.ListN.{length, drop}
 use Rattle.replay_words.specs.Reading.{pieces}
-use Rattle.replay_words.proofs.Pieces.{many-at, many-past, many-none}
-use borrow.Author.Rules.{rules}
 use Rattle.replay_words.proofs.read.pieces_of.Given as goal
 
--- `replay_words::read::pieces_of` meets its contract: the pieces counted and those of what is left are one more than the whole's. Assumes nothing.
--- `replay_words::read::pieces_of` meets its contract: the pieces counted and those of what is left are one more than the whole's. Assumes nothing.
 abbrev pub many : ℕ → List ℕ → ℕ
 many b l = length (pieces b l)
 

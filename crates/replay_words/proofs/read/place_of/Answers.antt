@@ -1,5 +1,5 @@
 -- `replay_words::read::place_of` meets its contract: the place among the names that are left, and those passed, are the whole's. Assumes nothing.
-use Prim.Native.Nat.{ℕ, suc, ◌+◌, ◌≤◌, ◌<◌, ◌-◌}
+use Prim.Native.Nat.{ℕ, suc, ◌+◌, ◌≤◌, ◌<◌}
 use mathlib.Core.Path.{◌≡◌, refl, ap, sym, ◌∙◌}
 use mathlib.Core.Bool.{true, false}
 use mathlib.Core.List.{List, [], ◌∷◌}
@@ -9,10 +9,8 @@ use lib.ListN.{length, get_or, drop, drop_of_length-le}
 use lib.Seq.{drop-cons}
 use Rattle.fields.specs.Order.{same_bytes}
 use Rattle.replay_words.specs.Reading.{words_of, place_in}
-use borrow.Author.Rules.{rules}
 use Rattle.replay_words.proofs.read.place_of.Goals as goal
 
--- `replay_words::read::place_of` meets its contract: the place among the names that are left, and those passed, are the whole's. Assumes nothing.
 place-yes : (w p : List ℕ) (ps : List (List ℕ)) → same_bytes p w ≡ true → place_in w (p ∷ ps) ≡ 0
 unfolding place_in
 place-yes w p ps e = rw e

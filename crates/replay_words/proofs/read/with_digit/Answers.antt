@@ -2,13 +2,11 @@
 use Prim.Native.Nat.{ℕ, ◌+◌, ◌-◌, ◌*◌, ◌/◌, ◌≤◌, ◌<◌}
 use mathlib.Core.Path.{◌≡◌}
 use native.Mathlib.Omega.{arith}
-use borrow.Author.Rules.{rules}
 use borrow.Author.Tests.{lt-leb, le-leb, lt-ltb, le-ltb}
 use Rattle.replay_words.specs.Reading.{with_digit}
 use Rattle.replay_words.specs.declared.read.Numeral.TheVariants as numeral
 use Rattle.replay_words.proofs.read.with_digit.Goals as goal
 
--- `replay_words::read::with_digit` meets its contract. Assumes nothing.
 below : (v b d : ℕ) → d ≡ b → d < 48 → numeral.Not ≡ with_digit v b
 below v b d e h = let g : b < 48 = omega arith in rw (lt-leb 48 b g)
 

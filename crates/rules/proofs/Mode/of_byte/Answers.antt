@@ -3,7 +3,6 @@ use Prim.Native.Nat.{ℕ, zero, suc}
 use mathlib.Core.Path.{◌≡◌, refl}
 use Rattle.rules.specs.Whole.{mode_of_byte}
 use Rattle.rules.specs.declared.Mode.TheVariants.{Guarded}
-use borrow.Author.Rules.{rules}
 use Rattle.rules.proofs.Mode.of_byte.Goals as goal
 
 other : (n : ℕ) → (n ≡ 0 → ⊥) → (n ≡ 1 → ⊥) → Guarded ≡ mode_of_byte n

@@ -9,7 +9,6 @@ use Rattle.rules.specs.Answers.{party_of}
 use Rattle.rules.specs.declared.Party.TheVariants.{Metering, Building, Nobody}
 use Rattle.rules.proofs.Party.of_number.Goals as goal
 
--- `rules::Party::of_number` meets its contract. Assumes nothing.
 other : (n : ℕ) → (n ≡ 1 → ⊥) → (n ≡ 2 → ⊥) → Nobody ≡ party_of n
 other n a b = go (eqb n 1) refl (eqb n 2) refl
   where

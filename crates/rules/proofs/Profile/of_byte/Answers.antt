@@ -3,7 +3,6 @@ use Prim.Native.Nat.{ℕ, zero, suc}
 use mathlib.Core.Path.{◌≡◌, refl}
 use Rattle.rules.specs.Whole.{profile_of_byte}
 use Rattle.rules.specs.declared.Profile.TheVariants.{Shared}
-use borrow.Author.Rules.{rules}
 use Rattle.rules.proofs.Profile.of_byte.Goals as goal
 
 other : (n : ℕ) → (n ≡ 0 → ⊥) → (n ≡ 1 → ⊥) → Shared ≡ profile_of_byte n

@@ -1,7 +1,6 @@
 -- `rules::Refusal::need` meets its contract, variant by variant: with more than sixteen of them the search does not find it. Assumes nothing.
 use mathlib.Core.Path.{ap, sym}
 use Rattle.rules.specs.Answers.{need_of}
-use borrow.Author.Rules.{rules}
 use Rattle.rules.proofs.Refusal.need.Goals as goal
 
 pub returns-in-Cut : goal.returns-in-Cut

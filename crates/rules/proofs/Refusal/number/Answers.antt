@@ -1,7 +1,6 @@
 -- `rules::Refusal::number` meets its contract, variant by variant: with more than sixteen of them the search does not find it. Assumes nothing.
 use mathlib.Core.Path.{ap, sym}
 use Rattle.rules.specs.Answers.{number_of}
-use borrow.Author.Rules.{rules}
 use Rattle.rules.proofs.Refusal.number.Goals as goal
 
 pub returns-in-TooLong : goal.returns-in-TooLong

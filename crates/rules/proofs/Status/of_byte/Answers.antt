@@ -3,7 +3,6 @@ use Prim.Native.Nat.{ℕ, zero, suc}
 use mathlib.Core.Path.{◌≡◌, refl}
 use Rattle.rules.specs.Layout.{status_of_byte}
 use Rattle.rules.specs.declared.Status.TheVariants.{Ttl}
-use borrow.Author.Rules.{rules}
 use Rattle.rules.proofs.Status.of_byte.Goals as goal
 
 other : (n : ℕ) → (n ≡ 0 → ⊥) → (n ≡ 1 → ⊥) → Ttl ≡ status_of_byte n

@@ -5,7 +5,6 @@ use borrow.Author.Tests.{eq-eqb, ne_eqb}
 use Rattle.rules.specs.Digest.{count_width, head_width}
 use Rattle.rules.proofs.wire.head_width.Goals as goal
 
--- `rules::wire::head_width` meets its contract. Assumes nothing.
 module _ (edition : ℕ) where
   counted : edition ≡ 0 → count_width ≡ head_width edition
   unfolding head_width
