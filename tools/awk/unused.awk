@@ -43,6 +43,8 @@ kind == "antt" {
     if ($0 ~ /^ *(requires|ensures) /) clause_here = 1
     if ($0 ~ /^ *\{ *$/) clause_here = 0
     if (clause_here) take_words(line)
+    # a trait is used where its method is called
+    if (line ~ /\.(with_)?context\(/) in_code[module, "Context"] = 1
     gsub(/[^A-Za-z0-9_]/, " ", line)
     n = split(line, word, " ")
     for (i = 1; i <= n; i++) in_code[module, word[i]] = 1

@@ -2,7 +2,7 @@
 // how the samples, and what must be written for them, were made.
 #![tactic(auto)]
 
-use anyhow::Result;
+use anyhow::{Context, Result};
 use delta_make::Made;
 use rules::{Written, sizes};
 use std::io::Write;

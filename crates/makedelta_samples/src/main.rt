@@ -2,7 +2,7 @@
 // they, and what must be written for them, were made.
 #![tactic(auto)]
 
-use anyhow::Result;
+use anyhow::{Context, Result};
 use std::io::Write;
 use std::rt::Files;
 use std::{env, fs};

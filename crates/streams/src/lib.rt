@@ -5,7 +5,7 @@ ghost use Rattle.std.specs.Prelude.{◌≡◌, true, false, length, take, IfOk, 
 ghost use Rattle.std.specs.Counts.{IsPrefixLen};
 ghost use Rattle.std.specs.Io.KnownBytes.{Appends, Consumes, IsAtEnd};
 
-use anyhow::{Error, Result};
+use anyhow::{Context, Error, Result};
 use std::io;
 use std::io::{Read, Write};
 

@@ -2,7 +2,7 @@
 // them, were made.
 #![tactic(auto)]
 
-use anyhow::Result;
+use anyhow::{Context, Result};
 use std::io::Write;
 use std::rt::Files;
 use std::{env, fs};
