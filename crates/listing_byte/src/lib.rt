@@ -5,6 +5,7 @@ ghost use Rattle.std.specs.Prelude.{◌≡◌, ◌<◌, length};
 ghost use Rattle.rules.specs.Listing.{hex_digit, plain, shown_byte};
 
 // Whether a byte is shown as itself: 33 to 126, but neither `%` nor `=`.
+#[tactic(auto, unfolding(rules::specs::Listing::plain))]
 pub fn is_plain(b: u8) -> bool
     ensures { result ≡ plain b }
 {

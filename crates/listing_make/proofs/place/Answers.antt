@@ -15,8 +15,8 @@ slice_bounds-copy_to-end c =
 
 pub copy_to-requires : goal.copy_to-requires
 copy_to-requires c =
-    omega (arith, length-take-le c.args.n c.args.delta.now c.requires, c.if-out-n.false)
+    omega (arith, length-take-le c.args.n c.args.delta.now c.requires)
 
 pub returns : goal.returns
 returns c =
-    room c.args.n c.args.delta.now c.args.out.now c.requires _ c.if-out-n.false c.copy_to.ensures
+    room c.args.n c.args.delta.now c.args.out.now c.requires _ (omega arith) c.copy_to.ensures
