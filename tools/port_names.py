@@ -12,8 +12,8 @@ import os, re, sys
 
 WORD = re.compile(r"[A-Za-zμκλ_][A-Za-z0-9_'′₀-₉α-ωΑ-Ω≡≤≢∷→]*(?:-[A-Za-z0-9_'′₀-₉α-ω≡≤≢∷→]+)*")
 
-# Two names that would fall together.
-SPELLED = {"lastGc": "last_gc_of", "last-gc": "last_gc"}
+# Two names that would fall together, and a unit that the programs print.
+SPELLED = {"lastGc": "last_gc_of", "last-gc": "last_gc", "kWh": "kWh"}
 
 # Lemmas and constructors that port.py gave the name that a definition now has, each with the files that mean them.
 APART = [
